@@ -1,0 +1,4 @@
+pub mod Causes
+pub mod Draws
+pub mod Memory
+pub mod Streams

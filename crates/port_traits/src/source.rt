@@ -1,0 +1,21 @@
+//! A stream of bytes that is read.
+ghost use Rattle.std.specs.Prelude.{ℕ, List, Option};
+ghost use Rattle.port_traits.specs.Causes.{HasCause};
+ghost use Rattle.port_traits.specs.Streams.{Takes};
+
+use crate::failed::Failed;
+
+/// A stream of bytes that is read from its front.
+pub trait Source {
+    /// The bytes that are left, None where the stream does not tell.
+    ghost left: { Self → Option (List ℕ) };
+
+    /// How many faults the stream has had, up to 2^64 - 1.
+    ghost faults: { Self → ℕ };
+
+    /// Puts bytes into the front of the buffer and says how many. 0 into a buffer that is not empty
+    /// is the end of the input.
+    fn read(&mut self, buf: &mut [u8]) -> Result<usize, Failed>
+        ensures takes { Takes (left self.old) (left self.new) result buf.new }
+        ensures cause { HasCause (faults self.old) (faults self.new) result };
+}

@@ -1,0 +1,14 @@
+pub mod Carrying
+pub mod Commands
+pub mod Drawing
+pub mod InsertLaws
+pub mod LogLaws
+pub mod Numbers
+pub mod Outcomes
+pub mod ReadingLaws
+pub mod Running
+pub mod SplitSize
+pub mod Splitting
+pub mod Tables
+pub mod Writing
+pub mod WordLaws

@@ -1,0 +1,10 @@
+use Rattle.std.proofs.Common.{arith}
+use Rattle.repl_run.proofs.Writing.{writing_goes_on}
+use Rattle.repl_run.proofs.streams.write_all.Goals as goal
+
+pub loop-rest-preserved : goal.loop-rest-preserved
+loop-rest-preserved g c =
+    rw c.split_at.ensures.back (
+      writing_goes_on _ _ _ _ c.loop-rest.rest.now c.in_ok-count.count c.loop-rest.invariant.0 c.in_ok-count.ensures.puts.bytes,
+      omega (arith, c.loop-rest.invariant.1, c.in_ok-count.ensures.cause.later),
+    )

@@ -1,0 +1,14 @@
+pub mod Carried
+pub mod Insert
+pub mod Log
+pub mod Machine
+pub mod Script
+pub mod Shown
+pub mod Split
+pub mod Reports
+pub mod Run
+pub mod Words
+pub mod Wrote
+pub mod Statuses
+pub mod Replayed
+pub mod Emptiness

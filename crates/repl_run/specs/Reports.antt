@@ -1,0 +1,31 @@
+-- What a report tells of a node's environment, where that tells.
+use Rattle.std.specs.Prelude.{◌≡◌, ℕ, List, length, Option, option_map, IfSome}
+use Rattle.port_traits.specs.declared.identity.Identity.{Identity}
+use Rattle.port_traits.specs.declared.identity.Draw.{Draw}
+use Rattle.port_traits.specs.Draws.{handed_out, draws_left}
+
+-- the identity in a report, if there is one, is the one that is told
+abbrev pub IsNamed : Option Identity → Option Identity → Type 0
+IsNamed told identity = IfSome told (λ named. IfSome identity (λ shown. shown ≡ named))
+
+-- the draws in a report are the first of those that were left, in order, the last one repeating
+abbrev pub AreHandedOut : Option (List Draw) → List Draw → Type 0
+AreHandedOut start draws = IfSome start (λ left. draws ≡ handed_out (length draws) left)
+
+-- and what is left now are the draws behind them
+pub record Drawn (start now : Option (List Draw)) (draws : List Draw) : Type 0 where
+  pub handed : AreHandedOut start draws
+  pub left : now ≡ option_map (draws_left (length draws)) start
+
+-- the draws that are told go on with those that were taken in between
+abbrev pub GoesOnDrawing : Option (List Draw) → List Draw → Option (List Draw) → List Draw → Type 0
+GoesOnDrawing before old after new = (start : Option (List Draw)) → Drawn start before old → Drawn start after new
+
+-- the draws that are told are among the first of those that were left, whatever was taken behind them
+abbrev pub StaysHandedOut : Option (List Draw) → List Draw → List Draw → Type 0
+StaysHandedOut before old new = (start : Option (List Draw)) → Drawn start before old → AreHandedOut start new
+
+-- what a report tells of an environment: its identity, if any, and the first of its draws
+pub record Tells (told : Option Identity) (start : Option (List Draw)) (identity : Option Identity) (draws : List Draw) : Type 0 where
+  pub named : IsNamed told identity
+  pub handed : AreHandedOut start draws

@@ -1,0 +1,85 @@
+//! The input read to its end or past the limit, and bytes written whole.
+ghost use Rattle.std.specs.Prelude.{◌≡◌, ◌+◌, ◌<◌, ◌≤◌, ◌++◌, ◌⊎◌, [], length, option_map, IfOk, IfErr, IfSome, OnOk, OnErr, vec_len};
+ghost use Rattle.port_traits.specs.Causes.{HasCause};
+ghost use Rattle.repl_run.specs.Wrote.{Wrote, WroteFront, StopsReading};
+
+use crate::outcome::Status;
+use crate::script::SCRIPT_LIMIT;
+use port_traits::{Failed, Sink, Source};
+use std::alloc::Global;
+use val_types::{Bytes, List, NoMemory};
+
+/// How many bytes are asked of the input at once at most.
+const PIECE: usize = 65_536;
+
+/// A buffer of so many bytes.
+fn make_buffer(alloc: Global, size: usize) -> Result<Vec<u8>, NoMemory>
+    ensures { IfOk result (λ buffer. vec_len buffer ≡ size) }
+{
+    vec![in alloc; 0u8; size]
+}
+
+/// Reads once into the buffer and puts what came to the end of the script; says how many bytes that
+/// were, 0 at the end of the input.
+fn read_piece<S: Source>(
+    input: &mut S,
+    buffer: &mut [u8],
+    script: &mut Bytes,
+) -> Result<usize, Status>
+    requires { 0 < length buffer.old }
+    ensures joined { OnOk result (option_map (λ rest. script.new ++ rest) (S.left input.new)
+        ≡ option_map (λ rest. script.old ++ rest) (S.left input.old)) }
+    ensures size { IfOk result (λ count. (length script.new ≡ length script.old + count)
+        × (count ≤ length buffer.old)) }
+    ensures end { result ≡ Ok 0 → IfSome (S.left input.new) (λ rest. rest ≡ []) }
+    ensures stop { IfErr result (λ status. StopsReading status (S.faults input.old) (S.faults input.new)) }
+    ensures later { S.faults input.old ≤ S.faults input.new }
+{
+    match input.read(buffer) {
+        Ok(count) => {
+            let (piece, _) = buffer.split_at(count);
+            script.extend_from_slice(piece)?;
+            Ok(count)
+        }
+        Err(Failed) => Err(Status::ReadFault),
+    }
+}
+
+/// Reads the input to its end, or one byte past the greatest length of a script.
+pub fn read_script<S: Source>(alloc: Global, input: &mut S) -> Result<Bytes, Status>
+    ensures joined { IfOk result (λ script. option_map (λ rest. script ++ rest) (S.left input.new)
+        ≡ S.left input.old) }
+    ensures end { IfOk result (λ script. IfSome (S.left input.new) (λ rest. (rest ≡ [])
+        ⊎ (67108864 < length script))) }
+    ensures stop { IfErr result (λ status. StopsReading status (S.faults input.old) (S.faults input.new)) }
+    ensures later { S.faults input.old ≤ S.faults input.new }
+{
+    let mut buffer = make_buffer(alloc, PIECE)?;
+    let mut script = List::new(alloc);
+    while script.len() <= SCRIPT_LIMIT {
+        let room = PIECE.min(SCRIPT_LIMIT + 1 - script.len());
+        let (piece, _) = buffer.as_mut_slice().split_at_mut(room);
+        if read_piece(input, piece, &mut script)? == 0 {
+            break;
+        }
+    }
+    Ok(script)
+}
+
+/// Writes all of these bytes.
+pub fn write_all<K: Sink>(out: &mut K, bytes: &[u8]) -> Result<(), Failed>
+    ensures ok { OnOk result (Wrote (K.written out.old) (K.written out.new) bytes.now) }
+    ensures err { OnErr result (WroteFront (K.written out.old) (K.written out.new) bytes.now) }
+    ensures cause { HasCause (K.faults out.old) (K.faults out.new) result }
+{
+    let mut rest = bytes;
+    while !rest.is_empty() {
+        let count = out.write(rest)?;
+        if count == 0 {
+            return Err(Failed);
+        }
+        let (_, behind) = rest.split_at(count);
+        rest = behind;
+    }
+    Ok(())
+}
