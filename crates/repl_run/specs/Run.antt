@@ -1,5 +1,6 @@
 -- What a run over a script comes to.
-use Rattle.std.specs.Prelude.{◌≡◌, ℕ, List, [], Option, Some, Result, Ok, Err}
+use Rattle.std.specs.Prelude.{◌≡◌, ℕ, ◌+◌, List, [], length, Option, Some, IsSome, IfSome, Result, Ok, Err}
+use Rattle.repl_run.specs.declared.reports.Report.{Report}
 use Rattle.repl_run.specs.declared.outcome.Status.{Status}
 use Rattle.repl_run.specs.declared.outcome.Status.TheVariants.{Done, BadWords, BadScript, ReadFault, WriteFault, NoMemory}
 use Rattle.port_traits.specs.Causes.{Rose}
@@ -33,3 +34,15 @@ HasFault (BadScript at) read now write then = Unit {0}
 HasFault ReadFault read now write then = Rose read now
 HasFault WriteFault read now write then = Rose write then
 HasFault NoMemory read now write then = Unit {0}
+
+-- a draw for the opening and one for each command of a script that splits
+abbrev pub CountsDraws : Result (List (List ℕ)) ℕ → ℕ → Type 0
+CountsDraws (Ok texts) draws = draws ≡ length texts + 1
+CountsDraws (Err bad) draws = ⊥
+
+-- the report of a run that was done: both identities, a draw for each opening and for each command
+pub record IsComplete (report : Report) (split : Option (Result (List (List ℕ)) ℕ)) : Type 0 where
+  pub source : IsSome report.src_identity
+  pub replica : IsSome report.rep_identity
+  pub rep_draws : length report.rep_draws ≡ 1
+  pub src_draws : IfSome split (λ commands. CountsDraws commands (length report.src_draws))

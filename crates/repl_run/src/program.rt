@@ -1,12 +1,12 @@
 //! The whole program, over any input, output and environments.
-ghost use Rattle.std.specs.Prelude.{◌≡◌, ◌↔◌, ◌+◌, ◌≤◌, true, false, map, length, string_bytes, IfSome, IfErr, IsSome, OnOk, OnErr};
+ghost use Rattle.std.specs.Prelude.{◌≡◌, ◌↔◌, ◌+◌, ◌≤◌, true, false, map, option_map, length, string_bytes, IfSome, IfErr, IsSome, OnOk, OnErr};
 ghost use Rattle.std.specs.Str.{bytes_eq};
 ghost use Rattle.port_traits.specs.Causes.{Rose};
 ghost use Rattle.repl_run.specs.Reports.{Tells};
 ghost use Rattle.repl_run.specs.Emptiness.{IsEmpty};
 ghost use Rattle.repl_run.specs.Shown.{output_of};
 ghost use Rattle.repl_run.specs.Wrote.{Wrote, WroteFront, StopsWriting};
-ghost use Rattle.repl_run.specs.Run.{RunGives, HasFault, status_of};
+ghost use Rattle.repl_run.specs.Run.{RunGives, HasFault, IsComplete, status_of};
 ghost use Rattle.repl_run.specs.Script.{split_of, size_of_texts};
 ghost use Rattle.repl_run.specs.Words.{asks_run};
 
@@ -95,6 +95,7 @@ fn run<S: Source, K: Sink, E: Env, F: Env>(
     requires { IsEmpty report.old }
     ensures gives { IfSome (S.left input.old) (λ script. RunGives (status_of result) (split_of script)
         (S.left input.new) (K.written out.old) (K.written out.new)) }
+    ensures told { OnOk result (IsComplete report.new (option_map split_of (S.left input.old))) }
     ensures fault { IfErr result (λ status. HasFault status (S.faults input.old) (S.faults input.new)
         (K.faults out.old) (K.faults out.new)) }
     ensures src { Tells (E.told src_env.old) (E.draws src_env.old) report.new.src_identity report.new.src_draws }
@@ -135,6 +136,9 @@ pub fn top<S: Source, K: Sink, E: Env, F: Env>(
     ensures read_fault { result ≡ Status.ReadFault → Rose (S.faults input.old) (S.faults input.new) }
     ensures write_fault { result ≡ Status.WriteFault → Rose (K.faults out.old) (K.faults out.new) }
 
+    // The report: whole at Done, and true at any status.
+    ensures told { result ≡ Status.Done
+        → IsComplete report.new (option_map split_of (S.left input.old)) }
     ensures source { Tells (E.told src_env.old) (E.draws src_env.old)
         report.new.src_identity report.new.src_draws }
     ensures replica { Tells (F.told rep_env.old) (F.draws rep_env.old)

@@ -15,6 +15,8 @@ mod boxed;
 mod duplicate;
 mod list;
 mod ops;
+#[cfg(test)]
+mod tests;
 mod text;
 mod value;
 

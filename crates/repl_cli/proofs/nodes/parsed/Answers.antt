@@ -1,0 +1,9 @@
+use Rattle.std.proofs.Common.{ap, ◌∙◌, arith}
+use Rattle.std.specs.Result.{result_unwrap_or}
+use Rattle.std.proofs.lemmas.Fmt.{parse-decimal}
+use Rattle.repl_cli.proofs.nodes.parsed.Goals as goal
+
+pub returns : goal.returns
+returns c = λ n small e.
+    c.unwrap_or.ensures
+    ∙ ap (λ r. result_unwrap_or r 0) (parse-decimal 32 n c.args.text.now c.parse.result small (omega arith) e c.parse.ensures.value.0)

@@ -1,0 +1,105 @@
+//! Who the two nodes are.
+ghost use Rattle.std.specs.Prelude.{◌≡◌, ◌≢◌, ◌<◌, ◌^◌, ℕ, IfOk};
+ghost use Rattle.std.specs.Fmt.{decimal};
+ghost use Rattle.std.specs.Str.{bytes_eq};
+
+use port_traits::Identity;
+use std::alloc::{AllocError, Global};
+use std::env;
+use std::env::VarError;
+use val_types::{List, NoMemory};
+
+/// The environment variable with the number of the source's server.
+const SERVER_ID_VARIABLE: &str = "REPL_SERVER_ID";
+
+/// The number of the source's server where the variable gives none.
+const SOURCE_ID: u32 = 1;
+
+/// The number of the replica's server.
+const REPLICA_ID: u32 = 2;
+
+/// The number that a text is, 0 where it is none of 32 bits. Signs and leading zeros are passed over.
+fn parsed(text: &str) -> u32
+    ensures { (n : ℕ) → n < 2 ^ 32 → text.now ≡ decimal n → result ≡ n }
+{
+    text.parse::<u32>().unwrap_or(0)
+}
+
+/// Whether a text is a number as it is printed.
+fn prints_as(alloc: Global, number: u32, text: &str) -> Result<bool, NoMemory>
+    ensures { IfOk result (λ same. same ≡ bytes_eq (decimal number) text.now) }
+{
+    Ok(number.to_string(alloc)?.as_str() == text)
+}
+
+/// The number that a text gives: a decimal number from 1 to 4294967295 without sign or leading zero,
+/// and 1 for any other text.
+fn server_id_of(alloc: Global, text: &str) -> Result<u32, NoMemory>
+    ensures number { IfOk result (λ id. (n : ℕ) → 0 < n → n < 2 ^ 32 → text.now ≡ decimal n → id ≡ n) }
+    ensures other { IfOk result (λ id. ((n : ℕ) → 0 < n → n < 2 ^ 32 → text.now ≢ decimal n) → id ≡ 1) }
+{
+    let number = parsed(text);
+    if number == 0 {
+        return Ok(SOURCE_ID);
+    }
+    if prints_as(alloc, number, text)? {
+        Ok(number)
+    } else {
+        Ok(SOURCE_ID)
+    }
+}
+
+/// The number of the source's server.
+fn source_id(rt: &HostRuntime) -> Result<u32, NoMemory> {
+    match env::var(rt, SERVER_ID_VARIABLE) {
+        Ok(text) => server_id_of(rt.alloc(), text.as_str()),
+        Err(VarError::OutOfMemory) => Err(AllocError),
+        Err(_) => Ok(SOURCE_ID),
+    }
+}
+
+/// The source: `root@localhost`, with the number that the environment variable gives.
+pub fn source_identity(rt: &HostRuntime) -> Result<Identity, NoMemory> {
+    Ok(Identity {
+        server_id: source_id(rt)?,
+        user: List::from_slice(rt.alloc(), b"root@localhost")?,
+    })
+}
+
+/// The replica: `rep@localhost`, server 2.
+pub fn replica_identity(alloc: Global) -> Result<Identity, NoMemory> {
+    Ok(Identity {
+        server_id: REPLICA_ID,
+        user: List::from_slice(alloc, b"rep@localhost")?,
+    })
+}
+
+#[cfg(test)]
+mod tests {
+    use super::*;
+    use std::test::Fail;
+
+    #[test]
+    fn numbers_of_servers(rt: HostRuntime) -> Result<(), Fail> {
+        for (text, id) in [
+            ("1", 1),
+            ("2", 2),
+            ("4294967295", 4294967295),
+            ("4294967296", 1),
+            ("0", 1),
+            ("007", 1),
+            ("+7", 1),
+            (" 7", 1),
+            ("7x", 1),
+            ("", 1),
+        ] {
+            assert_eq!(rt; server_id_of(rt.alloc(), text)?, id, "of {text:?}");
+        }
+        let source = source_identity(&rt)?;
+        assert_eq!(rt; source.user.as_slice(), b"root@localhost".as_slice());
+        let replica = replica_identity(rt.alloc())?;
+        assert_eq!(rt; replica.server_id, 2);
+        assert_eq!(rt; replica.user.as_slice(), b"rep@localhost".as_slice());
+        Ok(())
+    }
+}

@@ -1,0 +1,6 @@
+mod KeywordLaws
+mod Steps
+mod Fronts
+mod BlankLaws
+mod SpanLaws
+mod Spelled

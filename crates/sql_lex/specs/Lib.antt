@@ -1,0 +1,10 @@
+pub mod Folded
+pub mod Quotes
+pub mod Blanks
+pub mod Keywords
+pub mod Begins
+pub mod Plain
+pub mod Pieces
+pub mod Lexes
+pub mod Spans
+pub mod Spelled

@@ -1,0 +1,42 @@
+//! A statement's text as tokens with their places.
+//!
+//! The lexer stands above `val_types` and below the parser. It follows "Lexical Structure" of the
+//! MySQL 5.7 manual for a subset: words, names in backquotes, decimal numbers, strings and
+//! hexadecimal literals, symbols, white space and comments.
+//!
+//! A [`Token`] is a kind and a slice of the text. What it says, its plain token, is a function of
+//! its kind and its bytes, so that [`name_of`], [`text_of`] and [`keyword_at`] need nothing else. A
+//! relation gives the tokens of each text with their places, one list a text: [`lex`] gives them
+//! for a whole text, and [`lex_front`] up to the first byte that begins no token.
+//!
+//! - `token`: [`Token`], [`TokenKind`], [`Symbol`] and a token's bytes
+//! - `keyword`: [`Keyword`], the words of the grammar, and which of them are reserved
+//! - `blanks`: white space and comments
+//! - `quotes`: strings and names in their quotes, and what they stand for
+//! - `scan`: the token that a text begins with
+//! - `pieces`: white space, a comment or a token
+//! - `lexer`: the tokens of a text
+//! - `names`: what tokens say
+//! - `laws`: what holds of the tokens of every text
+//! - `written`: what is written as a token is read as it
+#![tactic(auto)]
+
+mod blanks;
+mod keyword;
+mod laws;
+mod lexer;
+mod names;
+mod pieces;
+mod quotes;
+mod scan;
+#[cfg(test)]
+mod tests;
+mod token;
+mod written;
+
+pub use keyword::{Keyword, keywords_have_words};
+pub use laws::{one_reading, tokens_are_slices, tokens_say};
+pub use lexer::{LexRefusal, lex, lex_front};
+pub use names::{keyword_at, name_of, text_of};
+pub use token::{Symbol, Token, TokenKind, Tokens, bytes_of};
+pub use written::written_is_read;
