@@ -1,5 +1,5 @@
 //! Who the two nodes are.
-ghost use Rattle.std.specs.Prelude.{◌≡◌, ◌≢◌, ◌<◌, ◌^◌, ℕ, IfOk};
+ghost use Rattle.std.specs.Prelude.{◌≡◌, ◌≢◌, ◌<◌, ◌^◌, ℕ, codes, IfOk};
 ghost use Rattle.std.specs.Fmt.{decimal};
 ghost use Rattle.std.specs.Str.{bytes_eq};
 
@@ -59,7 +59,9 @@ fn source_id(rt: &HostRuntime) -> Result<u32, NoMemory> {
 }
 
 /// The source: `root@localhost`, with the number that the environment variable gives.
-pub fn source_identity(rt: &HostRuntime) -> Result<Identity, NoMemory> {
+pub fn source_identity(rt: &HostRuntime) -> Result<Identity, NoMemory>
+    ensures { IfOk result (λ node. node.user ≡ codes "root@localhost") }
+{
     Ok(Identity {
         server_id: source_id(rt)?,
         user: List::from_slice(rt.alloc(), b"root@localhost")?,
@@ -67,7 +69,10 @@ pub fn source_identity(rt: &HostRuntime) -> Result<Identity, NoMemory> {
 }
 
 /// The replica: `rep@localhost`, server 2.
-pub fn replica_identity(alloc: Global) -> Result<Identity, NoMemory> {
+pub fn replica_identity(alloc: Global) -> Result<Identity, NoMemory>
+    ensures number { IfOk result (λ node. node.server_id ≡ 2) }
+    ensures user { IfOk result (λ node. node.user ≡ codes "rep@localhost") }
+{
     Ok(Identity {
         server_id: REPLICA_ID,
         user: List::from_slice(alloc, b"rep@localhost")?,
