@@ -3,80 +3,116 @@
 use crate::{Boxed, Bytes, Duplicate, List, Row, Value, key_cmp, row_text, value_text};
 use std::alloc::Global;
 use std::cmp::Ordering;
+use std::process::Abort;
 use std::test::Fail;
 
-fn text(alloc: Global, bytes: &[u8]) -> Result<Value, Fail> {
-    Ok(Value::Text(List::from_slice(alloc, bytes)?))
+/// A value as a table of tests holds it.
+enum Part {
+    Null,
+    Int(i64),
+    Text(&'static [u8]),
 }
 
-fn row(alloc: Global, values: Vec<Value>) -> Result<Row, Fail> {
-    let _ = alloc;
-    Ok(List::from_vec(values))
+fn value(alloc: Global, part: &Part) -> Result<Value, Fail> {
+    Ok(match part {
+        Part::Null => Value::Null,
+        Part::Int(number) => Value::Int(*number),
+        Part::Text(bytes) => Value::Text(List::from_slice(alloc, *bytes)?),
+    })
+}
+
+fn row(alloc: Global, parts: &[Part]) -> Result<Row, Fail> {
+    let mut values = List::new(alloc);
+    for part in parts {
+        values.push(value(alloc, part)?)?;
+    }
+    Ok(values)
+}
+
+/// Values with their text.
+static TEXTS: [(Part, &[u8]); 14] = [
+    (Part::Null, b"NULL"),
+    (Part::Int(0), b"0"),
+    (Part::Int(-5), b"-5"),
+    (Part::Int(i64::MAX), b"9223372036854775807"),
+    (Part::Int(i64::MIN), b"-9223372036854775808"),
+    (Part::Text(b""), b"''"),
+    (Part::Text(b"pen ~!\""), b"'pen ~!\"'"),
+    (Part::Text(b"it's"), b"X'69742773'"),
+    (Part::Text(b"a\\b"), b"X'615C62'"),
+    (Part::Text(b"\x00\x27"), b"X'0027'"),
+    (Part::Text(b"\x1f"), b"X'1F'"),
+    (Part::Text(b" ~"), b"' ~'"),
+    (Part::Text(b"\x7f"), b"X'7F'"),
+    (Part::Text(b"\xff\xab"), b"X'FFAB'"),
+];
+
+fn expect_text(rt: &impl Abort, alloc: Global, part: &Part, shown: &[u8]) -> Result<(), Fail> {
+    let value = value(alloc, part)?;
+    assert_eq!(rt; value_text(alloc, &value)?.as_slice(), shown, "{value:?}");
+    Ok(())
 }
 
 #[test]
 fn values_as_text(rt: HostRuntime) -> Result<(), Fail> {
-    let alloc = rt.alloc();
-    for (value, shown) in [
-        (Value::Null, "NULL"),
-        (Value::Int(0), "0"),
-        (Value::Int(-5), "-5"),
-        (Value::Int(i64::MAX), "9223372036854775807"),
-        (Value::Int(i64::MIN), "-9223372036854775808"),
-        (text(alloc, b"")?, "''"),
-        (text(alloc, b"pen ~!\"")?, "'pen ~!\"'"),
-        (text(alloc, b"it's")?, "X'69742773'"),
-        (text(alloc, b"a\\b")?, "X'615C62'"),
-        (text(alloc, &[0x00, 0x27])?, "X'0027'"),
-        (text(alloc, &[0x1f])?, "X'1F'"),
-        (text(alloc, &[0x20, 0x7e])?, "' ~'"),
-        (text(alloc, &[0x7f])?, "X'7F'"),
-        (text(alloc, &[0xff, 0xab])?, "X'FFAB'"),
-    ] {
-        assert_eq!(rt;
-            value_text(alloc, &value)?.as_slice(),
-            shown.as_bytes(),
-            "{value:?}"
-        );
+    for (part, shown) in &TEXTS {
+        expect_text(&rt, rt.alloc(), part, *shown)?;
     }
-    let values = row(
-        alloc,
-        vec![in alloc; Value::Int(1), Value::Null, text(alloc, b"x")?]?,
-    )?;
-    assert_eq!(rt;
-        row_text(alloc, &values)?.as_slice(),
-        b"1, NULL, 'x'".as_slice()
-    );
-    assert_eq!(rt;
-        row_text(alloc, &List::new(alloc))?.as_slice(),
-        b"".as_slice()
-    );
     Ok(())
+}
+
+fn expect_row_text(
+    rt: &impl Abort,
+    alloc: Global,
+    parts: &[Part],
+    shown: &[u8],
+) -> Result<(), Fail> {
+    let row = row(alloc, parts)?;
+    assert_eq!(rt; row_text(alloc, &row)?.as_slice(), shown, "{row:?}");
+    Ok(())
+}
+
+#[test]
+fn rows_as_text(rt: HostRuntime) -> Result<(), Fail> {
+    let alloc = rt.alloc();
+    expect_row_text(&rt, alloc, &[], b"")?;
+    expect_row_text(
+        &rt,
+        alloc,
+        &[Part::Int(1), Part::Null, Part::Text(b"x")],
+        b"1, NULL, 'x'",
+    )
+}
+
+/// Keys, each below the next.
+static KEYS: [&[Part]; 13] = [
+    &[],
+    &[Part::Null],
+    &[Part::Null, Part::Int(0)],
+    &[Part::Int(i64::MIN)],
+    &[Part::Int(-1), Part::Int(7)],
+    &[Part::Int(2), Part::Null],
+    &[Part::Int(10)],
+    &[Part::Text(b"")],
+    &[Part::Text(b"10")],
+    &[Part::Text(b"9")],
+    &[Part::Text(b"a")],
+    &[Part::Text(b"ab")],
+    &[Part::Text(b"\xff")],
+];
+
+fn expect_order(rt: &impl Abort, a: &Row, b: &Row, order: Ordering) {
+    assert_eq!(rt; key_cmp(a, b), order, "{a:?} and {b:?}");
+    assert_eq!(rt; a == b, order == Ordering::Equal, "{a:?} and {b:?}");
 }
 
 #[test]
 fn keys_in_their_order(rt: HostRuntime) -> Result<(), Fail> {
     let alloc = rt.alloc();
-    // Each key is below the next.
-    let keys = vec![in alloc;
-        row(alloc, Vec::new(alloc))?,
-        row(alloc, vec![in alloc; Value::Null]?)?,
-        row(alloc, vec![in alloc; Value::Null, Value::Int(0)]?)?,
-        row(alloc, vec![in alloc; Value::Int(i64::MIN)]?)?,
-        row(alloc, vec![in alloc; Value::Int(-1), Value::Int(7)]?)?,
-        row(alloc, vec![in alloc; Value::Int(2), Value::Null]?)?,
-        row(alloc, vec![in alloc; Value::Int(10)]?)?,
-        row(alloc, vec![in alloc; text(alloc, b"")?]?)?,
-        row(alloc, vec![in alloc; text(alloc, b"10")?]?)?,
-        row(alloc, vec![in alloc; text(alloc, b"9")?]?)?,
-        row(alloc, vec![in alloc; text(alloc, b"a")?]?)?,
-        row(alloc, vec![in alloc; text(alloc, b"ab")?]?)?,
-        row(alloc, vec![in alloc; text(alloc, &[0xff])?]?)?,
-    ]?;
-    for (i, a) in keys.iter().enumerate() {
-        for (j, b) in keys.iter().enumerate() {
-            assert_eq!(rt; key_cmp(a, b), i.cmp(&j), "{a:?} and {b:?}");
-            assert_eq!(rt; a == b, key_cmp(a, b) == Ordering::Equal, "{a:?} and {b:?}");
+    for (i, a) in KEYS.iter().enumerate() {
+        let a = row(alloc, *a)?;
+        for (j, b) in KEYS.iter().enumerate() {
+            expect_order(&rt, &a, &row(alloc, *b)?, i.cmp(&j));
         }
         assert_eq!(rt; a.duplicate(alloc)?, a.clone()?, "{a:?}");
     }
