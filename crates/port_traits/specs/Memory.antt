@@ -5,13 +5,14 @@ use Rattle.port_traits.specs.declared.identity.Identity.{Identity}
 use Rattle.port_traits.specs.declared.identity.Draw.{Draw}
 
 -- a source in memory: what is left, the numbers of the calls that fail, how many bytes a call gives
--- at most, and how many calls and faults there were
+-- at most, how many calls and faults there were, and how many calls from its end on
 pub record SourceState : Type 0 where
   pub left : List ℕ
   pub fails : List ℕ
   pub piece : ℕ
   pub calls : ℕ
   pub faults : ℕ
+  pub ended : ℕ
 
 -- a sink in memory: what was written, and the rest as in a source
 pub record SinkState : Type 0 where
@@ -20,6 +21,7 @@ pub record SinkState : Type 0 where
   pub piece : ℕ
   pub calls : ℕ
   pub faults : ℕ
+  pub ended : ℕ
 
 -- an environment in memory: whose it is, and the draws left
 pub record EnvState : Type 0 where

@@ -1,5 +1,6 @@
 -- What a read takes from a stream of bytes, and what a write adds to one.
-use Rattle.std.specs.Prelude.{◌≡◌, ℕ, ◌<◌, ◌≤◌, List, ◌++◌, length, take, drop, Option, Result, MatchResult, IfSome, option_map}
+use Rattle.std.specs.Prelude.{◌≡◌, ℕ, ◌<◌, ◌≤◌, zero, suc, Bool, true, false, ◌||◌, nat_lt, if◌then◌else◌, List, ◌++◌, length, take, drop, Option, Result, Ok, Err, MatchResult, IfSome, option_map}
+use Rattle.port_traits.specs.Causes.{one_more}
 
 -- `count` bytes went from the front of what was left into the front of the buffer; what is said of
 -- the bytes holds where the stream tells what it has left
@@ -23,3 +24,15 @@ pub record Put (before after : Option (List ℕ)) (count : ℕ) (piece : List �
 -- a write adds the front of the piece at Ok, and nothing at Err
 abbrev pub Puts : {E : Type 0} → Option (List ℕ) → Option (List ℕ) → Result ℕ E → List ℕ → Type 0
 Puts before after result piece = MatchResult result (λ count. Put before after count piece) (λ _. after ≡ before)
+
+-- ---- the end of a stream, and the calls from there on
+
+-- whether a call on these bytes is the end of its stream: it failed, or there was room and it took none
+abbrev pub is_end : {E : Type 0} → Result ℕ E → List ℕ → Bool
+is_end (Ok zero) bytes = nat_lt 0 (length bytes)
+is_end (Ok (suc n)) bytes = false
+is_end (Err e) bytes = true
+
+-- how many calls there were from the first one on that was the end, after one call more: 0 while none was
+abbrev pub ended_after : ℕ → Bool → ℕ
+ended_after ended end = if end || nat_lt 0 ended then one_more ended else 0

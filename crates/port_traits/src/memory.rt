@@ -1,7 +1,7 @@
 //! A source, a sink and an environment in memory, which tell what they have and hold.
 ghost use Rattle.std.specs.Prelude.{◌≡◌, ◌-◌, ◌^◌, ◌<◌, [], length, min, Some, IfOk, if◌then◌else◌, is_err, IsTrue, IsErr};
 ghost use Rattle.port_traits.specs.Causes.{HasCause, Rose, one_more};
-ghost use Rattle.port_traits.specs.Streams.{Takes, Puts};
+ghost use Rattle.port_traits.specs.Streams.{Takes, Puts, ended_after, is_end};
 ghost use Rattle.port_traits.specs.Memory.{is_among};
 
 use crate::calls::Calls;
@@ -35,6 +35,7 @@ impl Model for MemSource {
       piece = s.piece;
       calls = s.calls.count;
       faults = s.calls.faults;
+      ended = s.calls.ended;
     } };
 
     ghost invariant = { λ s. (s.place ≤ length s.bytes) × (0 < s.piece) };
@@ -48,6 +49,7 @@ impl MemSource {
         ensures piece { result.piece ≡ 2 ^ 64 - 1 }
         ensures calls { result.calls ≡ 0 }
         ensures faults { result.faults ≡ 0 }
+        ensures ended { result.ended ≡ 0 }
     {
         MemSource {
             bytes: left,
@@ -80,9 +82,12 @@ impl Source for MemSource {
 
     ghost faults = { λ s. s.faults };
 
+    ghost ended = { λ s. s.ended };
+
     fn read(&mut self, buf: &mut [u8]) -> Result<usize, Failed>
         ensures takes { Takes (Some self.old.left) (Some self.new.left) result buf.new }
         ensures cause { HasCause self.old.faults self.new.faults result }
+        ensures ended { self.new.ended ≡ ended_after self.old.ended (is_end result buf.new) }
         ensures count { IfOk result (λ count. count ≡ min (min (length buf.old) (length self.old.left)) self.old.piece) }
         ensures fails { is_err result ≡ is_among self.old.fails (one_more self.old.calls) }
         ensures counted { self.new.calls ≡ one_more self.old.calls }
@@ -95,6 +100,9 @@ impl Source for MemSource {
         let count = buf.len().min(left.len()).min(self.piece);
         buf[..count].copy_from_slice(&left[..count]);
         self.place += count;
+        if count == 0 && !buf.is_empty() {
+            self.calls.end();
+        }
         Ok(count)
     }
 }
@@ -119,6 +127,7 @@ impl Model for MemSink {
       piece = s.piece;
       calls = s.calls.count;
       faults = s.calls.faults;
+      ended = s.calls.ended;
     } };
 
     ghost invariant = { λ s. 0 < s.piece };
@@ -133,6 +142,7 @@ impl MemSink {
         ensures piece { result.piece ≡ 2 ^ 64 - 1 }
         ensures calls { result.calls ≡ 0 }
         ensures faults { result.faults ≡ 0 }
+        ensures ended { result.ended ≡ 0 }
     {
         MemSink {
             written: List::new(alloc),
@@ -171,11 +181,14 @@ impl Sink for MemSink {
 
     ghost faults = { λ s. s.faults };
 
+    ghost ended = { λ s. s.ended };
+
     fn write(&mut self, piece: &[u8]) -> Result<usize, Failed>
         ensures puts { Puts (Some self.old.written) (Some self.new.written) result piece.now }
         ensures cause { HasCause self.old.faults self.new.faults result }
         ensures none_taken { result ≡ Ok 0 → 0 < length piece.now
             → Rose self.old.faults self.new.faults }
+        ensures ended { self.new.ended ≡ ended_after self.old.ended (is_end result piece.now) }
         ensures count { IfOk result (λ count. count ≡ min (length piece.now) self.old.piece) }
         ensures fails { IsTrue (is_among self.old.fails (one_more self.old.calls)) → IsErr result }
         ensures counted { self.new.calls ≡ one_more self.old.calls }

@@ -3,8 +3,10 @@ pub mod Commands
 pub mod Drawing
 pub mod InsertLaws
 pub mod LogLaws
+pub mod Merging
 pub mod Numbers
 pub mod Outcomes
+pub mod Reading
 pub mod ReadingLaws
 pub mod Running
 pub mod SplitSize

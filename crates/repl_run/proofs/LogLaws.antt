@@ -1,5 +1,5 @@
 -- How long the events of a transaction are, and that they can be written.
-use Rattle.std.proofs.Common.{◌≡◌, ℕ, ◌+◌, ◌-◌, ◌^◌, ◌<◌, ◌≤◌, true, false, cond, List, [], ◌∷◌, ◌++◌, length, drop, codes, Option, Some, None, suc, Bool, nat_lt, arith, ap, sym, ◌∙◌, append_assoc, append-nil, length-append, refl}
+use Rattle.std.proofs.Common.{◌≡◌, ℕ, ◌+◌, ◌-◌, ◌^◌, ◌<◌, ◌≤◌, true, false, cond, List, [], ◌∷◌, ◌++◌, length, drop, map, codes, Option, Some, None, suc, Bool, nat_lt, arith, ap, sym, ◌∙◌, append_assoc, append-nil, length-append, refl}
 use Rattle.std.specs.Str.{bytes_eq}
 use Rattle.std.proofs.Math.Seq.{drop-append_seam, drop-length}
 use Rattle.std.proofs.lemmas.List.{drop-append-le}
@@ -11,10 +11,12 @@ use Rattle.event_codec.proofs.RoundTrip.{length-event_bytes, read-query, read-xi
 use Rattle.event_codec.specs.Reading.{reading}
 use Rattle.repl_run.specs.Insert.{insert_of}
 use Rattle.repl_run.specs.Log.{SourceState, statement, header, transaction, server_version, magic, head, opened, source_after, with_transaction}
-use Rattle.repl_run.specs.Machine.{put, is_taken, accepted, accepted_insert}
+use Rattle.repl_run.specs.Machine.{row_of, put, is_taken, accepted, accepted_insert}
+use Rattle.repl_run.specs.TableRows.{put_row}
 use Rattle.repl_run.specs.Carried.{query_of, xid_size, group_with, group_behind, group_of, carried, carried_log, Carried}
 use Rattle.repl_run.specs.Replayed.{IsReplayed}
 use Rattle.repl_run.proofs.Carrying.{group_turn}
+use Rattle.repl_run.proofs.Merging.{put_pair, has_pair}
 
 pub length-statement : (text : List ℕ) (h : Header) → length (event_bytes (statement text) h) ≡ 35 + length text
 length-statement text h = length-event_bytes (statement text) h tt
@@ -133,14 +135,15 @@ replayed_more row text stamp source is free small room replayed =
       head = omega (arith, replayed.head);
       goes = λ turns more.
           let of_group = group_of_transaction row text stamp source.server (length source.rows + 1) place more is (omega arith) number small in
-          let turn : carried (suc turns) place (group ++ more) source.rows ≡ carried turns (place + (102 + length text)) (drop (102 + length text) (group ++ more)) (put row source.rows) =
-          group_turn turns place (group ++ more) source.rows row (102 + length text) (omega (arith, length-append group more)) of_group free in
+          let turn : carried (suc turns) place (group ++ more) (map row_of source.rows) ≡ carried turns (place + (102 + length text)) (drop (102 + length text) (group ++ more)) (put_row row (map row_of source.rows)) =
+          group_turn turns place (group ++ more) (map row_of source.rows) row (102 + length text) (omega (arith, length-append group more)) of_group (has_pair row.0 source.rows ∙ free) in
           let begins : carried (turns + length (put row source.rows)) 123 (drop 123 (source.log ++ group) ++ more) [] ≡ carried (suc turns + length source.rows) 123 (drop 123 source.log ++ (group ++ more)) [] =
           ap (λ n. carried n 123 (drop 123 (source.log ++ group) ++ more) []) (omega arith)
           ∙ ap (λ rest. carried (suc turns + length source.rows) 123 rest []) (ap (λ d. d ++ more) split ∙ append_assoc (drop 123 source.log) group more) in
           begins ∙ replayed.goes (suc turns) (group ++ more) ∙ turn
-          ∙ ap (λ rest. carried turns (place + (102 + length text)) rest (put row source.rows)) (drop_event group more (102 + length text) long)
-          ∙ ap (λ at. carried turns at more (put row source.rows)) (sym whole);
+          ∙ ap (λ rest. carried turns (place + (102 + length text)) rest (put_row row (map row_of source.rows))) (drop_event group more (102 + length text) long)
+          ∙ ap (λ at. carried turns at more (put_row row (map row_of source.rows))) (sym whole)
+          ∙ ap (carried turns (length (source.log ++ group)) more) (put_pair row source.rows);
     }
 
 by_taken : (t : Bool) (row : ℕ × ℕ) (text : List ℕ) (stamp : ℕ) (source : SourceState) → is_taken row.0 source.rows ≡ t → insert_of text ≡ Some row → stamp < 2 ^ 32
@@ -157,7 +160,7 @@ pub replayed_after : (text : List ℕ) (stamp : ℕ) (source : SourceState) → 
 replayed_after text stamp source small room replayed = by_insert (insert_of text) text stamp source refl small room replayed
 
 -- the whole log
-pub replayed_log : (source : SourceState) → IsReplayed source → carried_log source.log [] ≡ record { stop = None; rows = source.rows }
+pub replayed_log : (source : SourceState) → IsReplayed source → carried_log source.log [] ≡ record { stop = None; rows = map row_of source.rows }
 replayed_log source replayed =
     let long : nat_lt (length source.log) 123 ≡ false = grind (arith, nat_tests, replayed.head) in
     let turns : length source.log ≡ length source.log - length source.rows + length source.rows = omega (arith, replayed.head) in

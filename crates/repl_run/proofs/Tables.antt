@@ -1,16 +1,12 @@
 -- The rows of the table against the entries of an ordered map.
-use Rattle.std.proofs.Common.{◌≡◌, ℕ, ◌<◌, List, [], ◌∷◌, Bool, true, false, ◌||◌, cond, nat_lt, nat_eq, ◌==◌, ◌+◌, ◌++◌, suc, length, take, drop, get_or, map, add-one, drop-cons, Ordering, Less, Equal, Greater, Option, Some, None, is_some, refl, sym, ap, ◌∙◌, arith}
+use Rattle.std.proofs.Common.{◌≡◌, ℕ, ◌<◌, List, [], ◌∷◌, Bool, true, false, ◌||◌, cond, nat_lt, nat_eq, ◌==◌, Ordering, Less, Equal, Greater, Option, Some, None, is_some, refl, sym, ap, ◌∙◌, arith}
 use Rattle.std.specs.Ordering.{nat_cmp, is_eq, match_ordering, MatchOrdering}
 use Rattle.std.specs.List.{list_any}
 use Rattle.std.specs.Map.{lookup}
 use Rattle.std.specs.BTreeMap.{insert_entry}
 use Rattle.std.proofs.lemmas.Cmp.{ranked}
 use Rattle.std.proofs.lemmas.Bool.Decides.{nat_tests}
-use Rattle.std.proofs.Math.Seq.{take-suc}
-use Rattle.std.proofs.lemmas.List.{take-append-drop, map-append}
-use Rattle.val_types.specs.declared.value.Value.{Value}
 use Rattle.repl_run.specs.Machine.{is_taken, put}
-use Rattle.repl_run.specs.Carried.{IsRising, pair_of, pairs_of}
 
 same_test : (id k : ℕ) → is_eq (nat_cmp id k) ≡ (k == id)
 same_test id k = by_rank (nat_cmp id k) refl (ranked id k (nat_cmp id k) refl)
@@ -52,36 +48,25 @@ insert_entry_is_put id v (r ∷ rows) free =
     let parts = both_false (r.0 == id) (is_taken id rows) free in
     placed_by id v r rows (insert_entry nat_cmp rows id v) (nat_cmp id r.0) refl parts.0 (ranked id r.0 (nat_cmp id r.0) refl) (insert_entry_is_put id v rows parts.1)
 
--- ---- rows that rise by their ids
+taken_by : (t : Bool) (row r : ℕ × ℕ) (rows more : List (ℕ × ℕ)) (id : ℕ) → is_taken id more ≡ (row.0 == id || is_taken id rows)
+    → is_taken id (cond t (row ∷ r ∷ rows) (r ∷ more)) ≡ (row.0 == id || is_taken id (r ∷ rows))
+taken_by true row r rows more id same = refl
+taken_by false row r rows more id same = ap (λ t. r.0 == id || t) same ∙ swapped (r.0 == id) (row.0 == id) (is_taken id rows)
+  where
+    swapped : (a b c : Bool) → (a || (b || c)) ≡ (b || (a || c))
+    swapped true true c = refl
+    swapped true false c = refl
+    swapped false b c = refl
 
-tail_rises : (a : ℕ × ℕ) (rows : List (ℕ × ℕ)) → IsRising (a ∷ rows) → IsRising rows
-tail_rises a [] rising = tt
-tail_rises a (b ∷ rows) rising = rising.1
+-- the ids that are taken when a row was put
+pub taken_put : (row : ℕ × ℕ) (rows : List (ℕ × ℕ)) (id : ℕ) → is_taken id (put row rows) ≡ (row.0 == id || is_taken id rows)
+taken_put row [] id = refl
+taken_put row (r ∷ rows) id = taken_by (nat_lt row.0 r.0) row r rows (put row rows) id (taken_put row rows id)
 
-first_below : (a : ℕ × ℕ) (xs : List (ℕ × ℕ)) (r : ℕ × ℕ) (ys : List (ℕ × ℕ)) → IsRising (a ∷ (xs ++ r ∷ ys)) → a.0 < r.0
-first_below a [] r ys rising = rising.0
-first_below a (b ∷ xs) r ys rising =
-    let rest = first_below b xs r ys rising.1 in
-    let step : a.0 < b.0 = rising.0 in
-    omega arith
-
--- a row above all others has a free id, and goes to the end
-pub last_goes_last : (xs : List (ℕ × ℕ)) (r : ℕ × ℕ) (ys : List (ℕ × ℕ)) → IsRising (xs ++ r ∷ ys) → (is_taken r.0 xs ≡ false) × (put r xs ≡ xs ++ r ∷ [])
-last_goes_last [] r ys rising = (refl, refl)
-last_goes_last (a ∷ xs) r ys rising =
-    let below = first_below a xs r ys rising in
-    let rest = last_goes_last xs r ys (tail_rises a (xs ++ r ∷ ys) rising) in
-    let other : (a.0 == r.0) ≡ false = grind (arith, nat_tests) in
-    let later : nat_lt r.0 a.0 ≡ false = grind (arith, nat_tests) in
-    (rw other rest.0, rw later (ap (λ rows. a ∷ rows) rest.1))
-
--- the next row of a table, behind those before it
-pub next_row : (rows : List (List Value)) (i : ℕ) (r : List Value) → i < length rows → r ≡ get_or rows i r → IsRising (pairs_of rows)
-    → (is_taken (pair_of r).0 (pairs_of (take i rows)) ≡ false) × (put (pair_of r) (pairs_of (take i rows)) ≡ pairs_of (take (i + 1) rows))
-next_row rows i r within is rising =
-    let split : drop i rows ≡ r ∷ drop (i + 1) rows = rw add-one (drop-cons rows i r within ∙ ap (λ x. x ∷ drop (suc i) rows) (sym is)) in
-    let whole : pairs_of rows ≡ pairs_of (take i rows) ++ pair_of r ∷ pairs_of (drop (i + 1) rows) =
-    ap pairs_of (sym (take-append-drop i rows) ∙ ap (λ rest. take i rows ++ rest) split) ∙ map-append pair_of (take i rows) (r ∷ drop (i + 1) rows) in
-    let front : take (i + 1) rows ≡ take i rows ++ r ∷ [] = rw add-one (take-suc rows i r within ∙ ap (λ x. take i rows ++ x ∷ []) (sym is)) in
-    let last = last_goes_last (pairs_of (take i rows)) (pair_of r) (pairs_of (drop (i + 1) rows)) (rw whole at rising) in
-    (last.0, last.1 ∙ sym (ap pairs_of front ∙ map-append pair_of (take i rows) (r ∷ [])))
+-- an id that was taken already
+pub taken_again : (id other : ℕ) (rows : List (ℕ × ℕ)) → is_taken id rows ≡ true → is_taken other rows ≡ (id == other || is_taken other rows)
+taken_again id other rows taken = by_test (id == other) refl
+  where
+    by_test : (t : Bool) → (id == other) ≡ t → is_taken other rows ≡ (t || is_taken other rows)
+    by_test false e = refl
+    by_test true e = let same : id ≡ other = grind (arith, nat_tests) in ap (λ n. is_taken n rows) (sym same) ∙ taken

@@ -1,7 +1,8 @@
 -- Bytes that come to the end of a stream, piece by piece.
-use Rattle.std.proofs.Common.{◌≡◌, ℕ, ◌+◌, ◌<◌, suc, get_or, add-one, drop-cons, List, [], ◌∷◌, ◌++◌, length, take, drop, Option, Some, None, option_map, refl, sym, ap, ◌∙◌, append_assoc, append-nil}
+use Rattle.std.proofs.Common.{◌≡◌, ℕ, ◌+◌, ◌<◌, zero, suc, false, Ok, get_or, add-one, drop-cons, List, [], ◌∷◌, ◌++◌, length, take, drop, Option, Some, None, option_map, refl, sym, ap, ◌∙◌, append_assoc, append-nil}
 use Rattle.std.proofs.lemmas.List.{take-append-drop}
 use Rattle.val_types.specs.declared.value.Value.{Value}
+use Rattle.port_traits.specs.Streams.{ended_after, is_end}
 use Rattle.repl_run.specs.Wrote.{Wrote, WroteFront, Writing}
 use Rattle.repl_run.specs.Shown.{row_line, row_lines}
 
@@ -28,6 +29,11 @@ writing_stops before now whole rest writing = record { front = writing.front; re
 
 pub writing_ends : (before now : Option (List ℕ)) (whole : List ℕ) → Writing before now whole [] → Wrote before now whole
 writing_ends before now whole writing = writing.wrote ∙ ap (λ bytes. option_map (λ written. written ++ bytes) before) (sym (append-nil writing.front) ∙ writing.split)
+
+-- a write that took bytes was not the end of a stream that went on
+pub goes_on : (E : Type 0) (count old now : ℕ) (bytes : List ℕ) → (count ≡ 0 → ⊥) → now ≡ ended_after old (is_end {E = E} (Ok count) bytes) → old ≡ 0 → now ≡ 0
+goes_on E zero old now bytes some is fresh = absurd (some refl)
+goes_on E (suc count) old now bytes some is fresh = is ∙ ap (λ n. ended_after n false) fresh
 
 -- a piece more was written
 pub writing_on : (before between after : Option (List ℕ)) (whole piece rest : List ℕ) → Writing before between whole (piece ++ rest) → Wrote between after piece → Writing before after whole rest

@@ -1,13 +1,11 @@
 -- A log carried out by a replica: group after group, by the texts that it holds.
-use Rattle.std.specs.Prelude.{◌≡◌, ℕ, ◌+◌, ◌<◌, ◌≤◌, zero, suc, nat_lt, nat_le, if◌then◌else◌, pos, negsuc, List, [], ◌∷◌, length, drop, map, codes, Option, Some, None}
+use Rattle.std.specs.Prelude.{ℕ, ◌+◌, ◌<◌, ◌≤◌, zero, suc, nat_lt, if◌then◌else◌, List, [], ◌∷◌, length, drop, codes, Option, Some, None}
 use Rattle.std.specs.Option.{option_and_then}
 use Rattle.std.specs.Str.{bytes_eq}
-use Rattle.val_types.specs.declared.value.Value.{Value}
-use Rattle.val_types.specs.declared.value.Value.TheVariants.{Null, Int, Text}
 use Rattle.event_codec.specs.Event.{Seen, query, xid}
 use Rattle.event_codec.specs.Reading.{Reading, event, reading}
-use Rattle.repl_run.specs.Insert.{insert_of, greatest_int}
-use Rattle.repl_run.specs.Machine.{row_of, accepted_insert, put}
+use Rattle.repl_run.specs.Insert.{insert_of}
+use Rattle.repl_run.specs.TableRows.{TableRows, has_id, put_row}
 
 -- a QUERY: its text and how many bytes it has
 abbrev pub query_of : Reading → Option (List ℕ × ℕ)
@@ -45,22 +43,21 @@ pub record IsEvent (size : ℕ) (bytes : List ℕ) (place : ℕ) : Type 0 where
 -- what carrying out came to: the place of the first group that has no effect, if any, and the rows
 pub record Carried : Type 0 where
   pub stop : Option ℕ
-  pub rows : List (ℕ × ℕ)
+  pub rows : TableRows
 
--- a group with a free id is carried out, and `next` goes on behind it; any other stops at its place
-abbrev pub carried_group : (ℕ → List ℕ → List (ℕ × ℕ) → Carried) → ℕ → List ℕ → List (ℕ × ℕ) → Option (ℕ × ℕ) → ℕ → Carried
-carried_group next place bytes rows None size = record { stop = Some place; rows = rows }
-carried_group next place bytes rows (Some row) size = next (place + size) (drop size bytes) (put row rows)
-
-abbrev pub carried_front : (ℕ → List ℕ → List (ℕ × ℕ) → Carried) → ℕ → List ℕ → List (ℕ × ℕ) → Option ((ℕ × ℕ) × ℕ) → Carried
-carried_front next place bytes rows None = record { stop = Some place; rows = rows }
-carried_front next place bytes rows (Some group) = carried_group next place bytes rows (accepted_insert (Some group.0) rows) group.1
+-- the group at a place: one with a free id puts its row, and `next` goes on behind it; any other, or
+-- none, stops there
+abbrev pub carried_group : (ℕ → List ℕ → TableRows → Carried) → ℕ → List ℕ → TableRows → Option ((ℕ × ℕ) × ℕ) → Carried
+carried_group next place bytes rows None = record { stop = Some place; rows = rows }
+carried_group next place bytes rows (Some group) =
+    if has_id group.0.0 rows then record { stop = Some place; rows = rows }
+    else next (place + group.1) (drop group.1 bytes) (put_row group.0 rows)
 
 -- the groups of the bytes from a place on, in at most so many turns
-abbrev pub carried : ℕ → ℕ → List ℕ → List (ℕ × ℕ) → Carried
+abbrev pub carried : ℕ → ℕ → List ℕ → TableRows → Carried
 carried turns place [] rows = record { stop = None; rows = rows }
 carried zero place (b ∷ bs) rows = record { stop = Some place; rows = rows }
-carried (suc turns) place (b ∷ bs) rows = carried_front (carried turns) place (b ∷ bs) rows (group_of place (b ∷ bs))
+carried (suc turns) place (b ∷ bs) rows = carried_group (carried turns) place (b ∷ bs) rows (group_of place (b ∷ bs))
 
 -- how many bytes the head of a log has
 abbrev pub head_size : ℕ
@@ -68,36 +65,7 @@ head_size = 123
 
 -- a log behind its head. No group is without bytes, so that the log's length is turns enough. A log
 -- that ends within its head stops at its end
-abbrev pub carried_log : List ℕ → List (ℕ × ℕ) → Carried
+abbrev pub carried_log : List ℕ → TableRows → Carried
 carried_log log rows =
     if nat_lt (length log) head_size then record { stop = Some (length log); rows = rows }
     else carried (length log) head_size (drop head_size log) rows
-
--- ---- the rows of a table as pairs
-
--- a number that a column of type INT holds and that is not below 0; 0 in place of any other value
-abbrev pub number_of : Value → ℕ
-number_of (Int (pos n)) = if nat_le n greatest_int then n else 0
-number_of (Int (negsuc n)) = 0
-number_of Null = 0
-number_of (Text t) = 0
-
--- an id and a value
-abbrev pub pair_of : List Value → ℕ × ℕ
-pair_of [] = (0, 0)
-pair_of (id ∷ []) = (0, 0)
-pair_of (id ∷ value ∷ values) = (number_of id, number_of value)
-
-abbrev pub pairs_of : List (List Value) → List (ℕ × ℕ)
-pairs_of = map pair_of
-
--- each id is below the next
-abbrev pub IsRising : List (ℕ × ℕ) → Type 0
-IsRising [] = Unit {0}
-IsRising (a ∷ []) = Unit {0}
-IsRising (a ∷ b ∷ rows) = (a.0 < b.0) × IsRising (b ∷ rows)
-
--- these are the rows of a table: each is an id and a value, and the ids rise
-pub record IsTable (rows : List (List Value)) : Type 0 where
-  pub shaped : map row_of (pairs_of rows) ≡ rows
-  pub rising : IsRising (pairs_of rows)

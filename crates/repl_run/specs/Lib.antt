@@ -11,4 +11,5 @@ pub mod Words
 pub mod Wrote
 pub mod Statuses
 pub mod Replayed
+pub mod TableRows
 pub mod Emptiness

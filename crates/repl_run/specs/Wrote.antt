@@ -30,6 +30,16 @@ StopsReading ReadFault before now = Rose before now
 StopsReading WriteFault before now = ⊥
 StopsReading NoMemory before now = Unit {0}
 
+-- a script that was read and split stopped at a fault of the input, for which its count rose, at a
+-- place where no command begins, or for want of memory
+abbrev pub StopsSplitting : Status → ℕ → ℕ → Type 0
+StopsSplitting Done before now = ⊥
+StopsSplitting BadWords before now = ⊥
+StopsSplitting (BadScript at) before now = Unit {0}
+StopsSplitting ReadFault before now = Rose before now
+StopsSplitting WriteFault before now = ⊥
+StopsSplitting NoMemory before now = Unit {0}
+
 -- writing stopped at a fault, for which the stream's count rose, or for want of memory
 abbrev pub StopsWriting : Status → ℕ → ℕ → Type 0
 StopsWriting Done before now = ⊥

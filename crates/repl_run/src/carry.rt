@@ -1,12 +1,11 @@
 //! A replica that carries out a log: group after group, by the texts that it holds.
-ghost use Rattle.std.specs.Prelude.{◌≡◌, ◌<◌, ◌≤◌, ◌+◌, length, map, IfOk, OnOk, OnErr, IfSome};
+ghost use Rattle.std.specs.Prelude.{◌≡◌, ◌<◌, ◌≤◌, ◌+◌, length, IfOk, OnOk, OnErr, IfSome};
 ghost use Rattle.std.specs.Option.{option_map};
 ghost use Rattle.event_codec.specs.Reading.{reading};
-ghost use Rattle.repl_run.specs.Machine.{row_of};
-ghost use Rattle.repl_run.specs.Carried.{query_of, xid_size, group_with, group_behind, group_of, carried_log, IsEvent, IsTable, pairs_of};
+ghost use Rattle.repl_run.specs.Carried.{query_of, xid_size, group_with, group_behind, group_of, carried_log, IsEvent};
 
+use crate::growing::Growing;
 use crate::insert::insert_of;
-use crate::table::Rows;
 use event_codec::{Event, Read, read_event};
 use std::alloc::Global;
 use val_types::{List, NoMemory, Row};
@@ -74,7 +73,7 @@ fn group_at(bytes: &[u8], pos: u64) -> Option<((u32, u32), usize)>
 }
 
 /// Carries out the groups of a log behind its head.
-fn carry(log: &[u8], table: &mut Rows) -> Result<Option<u64>, NoMemory>
+fn carry(log: &[u8], table: &mut Growing) -> Result<Option<u64>, NoMemory>
     ensures { IfOk result (λ stop. carried_log log.now table.old ≡ record { stop = stop; rows = table.new }) }
 {
     if log.len() < HEAD_SIZE {
@@ -84,8 +83,8 @@ fn carry(log: &[u8], table: &mut Rows) -> Result<Option<u64>, NoMemory>
     while !rest.is_empty() {
         let pos = (log.len() - rest.len()) as u64;
         match group_at(rest, pos) {
-            Some(((id, value), size)) if !table.contains(id) => {
-                table.insert(id, value)?;
+            Some(((id, value), size)) if !table.has_id(id) => {
+                table.put(id, value)?;
                 let (_, behind) = rest.split_at(size);
                 rest = behind;
             }
@@ -95,19 +94,30 @@ fn carry(log: &[u8], table: &mut Rows) -> Result<Option<u64>, NoMemory>
     Ok(None)
 }
 
-/// Carries out a log by its texts, from position 123 on, on the rows of the table, which are handed
-/// in and given back in the order of their ids. None says that the whole log was carried out; else
-/// the answer is the position of the first group that is not BEGIN, an accepted text with a free id
-/// and XID, and the groups before it stay carried out. A log that is shorter than its head stops at
-/// its length. Want of memory leaves the rows as they were.
+/// What carrying out a log on these rows comes to: where it stops, if it does, and the rows then.
+fn carry_on(
+    alloc: Global,
+    log: &[u8],
+    rows: &List<Row>,
+) -> Result<(Option<u64>, List<Row>), NoMemory>
+    ensures { IfOk result (λ end. carried_log log.now rows.now ≡ record { stop = end.0; rows = end.1 }) }
+{
+    let mut table = Growing::from_rows(alloc, rows)?;
+    let stop = carry(log, &mut table)?;
+    Ok((stop, table.to_rows(alloc)?))
+}
+
+/// Carries out a log by its texts, from position 123 on, on the rows of the table: each accepted row
+/// is put in front of the first row with a greater key. None says that the whole log was carried
+/// out; else the answer is the position of the first group that is not BEGIN, an accepted text with a
+/// free id and XID, and the groups before it stay carried out. A log that is shorter than its head
+/// stops at its length. Want of memory leaves the rows as they were.
 pub fn first_apply(alloc: Global, log: &[u8], rows: &mut List<Row>) -> Result<Option<u64>, NoMemory>
-    requires { IsTable rows.old }
-    ensures stop { IfOk result (λ stop. stop ≡ (carried_log log.now (pairs_of rows.old)).stop) }
-    ensures rows { OnOk result (rows.new ≡ map row_of (carried_log log.now (pairs_of rows.old)).rows) }
+    ensures stop { IfOk result (λ stop. stop ≡ (carried_log log.now rows.old).stop) }
+    ensures rows { OnOk result (rows.new ≡ (carried_log log.now rows.old).rows) }
     ensures err { OnErr result (rows.new ≡ rows.old) }
 {
-    let mut table = Rows::from_rows(alloc, rows)?;
-    let stop = carry(log, &mut table)?;
-    *rows = table.to_rows(alloc)?;
+    let (stop, carried) = carry_on(alloc, log, rows)?;
+    *rows = carried;
     Ok(stop)
 }

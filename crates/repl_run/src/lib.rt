@@ -13,7 +13,8 @@
 //! - `insert`: the one statement that is accepted
 //! - `source`: [`FirstSource`], a table and its log
 //! - `carry`: [`first_apply`], a replica that carries out a log
-//! - `table`: the rows of the one table
+//! - `growing`: the replica's rows while a log is carried out on them
+//! - `table`: rows of the one table, in the order of their ids
 //! - `answers`: answers and the lines that show them
 //!
 //! It stands on `event_codec`, `port_traits` and `val_types`; `repl_cli` gives it the real edges.
@@ -21,6 +22,7 @@
 
 mod answers;
 mod carry;
+mod growing;
 mod insert;
 mod outcome;
 mod program;

@@ -1,13 +1,14 @@
 //! The whole program, over any input, output and environments.
-ghost use Rattle.std.specs.Prelude.{◌≡◌, ◌↔◌, ◌+◌, ◌≤◌, true, false, map, option_map, length, string_bytes, IfSome, IfErr, IsSome, OnOk, OnErr};
+ghost use Rattle.std.specs.Prelude.{◌≡◌, ◌↔◌, ◌+◌, ◌≤◌, true, false, map, option_map, length, string_bytes, IfSome, IfOk, IfErr, IsSome, OnOk, OnErr};
 ghost use Rattle.std.specs.Str.{bytes_eq};
 ghost use Rattle.port_traits.specs.Causes.{Rose};
 ghost use Rattle.repl_run.specs.Reports.{Tells};
 ghost use Rattle.repl_run.specs.Emptiness.{IsEmpty};
 ghost use Rattle.repl_run.specs.Shown.{output_of};
-ghost use Rattle.repl_run.specs.Wrote.{Wrote, WroteFront, StopsWriting};
-ghost use Rattle.repl_run.specs.Run.{RunGives, HasFault, IsComplete, status_of};
+ghost use Rattle.repl_run.specs.Wrote.{Wrote, WroteFront, StopsSplitting, StopsWriting};
+ghost use Rattle.repl_run.specs.Run.{RunGives, HasFault, IsComplete, AreOpened, ReadsTexts, TakesUpToLimit, RestBehindScript, failed_writes, is_early, status_of};
 ghost use Rattle.repl_run.specs.Script.{split_of, size_of_texts};
+ghost use Rattle.repl_run.specs.Split.{GivesTexts};
 ghost use Rattle.repl_run.specs.Words.{asks_run};
 
 use crate::outcome::Status;
@@ -54,6 +55,8 @@ fn run_commands<K: Sink, E: Env, F: Env>(
     ensures ok { OnOk result (Wrote (K.written out.old) (K.written out.new) (output_of texts.now)) }
     ensures front { OnErr result (WroteFront (K.written out.old) (K.written out.new) (output_of texts.now)) }
     ensures stop { IfErr result (λ status. StopsWriting status (K.faults out.old) (K.faults out.new)) }
+    ensures ended { K.ended out.old ≡ 0 → K.ended out.new ≡ failed_writes (status_of result) }
+    ensures opened { result ≡ Err Status.WriteFault → AreOpened report.new }
     ensures src { Tells (E.told src_env.old) (E.draws src_env.old) report.new.src_identity report.new.src_draws }
     ensures rep { Tells (F.told rep_env.old) (F.draws rep_env.old) report.new.rep_identity report.new.rep_draws }
     ensures src_all { OnOk result (IsSome report.new.src_identity × (length report.new.src_draws ≡ length texts.now + 1)) }
@@ -83,6 +86,27 @@ fn run_commands<K: Sink, E: Env, F: Env>(
     show_rows(alloc, &replicate(alloc, &source)?, out)
 }
 
+/// The texts of a script's commands, with a refusal as a status.
+fn split_texts(alloc: Global, script: &[u8]) -> Result<List<Bytes>, Status>
+    ensures gives { GivesTexts result (split_of script.now) }
+    ensures size { IfOk result (λ texts. size_of_texts texts ≤ 67108864) }
+{
+    Ok(split(alloc, script)?)
+}
+
+/// The texts of the commands of the script on the input, which is read whole.
+fn read_texts<S: Source>(alloc: Global, input: &mut S) -> Result<List<Bytes>, Status>
+    ensures texts { IfSome (S.left input.old) (λ script. ReadsTexts result script (S.left input.new)) }
+    ensures size { IfOk result (λ texts. size_of_texts texts ≤ 67108864) }
+    ensures stop { IfErr result (λ status. StopsSplitting status (S.faults input.old) (S.faults input.new)) }
+    ensures limit { TakesUpToLimit (S.left input.old) (S.left input.new) }
+    ensures once { S.ended input.old ≡ 0 → S.ended input.new ≤ 1 }
+    ensures last { result ≡ Err Status.ReadFault → S.ended input.old ≡ 0 → S.ended input.new ≡ 1 }
+{
+    let script = read_script(alloc, input)?;
+    split_texts(alloc, script.as_slice())
+}
+
 /// Carries out the script on the input, which is read whole and split before anything runs.
 fn run<S: Source, K: Sink, E: Env, F: Env>(
     alloc: Global,
@@ -95,14 +119,21 @@ fn run<S: Source, K: Sink, E: Env, F: Env>(
     requires { IsEmpty report.old }
     ensures gives { IfSome (S.left input.old) (λ script. RunGives (status_of result) (split_of script)
         (S.left input.new) (K.written out.old) (K.written out.new)) }
+    ensures refused { IfSome (S.left input.old) (λ script. RestBehindScript (status_of result) script (S.left input.new)) }
+    ensures limit { TakesUpToLimit (S.left input.old) (S.left input.new) }
+    ensures once { S.ended input.old ≡ 0 → S.ended input.new ≤ 1 }
+    ensures last { result ≡ Err Status.ReadFault → S.ended input.old ≡ 0 → S.ended input.new ≡ 1 }
+    ensures ended { K.ended out.old ≡ 0 → K.ended out.new ≡ failed_writes (status_of result) }
+    ensures idle { is_early (status_of result) ≡ true → (out.new ≡ out.old)
+        × (src_env.new ≡ src_env.old) × (rep_env.new ≡ rep_env.old) × (report.new ≡ report.old) }
+    ensures opened { result ≡ Err Status.WriteFault → AreOpened report.new }
     ensures told { OnOk result (IsComplete report.new (option_map split_of (S.left input.old))) }
     ensures fault { IfErr result (λ status. HasFault status (S.faults input.old) (S.faults input.new)
         (K.faults out.old) (K.faults out.new)) }
     ensures src { Tells (E.told src_env.old) (E.draws src_env.old) report.new.src_identity report.new.src_draws }
     ensures rep { Tells (F.told rep_env.old) (F.draws rep_env.old) report.new.rep_identity report.new.rep_draws }
 {
-    let script = read_script(alloc, input)?;
-    let texts = split(alloc, script.as_slice())?;
+    let texts = read_texts(alloc, input)?;
     run_commands(alloc, &texts, out, src_env, rep_env, report)
 }
 
@@ -124,21 +155,34 @@ pub fn top<S: Source, K: Sink, E: Env, F: Env>(
 ) -> Status
     requires { IsEmpty report.old }
     ensures words { (result ≡ Status.BadWords) ↔ (asks_run (map string_bytes words.now) ≡ false) }
-    ensures idle { result ≡ Status.BadWords → (input.new ≡ input.old) × (out.new ≡ out.old)
-        × (src_env.new ≡ src_env.old) × (rep_env.new ≡ rep_env.old) × (report.new ≡ report.old) }
 
     // What `run` comes to, where the input tells its bytes: each status only by its cause, the output
     // of the machine at Done, and a front of it at any other status.
     ensures run { asks_run (map string_bytes words.now) ≡ true → IfSome (S.left input.old) (λ script.
         RunGives result (split_of script) (S.left input.new) (K.written out.old) (K.written out.new)) }
 
-    // A fault has its cause, whatever the streams are.
+    // What is left of the input: all of it behind bad words, what is past the limit behind a bad
+    // script, and never less.
+    ensures unread { result ≡ Status.BadWords → input.new ≡ input.old }
+    ensures refused { IfSome (S.left input.old) (λ script. RestBehindScript result script (S.left input.new)) }
+    ensures limit { TakesUpToLimit (S.left input.old) (S.left input.new) }
+
+    // Before the script was read and split, nothing else is touched.
+    ensures idle { is_early result ≡ true → (out.new ≡ out.old)
+        × (src_env.new ≡ src_env.old) × (rep_env.new ≡ rep_env.old) × (report.new ≡ report.old) }
+
+    // A fault has its cause, whatever the streams are, and is the last call on its stream; nothing is
+    // read behind the end of the input.
     ensures read_fault { result ≡ Status.ReadFault → Rose (S.faults input.old) (S.faults input.new) }
     ensures write_fault { result ≡ Status.WriteFault → Rose (K.faults out.old) (K.faults out.new) }
+    ensures reads_once { S.ended input.old ≡ 0 → S.ended input.new ≤ 1 }
+    ensures last_read { result ≡ Status.ReadFault → S.ended input.old ≡ 0 → S.ended input.new ≡ 1 }
+    ensures last_write { K.ended out.old ≡ 0 → K.ended out.new ≡ failed_writes result }
 
-    // The report: whole at Done, and true at any status.
+    // The report: whole at Done, of both nodes at WriteFault, and true at any status.
     ensures told { result ≡ Status.Done
         → IsComplete report.new (option_map split_of (S.left input.old)) }
+    ensures opened { result ≡ Status.WriteFault → AreOpened report.new }
     ensures source { Tells (E.told src_env.old) (E.draws src_env.old)
         report.new.src_identity report.new.src_draws }
     ensures replica { Tells (F.told rep_env.old) (F.draws rep_env.old)

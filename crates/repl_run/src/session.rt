@@ -7,6 +7,7 @@ ghost use Rattle.repl_run.specs.Reports.{GoesOnDrawing, StaysHandedOut};
 ghost use Rattle.repl_run.specs.Script.{size_of_texts};
 ghost use Rattle.repl_run.specs.Shown.{shown, row_line, row_lines, lines_from};
 ghost use Rattle.repl_run.specs.Wrote.{Wrote, WroteFront, Writing, StopsWriting};
+ghost use Rattle.repl_run.specs.Run.{failed_writes, status_of};
 
 use crate::answers::{row_line, shown};
 use crate::carry::first_apply;
@@ -24,6 +25,7 @@ fn write_line<K: Sink>(out: &mut K, line: &Bytes) -> Result<(), Status>
     ensures err { OnErr result (WroteFront (K.written out.old) (K.written out.new) line.now) }
     ensures stop { IfErr result (λ status. StopsWriting status (K.faults out.old) (K.faults out.new)) }
     ensures later { K.faults out.old ≤ K.faults out.new }
+    ensures ended { K.ended out.old ≡ 0 → K.ended out.new ≡ failed_writes (status_of result) }
 {
     match write_all(out, line.as_slice()) {
         Ok(()) => Ok(()),
@@ -49,9 +51,11 @@ fn answer_command<K: Sink, E: Env>(
         (shown number (answer_to text.now source.old.rows))) }
     ensures stop { IfErr result (λ status. StopsWriting status (K.faults out.old) (K.faults out.new)) }
     ensures later { K.faults out.old ≤ K.faults out.new }
+    ensures ended { K.ended out.old ≡ 0 → K.ended out.new ≡ failed_writes (status_of result) }
     ensures drawn { OnOk result (GoesOnDrawing (E.draws env.old) draws.old (E.draws env.new) draws.new) }
     ensures handed { OnErr result (StaysHandedOut (E.draws env.old) draws.old draws.new) }
     ensures count { OnOk result (length draws.new ≡ length draws.old + 1) }
+    ensures grows { length draws.old ≤ length draws.new }
 {
     let draw = take_draw(env, draws)?;
     let answer = source.exec(text, &draw)?;
@@ -77,9 +81,11 @@ pub fn answer_all<K: Sink, E: Env>(
         (lines_from 1 source.old.rows texts.now)) }
     ensures stop { IfErr result (λ status. StopsWriting status (K.faults out.old) (K.faults out.new)) }
     ensures later { K.faults out.old ≤ K.faults out.new }
+    ensures ended { K.ended out.old ≡ 0 → K.ended out.new ≡ failed_writes (status_of result) }
     ensures drawn { OnOk result (GoesOnDrawing (E.draws env.old) draws.old (E.draws env.new) draws.new) }
     ensures handed { OnErr result (StaysHandedOut (E.draws env.old) draws.old draws.new) }
     ensures count { OnOk result (length draws.new ≡ length draws.old + length texts.now) }
+    ensures grows { length draws.old ≤ length draws.new }
 {
     for (i, text) in texts.as_slice().iter().enumerate() {
         let number = i as u32 + 1;
@@ -106,6 +112,7 @@ pub fn show_rows<K: Sink>(alloc: Global, rows: &List<Row>, out: &mut K) -> Resul
     ensures front { OnErr result (WroteFront (K.written out.old) (K.written out.new) (row_lines rows.now)) }
     ensures stop { IfErr result (λ status. StopsWriting status (K.faults out.old) (K.faults out.new)) }
     ensures later { K.faults out.old ≤ K.faults out.new }
+    ensures ended { K.ended out.old ≡ 0 → K.ended out.new ≡ failed_writes (status_of result) }
 {
     for row in rows.as_slice() {
         write_line(out, &row_line(alloc, 0, row)?)?;

@@ -1,7 +1,8 @@
 //! The input read to its end or past the limit, and bytes written whole.
-ghost use Rattle.std.specs.Prelude.{◌≡◌, ◌+◌, ◌<◌, ◌≤◌, ◌++◌, ◌⊎◌, [], length, option_map, IfOk, IfErr, IfSome, OnOk, OnErr, vec_len};
+ghost use Rattle.std.specs.Prelude.{◌≡◌, ℕ, ◌+◌, ◌<◌, ◌≤◌, ◌++◌, ◌⊎◌, if◌then◌else◌, is_err, [], length, drop, option_map, IfOk, IfErr, IfSome, OnOk, OnErr, vec_len};
 ghost use Rattle.port_traits.specs.Causes.{HasCause};
 ghost use Rattle.repl_run.specs.Wrote.{Wrote, WroteFront, StopsReading};
+ghost use Rattle.repl_run.specs.Run.{TakesUpToLimit};
 
 use crate::outcome::Status;
 use crate::script::SCRIPT_LIMIT;
@@ -32,6 +33,11 @@ fn read_piece<S: Source>(
     ensures size { IfOk result (λ count. (length script.new ≡ length script.old + count)
         × (count ≤ length buffer.old)) }
     ensures end { result ≡ Ok 0 → IfSome (S.left input.new) (λ rest. rest ≡ []) }
+    ensures taken { (count : ℕ) × (count ≤ length buffer.old)
+        × (S.left input.new ≡ option_map (drop count) (S.left input.old)) }
+    ensures goes_on { IfOk result (λ count. 0 < count → S.ended input.old ≡ 0 → S.ended input.new ≡ 0) }
+    ensures once { S.ended input.old ≡ 0 → S.ended input.new ≤ 1 }
+    ensures last { result ≡ Err Status.ReadFault → S.ended input.old ≡ 0 → S.ended input.new ≡ 1 }
     ensures stop { IfErr result (λ status. StopsReading status (S.faults input.old) (S.faults input.new)) }
     ensures later { S.faults input.old ≤ S.faults input.new }
 {
@@ -49,8 +55,12 @@ fn read_piece<S: Source>(
 pub fn read_script<S: Source>(alloc: Global, input: &mut S) -> Result<Bytes, Status>
     ensures joined { IfOk result (λ script. option_map (λ rest. script ++ rest) (S.left input.new)
         ≡ S.left input.old) }
+    ensures size { IfOk result (λ script. length script ≤ 67108865) }
     ensures end { IfOk result (λ script. IfSome (S.left input.new) (λ rest. (rest ≡ [])
         ⊎ (67108864 < length script))) }
+    ensures limit { TakesUpToLimit (S.left input.old) (S.left input.new) }
+    ensures once { S.ended input.old ≡ 0 → S.ended input.new ≤ 1 }
+    ensures last { result ≡ Err Status.ReadFault → S.ended input.old ≡ 0 → S.ended input.new ≡ 1 }
     ensures stop { IfErr result (λ status. StopsReading status (S.faults input.old) (S.faults input.new)) }
     ensures later { S.faults input.old ≤ S.faults input.new }
 {
@@ -71,6 +81,7 @@ pub fn write_all<K: Sink>(out: &mut K, bytes: &[u8]) -> Result<(), Failed>
     ensures ok { OnOk result (Wrote (K.written out.old) (K.written out.new) bytes.now) }
     ensures err { OnErr result (WroteFront (K.written out.old) (K.written out.new) bytes.now) }
     ensures cause { HasCause (K.faults out.old) (K.faults out.new) result }
+    ensures ended { K.ended out.old ≡ 0 → K.ended out.new ≡ (if is_err result then 1 else 0) }
 {
     let mut rest = bytes;
     while !rest.is_empty() {

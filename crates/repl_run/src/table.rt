@@ -1,15 +1,11 @@
 //! The one table, `t(id INT, v INT, PRIMARY KEY (id))`, with its rows in the order of their ids.
-ghost use Rattle.std.specs.Prelude.{◌≡◌, ◌<◌, ◌^◌, [], length, map, false, IfOk, OnOk, OnErr};
+ghost use Rattle.std.specs.Prelude.{◌≡◌, ◌<◌, ◌^◌, [], length, false, IfOk, OnOk, OnErr};
 ghost use Rattle.repl_run.specs.Machine.{is_taken, put, row_of};
-ghost use Rattle.repl_run.specs.Carried.{IsTable, number_of, pair_of, pairs_of};
 
 use std::alloc::Global;
 use std::collections::BTreeMap;
 use std::marker::Model;
 use val_types::{List, NoMemory, Row, Value};
-
-/// The greatest number that a column of type INT holds.
-const GREATEST_INT: i64 = 2147483647;
 
 /// The rows of the table, which contracts see as pairs of an id and a value.
 #[derive(Drop)]
@@ -64,57 +60,24 @@ impl Rows {
         Ok(())
     }
 
-    /// The table with these rows.
-    pub fn from_rows(alloc: Global, rows: &List<Row>) -> Result<Rows, NoMemory>
-        requires { IsTable rows.now }
-        ensures { IfOk result (λ table. table ≡ pairs_of rows.now) }
+    /// The rows as pairs, in the order of their ids.
+    pub fn to_pairs(&self, alloc: Global) -> Result<List<(u32, u32)>, NoMemory>
+        ensures { IfOk result (λ pairs. pairs ≡ self.now) }
     {
-        let mut table = Rows::new(alloc);
-        for row in rows.as_slice() {
-            let (id, value) = pair_of(row);
-            table.insert(id, value)?;
-        }
-        Ok(table)
-    }
-
-    /// The rows as values, in the order of their ids.
-    pub fn to_rows(&self, alloc: Global) -> Result<List<Row>, NoMemory>
-        ensures { IfOk result (λ rows. rows ≡ map row_of self.now) }
-    {
-        let mut rows = List::new(alloc);
+        let mut pairs = List::new(alloc);
         for (id, value) in self.rows.iter() {
-            rows.push(row_of(alloc, *id, *value)?)?;
+            pairs.push((*id, *value))?;
         }
-        Ok(rows)
+        Ok(pairs)
     }
 }
 
 /// A row as values.
-fn row_of(alloc: Global, id: u32, value: u32) -> Result<Row, NoMemory>
+pub fn row_of(alloc: Global, id: u32, value: u32) -> Result<Row, NoMemory>
     ensures { IfOk result (λ row. row ≡ row_of (id, value)) }
 {
     let mut row = List::new(alloc);
     row.push(Value::Int(i64::from(id)))?;
     row.push(Value::Int(i64::from(value)))?;
     Ok(row)
-}
-
-/// A value that a column of type INT holds and that is not below 0; 0 for any other.
-fn number_of(value: &Value) -> u32
-    ensures { result ≡ number_of value.now }
-{
-    match value {
-        Value::Int(n) if 0 <= *n && *n <= GREATEST_INT => *n as u32,
-        _ => 0,
-    }
-}
-
-/// A row as an id and a value.
-fn pair_of(row: &Row) -> (u32, u32)
-    ensures { result ≡ pair_of row.now }
-{
-    match row.as_slice() {
-        [id, value, ..] => (number_of(id), number_of(value)),
-        _ => (0, 0),
-    }
 }

@@ -1,5 +1,5 @@
 use Rattle.std.proofs.Common.{◌≡◌, false, length, drop, sym, ◌∙◌, arith, length-drop}
-use Rattle.repl_run.specs.Machine.{is_taken}
+use Rattle.repl_run.specs.TableRows.{has_id}
 use Rattle.repl_run.proofs.Carrying.{from_head, next_group}
 use Rattle.repl_run.proofs.carry.carry.Goals as goal
 
@@ -13,8 +13,8 @@ loop-rest-init c =
 pub loop-rest-preserved : goal.loop-rest-preserved
 loop-rest-preserved c =
     let rest = c.loop-rest.rest.now in
-    let free : is_taken c.in-Some.id c.loop-rest.table ≡ false = sym c.contains.ensures ∙ c.if-not-contains.true in
-    rw (c.split_at-in-Some.ensures.back, c.in_ok-insert-in-Some.ensures.ok) (
+    let free : has_id c.in-Some.id c.loop-rest.table ≡ false = sym c.has_id.ensures ∙ c.if-not-has_id.true in
+    rw (c.split_at-in-Some.ensures.back, c.in_ok-put-in-Some.ensures.ok) (
       omega (arith, c.loop-rest.invariant.0, length-drop c.in-Some.size rest),
       next_group _ (length c.args.log.now) rest c.loop-rest.table c.loop-rest.invariant.1.0 (c.in-Some.id, c.in-Some.value) c.in-Some.size
           c.loop-rest.invariant.0 c.in-Some.ensures.within.0 c.in-Some.ensures.within.1 (sym c.in-Some.ensures.value) free c.loop-rest.invariant.1.1,

@@ -16,4 +16,5 @@ loop-i-preserved g c = (
   omega (arith, c.loop-i.invariant.1, c.in_ok-answer_command.ensures.later),
   (λ start drawn. c.in_ok-answer_command.ensures.drawn start (c.loop-i.invariant.2 start drawn)),
   omega (arith, c.loop-i.invariant.3, c.in_ok-answer_command.ensures.count),
+  (λ fresh. c.in_ok-answer_command.ensures.ended (c.loop-i.invariant.4 fresh)),
 )

@@ -10,3 +10,4 @@ invariant-loop-i g l =
     × (g.K.Sink.faults l.fn.out ≤ g.K.Sink.faults l.out)
     × GoesOnDrawing (g.E.Env.draws l.fn.env) l.fn.draws (g.E.Env.draws l.env) l.draws
     × (length l.draws ≡ length l.fn.draws + l.i)
+    × (g.K.Sink.ended l.fn.out ≡ 0 → g.K.Sink.ended l.out ≡ 0)

@@ -14,4 +14,5 @@ loop-row-preserved g c = (
   row_written _ _ _ c.as_slice-row-items.result.now c.loop-row.row-index c.row-item.result c.in_ok-row_line.field-0 c.loop-row-test.true c.row-item.is
       c.in_ok-row_line.ensures c.loop-row.invariant.0 c.in_ok-write_line.ensures.ok,
   omega (arith, c.loop-row.invariant.1, c.in_ok-write_line.ensures.later),
+  (λ fresh. c.in_ok-write_line.ensures.ended (c.loop-row.invariant.2 fresh)),
 )

@@ -7,6 +7,7 @@ invariant-loop-script g l =
     × (g.S.Source.faults l.fn.input ≤ g.S.Source.faults l.input)
     × (length l.script ≤ 67108865)
     × (vec_len l.buffer ≡ 65536)
+    × (g.S.Source.ended l.fn.input ≡ 0 → g.S.Source.ended l.input ≡ 0)
 
 abbrev pub decreases-loop-script : goal.decreases-loop-script
 decreases-loop-script g l = 67108865 - length l.script

@@ -1,5 +1,6 @@
 use Rattle.std.proofs.Common.{arith}
-use Rattle.repl_run.proofs.Writing.{writing_goes_on}
+use Rattle.port_traits.specs.declared.failed.Failed.{Failed}
+use Rattle.repl_run.proofs.Writing.{writing_goes_on, goes_on}
 use Rattle.repl_run.proofs.streams.write_all.Goals as goal
 
 pub loop-rest-preserved : goal.loop-rest-preserved
@@ -7,4 +8,5 @@ loop-rest-preserved g c =
     rw c.split_at.ensures.back (
       writing_goes_on _ _ _ _ c.loop-rest.rest.now c.in_ok-count.count c.loop-rest.invariant.0 c.in_ok-count.ensures.puts.bytes,
       omega (arith, c.loop-rest.invariant.1, c.in_ok-count.ensures.cause.later),
+      (λ fresh. goes_on Failed c.in_ok-count.count (g.K.Sink.ended c.loop-rest.out) (g.K.Sink.ended c.write.new.self) c.loop-rest.rest.now c.if-count-eq0.false c.in_ok-count.ensures.ended (c.loop-rest.invariant.2 fresh)),
     )
