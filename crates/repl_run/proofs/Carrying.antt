@@ -1,8 +1,8 @@
 -- Carrying out a log, turn by turn.
-use Rattle.std.proofs.Common.{◌≡◌, ℕ, ◌+◌, ◌-◌, ◌<◌, ◌≤◌, zero, suc, Bool, true, false, cond, nat_lt, List, [], ◌∷◌, length, drop, Option, Some, None, refl, sym, ap, ◌∙◌, arith, length-drop}
+use Rattle.std.proofs.Common.{◌≡◌, ℕ, ◌+◌, ◌-◌, ◌<◌, ◌≤◌, zero, suc, false, nat_lt, List, [], ◌∷◌, length, drop, Some, refl, ap, ◌∙◌, arith, length-drop}
 use Rattle.std.proofs.lemmas.Bool.Decides.{nat_tests}
 use Rattle.repl_run.specs.TableRows.{TableRows, has_id, put_row}
-use Rattle.repl_run.specs.Carried.{Carried, carried, carried_group, carried_log, group_of}
+use Rattle.repl_run.specs.Carried.{Carried, carried, carried_log, group_of}
 
 -- what is left of a log of so many bytes, on the rows so far and in turns that are enough, comes to this
 pub record Goes (whole : Carried) (size : ℕ) (rest : List ℕ) (rows : TableRows) (turns : ℕ) : Type 0 where

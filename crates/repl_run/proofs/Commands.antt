@@ -1,5 +1,5 @@
 -- The commands of a session, one after the other.
-use Rattle.std.proofs.Common.{◌≡◌, ℕ, ◌+◌, ◌*◌, ◌<◌, ◌≤◌, ◌^◌, suc, Bool, true, false, cond, List, [], ◌∷◌, ◌++◌, length, drop, get_or, add-one, drop-cons, Option, Some, None, refl, sym, ap, ◌∙◌, subst, arith, length-append}
+use Rattle.std.proofs.Common.{◌≡◌, ℕ, ◌+◌, ◌*◌, ◌<◌, ◌≤◌, ◌^◌, suc, Bool, true, false, cond, List, ◌∷◌, length, drop, get_or, add-one, drop-cons, Option, Some, None, refl, sym, ap, ◌∙◌, arith, length-append}
 use Rattle.repl_run.specs.Insert.{insert_of}
 use Rattle.repl_run.specs.Machine.{answer_to, rows_after, accepted, accepted_insert, with_row, is_taken}
 use Rattle.repl_run.specs.Log.{SourceState, source_after, with_transaction, transaction}

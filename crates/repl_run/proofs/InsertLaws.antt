@@ -1,6 +1,6 @@
 -- The accepted statement and its reading are one: a text is read as a row just where it is that row's
 -- statement.
-use Rattle.std.proofs.Common.{◌≡◌, ℕ, ◌+◌, ◌-◌, ◌*◌, ◌^◌, ◌<◌, ◌≤◌, Bool, true, false, not, ◌&&◌, ◌||◌, cond, nat_le, nat_eq, ◌==◌, List, [], ◌∷◌, ◌++◌, length, take, drop, get_or, codes, zero, suc, Option, Some, None, MatchOption, refl, sym, ap, ◌∙◌, arith, rules, append_assoc, length-append}
+use Rattle.std.proofs.Common.{◌≡◌, ℕ, ◌+◌, ◌^◌, ◌<◌, ◌≤◌, Bool, true, false, ◌&&◌, cond, nat_le, nat_eq, List, [], ◌∷◌, ◌++◌, length, take, drop, get_or, codes, zero, suc, Option, Some, None, MatchOption, refl, sym, ap, ◌∙◌, arith, rules, append_assoc, length-append}
 use Rattle.std.specs.Option.{option_map, option_and_then}
 use Rattle.std.specs.List.{take_while}
 use Rattle.std.specs.Fmt.{decimal}

@@ -1,3 +1,4 @@
+pub mod Accepted
 pub mod Carrying
 pub mod Commands
 pub mod Drawing

@@ -1,19 +1,18 @@
 -- How long the events of a transaction are, and that they can be written.
 use Rattle.std.proofs.Common.{◌≡◌, ℕ, ◌+◌, ◌-◌, ◌^◌, ◌<◌, ◌≤◌, true, false, cond, List, [], ◌∷◌, ◌++◌, length, drop, map, codes, Option, Some, None, suc, Bool, nat_lt, arith, ap, sym, ◌∙◌, append_assoc, append-nil, length-append, refl}
-use Rattle.std.specs.Str.{bytes_eq}
 use Rattle.std.proofs.Math.Seq.{drop-append_seam, drop-length}
 use Rattle.std.proofs.lemmas.List.{drop-append-le}
 use Rattle.std.proofs.lemmas.Bool.Decides.{nat_tests}
 use Rattle.event_codec.specs.declared.event.Header.{Header}
-use Rattle.event_codec.specs.Event.{Seen, query, xid, format_description, CanWrite, size_of}
+use Rattle.event_codec.specs.Event.{xid, format_description, CanWrite}
 use Rattle.event_codec.specs.Writing.{event_bytes}
 use Rattle.event_codec.proofs.RoundTrip.{length-event_bytes, read-query, read-xid}
 use Rattle.event_codec.specs.Reading.{reading}
 use Rattle.repl_run.specs.Insert.{insert_of}
 use Rattle.repl_run.specs.Log.{SourceState, statement, header, transaction, server_version, magic, head, opened, source_after, with_transaction}
-use Rattle.repl_run.specs.Machine.{row_of, put, is_taken, accepted, accepted_insert}
+use Rattle.repl_run.specs.Machine.{row_of, put, is_taken, accepted_insert}
 use Rattle.repl_run.specs.TableRows.{put_row}
-use Rattle.repl_run.specs.Carried.{query_of, xid_size, group_with, group_behind, group_of, carried, carried_log, Carried}
+use Rattle.repl_run.specs.Carried.{query_of, xid_size, group_with, group_behind, group_of, carried, carried_log}
 use Rattle.repl_run.specs.Replayed.{IsReplayed}
 use Rattle.repl_run.proofs.Carrying.{group_turn}
 use Rattle.repl_run.proofs.Merging.{put_pair, has_pair}

@@ -1,6 +1,5 @@
 -- Rows as they stand and others among them: a row more of the others is a row put among all.
-use Rattle.std.proofs.Common.{◌≡◌, ℕ, ◌+◌, ◌<◌, ◌^◌, zero, suc, Bool, true, false, ◌||◌, cond, nat_lt, nat_eq, ◌==◌, pos, negsuc, List, [], ◌∷◌, ◌++◌, length, take, drop, map, get_or, add-one, drop-cons, refl, sym, ap, ◌∙◌, arith, append_assoc}
-use Rattle.std.specs.List.{list_any, prefix_len}
+use Rattle.std.proofs.Common.{◌≡◌, ℕ, ◌<◌, ◌^◌, suc, Bool, true, false, ◌||◌, cond, nat_lt, ◌==◌, pos, negsuc, List, [], ◌∷◌, ◌++◌, take, drop, map, refl, sym, ap, ◌∙◌, arith}
 use Rattle.std.proofs.lemmas.Bool.Decides.{nat_tests}
 use Rattle.val_types.specs.declared.value.Value.{Value}
 use Rattle.val_types.specs.declared.value.Value.TheVariants.{Null, Int, Text}

@@ -1,5 +1,5 @@
 -- The commands of a script take no more bytes than it has.
-use Rattle.std.proofs.Common.{◌≡◌, ℕ, ◌+◌, ◌-◌, ◌*◌, ◌<◌, ◌≤◌, zero, suc, Bool, true, false, cond, nat_lt, ◌==◌, List, [], ◌∷◌, length, drop, reverse, Option, Some, None, Result, Ok, Err, refl, sym, ap, ◌∙◌, arith, length-drop}
+use Rattle.std.proofs.Common.{◌≡◌, ℕ, ◌+◌, ◌-◌, ◌*◌, ◌≤◌, zero, suc, Bool, true, false, cond, nat_lt, ◌==◌, List, [], ◌∷◌, length, drop, reverse, Option, Some, None, Result, Ok, Err, refl, ap, arith, length-drop}
 use Rattle.std.proofs.lemmas.List.{length-reverse}
 use Rattle.std.proofs.lemmas.Bool.Decides.{nat_tests}
 use Rattle.std.specs.Option.{option_map}

@@ -1,9 +1,9 @@
 -- Splitting a script, turn by turn.
-use Rattle.std.proofs.Common.{◌≡◌, ℕ, ◌+◌, ◌-◌, ◌<◌, ◌≤◌, List, [], ◌∷◌, ◌++◌, Bool, true, false, length, take, drop, get_or, reverse, nat_lt, cond, zero, suc, Option, Some, None, Result, Ok, Err, refl, sym, ap, ◌∙◌, subst, arith, append_assoc, append-nil, add-one, drop-cons, length-drop, zero-add}
+use Rattle.std.proofs.Common.{◌≡◌, ℕ, ◌+◌, ◌-◌, ◌<◌, ◌≤◌, List, [], ◌∷◌, ◌++◌, Bool, true, false, length, take, drop, get_or, nat_lt, cond, zero, suc, Option, Some, None, Result, Ok, Err, refl, sym, ap, ◌∙◌, arith, append_assoc, append-nil, add-one, drop-cons, length-drop, zero-add}
 use Rattle.std.specs.Option.{option_map}
 use Rattle.std.proofs.Math.Seq.{take-suc}
 use Rattle.std.proofs.lemmas.Bool.Decides.{nat_tests}
-use Rattle.repl_run.specs.Script.{body_of, begins_with_end, trim_front, is_blank, command_of, command_limit, script_limit, split_of, split_from, split_here, split_behind, with_text}
+use Rattle.repl_run.specs.Script.{body_of, begins_with_end, trim_front, is_blank, command_of, command_limit, script_limit, split_of, split_from, split_here, with_text}
 
 -- ---- a body, byte by byte
 

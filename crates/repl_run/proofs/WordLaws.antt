@@ -1,5 +1,5 @@
 -- Words, by how many there are.
-use Rattle.std.proofs.Common.{◌≡◌, ℕ, ◌+◌, ◌≤◌, suc, Bool, true, false, not, ◌&&◌, ◌||◌, cond, List, [], ◌∷◌, length, codes, refl, arith}
+use Rattle.std.proofs.Common.{◌≡◌, ℕ, ◌≤◌, Bool, true, false, not, ◌&&◌, cond, List, [], ◌∷◌, length, codes, refl, arith}
 use Rattle.std.specs.Str.{bytes_eq}
 use Rattle.repl_run.specs.Words.{without_dashes, is_run, asks_run}
 

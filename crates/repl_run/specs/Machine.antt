@@ -1,6 +1,7 @@
 -- The machine of the first path: one table `t(id INT, v INT, PRIMARY KEY (id))` and one session.
-use Rattle.std.specs.Prelude.{ℕ, ◌+◌, Bool, nat_lt, nat_eq, ◌==◌, if◌then◌else◌, pos, List, [], ◌∷◌, ◌++◌, length, map, codes, Option, Some, None}
+use Rattle.std.specs.Prelude.{ℕ, ◌<◌, Bool, nat_lt, ◌==◌, if◌then◌else◌, pos, List, [], ◌∷◌, Option, Some, None}
 use Rattle.std.specs.List.{list_any}
+use Rattle.std.specs.Option.{option_or}
 use Rattle.val_types.specs.declared.value.Value.{Value}
 use Rattle.val_types.specs.declared.value.Value.TheVariants.{Int}
 use Rattle.repl_run.specs.declared.answers.Answer.{Answer}
@@ -50,3 +51,31 @@ with_row (Some row) rows = put row rows
 -- the rows after a text
 abbrev pub rows_after : List ℕ → List (ℕ × ℕ) → List (ℕ × ℕ)
 rows_after text rows = with_row (accepted text rows) rows
+
+-- the rows after texts
+abbrev pub rows_from : List (ℕ × ℕ) → List (List ℕ) → List (ℕ × ℕ)
+rows_from rows [] = rows
+rows_from rows (text ∷ texts) = rows_from (rows_after text rows) texts
+
+-- ---- the same rows, told by the texts alone
+
+-- the value of the row with this id
+abbrev pub value_of : ℕ → List (ℕ × ℕ) → Option ℕ
+value_of id [] = None
+value_of id (r ∷ rows) = if r.0 == id then Some r.1 else value_of id rows
+
+-- the value that an INSERT gives to this id
+abbrev pub value_given : ℕ → Option (ℕ × ℕ) → Option ℕ
+value_given id None = None
+value_given id (Some row) = if row.0 == id then Some row.1 else None
+
+-- the value that the first INSERT of this id gives to it
+abbrev pub first_value : ℕ → List (List ℕ) → Option ℕ
+first_value id [] = None
+first_value id (text ∷ texts) = option_or (value_given id (insert_of text)) (first_value id texts)
+
+-- each id is below the next
+abbrev pub IsRising : List (ℕ × ℕ) → Type 0
+IsRising [] = Unit {0}
+IsRising (a ∷ []) = Unit {0}
+IsRising (a ∷ b ∷ rows) = (a.0 < b.0) × IsRising (b ∷ rows)

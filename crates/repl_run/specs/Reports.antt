@@ -1,8 +1,10 @@
 -- What a report tells of a node's environment, where that tells.
-use Rattle.std.specs.Prelude.{◌≡◌, ℕ, List, length, Option, option_map, IfSome}
+use Rattle.std.specs.Prelude.{◌≡◌, List, length, Option, option_map, IfSome}
 use Rattle.port_traits.specs.declared.identity.Identity.{Identity}
 use Rattle.port_traits.specs.declared.identity.Draw.{Draw}
 use Rattle.port_traits.specs.Draws.{handed_out, draws_left}
+use Rattle.repl_run.specs.declared.outcome.Status.{Status}
+use Rattle.repl_run.specs.declared.outcome.Status.TheVariants.{Done, BadWords, BadScript, ReadFault, WriteFault, NoMemory}
 
 -- the identity in a report, if there is one, is the one that is told
 abbrev pub IsNamed : Option Identity → Option Identity → Type 0
@@ -29,3 +31,21 @@ StaysHandedOut before old new = (start : Option (List Draw)) → Drawn start bef
 pub record Tells (told : Option Identity) (start : Option (List Draw)) (identity : Option Identity) (draws : List Draw) : Type 0 where
   pub named : IsNamed told identity
   pub handed : AreHandedOut start draws
+
+-- draws up to a status: only want of memory may come behind a draw that is not told
+abbrev pub DrewUntil : Status → Option (List Draw) → List Draw → Option (List Draw) → List Draw → Type 0
+DrewUntil Done before old after new = GoesOnDrawing before old after new
+DrewUntil BadWords before old after new = GoesOnDrawing before old after new
+DrewUntil (BadScript at) before old after new = GoesOnDrawing before old after new
+DrewUntil ReadFault before old after new = GoesOnDrawing before old after new
+DrewUntil WriteFault before old after new = GoesOnDrawing before old after new
+DrewUntil NoMemory before old after new = StaysHandedOut before old new
+
+-- all that was drawn is told
+abbrev pub AllTold : Status → Option (List Draw) → Option (List Draw) → List Draw → Type 0
+AllTold Done start now draws = Drawn start now draws
+AllTold BadWords start now draws = Drawn start now draws
+AllTold (BadScript at) start now draws = Drawn start now draws
+AllTold ReadFault start now draws = Drawn start now draws
+AllTold WriteFault start now draws = Drawn start now draws
+AllTold NoMemory start now draws = Unit {0}

@@ -1,5 +1,5 @@
 -- A script as the list of its commands' texts, or the place of its first bad byte.
-use Rattle.std.specs.Prelude.{ℕ, ◌+◌, ◌-◌, Bool, true, false, ◌&&◌, ◌||◌, nat_lt, ◌==◌, if◌then◌else◌, List, [], ◌∷◌, ◌++◌, length, drop, reverse, zero, suc, Option, Some, None, Result, Ok, Err}
+use Rattle.std.specs.Prelude.{ℕ, ◌+◌, ◌-◌, Bool, true, false, ◌&&◌, ◌||◌, nat_lt, ◌==◌, if◌then◌else◌, List, [], ◌∷◌, length, drop, reverse, zero, suc, Option, Some, None, Result, Ok, Err}
 use Rattle.std.specs.Option.{option_map}
 
 -- the greatest length of a script: 64 MiB

@@ -38,3 +38,8 @@ lines_from number rows (text ∷ texts) = shown number (answer_to text rows) ++ 
 -- all that a script of these texts shows
 abbrev pub output_of : List (List ℕ) → List ℕ
 output_of texts = lines_from 1 [] texts
+
+-- the answers to texts alone, from a number and some rows on
+abbrev pub answers_from : ℕ → List (ℕ × ℕ) → List (List ℕ) → List ℕ
+answers_from number rows [] = []
+answers_from number rows (text ∷ texts) = shown number (answer_to text rows) ++ answers_from (number + 1) (rows_after text rows) texts

@@ -1,5 +1,5 @@
 -- What stands at the end of a stream that was written, where the stream tells.
-use Rattle.std.specs.Prelude.{◌≡◌, ℕ, ◌+◌, List, [], ◌++◌, Option, option_map}
+use Rattle.std.specs.Prelude.{◌≡◌, ℕ, List, ◌++◌, Option, option_map}
 use Rattle.port_traits.specs.Causes.{Rose}
 use Rattle.repl_run.specs.declared.outcome.Status.{Status}
 use Rattle.repl_run.specs.declared.outcome.Status.TheVariants.{Done, BadWords, BadScript, ReadFault, WriteFault, NoMemory}

@@ -16,6 +16,7 @@
 //! - `growing`: the replica's rows while a log is carried out on them
 //! - `table`: rows of the one table, in the order of their ids
 //! - `answers`: answers and the lines that show them
+//! - `laws`: what follows of the machine
 //!
 //! It stands on `event_codec`, `port_traits` and `val_types`; `repl_cli` gives it the real edges.
 #![tactic(auto)]
@@ -24,6 +25,7 @@ mod answers;
 mod carry;
 mod growing;
 mod insert;
+mod laws;
 mod outcome;
 mod program;
 mod reports;
@@ -38,6 +40,7 @@ mod tests;
 pub use answers::{Answer, SqlError};
 pub use carry::first_apply;
 pub use insert::insert_of;
+pub use laws::rows_are_of_first_inserts;
 pub use outcome::{Status, status_line};
 pub use program::top;
 pub use reports::Report;

@@ -2,7 +2,7 @@
 ghost use Rattle.std.specs.Prelude.{◌≡◌, ◌↔◌, ◌+◌, ◌≤◌, true, false, map, option_map, length, string_bytes, IfSome, IfOk, IfErr, IsSome, OnOk, OnErr};
 ghost use Rattle.std.specs.Str.{bytes_eq};
 ghost use Rattle.port_traits.specs.Causes.{Rose};
-ghost use Rattle.repl_run.specs.Reports.{Tells};
+ghost use Rattle.repl_run.specs.Reports.{Tells, AllTold};
 ghost use Rattle.repl_run.specs.Emptiness.{IsEmpty};
 ghost use Rattle.repl_run.specs.Shown.{output_of};
 ghost use Rattle.repl_run.specs.Wrote.{Wrote, WroteFront, StopsSplitting, StopsWriting};
@@ -57,6 +57,8 @@ fn run_commands<K: Sink, E: Env, F: Env>(
     ensures stop { IfErr result (λ status. StopsWriting status (K.faults out.old) (K.faults out.new)) }
     ensures ended { K.ended out.old ≡ 0 → K.ended out.new ≡ failed_writes (status_of result) }
     ensures opened { result ≡ Err Status.WriteFault → AreOpened report.new }
+    ensures src_drawn { AllTold (status_of result) (E.draws src_env.old) (E.draws src_env.new) report.new.src_draws }
+    ensures rep_drawn { AllTold (status_of result) (F.draws rep_env.old) (F.draws rep_env.new) report.new.rep_draws }
     ensures src { Tells (E.told src_env.old) (E.draws src_env.old) report.new.src_identity report.new.src_draws }
     ensures rep { Tells (F.told rep_env.old) (F.draws rep_env.old) report.new.rep_identity report.new.rep_draws }
     ensures src_all { OnOk result (IsSome report.new.src_identity × (length report.new.src_draws ≡ length texts.now + 1)) }
@@ -127,6 +129,8 @@ fn run<S: Source, K: Sink, E: Env, F: Env>(
     ensures idle { is_early (status_of result) ≡ true → (out.new ≡ out.old)
         × (src_env.new ≡ src_env.old) × (rep_env.new ≡ rep_env.old) × (report.new ≡ report.old) }
     ensures opened { result ≡ Err Status.WriteFault → AreOpened report.new }
+    ensures src_drawn { AllTold (status_of result) (E.draws src_env.old) (E.draws src_env.new) report.new.src_draws }
+    ensures rep_drawn { AllTold (status_of result) (F.draws rep_env.old) (F.draws rep_env.new) report.new.rep_draws }
     ensures told { OnOk result (IsComplete report.new (option_map split_of (S.left input.old))) }
     ensures fault { IfErr result (λ status. HasFault status (S.faults input.old) (S.faults input.new)
         (K.faults out.old) (K.faults out.new)) }
@@ -179,10 +183,13 @@ pub fn top<S: Source, K: Sink, E: Env, F: Env>(
     ensures last_read { result ≡ Status.ReadFault → S.ended input.old ≡ 0 → S.ended input.new ≡ 1 }
     ensures last_write { K.ended out.old ≡ 0 → K.ended out.new ≡ failed_writes result }
 
-    // The report: whole at Done, of both nodes at WriteFault, and true at any status.
+    // The report: whole at Done, of both nodes at WriteFault, and true at any status. Nothing else was
+    // drawn, but for a draw that there was no memory to tell.
     ensures told { result ≡ Status.Done
         → IsComplete report.new (option_map split_of (S.left input.old)) }
     ensures opened { result ≡ Status.WriteFault → AreOpened report.new }
+    ensures src_drawn { AllTold result (E.draws src_env.old) (E.draws src_env.new) report.new.src_draws }
+    ensures rep_drawn { AllTold result (F.draws rep_env.old) (F.draws rep_env.new) report.new.rep_draws }
     ensures source { Tells (E.told src_env.old) (E.draws src_env.old)
         report.new.src_identity report.new.src_draws }
     ensures replica { Tells (F.told rep_env.old) (F.draws rep_env.old)

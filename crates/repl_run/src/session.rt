@@ -3,7 +3,7 @@ ghost use Rattle.std.specs.Prelude.{◌≡◌, ◌+◌, ◌*◌, ◌<◌, ◌≤
 ghost use Rattle.repl_run.specs.Machine.{answer_to, row_of};
 ghost use Rattle.repl_run.specs.Log.{source_after};
 ghost use Rattle.repl_run.specs.Replayed.{IsReplayed};
-ghost use Rattle.repl_run.specs.Reports.{GoesOnDrawing, StaysHandedOut};
+ghost use Rattle.repl_run.specs.Reports.{GoesOnDrawing, DrewUntil};
 ghost use Rattle.repl_run.specs.Script.{size_of_texts};
 ghost use Rattle.repl_run.specs.Shown.{shown, row_line, row_lines, lines_from};
 ghost use Rattle.repl_run.specs.Wrote.{Wrote, WroteFront, Writing, StopsWriting};
@@ -53,7 +53,7 @@ fn answer_command<K: Sink, E: Env>(
     ensures later { K.faults out.old ≤ K.faults out.new }
     ensures ended { K.ended out.old ≡ 0 → K.ended out.new ≡ failed_writes (status_of result) }
     ensures drawn { OnOk result (GoesOnDrawing (E.draws env.old) draws.old (E.draws env.new) draws.new) }
-    ensures handed { OnErr result (StaysHandedOut (E.draws env.old) draws.old draws.new) }
+    ensures handed { IfErr result (λ status. DrewUntil status (E.draws env.old) draws.old (E.draws env.new) draws.new) }
     ensures count { OnOk result (length draws.new ≡ length draws.old + 1) }
     ensures grows { length draws.old ≤ length draws.new }
 {
@@ -83,7 +83,7 @@ pub fn answer_all<K: Sink, E: Env>(
     ensures later { K.faults out.old ≤ K.faults out.new }
     ensures ended { K.ended out.old ≡ 0 → K.ended out.new ≡ failed_writes (status_of result) }
     ensures drawn { OnOk result (GoesOnDrawing (E.draws env.old) draws.old (E.draws env.new) draws.new) }
-    ensures handed { OnErr result (StaysHandedOut (E.draws env.old) draws.old draws.new) }
+    ensures handed { IfErr result (λ status. DrewUntil status (E.draws env.old) draws.old (E.draws env.new) draws.new) }
     ensures count { OnOk result (length draws.new ≡ length draws.old + length texts.now) }
     ensures grows { length draws.old ≤ length draws.new }
 {

@@ -8,7 +8,7 @@ use port_traits::{Draw, Identity, MemEnv, MemSink, MemSource};
 use std::alloc::Global;
 use std::process::Abort;
 use std::test::Fail;
-use val_types::{Bytes, List, Value};
+use val_types::{Bytes, List, Row, Value};
 
 /// The INSERT of most rows.
 const INSERT: &str = "INSERT INTO t VALUES (1, 10)";
@@ -471,6 +471,45 @@ fn rows_that_a_replica_has(rt: HostRuntime) -> Result<(), Fail> {
         rows[1].as_slice(),
         [Value::Int(7), Value::Int(70)].as_slice()
     );
+    Ok(())
+}
+
+/// A row of one number.
+fn push_number(alloc: Global, rows: &mut List<Row>, number: i64) -> Result<(), Fail> {
+    let mut row = List::new(alloc);
+    row.push(Value::Int(number))?;
+    rows.push(row)?;
+    Ok(())
+}
+
+/// The first value of each row, where it is a number.
+fn numbers(alloc: Global, rows: &List<Row>) -> Result<List<i64>, Fail> {
+    let mut numbers = List::new(alloc);
+    for row in rows.as_slice() {
+        if let [Value::Int(number), ..] = row.as_slice() {
+            numbers.push(*number)?;
+        }
+    }
+    Ok(numbers)
+}
+
+#[test]
+fn rows_that_rise_by_no_key(rt: HostRuntime) -> Result<(), Fail> {
+    let alloc = rt.alloc();
+    let log = log_of(&rt, alloc, &["INSERT INTO t VALUES (7, 70)", INSERT])?;
+    let mut rows = List::new(alloc);
+    for number in [9i64, -4, 3, 4_294_967_297] {
+        push_number(alloc, &mut rows, number)?;
+    }
+    // Each row goes in front of the first one with a greater key; 2^32 + 1 is not the id 1.
+    assert_eq!(rt; first_apply(alloc, log.as_slice(), &mut rows)?, None);
+    assert_eq!(rt;
+        numbers(alloc, &rows)?.as_slice(),
+        [1, 7, 9, -4, 3, 4_294_967_297].as_slice()
+    );
+    // Both ids are taken now.
+    assert_eq!(rt; first_apply(alloc, log.as_slice(), &mut rows)?, Some(123));
+    assert_eq!(rt; rows.len(), 6);
     Ok(())
 }
 

@@ -1,4 +1,4 @@
-use Rattle.std.proofs.Common.{◌≡◌, false, length, drop, sym, ◌∙◌, arith, length-drop}
+use Rattle.std.proofs.Common.{◌≡◌, false, length, sym, ◌∙◌, arith, length-drop}
 use Rattle.repl_run.specs.TableRows.{has_id}
 use Rattle.repl_run.proofs.Carrying.{from_head, next_group}
 use Rattle.repl_run.proofs.carry.carry.Goals as goal

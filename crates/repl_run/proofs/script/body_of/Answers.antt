@@ -1,5 +1,4 @@
-use Rattle.std.proofs.Common.{◌≡◌, ◌∙◌, sym, ◌<◌, length, false, arith}
-use Rattle.repl_run.specs.Script.{begins_with_end}
+use Rattle.std.proofs.Common.{◌<◌, length, arith}
 use Rattle.repl_run.proofs.Splitting.{body_more}
 use Rattle.repl_run.proofs.script.body_of.Goals as goal
 

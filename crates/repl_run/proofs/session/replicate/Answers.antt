@@ -1,4 +1,4 @@
-use Rattle.std.proofs.Common.{◌≡◌, ℕ, List, [], Option, Some, None, map, ap, sym, ◌∙◌}
+use Rattle.std.proofs.Common.{◌≡◌, ℕ, List, [], Some, None, map, ap, sym, ◌∙◌}
 use Rattle.repl_run.specs.Log.{SourceState}
 use Rattle.repl_run.specs.Machine.{row_of}
 use Rattle.repl_run.specs.TableRows.{TableRows}

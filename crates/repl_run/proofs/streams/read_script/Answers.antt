@@ -1,4 +1,4 @@
-use Rattle.std.proofs.Common.{◌+◌, ◌≤◌, length, arith}
+use Rattle.std.proofs.Common.{arith}
 use Rattle.repl_run.proofs.Reading.{taken_more}
 use Rattle.repl_run.proofs.streams.read_script.Goals as goal
 

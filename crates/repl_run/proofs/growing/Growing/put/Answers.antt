@@ -1,4 +1,4 @@
-use Rattle.std.proofs.Common.{ap, sym, ◌∙◌}
+use Rattle.std.proofs.Common.{ap, ◌∙◌}
 use Rattle.repl_run.specs.TableRows.{has_id, put_row, merged}
 use Rattle.repl_run.proofs.Outcomes.{ok_maps}
 use Rattle.repl_run.proofs.Merging.{merged_put, free_among}
