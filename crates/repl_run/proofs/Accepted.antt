@@ -107,6 +107,7 @@ rising_put row (r ∷ s ∷ rows) free rising =
     by_second : (t : Bool) → r.0 < row.0 → IsRising (cond t (row ∷ s ∷ rows) (s ∷ put row rows)) → IsRising (r ∷ cond t (row ∷ s ∷ rows) (s ∷ put row rows))
     by_second true below rest = (below, rest)
     by_second false below rest = (rising.0, rest)
+
     by_first : (t : Bool) → nat_lt row.0 r.0 ≡ t → (r.0 == row.0) ≡ false → IsRising (put row (s ∷ rows)) → IsRising (cond t (row ∷ r ∷ s ∷ rows) (r ∷ put row (s ∷ rows)))
     by_first true e apart rest = (grind (arith, nat_tests), rising)
     by_first false e apart rest = by_second (nat_lt row.0 s.0) (grind (arith, nat_tests)) rest

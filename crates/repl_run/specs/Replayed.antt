@@ -11,4 +11,4 @@ pub record IsReplayed (source : SourceState) : Type 0 where
   pub head : 123 + length source.rows ≤ length source.log
   pub goes : (turns : ℕ) (more : List ℕ)
       → carried (turns + length source.rows) 123 (drop 123 source.log ++ more) []
-          ≡ carried turns (length source.log) more (map row_of source.rows)
+      ≡ carried turns (length source.log) more (map row_of source.rows)

@@ -55,25 +55,24 @@ struct Played {
     report: Report,
 }
 
-/// A call of the program with these words over a script, in pieces of at most so many bytes, where
-/// the input and the output fail at these calls.
-fn play(
-    alloc: Global,
-    words: &[String],
-    script: Bytes,
-    piece: usize,
-    read_fails: List<u64>,
-    write_fails: List<u64>,
-) -> Result<Played, Fail> {
-    let piece = piece.max(1);
-    let mut input = MemSource::new(script, read_fails).with_piece(piece);
-    let mut out = MemSink::new(alloc, write_fails).with_piece(piece);
+/// The words of a command line.
+fn words_of(alloc: Global, line: &str) -> Result<Vec<String>, Fail> {
+    let mut words = Vec::new(alloc);
+    for word in line.split_whitespace() {
+        words.push(String::from_str(alloc, word)?)?;
+    }
+    Ok(words)
+}
+
+/// A call of the program with the words of a line, over an input and an output.
+fn play(alloc: Global, line: &str, mut input: MemSource, mut out: MemSink) -> Result<Played, Fail> {
+    let words = words_of(alloc, line)?;
     let mut src_env = environment(alloc, 0)?;
     let mut rep_env = environment(alloc, 100)?;
     let mut report = Report::new(alloc);
     let status = top(
         alloc,
-        words,
+        words.as_slice(),
         &mut input,
         &mut out,
         &mut src_env,
@@ -89,252 +88,266 @@ fn play(
     })
 }
 
-/// A run over a script.
-fn run(alloc: Global, script: &str) -> Result<Played, Fail> {
-    let words = vec![in alloc; String::from_str(alloc, "run")?]?;
-    let none = List::new(alloc);
-    play(
-        alloc,
-        words.as_slice(),
-        bytes(alloc, script)?,
-        4096,
-        List::new(alloc),
-        none,
-    )
+/// An input of these bytes that is read in pieces of 10.
+fn source_of(alloc: Global, script: &str, fails: List<u64>) -> Result<MemSource, Fail> {
+    Ok(MemSource::new(bytes(alloc, script)?, fails).with_piece(10))
 }
 
-fn expect_run(
-    rt: &impl Abort,
-    alloc: Global,
-    script: &str,
-    status: Status,
-    output: &str,
-) -> Result<(), Fail> {
+/// An output that is written in pieces of 10.
+fn sink_of(alloc: Global, fails: List<u64>) -> MemSink {
+    MemSink::new(alloc, fails).with_piece(10)
+}
+
+/// A run over a script.
+fn run(alloc: Global, script: &str) -> Result<Played, Fail> {
+    let input = source_of(alloc, script, List::new(alloc))?;
+    play(alloc, "run", input, sink_of(alloc, List::new(alloc)))
+}
+
+/// Scripts that split, and what a run writes.
+static ANSWERS: [(&str, &str); 16] = [
+    ("", ""),
+    (" \t\r\n", ""),
+    (
+        "s1: INSERT INTO t VALUES (1, 10) //\n",
+        "1 ok 1\n0 row 1, 10\n",
+    ),
+    (
+        "s1: INSERT INTO t VALUES (1, 10) //",
+        "1 ok 1\n0 row 1, 10\n",
+    ),
+    (
+        "S1:INSERT INTO t VALUES (1, 10);//\r\n",
+        "1 ok 1\n0 row 1, 10\n",
+    ),
+    (
+        "s1: INSERT INTO t VALUES (1, 10) ; //",
+        "1 ok 1\n0 row 1, 10\n",
+    ),
+    (
+        "s1: INSERT INTO t VALUES (1, 10) ;; //",
+        "1 error 1064 at 0\n",
+    ),
+    (
+        "s1: INSERT INTO t VALUES (1, 10) //\ns1: INSERT INTO t VALUES (1, 10) //\n",
+        "1 ok 1\n2 error 1062\n0 row 1, 10\n",
+    ),
+    (
+        "s1: INSERT INTO t VALUES (20, 1) //\ns1: INSERT INTO t VALUES (3, 2) //\ns1: INSERT INTO t VALUES (100, 3) //\n",
+        "1 ok 1\n2 ok 1\n3 ok 1\n0 row 3, 2\n0 row 20, 1\n0 row 100, 3\n",
+    ),
+    (
+        "s1: INSERT INTO t VALUES (0, 2147483647) //",
+        "1 ok 1\n0 row 0, 2147483647\n",
+    ),
+    (
+        "s1: INSERT INTO t VALUES (1, 2147483648) //",
+        "1 error 1064 at 0\n",
+    ),
+    (
+        "s1: INSERT INTO t VALUES (01, 10) //",
+        "1 error 1064 at 0\n",
+    ),
+    ("s1: INSERT INTO t VALUES (1,10) //", "1 error 1064 at 0\n"),
+    ("s1: insert INTO t VALUES (1, 10) //", "1 error 1064 at 0\n"),
+    ("s1: //", "1 error 1064 at 0\n"),
+    (
+        "s1: a // b //\ns1: c ///\n",
+        "1 error 1064 at 0\n2 error 1064 at 0\n",
+    ),
+];
+
+fn expect_answers(rt: &impl Abort, alloc: Global, script: &str, output: &str) -> Result<(), Fail> {
     let played = run(alloc, script)?;
-    assert_eq!(rt; played.status, status, "status of {script}");
-    assert_eq!(rt;
-        played.written.as_slice(),
-        output.as_bytes(),
-        "output of {script}"
-    );
+    assert_eq!(rt; played.status, Status::Done, "{script}");
+    assert_eq!(rt; played.written.as_slice(), output.as_bytes(), "{script}");
     Ok(())
 }
 
 #[test]
 fn answers_and_rows(rt: HostRuntime) -> Result<(), Fail> {
-    let alloc = rt.alloc();
-    for (script, output) in [
-        ("", ""),
-        (" \t\r\n", ""),
-        (
-            "s1: INSERT INTO t VALUES (1, 10) //\n",
-            "1 ok 1\n0 row 1, 10\n",
-        ),
-        (
-            "s1: INSERT INTO t VALUES (1, 10) //",
-            "1 ok 1\n0 row 1, 10\n",
-        ),
-        (
-            "S1:INSERT INTO t VALUES (1, 10);//\r\n",
-            "1 ok 1\n0 row 1, 10\n",
-        ),
-        (
-            "s1: INSERT INTO t VALUES (1, 10) ; //",
-            "1 ok 1\n0 row 1, 10\n",
-        ),
-        (
-            "s1: INSERT INTO t VALUES (1, 10) ;; //",
-            "1 error 1064 at 0\n",
-        ),
-        (
-            "s1: INSERT INTO t VALUES (1, 10) //\ns1: INSERT INTO t VALUES (1, 10) //\n",
-            "1 ok 1\n2 error 1062\n0 row 1, 10\n",
-        ),
-        (
-            "s1: INSERT INTO t VALUES (20, 1) //\ns1: INSERT INTO t VALUES (3, 2) //\ns1: INSERT INTO t VALUES (100, 3) //\n",
-            "1 ok 1\n2 ok 1\n3 ok 1\n0 row 3, 2\n0 row 20, 1\n0 row 100, 3\n",
-        ),
-        (
-            "s1: INSERT INTO t VALUES (0, 2147483647) //",
-            "1 ok 1\n0 row 0, 2147483647\n",
-        ),
-        (
-            "s1: INSERT INTO t VALUES (1, 2147483648) //",
-            "1 error 1064 at 0\n",
-        ),
-        (
-            "s1: INSERT INTO t VALUES (01, 10) //",
-            "1 error 1064 at 0\n",
-        ),
-        ("s1: INSERT INTO t VALUES (1,10) //", "1 error 1064 at 0\n"),
-        ("s1: insert INTO t VALUES (1, 10) //", "1 error 1064 at 0\n"),
-        ("s1: //", "1 error 1064 at 0\n"),
-        (
-            "s1: a // b //\ns1: c ///\n",
-            "1 error 1064 at 0\n2 error 1064 at 0\n",
-        ),
-    ] {
-        expect_run(&rt, alloc, script, Status::Done, output)?;
+    for (script, output) in &ANSWERS {
+        expect_answers(&rt, rt.alloc(), *script, *output)?;
     }
+    Ok(())
+}
+
+/// Scripts that do not split, and the bad byte.
+static BAD_SCRIPTS: [(&str, u64); 8] = [
+    ("s1: SELECT 1", 0),
+    ("s0: SELECT 1 //", 0),
+    ("s2: INSERT INTO t VALUES (1, 10) //", 0),
+    ("replica: DROP TABLE t //", 0),
+    (" \n s1 : INSERT INTO t VALUES (1, 10) //", 3),
+    ("s1: INSERT INTO t VALUES (1, 10) //\nx", 36),
+    (
+        "s1: INSERT INTO t VALUES (1, 10) // s1: INSERT INTO t VALUES (2, 10) /",
+        0,
+    ),
+    (
+        "s1: INSERT INTO t VALUES (1, 10) //\n\ns1: INSERT INTO t VALUES (2, 10) /",
+        37,
+    ),
+];
+
+fn expect_bad(rt: &impl Abort, alloc: Global, script: &str, at: u64) -> Result<(), Fail> {
+    let played = run(alloc, script)?;
+    assert_eq!(rt; played.status, Status::BadScript { at }, "{script}");
+    assert_eq!(rt; played.writes, 0, "{script}");
     Ok(())
 }
 
 #[test]
 fn bad_scripts_at_their_places(rt: HostRuntime) -> Result<(), Fail> {
-    let alloc = rt.alloc();
-    for (script, at) in [
-        ("s1: SELECT 1", 0),
-        ("s0: SELECT 1 //", 0),
-        ("s2: INSERT INTO t VALUES (1, 10) //", 0),
-        ("replica: DROP TABLE t //", 0),
-        (" \n s1 : INSERT INTO t VALUES (1, 10) //", 3),
-        ("s1: INSERT INTO t VALUES (1, 10) //\nx", 36),
-        (
-            "s1: INSERT INTO t VALUES (1, 10) // s1: INSERT INTO t VALUES (2, 10) /",
-            0,
-        ),
-        (
-            "s1: INSERT INTO t VALUES (1, 10) //\n\ns1: INSERT INTO t VALUES (2, 10) /",
-            37,
-        ),
-    ] {
-        expect_run(&rt, alloc, script, Status::BadScript { at }, "")?;
+    for (script, at) in &BAD_SCRIPTS {
+        expect_bad(&rt, rt.alloc(), *script, *at)?;
     }
     Ok(())
 }
 
+/// The status of a run over these bytes, in few reads.
+fn status_of_bytes(alloc: Global, script: Bytes) -> Result<Status, Fail> {
+    let input = MemSource::new(script, List::new(alloc));
+    let out = MemSink::new(alloc, List::new(alloc));
+    Ok(play(alloc, "run", input, out)?.status)
+}
+
+/// A line's end, and a command with so many letters.
+fn long_command(alloc: Global, letters: usize) -> Result<Bytes, Fail> {
+    let mut script = bytes(alloc, "\ns1:")?;
+    script.append(List::from_vec(vec![in alloc; b'x'; letters]?))?;
+    script.extend_from_slice(b"//")?;
+    Ok(script)
+}
+
 #[test]
-fn limits_of_commands_and_scripts(rt: HostRuntime) -> Result<(), Fail> {
+fn limit_of_a_command(rt: HostRuntime) -> Result<(), Fail> {
     let alloc = rt.alloc();
-    for (letters, status) in [
-        (1_048_571usize, Status::Done),
-        (1_048_572, Status::BadScript { at: 1 }),
-    ] {
-        let mut script = bytes(alloc, "\ns1:")?;
-        script.append(List::from_vec(vec![in alloc; b'x'; letters]?))?;
-        script.extend_from_slice(b"//")?;
-        let words = vec![in alloc; String::from_str(alloc, "run")?]?;
-        let played = play(
-            alloc,
-            words.as_slice(),
-            script,
-            65_536,
-            List::new(alloc),
-            List::new(alloc),
-        )?;
-        assert_eq!(rt; played.status, status, "{letters} letters");
-    }
-    for (blanks, status) in [
-        (67_108_864usize, Status::Done),
-        (67_108_865, Status::BadScript { at: 67_108_864 }),
-        (67_108_900, Status::BadScript { at: 67_108_864 }),
-    ] {
-        let script = List::from_vec(vec![in alloc; b' '; blanks]?);
-        let words = vec![in alloc; String::from_str(alloc, "run")?]?;
-        let played = play(
-            alloc,
-            words.as_slice(),
-            script,
-            65_536,
-            List::new(alloc),
-            List::new(alloc),
-        )?;
-        assert_eq!(rt; played.status, status, "{blanks} blanks");
-        assert_eq!(rt; played.writes, 0, "{blanks} blanks");
-    }
+    let longest = long_command(alloc, 1_048_571)?;
+    assert_eq!(rt; status_of_bytes(alloc, longest)?, Status::Done);
+    let longer = long_command(alloc, 1_048_572)?;
+    assert_eq!(rt;
+        status_of_bytes(alloc, longer)?,
+        Status::BadScript { at: 1 }
+    );
+    Ok(())
+}
+
+fn expect_blanks(
+    rt: &impl Abort,
+    alloc: Global,
+    blanks: usize,
+    status: Status,
+) -> Result<(), Fail> {
+    let script = List::from_vec(vec![in alloc; b' '; blanks]?);
+    assert_eq!(rt; status_of_bytes(alloc, script)?, status, "{blanks} blanks");
+    Ok(())
+}
+
+#[test]
+fn limit_of_a_script(rt: HostRuntime) -> Result<(), Fail> {
+    let alloc = rt.alloc();
+    let bad = Status::BadScript { at: 67_108_864 };
+    expect_blanks(&rt, alloc, 67_108_864, Status::Done)?;
+    expect_blanks(&rt, alloc, 67_108_865, bad)?;
+    expect_blanks(&rt, alloc, 67_108_900, bad)?;
+    Ok(())
+}
+
+/// Lines of words, and whether they ask for a run.
+static WORDS: [(&str, bool); 9] = [
+    ("run", true),
+    ("-- run", true),
+    ("run --", true),
+    ("", false),
+    ("--", false),
+    ("-- -- run", false),
+    ("run fast", false),
+    ("Run", false),
+    ("replay", false),
+];
+
+fn expect_words(rt: &impl Abort, alloc: Global, line: &str, asks: bool) -> Result<(), Fail> {
+    let input = source_of(alloc, "s1: x //", List::new(alloc))?;
+    let played = play(alloc, line, input, sink_of(alloc, List::new(alloc)))?;
+    assert_eq!(rt; played.status == Status::Done, asks, "{line}");
+    assert_eq!(rt; played.status == Status::BadWords, !asks, "{line}");
+    assert_eq!(rt; played.reads == 0, !asks, "{line}");
+    assert_eq!(rt; played.report.src_draws.is_empty(), !asks, "{line}");
     Ok(())
 }
 
 #[test]
 fn words_of_the_command_line(rt: HostRuntime) -> Result<(), Fail> {
-    let alloc = rt.alloc();
-    for (line, status) in [
-        ("run", Status::Done),
-        ("-- run", Status::Done),
-        ("run --", Status::Done),
-        ("", Status::BadWords),
-        ("--", Status::BadWords),
-        ("-- -- run", Status::BadWords),
-        ("run fast", Status::BadWords),
-        ("Run", Status::BadWords),
-        ("replay", Status::BadWords),
-    ] {
-        let mut words = Vec::new(alloc);
-        for word in line.split_whitespace() {
-            words.push(String::from_str(alloc, word)?)?;
-        }
-        let played = play(
-            alloc,
-            words.as_slice(),
-            bytes(alloc, "s1: x //")?,
-            3,
-            List::new(alloc),
-            List::new(alloc),
-        )?;
-        assert_eq!(rt; played.status, status, "{line}");
-        assert_eq!(rt; played.reads == 0, status == Status::BadWords, "{line}");
-        assert_eq!(rt;
-            played.report.src_draws.is_empty(),
-            status == Status::BadWords,
-            "{line}"
-        );
+    for (line, asks) in &WORDS {
+        expect_words(&rt, rt.alloc(), *line, *asks)?;
     }
     Ok(())
 }
 
+/// A script of 72 bytes: 8 reads of 10 bytes, and the 9th finds the end.
+const TWICE: &str = "s1: INSERT INTO t VALUES (1, 10) //\ns1: INSERT INTO t VALUES (1, 11) //\n";
+
+/// What it shows, in writes of 7, 10, 3, 10 and 2 bytes.
+const TWICE_SHOWN: &str = "1 ok 1\n2 error 1062\n0 row 1, 10\n";
+
+/// A list of one call.
+fn only(alloc: Global, call: u64) -> Result<List<u64>, Fail> {
+    let mut calls = List::new(alloc);
+    calls.push(call)?;
+    Ok(calls)
+}
+
+fn expect_read_fault(rt: &impl Abort, alloc: Global, call: u64) -> Result<(), Fail> {
+    let input = source_of(alloc, TWICE, only(alloc, call)?)?;
+    let played = play(alloc, "run", input, sink_of(alloc, List::new(alloc)))?;
+    assert_eq!(rt; played.status, Status::ReadFault, "read {call}");
+    assert_eq!(rt; played.reads, call, "read {call}");
+    assert_eq!(rt; played.writes, 0, "read {call}");
+    Ok(())
+}
+
+fn expect_write_fault(
+    rt: &impl Abort,
+    alloc: Global,
+    call: u64,
+    written: usize,
+) -> Result<(), Fail> {
+    let input = source_of(alloc, TWICE, List::new(alloc))?;
+    let played = play(alloc, "run", input, sink_of(alloc, only(alloc, call)?))?;
+    assert_eq!(rt; played.status, Status::WriteFault, "write {call}");
+    assert_eq!(rt; played.reads, 9, "write {call}");
+    assert_eq!(rt; played.writes, call, "write {call}");
+    assert_eq!(rt; played.written.len(), written, "write {call}");
+    assert!(rt;
+        TWICE_SHOWN
+            .as_bytes()
+            .starts_with(played.written.as_slice()),
+        "write {call}"
+    );
+    Ok(())
+}
+
+#[test]
+fn streams_that_do_not_fail(rt: HostRuntime) -> Result<(), Fail> {
+    let played = run(rt.alloc(), TWICE)?;
+    assert_eq!(rt; played.status, Status::Done);
+    assert_eq!(rt; played.reads, 9);
+    assert_eq!(rt; played.writes, 5);
+    assert_eq!(rt; played.written.as_slice(), TWICE_SHOWN.as_bytes());
+    Ok(())
+}
+
+/// The writes of that run, and how many bytes were written before each.
+static WRITES: [(u64, usize); 5] = [(1, 0), (2, 7), (3, 17), (4, 20), (5, 30)];
+
 #[test]
 fn streams_that_fail(rt: HostRuntime) -> Result<(), Fail> {
-    let alloc = rt.alloc();
-    let script = "s1: INSERT INTO t VALUES (1, 10) //\ns1: INSERT INTO t VALUES (1, 11) //\n";
-    let whole = "1 ok 1\n2 error 1062\n0 row 1, 10\n";
-    let words = vec![in alloc; String::from_str(alloc, "run")?]?;
-    // 72 bytes in pieces of 10 are 8 reads, and the 9th finds the end; each write takes 10 bytes.
-    let all = play(
-        alloc,
-        words.as_slice(),
-        bytes(alloc, script)?,
-        10,
-        List::new(alloc),
-        List::new(alloc),
-    )?;
-    assert_eq!(rt; all.status, Status::Done);
-    assert_eq!(rt; all.reads, 9);
-    assert_eq!(rt; all.writes, 5);
-    assert_eq!(rt; all.written.as_slice(), whole.as_bytes());
     for call in 1..=9u64 {
-        let mut fails = List::new(alloc);
-        fails.push(call)?;
-        let played = play(
-            alloc,
-            words.as_slice(),
-            bytes(alloc, script)?,
-            10,
-            fails,
-            List::new(alloc),
-        )?;
-        assert_eq!(rt; played.status, Status::ReadFault, "read {call}");
-        assert_eq!(rt; played.reads, call, "read {call}");
-        assert_eq!(rt; played.writes, 0, "read {call}");
+        expect_read_fault(&rt, rt.alloc(), call)?;
     }
-    for (call, written) in [(1u64, 0usize), (2, 7), (3, 17), (4, 20), (5, 30)] {
-        let mut fails = List::new(alloc);
-        fails.push(call)?;
-        let played = play(
-            alloc,
-            words.as_slice(),
-            bytes(alloc, script)?,
-            10,
-            List::new(alloc),
-            fails,
-        )?;
-        assert_eq!(rt; played.status, Status::WriteFault, "write {call}");
-        assert_eq!(rt; played.reads, 9, "write {call}");
-        assert_eq!(rt; played.writes, call, "write {call}");
-        assert_eq!(rt; played.written.len(), written, "write {call}");
-        assert!(rt;
-            whole.as_bytes().starts_with(played.written.as_slice()),
-            "write {call}"
-        );
+    for (call, written) in &WRITES {
+        expect_write_fault(&rt, rt.alloc(), *call, *written)?;
     }
     Ok(())
 }
@@ -342,18 +355,16 @@ fn streams_that_fail(rt: HostRuntime) -> Result<(), Fail> {
 #[test]
 fn report_of_a_run(rt: HostRuntime) -> Result<(), Fail> {
     let alloc = rt.alloc();
-    let played = run(
-        alloc,
-        "s1: INSERT INTO t VALUES (1, 10) //\ns1: x //\ns1: y //\n",
-    )?;
+    let script = "s1: INSERT INTO t VALUES (1, 10) //\ns1: x //\ns1: y //\n";
+    let report = run(alloc, script)?.report;
     // The third draw is the last, and so the fourth is the same.
     assert_eq!(rt;
-        played.report.src_draws.as_slice(),
+        report.src_draws.as_slice(),
         [draw(0), draw(1), draw(2), draw(2)].as_slice()
     );
-    assert_eq!(rt; played.report.rep_draws.as_slice(), [draw(100)].as_slice());
-    assert_eq!(rt; played.report.src_identity, Some(source_identity(alloc)?));
-    assert_eq!(rt; played.report.rep_identity, Some(source_identity(alloc)?));
+    assert_eq!(rt; report.rep_draws.as_slice(), [draw(100)].as_slice());
+    assert_eq!(rt; report.src_identity, Some(source_identity(alloc)?));
+    assert_eq!(rt; report.rep_identity, Some(source_identity(alloc)?));
     Ok(())
 }
 
@@ -409,50 +420,87 @@ fn applied(alloc: Global, log: &[u8]) -> Result<(Option<u64>, usize), Fail> {
     Ok((stop, rows.len()))
 }
 
+/// A log of two transactions of 130 bytes each: 123 to 253 and 253 to 383.
+fn two_transactions(rt: &impl Abort, alloc: Global) -> Result<Bytes, Fail> {
+    log_of(rt, alloc, &[INSERT, "INSERT INTO t VALUES (2, 20)"])
+}
+
+/// Where that log stops when it is cut, and with how many rows.
+fn stop_at_cut(cut: usize) -> (Option<u64>, usize) {
+    match cut {
+        0..=122 => (Some(cut as u64), 0),
+        123 => (None, 0),
+        124..=252 => (Some(123), 0),
+        253 => (None, 1),
+        254..=382 => (Some(253), 1),
+        _ => (None, 2),
+    }
+}
+
+fn expect_cut(rt: &impl Abort, alloc: Global, log: &[u8], cut: usize) -> Result<(), Fail> {
+    let (front, _) = log.split_at(cut.min(log.len()));
+    assert_eq!(rt; applied(alloc, front)?, stop_at_cut(cut), "cut at {cut}");
+    Ok(())
+}
+
 #[test]
-fn logs_that_a_replica_carries_out(rt: HostRuntime) -> Result<(), Fail> {
-    let alloc = rt.alloc();
-    // Two transactions, of 130 bytes each: 123 to 253 and 253 to 383.
-    let log = log_of(&rt, alloc, &[INSERT, "INSERT INTO t VALUES (2, 20)"])?;
+fn logs_that_are_cut(rt: HostRuntime) -> Result<(), Fail> {
+    let log = two_transactions(&rt, rt.alloc())?;
     assert_eq!(rt; log.len(), 383);
     for cut in 0..=383usize {
-        let want = match cut {
-            0..=122 => (Some(cut as u64), 0),
-            123 => (None, 0),
-            124..=252 => (Some(123), 0),
-            253 => (None, 1),
-            254..=382 => (Some(253), 1),
-            _ => (None, 2),
-        };
-        let (front, _) = log.as_slice().split_at(cut.min(log.len()));
-        assert_eq!(rt; applied(alloc, front)?, want, "cut at {cut}");
+        expect_cut(&rt, rt.alloc(), log.as_slice(), cut)?;
     }
-    // One byte of the second transaction is changed: the type, the length and the next position of
-    // its BEGIN, a byte of the text BEGIN, of the statement's text and of its id (taken then), the
-    // type of its XID. Times, servers and numbers are not looked at.
-    for (at, byte, want) in [
-        (257usize, 1u8, (Some(253), 1usize)),
-        (262, 41, (Some(253), 1)),
-        (266, 0, (Some(253), 1)),
-        (288, b'b', (Some(253), 1)),
-        (328, b'i', (Some(253), 1)),
-        (350, b'1', (Some(253), 1)),
-        (350, b'3', (None, 2)),
-        (360, 4, (Some(253), 1)),
-        (253, 9, (None, 2)),
-        (258, 9, (None, 2)),
-        (375, 9, (None, 2)),
-    ] {
-        let mut changed = List::from_slice(alloc, log.as_slice())?;
-        assert!(rt; at < changed.len());
-        changed.set(at, byte);
-        assert_eq!(rt; applied(alloc, changed.as_slice())?, want, "{byte} at {at}");
+    Ok(())
+}
+
+/// Bytes of the second transaction that are changed, and whether it is carried out then: the type,
+/// the length and the next position of its BEGIN, a byte of the text BEGIN, of the statement's text
+/// and of its id (taken then), the type of its XID. Times, servers and numbers are not looked at.
+static CHANGES: [(usize, u8, bool); 11] = [
+    (257, 1, false),
+    (262, 41, false),
+    (266, 0, false),
+    (288, b'b', false),
+    (328, b'i', false),
+    (350, b'1', false),
+    (350, b'3', true),
+    (360, 4, false),
+    (253, 9, true),
+    (258, 9, true),
+    (375, 9, true),
+];
+
+fn expect_changed(
+    rt: &impl Abort,
+    alloc: Global,
+    at: usize,
+    byte: u8,
+    carried: bool,
+) -> Result<(), Fail> {
+    let mut log = two_transactions(rt, alloc)?;
+    assert!(rt; at < log.len());
+    log.set(at, byte);
+    let want = if carried { (None, 2) } else { (Some(253), 1) };
+    assert_eq!(rt; applied(alloc, log.as_slice())?, want, "{byte} at {at}");
+    Ok(())
+}
+
+#[test]
+fn logs_that_are_changed(rt: HostRuntime) -> Result<(), Fail> {
+    for (at, byte, carried) in &CHANGES {
+        expect_changed(&rt, rt.alloc(), *at, *byte, *carried)?;
     }
-    // A group of another kind behind them, here a second XID.
-    let mut foreign = List::from_slice(alloc, log.as_slice())?;
-    foreign.extend_from_slice(&[0, 0, 0, 0, 16, 1, 0, 0, 0, 27, 0, 0, 0, 0x9a, 1, 0, 0, 0, 0])?;
-    foreign.extend_from_slice(&[2, 0, 0, 0, 0, 0, 0, 0])?;
-    assert_eq!(rt; applied(alloc, foreign.as_slice())?, (Some(383), 2));
+    Ok(())
+}
+
+#[test]
+fn logs_that_go_on_with_another_group(rt: HostRuntime) -> Result<(), Fail> {
+    let alloc = rt.alloc();
+    // A second XID.
+    let mut log = two_transactions(&rt, alloc)?;
+    log.extend_from_slice(&[0, 0, 0, 0, 16, 1, 0, 0, 0, 27, 0, 0, 0, 0x9a, 1, 0, 0, 0, 0])?;
+    log.extend_from_slice(&[2, 0, 0, 0, 0, 0, 0, 0])?;
+    assert_eq!(rt; applied(alloc, log.as_slice())?, (Some(383), 2));
     Ok(())
 }
 
@@ -513,22 +561,28 @@ fn rows_that_rise_by_no_key(rt: HostRuntime) -> Result<(), Fail> {
     Ok(())
 }
 
+fn expect_status(
+    rt: &impl Abort,
+    alloc: Global,
+    status: Status,
+    number: u8,
+    line: &str,
+) -> Result<(), Fail> {
+    assert_eq!(rt; status.number(), number);
+    assert_eq!(rt; status_line(alloc, &status)?.as_slice(), line.as_bytes());
+    Ok(())
+}
+
 #[test]
 fn statuses_as_numbers_and_lines(rt: HostRuntime) -> Result<(), Fail> {
-    for (status, number, line) in [
-        (Status::Done, 0, ""),
-        (Status::BadWords, 1, "bad words\n"),
-        (Status::BadScript { at: 40 }, 2, "bad script at 40\n"),
-        (Status::ReadFault, 3, "read fault\n"),
-        (Status::WriteFault, 4, "write fault\n"),
-        (Status::NoMemory, 12, "out of memory\n"),
-    ] {
-        assert_eq!(rt; status.number(), number);
-        assert_eq!(rt;
-            status_line(rt.alloc(), &status)?.as_slice(),
-            line.as_bytes()
-        );
-    }
+    let alloc = rt.alloc();
+    expect_status(&rt, alloc, Status::Done, 0, "")?;
+    expect_status(&rt, alloc, Status::BadWords, 1, "bad words\n")?;
+    let bad = Status::BadScript { at: 40 };
+    expect_status(&rt, alloc, bad, 2, "bad script at 40\n")?;
+    expect_status(&rt, alloc, Status::ReadFault, 3, "read fault\n")?;
+    expect_status(&rt, alloc, Status::WriteFault, 4, "write fault\n")?;
+    expect_status(&rt, alloc, Status::NoMemory, 12, "out of memory\n")?;
     Ok(())
 }
 
