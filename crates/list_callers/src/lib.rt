@@ -5,7 +5,7 @@
 //! proof file.
 #![tactic(auto)]
 
-ghost use Rattle.std.specs.Prelude.{◌≡◌, ◌^◌, ◌<◌, ◌++◌, ◌∷◌, [], length, IfOk, sum_by, slice_get, IsTrue, IsPermutation, ◌↔◌, reverse};
+ghost use Rattle.std.specs.Prelude.{◌≡◌, ◌^◌, ◌<◌, ◌++◌, ◌∷◌, [], length, IfOk, sum_by, slice_get, slice_index_or, option_copied, IsTrue, IsPermutation, ◌↔◌, reverse};
 ghost use Rattle.list_callers.specs.Rows.{widths};
 
 use std::alloc::Global;
@@ -35,6 +35,7 @@ pub fn width_by_chain(rows: &List<Row>) -> usize
 /// The value at a place of a row that is there.
 pub fn value_at(rows: &List<Row>, row: usize, column: usize) -> Option<&Value>
     requires { row < length rows.now }
+    ensures { option_copied result ≡ slice_get (slice_index_or rows.now row []) column }
 {
     rows[row].get(column)
 }

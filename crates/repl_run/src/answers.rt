@@ -3,10 +3,7 @@ ghost use Rattle.std.specs.Prelude.{◌≡◌, IfOk};
 ghost use Rattle.repl_run.specs.Shown.{line, place_of, shown, row_line};
 
 use std::alloc::Global;
-use val_types::{Bytes, List, NoMemory, Row, row_text};
-
-/// The number of an SQL error, as in the MySQL manual's list of server errors.
-pub type SqlError = u16;
+use val_types::{Bytes, List, NoMemory, Row, SqlError, row_text};
 
 /// Duplicate entry for a key.
 pub const DUPLICATE_ENTRY: SqlError = 1062;

@@ -37,7 +37,7 @@ mod table;
 #[cfg(test)]
 mod tests;
 
-pub use answers::{Answer, SqlError};
+pub use answers::Answer;
 pub use carry::first_apply;
 pub use insert::insert_of;
 pub use laws::rows_are_of_first_inserts;

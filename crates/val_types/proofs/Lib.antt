@@ -1,2 +1,5 @@
+pub mod Comparing
 pub mod Lists
+pub mod Taking
 pub mod Values
+mod Worked

@@ -1,0 +1,7 @@
+use Rattle.std.proofs.Common.{◌≡◌, drop}
+use Rattle.val_types.specs.Functions.{first_known}
+use Rattle.expr_ops.proofs.functions.first_known.Given as goal
+
+-- the values before this one are NULL, so the rest decides
+abbrev pub invariant-loop-value : goal.invariant-loop-value
+invariant-loop-value l = first_known (drop l.value-index l.value-items) ≡ first_known l.values

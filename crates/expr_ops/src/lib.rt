@@ -1,0 +1,36 @@
+//! The operators and built-in functions of SQL on values.
+//!
+//! What each gives is defined in val_types, as plain data: a value, or the number of an error. The
+//! functions here compute it, on all values. The operands of an expression are evaluated by the crate
+//! that runs statements; what depends on a session, as NOW() or USER(), stands there too.
+//!
+//! - `operators`: [`binary`] and [`unary`], every operator
+//! - `truths`: conditions, NOT, AND and OR with three values; [`truth`] and [`decided`] are for those
+//!   who leave out operands that do not count
+//! - `comparing`: comparisons
+//! - `arithmetic`: numbers of 64 bits with their overflow
+//! - `functions`: [`builtin`], the built-in functions that depend on their arguments alone
+//! - `texts`: CONCAT, LENGTH and SUBSTRING
+//! - `moments`: [`time_text`], date and time of a second
+//! - `identifiers`: [`uuid_text`]
+//! - `random`: [`rand_step`] and [`floor_rand`], what RAND() draws
+#![tactic(auto)]
+
+mod arithmetic;
+mod comparing;
+mod functions;
+mod identifiers;
+mod moments;
+mod operators;
+mod random;
+#[cfg(test)]
+mod tests;
+mod texts;
+mod truths;
+
+pub use functions::builtin;
+pub use identifiers::uuid_text;
+pub use moments::time_text;
+pub use operators::{binary, unary};
+pub use random::{floor_rand, rand_step};
+pub use truths::{decided, truth};

@@ -1,0 +1,12 @@
+pub mod Lists
+pub mod Lawful
+pub mod Single
+pub mod Levels
+pub mod Sequence
+pub mod Choice
+pub mod Chains
+pub mod Alive
+pub mod Top
+pub mod TwoTokens
+pub mod Sums
+pub mod Worked
