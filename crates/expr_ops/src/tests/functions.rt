@@ -1,0 +1,484 @@
+//! Built-in functions, moments, identifiers and random numbers.
+
+ghost use Rattle.std.specs.Prelude.{IsTrue};
+ghost use Rattle.val_types.specs.Functions.{takes};
+
+use super::{Part, outcome, value};
+use crate::{builtin, floor_rand, rand_step, time_text, uuid_text};
+use std::alloc::Global;
+use std::process::Abort;
+use std::test::Fail;
+use val_types::{Bytes, Func, List, SqlError, SqlRefusal, Value};
+
+/// Built-in functions with their arguments and results.
+static BUILT_IN: [(Func, &[Part], Part); 58] = [
+    (Func::Abs, &[Part::Null], Part::Null),
+    (Func::Abs, &[Part::Int(5)], Part::Int(5)),
+    (Func::Abs, &[Part::Int(-5)], Part::Int(5)),
+    (Func::Abs, &[Part::Int(i64::MIN)], Part::Error(1690)),
+    (
+        Func::Abs,
+        &[Part::Int(-9_223_372_036_854_775_807)],
+        Part::Int(i64::MAX),
+    ),
+    (Func::Abs, &[Part::Text(b"5")], Part::Error(30002)),
+    (Func::Coalesce, &[Part::Null], Part::Null),
+    (Func::Coalesce, &[Part::Int(7)], Part::Int(7)),
+    (
+        Func::Coalesce,
+        &[Part::Null, Part::Null, Part::Int(0)],
+        Part::Int(0),
+    ),
+    (
+        Func::Coalesce,
+        &[Part::Null, Part::Text(b"x"), Part::Int(5)],
+        Part::Text(b"x"),
+    ),
+    (
+        Func::Coalesce,
+        &[Part::Text(b""), Part::Null],
+        Part::Text(b""),
+    ),
+    (
+        Func::If,
+        &[Part::Int(1), Part::Int(2), Part::Int(3)],
+        Part::Int(2),
+    ),
+    (
+        Func::If,
+        &[Part::Int(0), Part::Int(2), Part::Text(b"c")],
+        Part::Text(b"c"),
+    ),
+    (
+        Func::If,
+        &[Part::Null, Part::Int(2), Part::Int(3)],
+        Part::Int(3),
+    ),
+    (
+        Func::If,
+        &[Part::Int(-1), Part::Null, Part::Int(3)],
+        Part::Null,
+    ),
+    (
+        Func::If,
+        &[Part::Text(b"a"), Part::Int(2), Part::Int(3)],
+        Part::Error(30002),
+    ),
+    (Func::IfNull, &[Part::Null, Part::Int(2)], Part::Int(2)),
+    (Func::IfNull, &[Part::Int(0), Part::Int(2)], Part::Int(0)),
+    (Func::IfNull, &[Part::Null, Part::Null], Part::Null),
+    (
+        Func::IfNull,
+        &[Part::Text(b""), Part::Int(1)],
+        Part::Text(b""),
+    ),
+    (Func::Concat, &[Part::Null], Part::Null),
+    (Func::Concat, &[Part::Text(b"a"), Part::Null], Part::Null),
+    (Func::Concat, &[Part::Int(1)], Part::Text(b"1")),
+    (
+        Func::Concat,
+        &[Part::Int(i64::MIN), Part::Text(b"x")],
+        Part::Text(b"-9223372036854775808x"),
+    ),
+    (
+        Func::Concat,
+        &[Part::Text(b"a"), Part::Text(b""), Part::Text(b"b")],
+        Part::Text(b"ab"),
+    ),
+    (
+        Func::Concat,
+        &[Part::Text(b"left "), Part::Int(-6)],
+        Part::Text(b"left -6"),
+    ),
+    (Func::Length, &[Part::Null], Part::Null),
+    (Func::Length, &[Part::Text(b"")], Part::Int(0)),
+    (Func::Length, &[Part::Text(b"abc")], Part::Int(3)),
+    (Func::Length, &[Part::Text(b"\x00\xff")], Part::Int(2)),
+    (Func::Length, &[Part::Int(5)], Part::Error(30002)),
+    (
+        Func::Substring,
+        &[Part::Text(b"journal"), Part::Int(1), Part::Int(3)],
+        Part::Text(b"jou"),
+    ),
+    (
+        Func::Substring,
+        &[Part::Text(b"journal"), Part::Int(3), Part::Int(2)],
+        Part::Text(b"ur"),
+    ),
+    (
+        Func::Substring,
+        &[Part::Text(b"journal"), Part::Int(-3), Part::Int(2)],
+        Part::Text(b"na"),
+    ),
+    (
+        Func::Substring,
+        &[Part::Text(b"journal"), Part::Int(-7), Part::Int(1)],
+        Part::Text(b"j"),
+    ),
+    (
+        Func::Substring,
+        &[Part::Text(b"journal"), Part::Int(-8), Part::Int(1)],
+        Part::Text(b""),
+    ),
+    (
+        Func::Substring,
+        &[Part::Text(b"journal"), Part::Int(0), Part::Int(5)],
+        Part::Text(b""),
+    ),
+    (
+        Func::Substring,
+        &[Part::Text(b"journal"), Part::Int(8), Part::Int(1)],
+        Part::Text(b""),
+    ),
+    (
+        Func::Substring,
+        &[Part::Text(b"journal"), Part::Int(7), Part::Int(1)],
+        Part::Text(b"l"),
+    ),
+    (
+        Func::Substring,
+        &[Part::Text(b"journal"), Part::Int(7), Part::Int(5)],
+        Part::Text(b"l"),
+    ),
+    (
+        Func::Substring,
+        &[Part::Text(b"journal"), Part::Int(1), Part::Int(0)],
+        Part::Text(b""),
+    ),
+    (
+        Func::Substring,
+        &[Part::Text(b"journal"), Part::Int(1), Part::Int(-1)],
+        Part::Text(b""),
+    ),
+    (
+        Func::Substring,
+        &[Part::Text(b"journal"), Part::Int(1), Part::Int(i64::MIN)],
+        Part::Text(b""),
+    ),
+    (
+        Func::Substring,
+        &[Part::Text(b"journal"), Part::Int(1), Part::Int(i64::MAX)],
+        Part::Text(b"journal"),
+    ),
+    (
+        Func::Substring,
+        &[Part::Text(b"journal"), Part::Int(-3), Part::Int(i64::MAX)],
+        Part::Text(b"nal"),
+    ),
+    (
+        Func::Substring,
+        &[Part::Text(b"journal"), Part::Int(i64::MIN), Part::Int(1)],
+        Part::Text(b""),
+    ),
+    (
+        Func::Substring,
+        &[Part::Text(b"journal"), Part::Int(i64::MAX), Part::Int(1)],
+        Part::Text(b""),
+    ),
+    (
+        Func::Substring,
+        &[Part::Text(b"journal"), Part::Int(-1), Part::Int(1)],
+        Part::Text(b"l"),
+    ),
+    (
+        Func::Substring,
+        &[Part::Text(b""), Part::Int(1), Part::Int(1)],
+        Part::Text(b""),
+    ),
+    (
+        Func::Substring,
+        &[Part::Text(b""), Part::Int(-1), Part::Int(1)],
+        Part::Text(b""),
+    ),
+    (
+        Func::Substring,
+        &[Part::Null, Part::Int(1), Part::Int(1)],
+        Part::Null,
+    ),
+    (
+        Func::Substring,
+        &[Part::Text(b"journal"), Part::Null, Part::Int(1)],
+        Part::Null,
+    ),
+    (
+        Func::Substring,
+        &[Part::Text(b"journal"), Part::Int(1), Part::Null],
+        Part::Null,
+    ),
+    (
+        Func::Substring,
+        &[Part::Null, Part::Text(b"x"), Part::Int(1)],
+        Part::Null,
+    ),
+    (
+        Func::Substring,
+        &[Part::Int(5), Part::Null, Part::Int(1)],
+        Part::Null,
+    ),
+    (
+        Func::Substring,
+        &[Part::Int(5), Part::Int(1), Part::Int(1)],
+        Part::Error(30002),
+    ),
+    (
+        Func::Substring,
+        &[Part::Text(b"journal"), Part::Text(b"1"), Part::Int(1)],
+        Part::Error(30002),
+    ),
+    (
+        Func::Substring,
+        &[Part::Text(b"journal"), Part::Int(1), Part::Text(b"1")],
+        Part::Error(30002),
+    ),
+];
+
+fn values(alloc: Global, parts: &[Part]) -> Result<List<Value>, Fail> {
+    let mut values = List::new(alloc);
+    for part in parts {
+        values.push(value(alloc, part)?)?;
+    }
+    Ok(values)
+}
+
+/// Whether a built-in function takes so many arguments.
+fn takes(f: Func, count: usize) -> bool
+    ensures { IsTrue result → IsTrue (takes f count) }
+{
+    match f {
+        Func::Abs | Func::Length => count == 1,
+        Func::IfNull => count == 2,
+        Func::If | Func::Substring => count == 3,
+        Func::Coalesce | Func::Concat => count >= 1,
+        _ => false,
+    }
+}
+
+fn expect_builtin(
+    rt: &impl Abort,
+    alloc: Global,
+    f: Func,
+    arguments: &List<Value>,
+    wanted: Result<Value, SqlError>,
+) -> Result<(), Fail> {
+    assert!(rt; takes(f, arguments.len()), "{f:?} with {arguments:?}");
+    let given = builtin(alloc, f, arguments);
+    assert_eq!(rt;
+        given,
+        wanted.map_err(SqlRefusal::Sql),
+        "{f:?} of {arguments:?}"
+    );
+    Ok(())
+}
+
+fn expect_calls(
+    rt: &impl Abort,
+    alloc: Global,
+    rows: &[(Func, &[Part], Part)],
+) -> Result<(), Fail> {
+    for (f, arguments, wanted) in rows {
+        let arguments = values(alloc, *arguments)?;
+        expect_builtin(rt, alloc, *f, &arguments, outcome(alloc, wanted)?)?;
+    }
+    Ok(())
+}
+
+#[test]
+fn built_in_functions(rt: HostRuntime) -> Result<(), Fail> {
+    expect_calls(&rt, rt.alloc(), &BUILT_IN)
+}
+
+/// A text of so many times `a`.
+fn many(alloc: Global, count: usize) -> Result<Bytes, Fail> {
+    Ok(List::from_vec(vec![in alloc; b'a'; count]?))
+}
+
+/// CONCAT of so many times `a` and a value: NULL, an error, or a text of a length.
+fn expect_length(
+    rt: &impl Abort,
+    alloc: Global,
+    count: usize,
+    last: &Part,
+    wanted: &Part,
+) -> Result<(), Fail> {
+    let mut arguments = List::new(alloc);
+    arguments.push(Value::Text(many(alloc, count)?))?;
+    arguments.push(value(alloc, last)?)?;
+    assert!(rt; takes(Func::Concat, arguments.len()));
+    let length = match builtin(alloc, Func::Concat, &arguments) {
+        Ok(Value::Text(text)) => Ok(Value::Int(text.len() as i64)),
+        other => other,
+    };
+    assert_eq!(rt;
+        length,
+        outcome(alloc, wanted)?.map_err(SqlRefusal::Sql),
+        "{count}"
+    );
+    Ok(())
+}
+
+/// How many bytes CONCAT joins with a value, and the length of the result.
+static LENGTHS: [(usize, Part, Part); 7] = [
+    (65_535, Part::Text(b""), Part::Int(65_535)),
+    (65_534, Part::Text(b"b"), Part::Int(65_535)),
+    (65_535, Part::Text(b"b"), Part::Error(1153)),
+    (65_536, Part::Text(b""), Part::Error(1153)),
+    (65_533, Part::Int(-7), Part::Int(65_535)),
+    (65_534, Part::Int(-7), Part::Error(1153)),
+    (65_536, Part::Null, Part::Null),
+];
+
+fn expect_lengths(
+    rt: &impl Abort,
+    alloc: Global,
+    rows: &[(usize, Part, Part)],
+) -> Result<(), Fail> {
+    for (count, last, wanted) in rows {
+        expect_length(rt, alloc, *count, last, wanted)?;
+    }
+    Ok(())
+}
+
+#[test]
+fn the_longest_text(rt: HostRuntime) -> Result<(), Fail> {
+    expect_lengths(&rt, rt.alloc(), &LENGTHS)
+}
+
+/// Seconds since 1970-01-01 00:00:00 UTC with their text.
+static MOMENTS: [(u32, &[u8]); 22] = [
+    (0, b"1970-01-01 00:00:00"),
+    (59, b"1970-01-01 00:00:59"),
+    (3599, b"1970-01-01 00:59:59"),
+    (86399, b"1970-01-01 23:59:59"),
+    (86400, b"1970-01-02 00:00:00"),
+    (5_097_600, b"1970-03-01 00:00:00"),
+    (31_535_999, b"1970-12-31 23:59:59"),
+    (31_536_000, b"1971-01-01 00:00:00"),
+    (68_169_600, b"1972-02-29 00:00:00"),
+    (94_694_399, b"1972-12-31 23:59:59"),
+    (951_782_400, b"2000-02-29 00:00:00"),
+    (951_868_799, b"2000-02-29 23:59:59"),
+    (951_868_800, b"2000-03-01 00:00:00"),
+    (1_700_000_000, b"2023-11-14 22:13:20"),
+    (1_709_164_800, b"2024-02-29 00:00:00"),
+    (1_709_251_199, b"2024-02-29 23:59:59"),
+    (1_709_251_200, b"2024-03-01 00:00:00"),
+    (2_147_483_647, b"2038-01-19 03:14:07"),
+    (4_107_542_399, b"2100-02-28 23:59:59"),
+    (4_107_542_400, b"2100-03-01 00:00:00"),
+    (4_133_980_799, b"2100-12-31 23:59:59"),
+    (4_294_967_295, b"2106-02-07 06:28:15"),
+];
+
+fn expect_times(rt: &impl Abort, alloc: Global, rows: &[(u32, &[u8])]) -> Result<(), Fail> {
+    for (t, wanted) in rows {
+        assert_eq!(rt; time_text(alloc, *t)?.as_slice(), *wanted, "{t}");
+    }
+    Ok(())
+}
+
+#[test]
+fn moments_as_text(rt: HostRuntime) -> Result<(), Fail> {
+    expect_times(&rt, rt.alloc(), &MOMENTS)
+}
+
+/// Numbers of 128 bits with the text of their UUID.
+static IDENTIFIERS: [(u128, &[u8]); 6] = [
+    (0, b"00000000-0000-0000-0000-000000000000"),
+    (16, b"00000000-0000-0000-0000-000000000010"),
+    (0x100000000000003e8, b"00000000-0000-0001-0000-0000000003e8"),
+    (
+        0x80000000000000000000000000000000,
+        b"80000000-0000-0000-0000-000000000000",
+    ),
+    (
+        0x123456789abcdef0011223344556677,
+        b"01234567-89ab-cdef-0011-223344556677",
+    ),
+    (
+        0xffffffffffffffffffffffffffffffff,
+        b"ffffffff-ffff-ffff-ffff-ffffffffffff",
+    ),
+];
+
+fn expect_uuids(rt: &impl Abort, alloc: Global, rows: &[(u128, &[u8])]) -> Result<(), Fail> {
+    for (n, wanted) in rows {
+        assert_eq!(rt; uuid_text(alloc, *n)?.as_slice(), *wanted, "{n}");
+    }
+    Ok(())
+}
+
+#[test]
+fn identifiers_as_text(rt: HostRuntime) -> Result<(), Fail> {
+    expect_uuids(&rt, rt.alloc(), &IDENTIFIERS)
+}
+
+/// Seeds before and after a step.
+static STEPS: [(u64, u64, u64, u64); 8] = [
+    (1, 2, 5, 40),
+    (5, 40, 55, 128),
+    (7, 9, 30, 72),
+    (0, 0, 0, 33),
+    (1_073_741_822, 1_073_741_822, 1_073_741_819, 28),
+    (u64::MAX, 0, 45, 78),
+    (0, u64::MAX, 15, 63),
+    (u64::MAX, u64::MAX, 60, 108),
+];
+
+/// A first seed, n, and the floor of their product by the bound of seeds.
+static FLOORS: [(u64, Part, Part); 12] = [
+    (5, Part::Int(1_073_741_823), Part::Int(5)),
+    (55, Part::Int(1_073_741_823), Part::Int(55)),
+    (55, Part::Int(0), Part::Int(0)),
+    (55, Part::Int(-1), Part::Int(-1)),
+    (536_870_911, Part::Int(10), Part::Int(4)),
+    (536_870_912, Part::Int(10), Part::Int(5)),
+    (1_073_741_822, Part::Int(-10), Part::Int(-10)),
+    (
+        1_073_741_822,
+        Part::Int(i64::MAX),
+        Part::Int(9_223_372_028_264_841_206),
+    ),
+    (
+        1_073_741_822,
+        Part::Int(i64::MIN),
+        Part::Int(-9_223_372_028_264_841_208),
+    ),
+    (55, Part::Null, Part::Null),
+    (55, Part::Text(b"2"), Part::Error(30002)),
+    (u64::MAX, Part::Int(i64::MAX), Part::Error(1690)),
+];
+
+fn expect_floor(
+    rt: &impl Abort,
+    alloc: Global,
+    s1: u64,
+    n: &Part,
+    wanted: &Part,
+) -> Result<(), Fail> {
+    let n = value(alloc, n)?;
+    assert_eq!(rt;
+        floor_rand(s1, &n),
+        outcome(alloc, wanted)?,
+        "{s1} and {n:?}"
+    );
+    Ok(())
+}
+
+fn expect_steps(rt: &impl Abort, rows: &[(u64, u64, u64, u64)]) {
+    for (s1, s2, first, second) in rows {
+        assert_eq!(rt; rand_step(*s1, *s2), (*first, *second), "{s1} and {s2}");
+    }
+}
+
+fn expect_floors(rt: &impl Abort, alloc: Global, rows: &[(u64, Part, Part)]) -> Result<(), Fail> {
+    for (s1, n, wanted) in rows {
+        expect_floor(rt, alloc, *s1, n, wanted)?;
+    }
+    Ok(())
+}
+
+#[test]
+fn random_numbers(rt: HostRuntime) -> Result<(), Fail> {
+    expect_steps(&rt, &STEPS);
+    expect_floors(&rt, rt.alloc(), &FLOORS)
+}
