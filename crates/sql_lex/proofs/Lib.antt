@@ -1,6 +1,6 @@
 mod KeywordLaws
 mod Steps
-mod Fronts
+pub mod Fronts
 mod BlankLaws
-mod SpanLaws
-mod Spelled
+pub mod SpanLaws
+pub mod Spelled

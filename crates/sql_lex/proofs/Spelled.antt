@@ -76,10 +76,10 @@ say_slice m w rest ps kind e some s =
     let all : Spells m (w ++ rest) (plain_by kind (take (length w) (w ++ rest)) ∷ ps) = say' kind (length w) e some (omega (arith, length-append w rest)) behind in
     rw take-append_seam at all
 
-abbrev quoted_slice : List ℕ → List ℕ
+abbrev pub quoted_slice : List ℕ → List ℕ
 quoted_slice name = 96 ∷ (doubled name ++ 96 ∷ [])
 
-name_read : (m : Bool) (name rest : List ℕ) → is_name name ≡ true → begins 96 rest ≡ false → piece_of m (96 ∷ (doubled name ++ 96 ∷ rest)) ≡ pieces.Token kinds.Quoted (2 + length (doubled name))
+pub name_read : (m : Bool) (name rest : List ℕ) → is_name name ≡ true → begins 96 rest ≡ false → piece_of m (96 ∷ (doubled name ++ 96 ∷ rest)) ≡ pieces.Token kinds.Quoted (2 + length (doubled name))
 name_read m name rest good e =
     let d : List ℕ = doubled name in
     let closed : quoted_token (d ++ 96 ∷ rest) ≡ name_kind (d ++ 96 ∷ rest) (1 + length d) = ap (option_and_then (name_kind (d ++ 96 ∷ rest))) (name_closes name rest e) in
@@ -87,7 +87,7 @@ name_read m name rest good e =
     let named : name_kind (d ++ 96 ∷ rest) (1 + length d) ≡ Some (kinds.Quoted, 1 + (1 + length d)) = rw (size, take-append_seam d (96 ∷ rest), name_meant name, good) refl in
     ap piece_by (closed ∙ named) ∙ ap (pieces.Token kinds.Quoted) (omega arith)
 
-name_said : (name : List ℕ) → quoted_name (quoted_slice name) ≡ folded name
+pub name_said : (name : List ℕ) → quoted_name (quoted_slice name) ≡ folded name
 name_said name =
     let d : List ℕ = doubled name in
     let size : length (quoted_slice name) - 2 ≡ length d = omega (arith, length-append d (96 ∷ [])) in
@@ -139,10 +139,10 @@ digit_is : (n : ℕ) → n < 10 → is_ascii_digit (48 + n) ≡ true
 digit_is n l = search rules
 
 -- the digits of a number stand for it
-abbrev Digits : ℕ → List ℕ → Type 0
+abbrev pub Digits : ℕ → List ℕ → Type 0
 Digits n ds = AllOf is_ascii_digit ds × (0 < length ds) × (number_from 0 ds ≡ n)
 
-decimal_digits : (n : ℕ) → n < 2 ^ 64 → Digits n (decimal n)
+pub decimal_digits : (n : ℕ) → n < 2 ^ 64 → Digits n (decimal n)
 decimal_digits = decimal_by_steps Digits
     (λ n l. ((digit_is n l, tt), omega arith, omega arith))
     (λ n ds l h.
@@ -166,12 +166,24 @@ number_token_is m d n ds rest h l e =
     ap (λ k. sized k (number_kind m (number_from 0 (take k (d ∷ (ds ++ rest)))))) size
     ∙ (ap (λ v. sized (length (d ∷ ds)) (number_kind m v)) value ∙ rw (lt-ltb n 9223372036854775808 l) refl)
 
-number_read : (m : Bool) (n : ℕ) (w rest : List ℕ) → Digits n w → n < 9223372036854775808 → Ends is_ascii_digit rest → piece_of m (w ++ rest) ≡ pieces.Token (kinds.Number n) (length w)
+pub number_read : (m : Bool) (n : ℕ) (w rest : List ℕ) → Digits n w → n < 9223372036854775808 → Ends is_ascii_digit rest → piece_of m (w ++ rest) ≡ pieces.Token (kinds.Number n) (length w)
 number_read m n [] rest h l e = absurd (omega (arith, h.1))
 number_read m n (d ∷ ds) rest h l e =
     let above = digit_above d h.0.0 in
     let first : token_by m d (ds ++ rest) ≡ number_token m (d ∷ (ds ++ rest)) = rw h.0.0 refl in
     dark_piece m d (ds ++ rest) above.0 ∙ ap piece_by (first ∙ number_token_is m d n ds rest h l e)
+
+-- digits of a number that is one too large for 63 bits, directly behind a minus
+pub least_read : (w rest : List ℕ) → Digits 9223372036854775808 w → Ends is_ascii_digit rest → piece_of true (w ++ rest) ≡ pieces.Token kinds.Least (length w)
+least_read [] rest h e = absurd (omega (arith, h.1))
+least_read (d ∷ ds) rest h e =
+    let above = digit_above d h.0.0 in
+    let first : token_by true d (ds ++ rest) ≡ number_token true (d ∷ (ds ++ rest)) = rw h.0.0 refl in
+    let size : 1 + prefix_len is_ascii_digit (ds ++ rest) ≡ length (d ∷ ds) = ap (λ k. 1 + k) (runs is_ascii_digit ds rest h.0.1 e) ∙ omega arith in
+    let value : number_from 0 (take (length (d ∷ ds)) ((d ∷ ds) ++ rest)) ≡ 9223372036854775808 = ap (number_from 0) (take-append_seam (d ∷ ds) rest) ∙ h.2 in
+    let token : number_token true (d ∷ (ds ++ rest)) ≡ Some (kinds.Least, length (d ∷ ds)) =
+    ap (λ k. sized k (number_kind true (number_from 0 (take k (d ∷ (ds ++ rest)))))) size ∙ ap (λ v. sized (length (d ∷ ds)) (number_kind true v)) value in
+    dark_piece true d (ds ++ rest) above.0 ∙ ap piece_by (first ∙ token)
 
 pub number_spells : (m : Bool) (n : ℕ) (rest : List ℕ) (ps : List Plain) → n < 9223372036854775808 → Ends is_ascii_digit rest → Spells false rest ps → Spells m (decimal n ++ rest) (number n ∷ ps)
 number_spells m n rest ps l e s =
@@ -201,15 +213,17 @@ word_token_is b bs rest h l e =
     let size : 1 + prefix_len is_word_byte (bs ++ rest) ≡ length (b ∷ bs) = ap (λ k. 1 + k) (runs is_word_byte bs rest h e) ∙ omega arith in
     ap (λ k. if nat_le k 64 then Some (kinds.Word, k) else None) size ∙ rw (le-leb (length (b ∷ bs)) 64 l) refl
 
-pub word_spells : (m : Bool) (b : ℕ) (bs rest : List ℕ) (ps : List Plain) → is_letter b ≡ true → AllOf is_word_byte bs → length (b ∷ bs) ≤ 64
-    → Ends is_word_byte rest → begins 39 rest ≡ false → Spells false rest ps → Spells m ((b ∷ bs) ++ rest) (word (folded (b ∷ bs)) ∷ ps)
-word_spells m b bs rest ps first more l e q s =
+pub word_read : (m : Bool) (b : ℕ) (bs rest : List ℕ) → is_letter b ≡ true → AllOf is_word_byte bs → length (b ∷ bs) ≤ 64
+    → Ends is_word_byte rest → begins 39 rest ≡ false → piece_of m ((b ∷ bs) ++ rest) ≡ pieces.Token kinds.Word (length (b ∷ bs))
+word_read m b bs rest first more l e q =
     let above = letter_above b first in
     let token : token_by m b (bs ++ rest) ≡ word_token (b ∷ (bs ++ rest)) =
     rw (no_digit b above, no_quote_in bs rest more q, and_false (b == 120 || b == 88), first) refl in
-    let read : piece_of m ((b ∷ bs) ++ rest) ≡ pieces.Token kinds.Word (length (b ∷ bs)) =
-    dark_piece m b (bs ++ rest) (omega arith) ∙ ap piece_by (token ∙ word_token_is b bs rest more l e) in
-    say_slice m (b ∷ bs) rest ps kinds.Word read (omega arith) s
+    dark_piece m b (bs ++ rest) (omega arith) ∙ ap piece_by (token ∙ word_token_is b bs rest more l e)
+
+pub word_spells : (m : Bool) (b : ℕ) (bs rest : List ℕ) (ps : List Plain) → is_letter b ≡ true → AllOf is_word_byte bs → length (b ∷ bs) ≤ 64
+    → Ends is_word_byte rest → begins 39 rest ≡ false → Spells false rest ps → Spells m ((b ∷ bs) ++ rest) (word (folded (b ∷ bs)) ∷ ps)
+word_spells m b bs rest ps first more l e q s = say_slice m (b ∷ bs) rest ps kinds.Word (word_read m b bs rest first more l e q) (omega arith) s
 
 pub space_spells : (m : Bool) (rest : List ℕ) (ps : List Plain) → Spells false rest ps → Spells m (32 ∷ rest) ps
 space_spells m rest ps s = gap' 1 refl (omega arith) (omega arith) s
@@ -226,21 +240,26 @@ text_meant : (t : List ℕ) → AllOf is_simple t → meant 39 t ≡ t
 text_meant [] h = refl
 text_meant (b ∷ bs) h = let p = simple_parts b h.0 in rw (p.0, p.1, text_meant bs h.1) refl
 
-abbrev string_slice : List ℕ → List ℕ
+abbrev pub string_slice : List ℕ → List ℕ
 string_slice t = 39 ∷ (t ++ 39 ∷ [])
 
-text_said : (t : List ℕ) → AllOf is_simple t → literal_bytes (string_slice t) ≡ t
+pub text_said : (t : List ℕ) → AllOf is_simple t → literal_bytes (string_slice t) ≡ t
 text_said t h =
     let size : length (string_slice t) - 2 ≡ length t = omega (arith, length-append t (39 ∷ [])) in
     ap (λ k. meant 39 (take k (t ++ 39 ∷ []))) size ∙ (ap (meant 39) (take-append_seam t (39 ∷ [])) ∙ text_meant t h)
 
-pub text_spells : (m : Bool) (t rest : List ℕ) (ps : List Plain) → AllOf is_simple t → begins 39 rest ≡ false → Spells false rest ps → Spells m (39 ∷ (t ++ 39 ∷ rest)) (text t ∷ ps)
-text_spells m t rest ps h e s =
+pub text_read : (m : Bool) (t rest : List ℕ) → AllOf is_simple t → begins 39 rest ≡ false → piece_of m (string_slice t ++ rest) ≡ pieces.Token kinds.Text (length (string_slice t))
+text_read m t rest h e =
     let joined : string_slice t ++ rest ≡ 39 ∷ (t ++ 39 ∷ rest) = ap (λ us. 39 ∷ us) (append_assoc t (39 ∷ []) rest) in
     let size : 1 + (1 + length t) ≡ length (string_slice t) = omega (arith, length-append t (39 ∷ [])) in
     let read : piece_of m (39 ∷ (t ++ 39 ∷ rest)) ≡ pieces.Token kinds.Text (1 + (1 + length t)) =
     ap (λ o. piece_by (option_map (λ count. (kinds.Text, 1 + count)) o)) (text_closes t rest h e) in
-    let all = say_slice m (string_slice t) rest ps kinds.Text (ap (piece_of m) joined ∙ (read ∙ ap (pieces.Token kinds.Text) size)) (omega arith) s in
+    ap (piece_of m) joined ∙ (read ∙ ap (pieces.Token kinds.Text) size)
+
+pub text_spells : (m : Bool) (t rest : List ℕ) (ps : List Plain) → AllOf is_simple t → begins 39 rest ≡ false → Spells false rest ps → Spells m (39 ∷ (t ++ 39 ∷ rest)) (text t ∷ ps)
+text_spells m t rest ps h e s =
+    let joined : string_slice t ++ rest ≡ 39 ∷ (t ++ 39 ∷ rest) = ap (λ us. 39 ∷ us) (append_assoc t (39 ∷ []) rest) in
+    let all = say_slice m (string_slice t) rest ps kinds.Text (text_read m t rest h e) (omega arith) s in
     let here : Spells m (39 ∷ (t ++ 39 ∷ rest)) (text (literal_bytes (string_slice t)) ∷ ps) = subst (λ (us : List ℕ). Spells m us (text (literal_bytes (string_slice t)) ∷ ps)) joined all in
     subst (λ (w : List ℕ). Spells m (39 ∷ (t ++ 39 ∷ rest)) (text w ∷ ps)) (text_said t h) here
 
@@ -264,21 +283,27 @@ hex_token_is t rest h =
     ap (λ k. if k % 2 == 0 && begins 39 (drop k (w ++ 39 ∷ rest)) then Some (kinds.Text, 3 + k) else None) size
     ∙ rw (hex_even t, drop-append_seam w (39 ∷ rest)) refl
 
-abbrev hex_slice : List ℕ → List ℕ
+abbrev pub hex_slice : List ℕ → List ℕ
 hex_slice t = 88 ∷ 39 ∷ (encode_upper t ++ 39 ∷ [])
 
-hex_said : (t : List ℕ) → IsBytes t → literal_bytes (hex_slice t) ≡ t
+pub hex_said : (t : List ℕ) → IsBytes t → literal_bytes (hex_slice t) ≡ t
 hex_said t h =
     let w : List ℕ = encode_upper t in
     let size : length (39 ∷ (w ++ 39 ∷ [])) - 2 ≡ length w = omega (arith, length-append w (39 ∷ [])) in
     ap (λ k. hex_bytes (take k (w ++ 39 ∷ []))) size ∙ (ap hex_bytes (take-append_seam w (39 ∷ [])) ∙ ap (λ r. unwrap_or (result_ok r) []) (decode_of-encode_upper t h))
 
-pub hex_spells : (m : Bool) (t rest : List ℕ) (ps : List Plain) → IsBytes t → Spells false rest ps → Spells m (88 ∷ 39 ∷ (encode_upper t ++ 39 ∷ rest)) (text t ∷ ps)
-hex_spells m t rest ps h s =
+pub hex_read : (m : Bool) (t rest : List ℕ) → IsBytes t → piece_of m (hex_slice t ++ rest) ≡ pieces.Token kinds.Text (length (hex_slice t))
+hex_read m t rest h =
     let w : List ℕ = encode_upper t in
     let joined : hex_slice t ++ rest ≡ 88 ∷ 39 ∷ (w ++ 39 ∷ rest) = ap (λ us. 88 ∷ 39 ∷ us) (append_assoc w (39 ∷ []) rest) in
     let size : 3 + length w ≡ length (hex_slice t) = omega (arith, length-append w (39 ∷ [])) in
     let read : piece_of m (88 ∷ 39 ∷ (w ++ 39 ∷ rest)) ≡ pieces.Token kinds.Text (3 + length w) = ap piece_by (hex_token_is t rest h) in
-    let all = say_slice m (hex_slice t) rest ps kinds.Text (ap (piece_of m) joined ∙ (read ∙ ap (pieces.Token kinds.Text) size)) (omega arith) s in
+    ap (piece_of m) joined ∙ (read ∙ ap (pieces.Token kinds.Text) size)
+
+pub hex_spells : (m : Bool) (t rest : List ℕ) (ps : List Plain) → IsBytes t → Spells false rest ps → Spells m (88 ∷ 39 ∷ (encode_upper t ++ 39 ∷ rest)) (text t ∷ ps)
+hex_spells m t rest ps h s =
+    let w : List ℕ = encode_upper t in
+    let joined : hex_slice t ++ rest ≡ 88 ∷ 39 ∷ (w ++ 39 ∷ rest) = ap (λ us. 88 ∷ 39 ∷ us) (append_assoc w (39 ∷ []) rest) in
+    let all = say_slice m (hex_slice t) rest ps kinds.Text (hex_read m t rest h) (omega arith) s in
     let here : Spells m (88 ∷ 39 ∷ (w ++ 39 ∷ rest)) (text (literal_bytes (hex_slice t)) ∷ ps) = subst (λ (us : List ℕ). Spells m us (text (literal_bytes (hex_slice t)) ∷ ps)) joined all in
     subst (λ (v : List ℕ). Spells m (88 ∷ 39 ∷ (w ++ 39 ∷ rest)) (text v ∷ ps)) (hex_said t h) here

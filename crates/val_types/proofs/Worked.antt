@@ -1,6 +1,11 @@
 -- Values by hand, computed from the definitions.
-use Rattle.std.proofs.Common.{◌≡◌, pos, [], ◌∷◌, Ok, Err, refl}
+use Rattle.std.proofs.Common.{◌≡◌, pos, List, [], ◌∷◌, Some, None, Ok, Err, refl}
 use Rattle.std.specs.Prelude.{codes, neg_ℤ}
+use Rattle.val_types.specs.declared.value.Value.{Value}
+use Rattle.val_types.specs.declared.change.Change.TheVariants.{Update}
+use Rattle.val_types.specs.declared.definitions.TableDef.{TableDef}
+use Rattle.val_types.specs.Tables.{Table}
+use Rattle.val_types.specs.Stored.{key_in_way, key_taken, row_absent, insertion, replacement, deletion}
 use Rattle.val_types.specs.declared.value.Value.TheVariants.{Null, Int, Text}
 use Rattle.val_types.specs.declared.ops.BinOp.TheVariants.{Or, And, Equal, NullSafeEqual, Add, Divide, Modulo}
 use Rattle.val_types.specs.declared.ops.Func.TheVariants.{Concat, Substring}
@@ -79,3 +84,46 @@ day_before_no_leap_day = refl
 no_leap_day : moment_text 4107542400 ≡ codes "2100-03-01 00:00:00"
 unfolding moment_text date_text clock_text year_of_day month_of_day
 no_leap_day = refl
+
+-- a table with a number as its primary key, a unique key of a text and one of two numbers, and two rows
+abbrev pens : TableDef
+pens = record {
+  name = codes "pens";
+  columns = [];
+  primary = 0 ∷ [];
+  uniques = record { name = codes "u"; columns = 1 ∷ [] } ∷ record { name = codes "w"; columns = 2 ∷ 3 ∷ [] } ∷ [];
+  auto = None;
+}
+
+abbrev red : List Value
+red = Int (pos 1) ∷ Text (codes "red") ∷ Int (pos 5) ∷ Null ∷ []
+
+abbrev blue : List Value
+blue = Int (pos 2) ∷ Null ∷ Int (pos 5) ∷ Int (pos 7) ∷ []
+
+abbrev some_pens : List Table
+some_pens = record { definition = pens; rows = red ∷ blue ∷ [] } ∷ []
+
+primary_first : key_in_way pens (Int (pos 2) ∷ Text (codes "red") ∷ Int (pos 5) ∷ Int (pos 7) ∷ []) (red ∷ blue ∷ []) ≡ Some 0
+primary_first = refl
+
+first_unique_key : key_in_way pens (Int (pos 3) ∷ Text (codes "red") ∷ Int (pos 5) ∷ Int (pos 7) ∷ []) (red ∷ blue ∷ []) ≡ Some 1
+first_unique_key = refl
+
+second_unique_key : key_in_way pens (Int (pos 3) ∷ Null ∷ Int (pos 5) ∷ Int (pos 7) ∷ []) (red ∷ blue ∷ []) ≡ Some 2
+second_unique_key = refl
+
+unknown_part : key_in_way pens (Int (pos 3) ∷ Null ∷ Int (pos 5) ∷ Null ∷ []) (red ∷ blue ∷ []) ≡ None
+unknown_part = refl
+
+its_own_keys : replacement (codes "pens") (Int (pos 2) ∷ []) blue some_pens ≡ Ok (Update (codes "pens") blue blue)
+its_own_keys = refl
+
+key_of_another : replacement (codes "pens") (Int (pos 2) ∷ []) red some_pens ≡ Err (key_taken 0)
+key_of_another = refl
+
+no_such_pen : deletion (codes "pens") (Int (pos 3) ∷ []) some_pens ≡ Err row_absent
+no_such_pen = refl
+
+no_such_table : insertion (codes "ink") red some_pens ≡ Err row_absent
+no_such_table = refl

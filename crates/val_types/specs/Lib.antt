@@ -9,6 +9,8 @@ pub mod Moments
 pub mod Operators
 pub mod Order
 pub mod Random
+pub mod Selecting
+pub mod Stored
 pub mod Tables
 pub mod Text
 pub mod formers

@@ -42,8 +42,8 @@ pub use duplicate::Duplicate;
 pub use fitting::{fits, row_fits};
 pub use keys::key_of;
 pub use laws::{
-    changes_turn_back, comparisons_follow_keys, left_operands_decide,
-    null_safe_equality_is_equality,
+    all_turn_back, changes_turn_back, comparisons_follow_keys, definitions_stay,
+    keys_in_way_collide, left_operands_decide, null_safe_equality_is_equality, refusals_are_exact,
 };
 pub use list::{Bytes, List, NoMemory};
 pub use ops::{Agg, BinOp, Func, UnOp};

@@ -1,0 +1,115 @@
+//! The counters of tables.
+ghost use Rattle.std.specs.Prelude.{◌≡◌, ◌++◌, ◌∷◌, [], max, unwrap_or, OnErr, OnOk};
+ghost use Rattle.auto_inc.specs.Counting.{behind, changed_for, counters_beside, place_for, value_for};
+
+use std::alloc::Global;
+use std::marker::Model;
+use val_types::{Bytes, Duplicate, NoMemory};
+
+/// The counter of a table: the least number that its column may be given next.
+#[derive(Debug, Drop)]
+pub struct Counter {
+    pub table: Bytes,
+    pub value: u64,
+}
+
+/// The counters of all tables with an AUTO_INCREMENT column.
+#[derive(Debug, Drop)]
+pub struct Counters {
+    alloc: Global,
+    counters: Vec<Counter>,
+}
+
+impl Model for Counters {
+    ghost use Rattle.std.specs.Prelude.{List as Items};
+    ghost use Rattle.auto_inc.specs.declared.counters.Counter.{Counter as OneCounter};
+
+    ghost Value = { Items OneCounter };
+
+    ghost view = { λ c. c.counters.items };
+}
+
+impl Counters {
+    /// No counter, which takes no memory.
+    pub fn new(alloc: Global) -> Counters
+        ensures { result ≡ [] }
+    {
+        Counters {
+            alloc,
+            counters: Vec::new(alloc),
+        }
+    }
+
+    /// The counter of a table, 0 where it has none.
+    pub fn value(&self, table: &Bytes) -> u64
+        ensures { result ≡ unwrap_or (value_for table.now self.now) 0 }
+    {
+        let at = place(&self.counters, table);
+        if at < self.counters.len() {
+            self.counters[at].value
+        } else {
+            0
+        }
+    }
+
+    /// Moves the counter of a table behind a value, where it is not there yet.
+    pub fn raise(&mut self, table: &Bytes, value: i64)
+        ensures { self.new ≡ changed_for table.now (max (behind value)) self.old }
+    {
+        let at = place(&self.counters, table);
+        if at < self.counters.len() {
+            let counter = &mut self.counters[at];
+            counter.value = behind(value).max(counter.value);
+        }
+    }
+
+    /// Sets the counter of a table to 1.
+    pub fn reset(&mut self, table: &Bytes)
+        ensures { self.new ≡ changed_for table.now (λ _. 1) self.old }
+    {
+        let at = place(&self.counters, table);
+        if at < self.counters.len() {
+            self.counters[at].value = 1;
+        }
+    }
+
+    /// Adds the counter of a table, which has none yet.
+    pub fn add(&mut self, table: &Bytes, value: u64) -> Result<(), NoMemory>
+        ensures ok { OnOk result (self.new
+            ≡ self.old ++ record { table = table.now; value = value } ∷ []) }
+        ensures err { OnErr result (self.new ≡ self.old) }
+    {
+        let table = table.duplicate(self.alloc)?;
+        self.counters.push(Counter { table, value })?;
+        Ok(())
+    }
+
+    /// Takes the counter of a table out.
+    pub fn remove(&mut self, table: &Bytes)
+        ensures { self.new ≡ counters_beside table.now self.old }
+    {
+        let at = place(&self.counters, table);
+        if at < self.counters.len() {
+            self.counters.remove(at);
+        }
+    }
+}
+
+/// How many counters stand before that of a table, or all where it has none.
+fn place(counters: &[Counter], table: &Bytes) -> usize
+    ensures { result ≡ place_for table.now counters.now }
+{
+    for (i, counter) in counters.iter().enumerate() {
+        if *table == counter.table {
+            return i;
+        }
+    }
+    counters.len()
+}
+
+/// The number behind a value, 0 behind one below 0.
+pub(crate) fn behind(value: i64) -> u64
+    ensures { result ≡ behind value }
+{
+    if value < 0 { 0 } else { value as u64 + 1 }
+}

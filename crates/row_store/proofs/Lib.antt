@@ -1,0 +1,10 @@
+pub mod Agreeing
+pub mod Beside
+pub mod Emptying
+pub mod Kept
+pub mod Places
+pub mod Storing
+pub mod Swapping
+pub mod Tidying
+pub mod Undoing
+pub mod Writing

@@ -1,0 +1,265 @@
+-- The shelf of a table among others, and what a change on it makes of the tables.
+use Rattle.std.proofs.Common.{◌≡◌, ℕ, suc, ◌<◌, ◌≤◌, List, [], ◌∷◌, length, get_or, Bool, true, false, cond, Option, Some, None, refl, sym, ap, subst, ◌∙◌, arith}
+use Rattle.std.specs.Prelude.{slice_set, nat_eq}
+use Rattle.std.specs.List.{remove}
+use Rattle.std.specs.Option.{option_map}
+use Rattle.std.specs.Cmp.Lexicographic.{pointwise}
+use Rattle.val_types.specs.declared.value.Value.{Value}
+use Rattle.val_types.specs.declared.definitions.TableDef.{TableDef}
+use Rattle.val_types.specs.declared.change.Change.{Change}
+use Rattle.val_types.specs.Keys.{primary_key}
+use Rattle.val_types.specs.Tables.{Table}
+use Rattle.val_types.specs.Changes.{table_of, table_after, applied, AreKept}
+use Rattle.val_types.specs.Stored.{table_named, tables_beside, tables_cleared}
+use Rattle.val_types.proofs.Taking.{is_kept}
+use Rattle.row_store.specs.declared.shelf.Shelf.{Shelf}
+use Rattle.row_store.specs.Slots.{place, rows_in, keys_in, is_among}
+use Rattle.row_store.specs.Shelves.{table_on, tables_on, is_named, has_slot, has_slot_for, KeepsSlots}
+use Rattle.row_store.specs.Stores.{kept_on}
+use Rattle.row_store.proofs.Emptying.{sound}
+
+-- the shelf of a table
+abbrev pub shelf_named : List ℕ → List Shelf → Option Shelf
+shelf_named name [] = None
+shelf_named name (s ∷ ss) = cond (is_named name s) (Some s) (shelf_named name ss)
+
+-- the shelves, another one in the place of that of a table
+abbrev pub swap : List ℕ → Shelf → List Shelf → List Shelf
+swap name new [] = []
+swap name new (s ∷ ss) = cond (is_named name s) (new ∷ ss) (s ∷ swap name new ss)
+
+-- ---- by places
+
+named_step : (here : Bool) (k : ℕ) (s d : Shelf) (ss : List Shelf) (o : Option Shelf) → (k < length ss → d ≡ get_or ss k d → o ≡ Some d)
+    → cond here 0 (suc k) < suc (length ss) → d ≡ get_or (s ∷ ss) (cond here 0 (suc k)) d → cond here (Some s) o ≡ Some d
+named_step true k s d ss o later h e = ap (λ (u : Shelf). Some u) (sym e)
+named_step false k s d ss o later h e = later (omega arith) e
+
+named_found : (name : List ℕ) (ss : List Shelf) (d : Shelf) → place (is_named name) ss < length ss → d ≡ get_or ss (place (is_named name) ss) d → shelf_named name ss ≡ Some d
+named_found name [] d h e = absurd (omega arith)
+named_found name (s ∷ ss) d h e = named_step (is_named name s) (place (is_named name) ss) s d ss (shelf_named name ss) (named_found name ss d) h e
+
+-- what stands at the place of a table is its shelf
+pub named_there : (name : List ℕ) (ss : List Shelf) (at : ℕ) (d : Shelf) → at ≡ place (is_named name) ss → at < length ss → d ≡ get_or ss at d → shelf_named name ss ≡ Some d
+named_there name ss at d e h is =
+    named_found name ss d (subst (λ (k : ℕ). k < length ss) e h) (subst (λ (k : ℕ). d ≡ get_or ss k d) e is)
+
+unnamed_step : (here : Bool) (k n : ℕ) (s : Shelf) (o : Option Shelf) → (n ≤ k → o ≡ None) → suc n ≤ cond here 0 (suc k) → cond here (Some s) o ≡ None
+unnamed_step true k n s o later h = absurd (omega arith)
+unnamed_step false k n s o later h = later (omega arith)
+
+unnamed_found : (name : List ℕ) (ss : List Shelf) → length ss ≤ place (is_named name) ss → shelf_named name ss ≡ None
+unnamed_found name [] h = refl
+unnamed_found name (s ∷ ss) h = unnamed_step (is_named name s) (place (is_named name) ss) (length ss) s (shelf_named name ss) (unnamed_found name ss) h
+
+pub unnamed : (name : List ℕ) (ss : List Shelf) (at : ℕ) → at ≡ place (is_named name) ss → length ss ≤ at → shelf_named name ss ≡ None
+unnamed name ss at e h = unnamed_found name ss (subst (λ (k : ℕ). length ss ≤ k) e h)
+
+swap_step : (here : Bool) (k : ℕ) (new s : Shelf) (ss more : List Shelf) → slice_set ss k new ≡ more → slice_set (s ∷ ss) (cond here 0 (suc k)) new ≡ cond here (new ∷ ss) (s ∷ more)
+swap_step true k new s ss more later = refl
+swap_step false k new s ss more later = ap (λ (rest : List Shelf). s ∷ rest) later
+
+swap_found : (name : List ℕ) (new : Shelf) (ss : List Shelf) → slice_set ss (place (is_named name) ss) new ≡ swap name new ss
+swap_found name new [] = refl
+swap_found name new (s ∷ ss) = swap_step (is_named name s) (place (is_named name) ss) new s ss (swap name new ss) (swap_found name new ss)
+
+-- a write at the place of a table swaps its shelf
+pub swapped : (name : List ℕ) (new : Shelf) (ss : List Shelf) (at : ℕ) → at ≡ place (is_named name) ss → slice_set ss at new ≡ swap name new ss
+swapped name new ss at e = ap (λ (k : ℕ). slice_set ss k new) e ∙ swap_found name new ss
+
+-- ---- tables
+
+table_step : (here : Bool) (s : Shelf) (o : Option Table) (p : Option Shelf) → o ≡ option_map table_on p → cond here (Some (table_on s)) o ≡ option_map table_on (cond here (Some s) p)
+table_step true s o p e = refl
+table_step false s o p e = e
+
+pub table_of_shelf : (name : List ℕ) (ss : List Shelf) → table_named name (tables_on ss) ≡ option_map table_on (shelf_named name ss)
+table_of_shelf name [] = refl
+table_of_shelf name (s ∷ ss) = table_step (is_named name s) s (table_named name (tables_on ss)) (shelf_named name ss) (table_of_shelf name ss)
+
+applied_step : (here : Bool) (change : Change) (s old new : Shelf) (ss : List Shelf) (more : List Shelf)
+    → table_after change (table_on old) ≡ Some (table_on new)
+    → (shelf_named (table_of change) ss ≡ Some old → applied change (tables_on ss) ≡ Some (tables_on more))
+    → cond here (Some s) (shelf_named (table_of change) ss) ≡ Some old
+    → cond here (option_map (λ (changed : Table). changed ∷ tables_on ss) (table_after change (table_on s))) (option_map (λ (rest : List Table). table_on s ∷ rest) (applied change (tables_on ss)))
+    ≡ Some (tables_on (cond here (new ∷ ss) (s ∷ more)))
+applied_step true change s old new ss more made later found =
+    let same : s ≡ old = cc in
+    ap (λ (u : Shelf). option_map (λ (changed : Table). changed ∷ tables_on ss) (table_after change (table_on u))) same
+    ∙ ap (option_map (λ (changed : Table). changed ∷ tables_on ss)) made
+applied_step false change s old new ss more made later found = ap (option_map (λ (rest : List Table). table_on s ∷ rest)) (later found)
+
+-- a change made to the table on a shelf is made to the tables
+pub applied_swap : (change : Change) (old new : Shelf) (ss : List Shelf) → shelf_named (table_of change) ss ≡ Some old → table_after change (table_on old) ≡ Some (table_on new)
+    → applied change (tables_on ss) ≡ Some (tables_on (swap (table_of change) new ss))
+applied_swap change old new [] found made = cc
+applied_swap change old new (s ∷ ss) found made =
+    applied_step (is_named (table_of change) s) change s old new ss (swap (table_of change) new ss) made (λ e. applied_swap change old new ss e made) found
+
+same_step : (here : Bool) (s old new : Shelf) (ss more : List Shelf) (o : Option Shelf) → table_on new ≡ table_on old → (o ≡ Some old → tables_on more ≡ tables_on ss)
+    → cond here (Some s) o ≡ Some old → tables_on (cond here (new ∷ ss) (s ∷ more)) ≡ table_on s ∷ tables_on ss
+same_step true s old new ss more o same later found =
+    let first : s ≡ old = cc in ap (λ (t : Table). t ∷ tables_on ss) (same ∙ ap table_on (sym first))
+same_step false s old new ss more o same later found = ap (λ (ts : List Table). table_on s ∷ ts) (later found)
+
+-- where the table on a shelf stays, the tables do
+pub same_swap : (name : List ℕ) (old new : Shelf) (ss : List Shelf) → shelf_named name ss ≡ Some old → table_on new ≡ table_on old → tables_on (swap name new ss) ≡ tables_on ss
+same_swap name old new [] found same = cc
+same_swap name old new (s ∷ ss) found same = same_step (is_named name s) s old new ss (swap name new ss) (shelf_named name ss) same (λ e. same_swap name old new ss e same) found
+
+-- ---- keys that are kept
+
+abbrev pub same_name : Shelf → Shelf → Type 0
+same_name old new = new.definition ≡ old.definition
+
+pub named_same : (name : List ℕ) (old new : Shelf) → same_name old new → is_named name new ≡ is_named name old
+named_same name old new e = ap (λ (d : TableDef). pointwise nat_eq name d.name) e
+
+-- each row that had a slot has one still
+abbrev pub KeepsRows : Shelf → Shelf → Type 0
+KeepsRows old new = (row : List Value) → has_slot_for row old ≡ true → has_slot_for row new ≡ true
+
+pub keeps_rows : (old new : Shelf) → same_name old new → KeepsSlots old new → KeepsRows old new
+keeps_rows old new same keeps row h =
+    ap (λ (d : TableDef). has_slot (primary_key d row) new) same ∙ keeps (primary_key old.definition row) h
+
+pub same_rows : (old new : Shelf) (row : List Value) → same_name old new → keys_in new.slots.items ≡ keys_in old.slots.items → has_slot_for row new ≡ has_slot_for row old
+same_rows old new row same keys =
+    ap (λ (d : TableDef). has_slot (primary_key d row) new) same ∙ ap (is_among (primary_key old.definition row)) keys
+
+-- what is kept under a name that the shelf has
+pub first_kept : (other : List ℕ) (row : List Value) (s : Shelf) (ss : List Shelf) → is_named other s ≡ true → kept_on other row (s ∷ ss) ≡ has_slot_for row s
+first_kept other row s ss e = rw e refl
+
+pub later_kept : (other : List ℕ) (row : List Value) (s : Shelf) (ss : List Shelf) → is_named other s ≡ false → kept_on other row (s ∷ ss) ≡ kept_on other row ss
+later_kept other row s ss e = rw e refl
+
+more_step : (here there : Bool) (name other : List ℕ) (row : List Value) (s old new : Shelf) (ss : List Shelf) → is_named name s ≡ here → is_named other s ≡ there
+    → same_name old new → KeepsRows old new
+    → (shelf_named name ss ≡ Some old → kept_on other row ss ≡ true → kept_on other row (swap name new ss) ≡ true)
+    → cond here (Some s) (shelf_named name ss) ≡ Some old → kept_on other row (s ∷ ss) ≡ true → kept_on other row (cond here (new ∷ ss) (s ∷ swap name new ss)) ≡ true
+more_step true true name other row s old new ss e f same keeps later found kept =
+    let first : s ≡ old = cc in
+    let named : is_named other new ≡ true = named_same other old new same ∙ ap (is_named other) (sym first) ∙ f in
+    first_kept other row new ss named ∙ keeps row (ap (has_slot_for row) (sym first) ∙ sym (first_kept other row s ss f) ∙ kept)
+more_step true false name other row s old new ss e f same keeps later found kept =
+    let first : s ≡ old = cc in
+    let named : is_named other new ≡ false = named_same other old new same ∙ ap (is_named other) (sym first) ∙ f in
+    later_kept other row new ss named ∙ sym (later_kept other row s ss f) ∙ kept
+more_step false true name other row s old new ss e f same keeps later found kept =
+    first_kept other row s (swap name new ss) f ∙ sym (first_kept other row s ss f) ∙ kept
+more_step false false name other row s old new ss e f same keeps later found kept =
+    later_kept other row s (swap name new ss) f ∙ later found (sym (later_kept other row s ss f) ∙ kept)
+
+-- keys stay kept where the new shelf keeps those of the old one
+pub keeps_swap : (name other : List ℕ) (row : List Value) (old new : Shelf) (ss : List Shelf) → shelf_named name ss ≡ Some old → same_name old new → KeepsRows old new
+    → kept_on other row ss ≡ true → kept_on other row (swap name new ss) ≡ true
+keeps_swap name other row old new [] found same keeps kept = cc
+keeps_swap name other row old new (s ∷ ss) found same keeps kept =
+    more_step (is_named name s) (is_named other s) name other row s old new ss refl refl same keeps (λ e k. keeps_swap name other row old new ss e same keeps k) found kept
+
+equal_step : (here there : Bool) (name other : List ℕ) (row : List Value) (s old new : Shelf) (ss : List Shelf) → is_named name s ≡ here → is_named other s ≡ there
+    → same_name old new → has_slot_for row new ≡ has_slot_for row old
+    → (shelf_named name ss ≡ Some old → kept_on other row (swap name new ss) ≡ kept_on other row ss)
+    → cond here (Some s) (shelf_named name ss) ≡ Some old → kept_on other row (cond here (new ∷ ss) (s ∷ swap name new ss)) ≡ kept_on other row (s ∷ ss)
+equal_step true true name other row s old new ss e f same equal later found =
+    let first : s ≡ old = cc in
+    let named : is_named other new ≡ true = named_same other old new same ∙ ap (is_named other) (sym first) ∙ f in
+    first_kept other row new ss named ∙ equal ∙ ap (has_slot_for row) (sym first) ∙ sym (first_kept other row s ss f)
+equal_step true false name other row s old new ss e f same equal later found =
+    let first : s ≡ old = cc in
+    let named : is_named other new ≡ false = named_same other old new same ∙ ap (is_named other) (sym first) ∙ f in
+    later_kept other row new ss named ∙ sym (later_kept other row s ss f)
+equal_step false true name other row s old new ss e f same equal later found =
+    first_kept other row s (swap name new ss) f ∙ sym (first_kept other row s ss f)
+equal_step false false name other row s old new ss e f same equal later found =
+    later_kept other row s (swap name new ss) f ∙ later found ∙ sym (later_kept other row s ss f)
+
+-- a row is kept as before where the new shelf has its slot just where the old one has
+pub equal_swap : (name other : List ℕ) (row : List Value) (old new : Shelf) (ss : List Shelf) → shelf_named name ss ≡ Some old → same_name old new → has_slot_for row new ≡ has_slot_for row old
+    → kept_on other row (swap name new ss) ≡ kept_on other row ss
+equal_swap name other row old new [] found same equal = cc
+equal_swap name other row old new (s ∷ ss) found same equal =
+    equal_step (is_named name s) (is_named other s) name other row s old new ss refl refl same equal (λ e. equal_swap name other row old new ss e same equal) found
+
+here_step : (here : Bool) (name : List ℕ) (row : List Value) (s old new : Shelf) (ss : List Shelf) → is_named name s ≡ here → same_name old new
+    → (shelf_named name ss ≡ Some old → kept_on name row (swap name new ss) ≡ has_slot_for row new)
+    → cond here (Some s) (shelf_named name ss) ≡ Some old → kept_on name row (cond here (new ∷ ss) (s ∷ swap name new ss)) ≡ has_slot_for row new
+here_step true name row s old new ss e same later found =
+    let first : s ≡ old = cc in
+    let named : is_named name new ≡ true = named_same name old new same ∙ ap (is_named name) (sym first) ∙ e in
+    first_kept name row new ss named
+here_step false name row s old new ss e same later found = later_kept name row s (swap name new ss) e ∙ later found
+
+-- the keys kept for a table are those of its new shelf
+pub keeps_here : (name : List ℕ) (row : List Value) (old new : Shelf) (ss : List Shelf) → shelf_named name ss ≡ Some old → same_name old new → kept_on name row (swap name new ss) ≡ has_slot_for row new
+keeps_here name row old new [] found same = cc
+keeps_here name row old new (s ∷ ss) found same = here_step (is_named name s) name row s old new ss refl same (λ e. keeps_here name row old new ss e same) found
+
+found_step : (here : Bool) (name : List ℕ) (row : List Value) (s old : Shelf) (ss : List Shelf) → is_named name s ≡ here → (shelf_named name ss ≡ Some old → kept_on name row ss ≡ has_slot_for row old)
+    → cond here (Some s) (shelf_named name ss) ≡ Some old → kept_on name row (s ∷ ss) ≡ has_slot_for row old
+found_step true name row s old ss e later found = let first : s ≡ old = cc in first_kept name row s ss e ∙ ap (has_slot_for row) first
+found_step false name row s old ss e later found = later_kept name row s ss e ∙ later found
+
+pub kept_found : (name : List ℕ) (row : List Value) (old : Shelf) (ss : List Shelf) → shelf_named name ss ≡ Some old → kept_on name row ss ≡ has_slot_for row old
+kept_found name row old [] found = cc
+kept_found name row old (s ∷ ss) found = found_step (is_named name s) name row s old ss refl (kept_found name row old ss) found
+
+swapped_step : (here : Bool) (name : List ℕ) (s old new : Shelf) (ss : List Shelf) → is_named name s ≡ here → same_name old new
+    → (shelf_named name ss ≡ Some old → shelf_named name (swap name new ss) ≡ Some new)
+    → cond here (Some s) (shelf_named name ss) ≡ Some old → shelf_named name (cond here (new ∷ ss) (s ∷ swap name new ss)) ≡ Some new
+swapped_step true name s old new ss e same later found =
+    let first : s ≡ old = cc in
+    let named : is_named name new ≡ true = named_same name old new same ∙ ap (is_named name) (sym first) ∙ e in rw named refl
+swapped_step false name s old new ss e same later found = rw e (later found)
+
+pub named_swap : (name : List ℕ) (old new : Shelf) (ss : List Shelf) → shelf_named name ss ≡ Some old → same_name old new → shelf_named name (swap name new ss) ≡ Some new
+named_swap name old new [] found same = cc
+named_swap name old new (s ∷ ss) found same = swapped_step (is_named name s) name s old new ss refl same (λ e. named_swap name old new ss e same) found
+
+-- ---- whole tables
+
+gone_step : (here : Bool) (k : ℕ) (s : Shelf) (ss : List Shelf) (more : List Table) → tables_on (remove ss k) ≡ more → tables_on (remove (s ∷ ss) (cond here 0 (suc k))) ≡ cond here (tables_on ss) (table_on s ∷ more)
+gone_step true k s ss more later = refl
+gone_step false k s ss more later = ap (λ (ts : List Table). table_on s ∷ ts) later
+
+gone : (name : List ℕ) (ss : List Shelf) → tables_on (remove ss (place (is_named name) ss)) ≡ tables_beside name (tables_on ss)
+gone name [] = refl
+gone name (s ∷ ss) = gone_step (is_named name s) (place (is_named name) ss) s ss (tables_beside name (tables_on ss)) (gone name ss)
+
+-- the shelf of a table taken out
+pub removed : (name : List ℕ) (ss : List Shelf) (at : ℕ) → at ≡ place (is_named name) ss → tables_on (remove ss at) ≡ tables_beside name (tables_on ss)
+removed name ss at e = ap (λ (k : ℕ). tables_on (remove ss k)) e ∙ gone name ss
+
+beside_step : (here : Bool) (name : List ℕ) (s : Shelf) (ss : List Shelf) → (shelf_named name ss ≡ None → (tables_beside name (tables_on ss) ≡ tables_on ss) × (tables_cleared name (tables_on ss) ≡ tables_on ss))
+    → cond here (Some s) (shelf_named name ss) ≡ None
+    → (cond here (tables_on ss) (table_on s ∷ tables_beside name (tables_on ss)) ≡ table_on s ∷ tables_on ss)
+    × (cond here (record (table_on s) { rows = [] } ∷ tables_on ss) (table_on s ∷ tables_cleared name (tables_on ss)) ≡ table_on s ∷ tables_on ss)
+beside_step true name s ss later e = cc
+beside_step false name s ss later e = let both = later e in (ap (λ (ts : List Table). table_on s ∷ ts) both.0, ap (λ (ts : List Table). table_on s ∷ ts) both.1)
+
+-- where there is no table of a name, nothing is dropped or cleared
+pub none_dropped : (name : List ℕ) (ss : List Shelf) → shelf_named name ss ≡ None → (tables_beside name (tables_on ss) ≡ tables_on ss) × (tables_cleared name (tables_on ss) ≡ tables_on ss)
+none_dropped name [] e = (refl, refl)
+none_dropped name (s ∷ ss) e = beside_step (is_named name s) name s ss (none_dropped name ss) e
+
+cleared_step : (here : Bool) (name : List ℕ) (s old new : Shelf) (ss : List Shelf) → same_name old new → rows_in new.slots.items ≡ []
+    → (shelf_named name ss ≡ Some old → tables_on (swap name new ss) ≡ tables_cleared name (tables_on ss))
+    → cond here (Some s) (shelf_named name ss) ≡ Some old
+    → tables_on (cond here (new ∷ ss) (s ∷ swap name new ss)) ≡ cond here (record (table_on s) { rows = [] } ∷ tables_on ss) (table_on s ∷ tables_cleared name (tables_on ss))
+cleared_step true name s old new ss same none later found =
+    let first : s ≡ old = cc in
+    ap (λ (d : TableDef). record { definition = d; rows = rows_in new.slots.items } ∷ tables_on ss) (same ∙ ap (λ (u : Shelf). u.definition) (sym first))
+    ∙ ap (λ (rows : List (List Value)). record { definition = s.definition; rows = rows } ∷ tables_on ss) none
+cleared_step false name s old new ss same none later found = ap (λ (ts : List Table). table_on s ∷ ts) (later found)
+
+-- an empty shelf in the place of that of a table clears it
+pub cleared_swap : (name : List ℕ) (old new : Shelf) (ss : List Shelf) → shelf_named name ss ≡ Some old → same_name old new → rows_in new.slots.items ≡ [] → tables_on (swap name new ss) ≡ tables_cleared name (tables_on ss)
+cleared_swap name old new [] found same none = cc
+cleared_swap name old new (s ∷ ss) found same none = cleared_step (is_named name s) name s old new ss same none (λ e. cleared_swap name old new ss e same none) found
+
+-- ---- what holds of all that is stored
+
+pub shelves_kept : (ss : List Shelf) → AreKept (tables_on ss)
+shelves_kept [] = tt
+shelves_kept (s ∷ ss) = (is_kept s.definition (rows_in s.slots.items) (sound s.definition s.slots.items s.sound).kept, shelves_kept ss)

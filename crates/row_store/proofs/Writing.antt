@@ -1,0 +1,159 @@
+-- What a write at the place of a slot makes of the rows.
+use Rattle.std.proofs.Common.{◌≡◌, ℕ, suc, ◌<◌, ◌≤◌, List, [], ◌∷◌, length, get_or, Bool, true, false, ◌||◌, cond, Option, Some, None, Err, refl, sym, ap, subst, ◌∙◌}
+use Rattle.std.specs.Prelude.{slice_set, is_some}
+use Rattle.std.specs.List.{insert, list_any}
+use Rattle.std.specs.Option.{option_map}
+use Rattle.val_types.specs.declared.value.Value.{Value}
+use Rattle.val_types.specs.declared.definitions.TableDef.{TableDef}
+use Rattle.val_types.specs.Fitting.{row_fits}
+use Rattle.val_types.specs.Keys.{primary_key, same_values, collide}
+use Rattle.val_types.specs.Changes.{with_row}
+use Rattle.val_types.specs.Stored.{row_of_key, rows_beside, first_agreed, key_in_way}
+use Rattle.val_types.proofs.Taking.{same_self, taken_out}
+use Rattle.val_types.proofs.Storing.{keys_in_way, key_is, without_is_beside}
+use Rattle.row_store.specs.declared.slots.Slot.{Slot}
+use Rattle.row_store.specs.declared.refusal.RowRefusal.{RowRefusal}
+use Rattle.row_store.specs.declared.refusal.RowRefusal.TheVariants.{Taken, Absent, NoMemory}
+use Rattle.row_store.specs.Shelves.{Inserted, Replaced}
+use Rattle.row_store.specs.Slots.{place, rows_in, keys_in, is_slot_of, is_not_before, is_among, is_sound}
+use Rattle.row_store.proofs.Places.{none_passes, some_passes}
+use Rattle.row_store.proofs.Emptying.{fill, with_slot, row_in, filled, slot_inserted, row_there, no_slot, among_slots, keys_filled, among_with, sound, is_sound_from, sound_with, row_of_slot, rows_emptied, sound_emptied, rows_filled, sound_put, any_of_key}
+
+-- a slot where one stands, with another row
+abbrev pub written : List Slot → ℕ → Slot → Option (List Value) → List Slot
+written ss at s row = slice_set ss at (record { key = s.key; row = row })
+
+pub written_keys : (key : List Value) (ss : List Slot) (at : ℕ) (s : Slot) (row : Option (List Value)) → at ≡ place (is_slot_of key) ss → s ≡ get_or ss at s
+    → keys_in (written ss at s row) ≡ keys_in ss
+written_keys key ss at s row e is = ap keys_in (filled key row ss at s e is) ∙ keys_filled key row ss
+
+-- ---- a slot emptied
+
+pub emptied_sound : (d : TableDef) (key : List Value) (ss : List Slot) (at : ℕ) (s : Slot) (row : Option (List Value)) → is_sound d ss ≡ true → at ≡ place (is_slot_of key) ss → s ≡ get_or ss at s → row ≡ None
+    → is_sound d (written ss at s row) ≡ true
+emptied_sound d key ss at s row h e is none =
+    ap (λ (o : Option (List Value)). is_sound d (written ss at s o)) none
+    ∙ ap (is_sound d) (filled key None ss at s e is)
+    ∙ is_sound_from d (fill key None ss) (sound_emptied d key ss (sound d ss h))
+
+pub emptied_rows : (d : TableDef) (key : List Value) (ss : List Slot) (at : ℕ) (s : Slot) (row : Option (List Value)) → is_sound d ss ≡ true → at ≡ place (is_slot_of key) ss → s ≡ get_or ss at s → row ≡ None
+    → rows_in (written ss at s row) ≡ rows_beside d key (rows_in ss)
+emptied_rows d key ss at s row h e is none =
+    ap (λ (o : Option (List Value)). rows_in (written ss at s o)) none
+    ∙ ap rows_in (filled key None ss at s e is)
+    ∙ rows_emptied d key ss (sound d ss h)
+
+-- the row in the slot of a key is the row of the key
+pub found_row : (d : TableDef) (key : List Value) (ss : List Slot) (at : ℕ) (s : Slot) → is_sound d ss ≡ true → at ≡ place (is_slot_of key) ss → at < length ss → s ≡ get_or ss at s
+    → s.row ≡ row_of_key d key (rows_in ss)
+found_row d key ss at s h e less is = row_there key ss at s e less is ∙ sym (row_of_slot d key ss (sound d ss h))
+
+pub no_row : (d : TableDef) (key : List Value) (ss : List Slot) (at : ℕ) → is_sound d ss ≡ true → at ≡ place (is_slot_of key) ss → length ss ≤ at → None ≡ row_of_key d key (rows_in ss)
+no_row d key ss at h e past = sym (row_of_slot d key ss (sound d ss h) ∙ (no_slot key None ss at e past).0)
+
+pub all_beside : (d : TableDef) (key : List Value) (ss : List Slot) (at : ℕ) → is_sound d ss ≡ true → at ≡ place (is_slot_of key) ss → length ss ≤ at → rows_in ss ≡ rows_beside d key (rows_in ss)
+all_beside d key ss at h e past = ap rows_in (sym (no_slot key None ss at e past).1) ∙ rows_emptied d key ss (sound d ss h)
+
+-- ---- a row put
+
+pub put_sound : (d : TableDef) (row : List Value) (ss : List Slot) (at : ℕ) (s : Slot) → is_sound d ss ≡ true → at ≡ place (is_slot_of (primary_key d row)) ss → s ≡ get_or ss at s
+    → is_among (primary_key d row) (keys_in ss) ≡ true → row_fits d.columns row ≡ true → list_any (collide d row) (rows_in ss) ≡ false
+    → is_sound d (written ss at s (Some row)) ≡ true
+put_sound d row ss at s h e is among fits free =
+    ap (is_sound d) (filled (primary_key d row) (Some row) ss at s e is)
+    ∙ is_sound_from d (fill (primary_key d row) (Some row) ss) (sound_put d row ss (sound d ss h) among fits free)
+
+pub put_rows : (d : TableDef) (row : List Value) (ss : List Slot) (at : ℕ) (s : Slot) → is_sound d ss ≡ true → at ≡ place (is_slot_of (primary_key d row)) ss → s ≡ get_or ss at s
+    → is_among (primary_key d row) (keys_in ss) ≡ true → list_any (collide d row) (rows_in ss) ≡ false
+    → rows_in (written ss at s (Some row)) ≡ with_row d row (rows_in ss)
+put_rows d row ss at s h e is among free =
+    ap rows_in (filled (primary_key d row) (Some row) ss at s e is) ∙ rows_filled d row ss (sound d ss h) among free
+
+-- ---- a slot made
+
+pub made_is : (key : List Value) (ss : List Slot) (at : ℕ) (k : List Value) → at ≡ place (is_not_before k) ss → k ≡ key
+    → insert ss at (record { key = k; row = None }) ≡ with_slot key ss
+made_is key ss at k e same =
+    ap (λ (j : ℕ). insert ss j (record { key = k; row = None })) e
+    ∙ slot_inserted k ss
+    ∙ ap (λ (l : List Value). with_slot l ss) same
+
+new_key : (key : List Value) (ss : List Slot) (at : ℕ) → at ≡ place (is_slot_of key) ss → length ss ≤ at → is_among key (keys_in ss) ≡ false
+new_key key ss at e past = among_slots key ss ∙ none_passes (is_slot_of key) ss (subst (λ (k : ℕ). length ss ≤ k) e past)
+
+pub made_sound : (d : TableDef) (key : List Value) (ss : List Slot) (at : ℕ) → is_sound d ss ≡ true → at ≡ place (is_slot_of key) ss → length ss ≤ at → is_sound d (with_slot key ss) ≡ true
+made_sound d key ss at h e past = is_sound_from d (with_slot key ss) (sound_with d key ss (sound d ss h) (new_key key ss at e past))
+
+or_first : (a b : Bool) → a ≡ true → (a || b) ≡ true
+or_first true b e = refl
+or_first false b e = cc
+
+or_second : (a b : Bool) → b ≡ true → (a || b) ≡ true
+or_second true b e = refl
+or_second false b e = e
+
+pub made_there : (key : List Value) (ss : List Slot) → is_among key (keys_in (with_slot key ss)) ≡ true
+made_there key ss = among_with key key ss ∙ or_first (same_values key key) (is_among key (keys_in ss)) (same_self key)
+
+pub made_keeps : (k key : List Value) (ss : List Slot) → is_among k (keys_in ss) ≡ true → is_among k (keys_in (with_slot key ss)) ≡ true
+made_keeps k key ss h = among_with k key ss ∙ or_second (same_values k key) (is_among k (keys_in ss)) h
+
+-- ---- keys in the way
+
+pub primary_in_way : (d : TableDef) (row : List Value) (rows : List (List Value)) → is_some (row_of_key d (primary_key d row) rows) ≡ true → Some 0 ≡ key_in_way d row rows
+primary_in_way d row rows e =
+    sym (ap (λ (b : Bool). cond b (Some 0) (option_map suc (first_agreed d.uniques row rows))) (any_of_key d (primary_key d row) rows ∙ e))
+
+pub unique_in_way : (d : TableDef) (row : List Value) (rows : List (List Value)) → is_some (row_of_key d (primary_key d row) rows) ≡ false → option_map suc (first_agreed d.uniques row rows) ≡ key_in_way d row rows
+unique_in_way d row rows e =
+    sym (ap (λ (b : Bool). cond b (Some 0) (option_map suc (first_agreed d.uniques row rows))) (any_of_key d (primary_key d row) rows ∙ e))
+
+pub free_rows : (d : TableDef) (row : List Value) (rows : List (List Value)) → key_in_way d row rows ≡ None → list_any (collide d row) rows ≡ false
+free_rows d row rows e = sym (keys_in_way d row rows) ∙ ap (λ (o : Option ℕ). is_some o) e
+
+-- ---- a row taken out and put back
+
+-- a row that was taken out fits, collides with none of those beside it, and put back gives the rows again
+pub record TakenRow (d : TableDef) (key row : List Value) (rows : List (List Value)) : Type 0 where
+  pub its_key : key ≡ primary_key d row
+  pub fits : row_fits d.columns row ≡ true
+  pub free : list_any (collide d row) (rows_beside d key rows) ≡ false
+  pub back : with_row d row (rows_beside d key rows) ≡ rows
+
+pub taken_row : (d : TableDef) (key row : List Value) (ss : List Slot) → is_sound d ss ≡ true → row_of_key d key (rows_in ss) ≡ Some row → TakenRow d key row (rows_in ss)
+taken_row d key row ss h e =
+    let s = sound d ss h in
+    let out = taken_out d row (rows_in ss) (rows_beside d key (rows_in ss)) s.kept (without_is_beside d key row (rows_in ss) s.kept e) in
+    record { its_key = key_is d key row (rows_in ss) e; fits = out.fits; free = out.free; back = out.back }
+
+among_of : (b : Bool) (o p : Option (List Value)) (more : Bool) (row : List Value) → (p ≡ Some row → more ≡ true) → cond b o p ≡ Some row → (b || more) ≡ true
+among_of true o p more row later e = refl
+among_of false o p more row later e = later e
+
+row_in_among : (key row : List Value) (ss : List Slot) → row_in key ss ≡ Some row → is_among key (keys_in ss) ≡ true
+row_in_among key row [] e = cc
+row_in_among key row (s ∷ ss) e = among_of (is_slot_of key s) s.row (row_in key ss) (is_among key (keys_in ss)) row (row_in_among key row ss) e
+
+-- a key with a row has a slot
+pub among_of_row : (d : TableDef) (key row : List Value) (ss : List Slot) → is_sound d ss ≡ true → row_of_key d key (rows_in ss) ≡ Some row → is_among key (keys_in ss) ≡ true
+among_of_row d key row ss h e = row_in_among key row ss (sym (row_of_slot d key ss (sound d ss h)) ∙ e)
+
+-- ---- refusals
+
+pub refused_same : (refusal : RowRefusal) (d : TableDef) (row : List Value) (old new : List (List Value)) → Inserted (Err refusal) d row old new → new ≡ old
+refused_same (Taken which) d row old new p = p.1
+refused_same Absent d row old new p = absurd p
+refused_same NoMemory d row old new p = p
+
+pub replaced_err : (refusal : RowRefusal) (d : TableDef) (key row before : List Value) (old mid new : List (List Value)) → row_of_key d key old ≡ Some before
+    → Inserted (Err refusal) d row (rows_beside d key old) mid → new ≡ old → Replaced (Err refusal) d key row old new
+replaced_err (Taken which) d key row before old mid new found p same = (ap (λ (o : Option (List Value)). is_some o) found, p.0, same)
+replaced_err Absent d key row before old mid new found p same = absurd p
+replaced_err NoMemory d key row before old mid new found p same = same
+
+pub either_sound : (d : TableDef) (b : Bool) (xs ys : List Slot) → is_sound d xs ≡ true → is_sound d ys ≡ true → is_sound d (cond b xs ys) ≡ true
+either_sound d true xs ys e f = e
+either_sound d false xs ys e f = f
+
+pub slot_within : (key : List Value) (ss : List Slot) (at : ℕ) → at ≡ place (is_slot_of key) ss → at < length ss → is_among key (keys_in ss) ≡ true
+slot_within key ss at e less = among_slots key ss ∙ some_passes (is_slot_of key) ss (subst (λ (k : ℕ). k < length ss) e less)

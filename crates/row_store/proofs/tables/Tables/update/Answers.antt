@@ -1,0 +1,81 @@
+use Rattle.std.proofs.Common.{◌≡◌, ◌<◌, ◌≤◌, List, length, true, Some, None, refl, sym, ap, subst, ◌∙◌, arith}
+use Rattle.std.specs.Prelude.{slice_set}
+use Rattle.val_types.specs.declared.value.Value.{Value}
+use Rattle.val_types.specs.Keys.{primary_key}
+use Rattle.row_store.specs.declared.shelf.Shelf.{Shelf}
+use Rattle.row_store.specs.Slots.{place, rows_in}
+use Rattle.row_store.specs.Shelves.{tables_on, is_named, has_slot}
+use Rattle.row_store.specs.Stores.{tables_of, keeps, kept_on, Stores}
+use Rattle.row_store.proofs.Swapping.{shelf_named, swap, named_there, unnamed, swapped, keeps_swap, keeps_rows}
+use Rattle.val_types.specs.Fitting.{row_fits}
+use Rattle.val_types.specs.Stored.{replacement}
+use Rattle.val_types.proofs.Storing.{key_is}
+use Rattle.row_store.proofs.Storing.{fits_shelf, update_stored, nothing_replaced, row_found}
+use Rattle.row_store.proofs.Beside.{here_kept, on_ok}
+use Rattle.row_store.proofs.tables.Tables.update.Goals as goal
+
+pub update-requires : goal.update-requires
+unfolding tables_of
+update-requires c =
+    let at : c.shelf_of-at.result ≡ place (is_named c.args.table.now) c.args.self.now.shelves.items = rw c.deref.ensures.value at c.shelf_of-at.ensures in
+    let long : length c.deref.result.now ≡ length c.args.self.now.shelves.items = ap length c.deref.ensures.value in
+    let less : c.shelf_of-at.result < length c.args.self.now.shelves.items = omega (arith, c.deref.ensures.len, c.len.ensures) in
+    let found : shelf_named c.args.table.now c.args.self.now.shelves.items ≡ Some c.index_mut.result.now = named_there c.args.table.now c.args.self.now.shelves.items c.shelf_of-at.result c.index_mut.result.now at less c.index_mut.ensures.value in
+    fits_shelf c.args.table.now c.args.row c.args.self.now.shelves.items c.index_mut.result.now found c.requires
+
+pub returns-then-at-len-clause-stored : goal.returns-then-at-len-clause-stored
+unfolding tables_of
+returns-then-at-len-clause-stored c =
+    let at : c.shelf_of-at.result ≡ place (is_named c.args.table.now) c.args.self.now.shelves.items = rw c.deref.ensures.value at c.shelf_of-at.ensures in
+    let long : length c.deref.result.now ≡ length c.args.self.now.shelves.items = ap length c.deref.ensures.value in
+    let less : c.shelf_of-at.result < length c.args.self.now.shelves.items = omega (arith, c.deref.ensures.len, c.len.ensures) in
+    let found : shelf_named c.args.table.now c.args.self.now.shelves.items ≡ Some c.index_mut.result.now = named_there c.args.table.now c.args.self.now.shelves.items c.shelf_of-at.result c.index_mut.result.now at less c.index_mut.ensures.value in
+    let put : slice_set c.args.self.now.shelves.items c.shelf_of-at.result c.update.new.self ≡ swap c.args.table.now c.update.new.self c.args.self.now.shelves.items = swapped c.args.table.now c.update.new.self c.args.self.now.shelves.items c.shelf_of-at.result at in
+    let fits : row_fits c.index_mut.result.now.definition.columns c.args.row ≡ true = fits_shelf c.args.table.now c.args.row c.args.self.now.shelves.items c.index_mut.result.now found c.requires in
+    subst (λ (shelves : List Shelf). Stores c.update.result (replacement c.args.table.now c.args.key.now c.args.row (tables_on c.args.self.now.shelves.items)) (tables_on c.args.self.now.shelves.items) (tables_on shelves)) (sym put)
+    (update_stored c.update.result c.args.table.now c.args.key.now c.args.row c.args.self.now.shelves.items c.index_mut.result.now c.update.new.self found c.update.ensures.definition fits c.update.ensures.stored)
+
+pub returns-then-at-len-clause-kept : goal.returns-then-at-len-clause-kept
+unfolding keeps
+returns-then-at-len-clause-kept c =
+    let at : c.shelf_of-at.result ≡ place (is_named c.args.table.now) c.args.self.now.shelves.items = rw c.deref.ensures.value at c.shelf_of-at.ensures in
+    let long : length c.deref.result.now ≡ length c.args.self.now.shelves.items = ap length c.deref.ensures.value in
+    let less : c.shelf_of-at.result < length c.args.self.now.shelves.items = omega (arith, c.deref.ensures.len, c.len.ensures) in
+    let found : shelf_named c.args.table.now c.args.self.now.shelves.items ≡ Some c.index_mut.result.now = named_there c.args.table.now c.args.self.now.shelves.items c.shelf_of-at.result c.index_mut.result.now at less c.index_mut.ensures.value in
+    let put : slice_set c.args.self.now.shelves.items c.shelf_of-at.result c.update.new.self ≡ swap c.args.table.now c.update.new.self c.args.self.now.shelves.items = swapped c.args.table.now c.update.new.self c.args.self.now.shelves.items c.shelf_of-at.result at in
+    on_ok c.update.result ((has_slot c.args.key.now c.update.new.self ≡ true) × (has_slot (primary_key c.index_mut.result.now.definition c.args.row) c.update.new.self ≡ true)) _
+    (λ slots. ap (kept_on c.args.table.now c.args.row) put ∙ here_kept c.args.table.now c.args.row c.index_mut.result.now c.update.new.self c.args.self.now.shelves.items found c.update.ensures.definition slots.1) c.update.ensures.slot
+
+pub returns-then-at-len-clause-before : goal.returns-then-at-len-clause-before
+unfolding keeps tables_of
+returns-then-at-len-clause-before c =
+    let at : c.shelf_of-at.result ≡ place (is_named c.args.table.now) c.args.self.now.shelves.items = rw c.deref.ensures.value at c.shelf_of-at.ensures in
+    let long : length c.deref.result.now ≡ length c.args.self.now.shelves.items = ap length c.deref.ensures.value in
+    let less : c.shelf_of-at.result < length c.args.self.now.shelves.items = omega (arith, c.deref.ensures.len, c.len.ensures) in
+    let found : shelf_named c.args.table.now c.args.self.now.shelves.items ≡ Some c.index_mut.result.now = named_there c.args.table.now c.args.self.now.shelves.items c.shelf_of-at.result c.index_mut.result.now at less c.index_mut.ensures.value in
+    let put : slice_set c.args.self.now.shelves.items c.shelf_of-at.result c.update.new.self ≡ swap c.args.table.now c.update.new.self c.args.self.now.shelves.items = swapped c.args.table.now c.update.new.self c.args.self.now.shelves.items c.shelf_of-at.result at in
+    on_ok c.update.result ((has_slot c.args.key.now c.update.new.self ≡ true) × (has_slot (primary_key c.index_mut.result.now.definition c.args.row) c.update.new.self ≡ true)) _
+    (λ slots before is.
+    (let key : c.args.key.now ≡ primary_key c.index_mut.result.now.definition before =
+    key_is c.index_mut.result.now.definition c.args.key.now before (rows_in c.index_mut.result.now.slots.items) (sym (row_found c.args.table.now c.args.key.now c.args.self.now.shelves.items c.index_mut.result.now found) ∙ is) in
+    ap (kept_on c.args.table.now before) put
+    ∙ here_kept c.args.table.now before c.index_mut.result.now c.update.new.self c.args.self.now.shelves.items found c.update.ensures.definition (ap (λ (k : List Value). has_slot k c.update.new.self) (sym key) ∙ slots.0))) c.update.ensures.slot
+
+pub returns-then-at-len-clause-keys : goal.returns-then-at-len-clause-keys
+unfolding keeps
+returns-then-at-len-clause-keys c =
+    let at : c.shelf_of-at.result ≡ place (is_named c.args.table.now) c.args.self.now.shelves.items = rw c.deref.ensures.value at c.shelf_of-at.ensures in
+    let long : length c.deref.result.now ≡ length c.args.self.now.shelves.items = ap length c.deref.ensures.value in
+    let less : c.shelf_of-at.result < length c.args.self.now.shelves.items = omega (arith, c.deref.ensures.len, c.len.ensures) in
+    let found : shelf_named c.args.table.now c.args.self.now.shelves.items ≡ Some c.index_mut.result.now = named_there c.args.table.now c.args.self.now.shelves.items c.shelf_of-at.result c.index_mut.result.now at less c.index_mut.ensures.value in
+    let put : slice_set c.args.self.now.shelves.items c.shelf_of-at.result c.update.new.self ≡ swap c.args.table.now c.update.new.self c.args.self.now.shelves.items = swapped c.args.table.now c.update.new.self c.args.self.now.shelves.items c.shelf_of-at.result at in
+    λ n r h. ap (kept_on n r) put ∙ keeps_swap c.args.table.now n r c.index_mut.result.now c.update.new.self c.args.self.now.shelves.items found c.update.ensures.definition (keeps_rows c.index_mut.result.now c.update.new.self c.update.ensures.definition c.update.ensures.slots) h
+
+pub returns-else-at-len-clause-stored : goal.returns-else-at-len-clause-stored
+unfolding tables_of
+returns-else-at-len-clause-stored c =
+    let at : c.shelf_of-at.result ≡ place (is_named c.args.table.now) c.args.self.now.shelves.items = rw c.deref.ensures.value at c.shelf_of-at.ensures in
+    let long : length c.deref.result.now ≡ length c.args.self.now.shelves.items = ap length c.deref.ensures.value in
+    let past : length c.args.self.now.shelves.items ≤ c.shelf_of-at.result = omega (arith, c.deref.ensures.len, c.len.ensures) in
+    let none : shelf_named c.args.table.now c.args.self.now.shelves.items ≡ None = unnamed c.args.table.now c.args.self.now.shelves.items c.shelf_of-at.result at past in
+    (nothing_replaced c.args.table.now c.args.key.now c.args.row c.args.self.now.shelves.items none, refl)

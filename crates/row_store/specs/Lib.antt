@@ -1,0 +1,4 @@
+pub mod Refusals
+pub mod Shelves
+pub mod Slots
+pub mod Stores

@@ -1,0 +1,68 @@
+-- What the shelves stand for, and what is done with the rows on one.
+use Rattle.std.specs.Prelude.{◌≡◌, ℕ, Bool, true, nat_eq, List, map, Some, None, Result, Ok, Err, is_some}
+use Rattle.std.specs.List.{list_all}
+use Rattle.std.specs.Option.{option_map_or}
+use Rattle.std.specs.Cmp.Lexicographic.{pointwise}
+use Rattle.val_types.specs.declared.value.Value.{Value}
+use Rattle.val_types.specs.declared.definitions.TableDef.{TableDef}
+use Rattle.val_types.specs.Keys.{primary_key}
+use Rattle.val_types.specs.Tables.{Table}
+use Rattle.val_types.specs.Changes.{with_row}
+use Rattle.val_types.specs.declared.change.Change.{Change}
+use Rattle.val_types.specs.Stored.{row_of_key, rows_beside, key_in_way, row_put}
+use Rattle.row_store.specs.declared.refusal.RowRefusal.{RowRefusal}
+use Rattle.row_store.specs.declared.refusal.RowRefusal.TheVariants.{Taken, Absent, NoMemory}
+use Rattle.row_store.specs.declared.shelf.Shelf.{Shelf}
+use Rattle.row_store.specs.Slots.{rows_in, keys_in, is_among, is_full}
+
+-- the table that a shelf holds
+abbrev pub table_on : Shelf → Table
+table_on shelf = record { definition = shelf.definition; rows = rows_in shelf.slots.items }
+
+-- the tables on some shelves
+abbrev pub tables_on : List Shelf → List Table
+tables_on shelves = map table_on shelves
+
+-- whether a shelf holds the table of a name
+abbrev pub is_named : List ℕ → Shelf → Bool
+is_named name shelf = pointwise nat_eq name shelf.definition.name
+
+-- whether a shelf has a slot of a key
+abbrev pub has_slot : List Value → Shelf → Bool
+has_slot key shelf = is_among key (keys_in shelf.slots.items)
+
+-- whether each slot of a shelf has a row
+abbrev pub all_full : Shelf → Bool
+all_full shelf = list_all is_full shelf.slots.items
+
+-- whether each key that a shelf had a slot of has one still
+abbrev pub KeepsSlots : Shelf → Shelf → Type 0
+KeepsSlots old new = (key : List Value) → has_slot key old ≡ true → has_slot key new ≡ true
+
+-- whether a shelf has a slot of the primary key of a row
+abbrev pub has_slot_for : List Value → Shelf → Bool
+has_slot_for row shelf = has_slot (primary_key shelf.definition row) shelf
+
+-- whether a shelf has a slot for the row that a change puts
+abbrev pub has_slot_to_put : Shelf → Change → Bool
+has_slot_to_put shelf change = option_map_or (λ row. has_slot_for row shelf) (row_put change) true
+
+-- what inserting a row makes of rows: one more, or the first key in the way
+abbrev pub Inserted : Result (Unit {0}) RowRefusal → TableDef → List Value → List (List Value) → List (List Value) → Type 0
+Inserted (Ok done) definition row old new = (key_in_way definition row old ≡ None) × (new ≡ with_row definition row old)
+Inserted (Err (Taken which)) definition row old new = (key_in_way definition row old ≡ Some which) × (new ≡ old)
+Inserted (Err Absent) definition row old new = ⊥
+Inserted (Err NoMemory) definition row old new = new ≡ old
+
+-- what replacing the row of a key makes of rows
+abbrev pub Replaced : Result (Unit {0}) RowRefusal → TableDef → List Value → List Value → List (List Value) → List (List Value) → Type 0
+Replaced (Ok done) definition key row old new =
+    (is_some (row_of_key definition key old) ≡ true)
+    × (key_in_way definition row (rows_beside definition key old) ≡ None)
+    × (new ≡ with_row definition row (rows_beside definition key old))
+Replaced (Err (Taken which)) definition key row old new =
+    (is_some (row_of_key definition key old) ≡ true)
+    × (key_in_way definition row (rows_beside definition key old) ≡ Some which)
+    × (new ≡ old)
+Replaced (Err Absent) definition key row old new = (row_of_key definition key old ≡ None) × (new ≡ old)
+Replaced (Err NoMemory) definition key row old new = new ≡ old

@@ -1,0 +1,69 @@
+//! Keys of rows, compared where they stand.
+ghost use Rattle.std.specs.Prelude.{◌≡◌, ◌&&◌, not, slice_index_or};
+ghost use Rattle.std.specs.Ordering.{is_eq};
+ghost use Rattle.val_types.specs.declared.value.Value.TheVariants.{Null};
+ghost use Rattle.val_types.specs.Fitting.{is_null};
+ghost use Rattle.val_types.specs.Keys.{agree_on, primary_key, same_values};
+ghost use Rattle.val_types.specs.Order.{value_order};
+
+use val_types::{KeyDef, Row, TableDef, Value};
+
+/// The value of a row in a column, another one where the row does not have that column.
+fn value_at<'a>(row: &'a Row, column: u16, missing: &'a Value) -> &'a Value
+    ensures { result.now ≡ slice_index_or row.now column missing.now }
+{
+    match row.get(usize::from(column)) {
+        Some(value) => value,
+        None => missing,
+    }
+}
+
+/// Whether a row has a value in a column. A column that the row does not have counts as NULL.
+fn has_value(row: &Row, column: u16, value: &Value) -> bool
+    ensures { result ≡ is_eq (value_order (slice_index_or row.now column Null) value.now) }
+{
+    value_at(row, column, &Value::Null).cmp(value).is_eq()
+}
+
+/// Whether a row has a primary key.
+pub(crate) fn has_key(definition: &TableDef, row: &Row, key: &Row) -> bool
+    ensures { result ≡ same_values (primary_key definition.now row.now) key.now }
+{
+    if definition.primary.len() != key.len() {
+        return false;
+    }
+    for (i, column) in definition.primary.as_slice().iter().enumerate() {
+        if !has_value(row, *column, &key[i]) {
+            return false;
+        }
+    }
+    true
+}
+
+/// Whether a value is NULL.
+fn is_null(value: &Value) -> bool
+    ensures { result ≡ is_null value.now }
+{
+    matches!(value, Value::Null)
+}
+
+/// Whether two rows have the same value in a column, other than NULL.
+fn agree_in(a: &Row, b: &Row, column: u16) -> bool
+    ensures { result ≡ (not (is_null (slice_index_or a.now column Null))
+        && is_eq (value_order (slice_index_or a.now column Null) (slice_index_or b.now column Null))) }
+{
+    let a = value_at(a, column, &Value::Null);
+    !is_null(a) && a.cmp(value_at(b, column, &Value::Null)).is_eq()
+}
+
+/// Whether two rows agree on a unique key; with a NULL part they do not.
+pub(crate) fn agree_on(a: &Row, b: &Row, key: &KeyDef) -> bool
+    ensures { result ≡ agree_on a.now b.now key.now }
+{
+    for column in key.columns.as_slice() {
+        if !agree_in(a, b, *column) {
+            return false;
+        }
+    }
+    true
+}

@@ -1,0 +1,8 @@
+use Rattle.std.proofs.Common.{◌≡◌, ◌++◌, drop, cond, map}
+use Rattle.sql_print.specs.Names.{quoted_name, commas, more_of, names_of}
+use Rattle.sql_print.proofs.names.write_names.Given as goal
+
+abbrev pub invariant-loop-name : goal.invariant-loop-name
+invariant-loop-name l =
+    let rest = map quoted_name (drop l.name-index l.name-items) in
+    l.out ++ cond l.first (commas rest) (more_of rest) ≡ l.fn.out ++ names_of l.names

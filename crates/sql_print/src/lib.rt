@@ -1,0 +1,26 @@
+//! The canonical text of a statement: one text for each tree, which the parser reads back.
+//!
+//! Keywords are in upper case and names in backquotes, operators stand in parentheses with their
+//! operands, and no optional word is written that leaves the tree the same. Definitions are in
+//! `specs/Names.antt`, `specs/Spelling.antt` and `specs/StatementSpelling.antt`.
+//!
+//! - `names`: names, numbers, types and LIMITs
+//! - `expressions`: expressions and SELECTs
+//! - `statements`, `tables`: the parts of statements that hold no statement
+//! - `printing`: [`print`], for all statements
+//! - `worked`: worked examples of trees and their texts
+#![tactic(auto)]
+
+mod expressions;
+mod names;
+mod printing;
+mod statements;
+mod tables;
+mod worked;
+
+pub use printing::print;
+pub use worked::{
+    calls_are_written, changes_are_written, names_are_written, operands_are_written,
+    operators_are_written, programs_are_written, selects_are_written, sessions_are_written,
+    tables_are_written,
+};

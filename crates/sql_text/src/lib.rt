@@ -1,0 +1,23 @@
+//! The canonical text of a statement is read back as that statement: laws alone, no code.
+//!
+//! `sql_print` says how a statement is written, `sql_parse` which statement a text is, and
+//! `sql_tree` which statements the parser can give. This crate stands above the three and shows
+//! that they fit, through bytes and tokens.
+//!
+//! The proof goes once over the tree. For each part it says that the part's bytes, before whatever
+//! may follow them, [say](../proofs/Saying.antt) some tokens, from which the part's rule takes the
+//! part and leaves what follows. Such [readings](../proofs/Reading.antt) are put together as the
+//! rules are: one behind the other, lists, steps of operators. Each level of a tree opens at most
+//! two constructs at once, so a tree of 200 levels opens at most 400.
+//!
+//! - [`laws`]: the text is read, and as nothing else
+//! - [`worked`]: statements that these laws speak of
+#![tactic(auto)]
+
+mod laws;
+#[cfg(test)]
+mod tests;
+mod worked;
+
+pub use laws::{prints_are_read, prints_tell_statements_apart};
+pub use worked::these_are_well;

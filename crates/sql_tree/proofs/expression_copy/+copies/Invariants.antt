@@ -1,0 +1,67 @@
+use Rattle.std.proofs.Common.{◌≡◌, ◌+◌, ◌*◌, take}
+use Rattle.sql_tree.specs.declared.expressions.Expr.{In, Case, If, Substring}
+use Rattle.sql_tree.proofs.expressions.Expr.TheLaws.{the_size}
+use Rattle.sql_tree.proofs.expression_copy.+copies.Given as goal
+
+-- Each measure is ten times the depth of what is copied, and a number that falls where a function
+-- hands on what it was given.
+
+abbrev pub decreases-copy_query : goal.decreases-copy_query
+decreases-copy_query l = 10 * goal.size-copy_query l + 9
+
+abbrev pub decreases-copy_select : goal.decreases-copy_select
+decreases-copy_select l = 10 * goal.size-copy_select l + 8
+
+abbrev pub decreases-copy_selection : goal.decreases-copy_selection
+decreases-copy_selection l = 10 * goal.size-copy_selection l + 7
+
+abbrev pub decreases-copy_from : goal.decreases-copy_from
+decreases-copy_from l = 10 * goal.size-copy_from l + 7
+
+abbrev pub decreases-copy_aggregates : goal.decreases-copy_aggregates
+decreases-copy_aggregates l = 10 * goal.size-copy_aggregates l + 6
+
+abbrev pub decreases-copy_aggregate : goal.decreases-copy_aggregate
+decreases-copy_aggregate l = 10 * goal.size-copy_aggregate l + 5
+
+abbrev pub decreases-copy_order : goal.decreases-copy_order
+decreases-copy_order l = 10 * goal.size-copy_order l + 4
+
+abbrev pub decreases-copy_exprs : goal.decreases-copy_exprs
+decreases-copy_exprs l = 10 * goal.size-copy_exprs l + 4
+
+abbrev pub decreases-copy_arms : goal.decreases-copy_arms
+decreases-copy_arms l = 10 * goal.size-copy_arms l + 4
+
+abbrev pub decreases-copy_part : goal.decreases-copy_part
+decreases-copy_part l = 10 * goal.size-copy_part l + 4
+
+abbrev pub decreases-copy_boxed : goal.decreases-copy_boxed
+decreases-copy_boxed l = 10 * goal.size-copy_boxed l + 4
+
+abbrev pub decreases-copy_expr : goal.decreases-copy_expr
+decreases-copy_expr l = 10 * goal.size-copy_expr l + 1
+
+abbrev pub decreases-copy_in : goal.decreases-copy_in
+decreases-copy_in l = 10 * the_size (In l.negated l.left.now l.items.now)
+
+abbrev pub decreases-copy_case : goal.decreases-copy_case
+decreases-copy_case l = 10 * the_size (Case l.arms.now l.otherwise.now)
+
+abbrev pub decreases-copy_if : goal.decreases-copy_if
+decreases-copy_if l = 10 * the_size (If l.a.now l.b.now l.c.now)
+
+abbrev pub decreases-copy_substring : goal.decreases-copy_substring
+decreases-copy_substring l = 10 * the_size (Substring l.a.now l.b.now l.c.now)
+
+abbrev pub invariant-copy_exprs-loop-expr : goal.invariant-copy_exprs-loop-expr
+invariant-copy_exprs-loop-expr l = l.copy ≡ take l.expr-index l.expr-items
+
+abbrev pub invariant-copy_arms-loop-arm : goal.invariant-copy_arms-loop-arm
+invariant-copy_arms-loop-arm l = l.copy ≡ take l.arm-index l.arm-items
+
+abbrev pub invariant-copy_aggregates-loop-aggregate : goal.invariant-copy_aggregates-loop-aggregate
+invariant-copy_aggregates-loop-aggregate l = l.copy ≡ take l.aggregate-index l.aggregate-items
+
+abbrev pub invariant-copy_order-loop-item : goal.invariant-copy_order-loop-item
+invariant-copy_order-loop-item l = l.copy ≡ take l.item-index l.item-items

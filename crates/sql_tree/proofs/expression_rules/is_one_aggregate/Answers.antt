@@ -1,0 +1,5 @@
+use Rattle.sql_tree.proofs.Shapes.{is_one_aggregate-view}
+use Rattle.sql_tree.proofs.expression_rules.is_one_aggregate.Goals as goal
+
+pub returns : goal.returns
+returns c = rw c.len.ensures (is_one_aggregate-view _)

@@ -1,0 +1,8 @@
+pub mod Tree
+pub mod Statement
+pub mod View
+pub mod StatementView
+pub mod Depth
+pub mod Well
+pub mod Locals
+pub mod Worked

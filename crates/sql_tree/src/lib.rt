@@ -1,0 +1,49 @@
+//! The syntax trees of SQL: what a statement's text says, without the text.
+//!
+//! The parser makes these trees, the printer writes them, and all that runs, checks or closes a
+//! statement walks over them. Definitions speak of a plain mirror of them, in `specs/Tree.antt` and
+//! `specs/Statement.antt`, which contracts reach by the views in `specs/View.antt` and
+//! `specs/StatementView.antt`.
+//!
+//! - `expressions`: [`Expr`], [`Select`] and their parts
+//! - `statements`: [`Stmt`], with [`Routine`] and [`TriggerDef`] for stored programs
+//! - `locals`: [`Locals`], the local variables in scope in a stored program
+//! - `expression_depth`, `statement_depth`: [`depth`], how many nodes lie one in the other
+//! - `names`, `expression_rules`, `statement_rules`: [`well`], what the parser can give
+//! - `expression_copy`, `statement_copy`: copies that are equal to the original
+//! - `worked`: worked examples of depth and of what the parser can give
+#![tactic(auto)]
+
+mod expression_copy;
+mod expression_depth;
+mod expression_rules;
+mod expressions;
+mod locals;
+mod names;
+mod statement_copy;
+mod statement_depth;
+mod statement_rules;
+mod statements;
+mod worked;
+
+pub use expression_copy::{copy_expr, copy_exprs, copy_order, copy_select};
+pub use expression_depth::{expr_depth, select_depth};
+pub use expression_rules::{well_expr, well_select};
+pub use expressions::{
+    Aggregate, Arm, Count, Expr, FromClause, Limit, OrderItem, Select, Selection,
+};
+pub use locals::{Local, Locals};
+pub use names::is_name;
+pub use statement_copy::{copy_routine, copy_stmt, copy_trigger};
+pub use statement_depth::depth;
+pub use statement_rules::{well, well_step};
+pub use statements::{
+    Assignment, Branch, Cause, Column, ColumnSet, CreateTable, Declaration, DeleteStmt, InsertStmt,
+    Parameter, ReplaceStmt, Routine, Source, SqlType, Stmt, Target, Time, TriggerDef, UniqueKey,
+    UpdateStmt,
+};
+pub use worked::{
+    deepest_statements, depths_of_expressions, depths_of_statements, expressions_that_are_given,
+    names_and_numbers, programs_that_are_given, selects_that_are_given, statements_that_are_given,
+    tables_that_are_given,
+};

@@ -1,0 +1,318 @@
+//! Copies of statements and of the stored programs in them.
+ghost use Rattle.std.specs.Prelude.{◌≡◌, IfOk};
+
+use crate::expression_copy::{copy_expr, copy_exprs, copy_order, copy_select};
+use crate::expressions::Expr;
+use crate::statements::{
+    Assignment, Branch, Column, ColumnSet, CreateTable, Declaration, DeleteStmt, InsertStmt,
+    Parameter, ReplaceStmt, Routine, Source, SqlType, Stmt, Target, TriggerDef, UniqueKey,
+    UpdateStmt,
+};
+use std::alloc::Global;
+use val_types::{Boxed, Duplicate, List, NoMemory};
+
+impl Duplicate for SqlType {
+    fn duplicate(&self, alloc: Global) -> Result<SqlType, NoMemory> {
+        let _ = alloc;
+        Ok(*self)
+    }
+}
+
+impl Duplicate for Parameter {
+    fn duplicate(&self, alloc: Global) -> Result<Parameter, NoMemory> {
+        let name = self.name.duplicate(alloc)?;
+        Ok(Parameter {
+            name,
+            kind: self.kind,
+        })
+    }
+}
+
+impl Duplicate for Column {
+    fn duplicate(&self, alloc: Global) -> Result<Column, NoMemory> {
+        Ok(Column {
+            name: self.name.duplicate(alloc)?,
+            kind: self.kind,
+            nullable: self.nullable,
+            preset: self.preset.duplicate(alloc)?,
+            auto_increment: self.auto_increment,
+        })
+    }
+}
+
+impl Duplicate for UniqueKey {
+    fn duplicate(&self, alloc: Global) -> Result<UniqueKey, NoMemory> {
+        let name = self.name.duplicate(alloc)?;
+        let columns = self.columns.duplicate(alloc)?;
+        Ok(UniqueKey { name, columns })
+    }
+}
+
+impl Duplicate for CreateTable {
+    fn duplicate(&self, alloc: Global) -> Result<CreateTable, NoMemory> {
+        Ok(CreateTable {
+            name: self.name.duplicate(alloc)?,
+            columns: self.columns.duplicate(alloc)?,
+            primary: self.primary.duplicate(alloc)?,
+            uniques: self.uniques.duplicate(alloc)?,
+        })
+    }
+}
+
+impl Duplicate for Target {
+    fn duplicate(&self, alloc: Global) -> Result<Target, NoMemory> {
+        match self {
+            Target::User(name) => Ok(Target::User(name.duplicate(alloc)?)),
+            Target::Plain(name) => Ok(Target::Plain(name.duplicate(alloc)?)),
+            Target::System(name) => Ok(Target::System(name.duplicate(alloc)?)),
+            Target::New(name) => Ok(Target::New(name.duplicate(alloc)?)),
+        }
+    }
+}
+
+fn copy_option(alloc: Global, expr: &Option<Expr>) -> Result<Option<Expr>, NoMemory>
+    ensures { IfOk result (λ copy. copy ≡ expr.now) }
+{
+    match expr {
+        None => Ok(None),
+        Some(expr) => Ok(Some(copy_expr(alloc, expr)?)),
+    }
+}
+
+fn copy_rows(alloc: Global, rows: &List<List<Expr>>) -> Result<List<List<Expr>>, NoMemory>
+    ensures { IfOk result (λ copy. copy ≡ rows.now) }
+{
+    let mut copy = List::new(alloc);
+    for row in rows.as_slice() {
+        copy.push(copy_exprs(alloc, row)?)?;
+    }
+    Ok(copy)
+}
+
+fn copy_source(alloc: Global, source: &Source) -> Result<Source, NoMemory>
+    ensures { IfOk result (λ copy. copy ≡ source.now) }
+{
+    match source {
+        Source::Rows(rows) => Ok(Source::Rows(copy_rows(alloc, rows)?)),
+        Source::Select(select) => Ok(Source::Select(copy_select(alloc, select)?)),
+    }
+}
+
+fn copy_sets(alloc: Global, sets: &List<ColumnSet>) -> Result<List<ColumnSet>, NoMemory>
+    ensures { IfOk result (λ copy. copy ≡ sets.now) }
+{
+    let mut copy = List::new(alloc);
+    for set in sets.as_slice() {
+        let column = set.column.duplicate(alloc)?;
+        let value = copy_expr(alloc, &set.value)?;
+        copy.push(ColumnSet { column, value })?;
+    }
+    Ok(copy)
+}
+
+fn copy_assignments(
+    alloc: Global,
+    assignments: &List<Assignment>,
+) -> Result<List<Assignment>, NoMemory>
+    ensures { IfOk result (λ copy. copy ≡ assignments.now) }
+{
+    let mut copy = List::new(alloc);
+    for assignment in assignments.as_slice() {
+        let target = assignment.target.duplicate(alloc)?;
+        let value = copy_expr(alloc, &assignment.value)?;
+        copy.push(Assignment { target, value })?;
+    }
+    Ok(copy)
+}
+
+fn copy_declarations(
+    alloc: Global,
+    declarations: &List<Declaration>,
+) -> Result<List<Declaration>, NoMemory>
+    ensures { IfOk result (λ copy. copy ≡ declarations.now) }
+{
+    let mut copy = List::new(alloc);
+    for declaration in declarations.as_slice() {
+        let names = declaration.names.duplicate(alloc)?;
+        let kind = declaration.kind;
+        let preset = copy_option(alloc, &declaration.preset)?;
+        copy.push(Declaration {
+            names,
+            kind,
+            preset,
+        })?;
+    }
+    Ok(copy)
+}
+
+fn copy_insert(alloc: Global, insert: &InsertStmt) -> Result<InsertStmt, NoMemory>
+    ensures { IfOk result (λ copy. copy ≡ insert.now) }
+{
+    Ok(InsertStmt {
+        ignore: insert.ignore,
+        table: insert.table.duplicate(alloc)?,
+        columns: insert.columns.duplicate(alloc)?,
+        source: copy_source(alloc, &insert.source)?,
+        update: copy_sets(alloc, &insert.update)?,
+    })
+}
+
+fn copy_replace(alloc: Global, replace: &ReplaceStmt) -> Result<ReplaceStmt, NoMemory>
+    ensures { IfOk result (λ copy. copy ≡ replace.now) }
+{
+    Ok(ReplaceStmt {
+        table: replace.table.duplicate(alloc)?,
+        columns: replace.columns.duplicate(alloc)?,
+        source: copy_source(alloc, &replace.source)?,
+    })
+}
+
+fn copy_update(alloc: Global, update: &UpdateStmt) -> Result<UpdateStmt, NoMemory>
+    ensures { IfOk result (λ copy. copy ≡ update.now) }
+{
+    Ok(UpdateStmt {
+        table: update.table.duplicate(alloc)?,
+        sets: copy_sets(alloc, &update.sets)?,
+        filter: copy_option(alloc, &update.filter)?,
+        order: copy_order(alloc, &update.order)?,
+        limit: update.limit.duplicate(alloc)?,
+    })
+}
+
+fn copy_delete(alloc: Global, delete: &DeleteStmt) -> Result<DeleteStmt, NoMemory>
+    ensures { IfOk result (λ copy. copy ≡ delete.now) }
+{
+    Ok(DeleteStmt {
+        table: delete.table.duplicate(alloc)?,
+        filter: copy_option(alloc, &delete.filter)?,
+        order: copy_order(alloc, &delete.order)?,
+        limit: delete.limit.duplicate(alloc)?,
+    })
+}
+
+/// An equal statement.
+#[cycle(copies)]
+pub fn copy_stmt(alloc: Global, s: &Stmt) -> Result<Stmt, NoMemory>
+    ensures { IfOk result (λ copy. copy ≡ s.now) }
+{
+    match s {
+        Stmt::CreateTable(table) => Ok(Stmt::CreateTable(table.duplicate(alloc)?)),
+        Stmt::CreateFunction(routine) => Ok(Stmt::CreateFunction(copy_boxed(alloc, routine)?)),
+        Stmt::CreateProcedure(routine) => Ok(Stmt::CreateProcedure(copy_boxed(alloc, routine)?)),
+        Stmt::CreateTrigger(trigger) => {
+            Ok(Stmt::CreateTrigger(Boxed::new(alloc, copy_trigger(alloc, trigger.get())?)?))
+        }
+        Stmt::DropTable(name) => Ok(Stmt::DropTable(name.duplicate(alloc)?)),
+        Stmt::DropFunction(name) => Ok(Stmt::DropFunction(name.duplicate(alloc)?)),
+        Stmt::DropProcedure(name) => Ok(Stmt::DropProcedure(name.duplicate(alloc)?)),
+        Stmt::DropTrigger(name) => Ok(Stmt::DropTrigger(name.duplicate(alloc)?)),
+        Stmt::Truncate(name) => Ok(Stmt::Truncate(name.duplicate(alloc)?)),
+        Stmt::Insert(insert) => Ok(Stmt::Insert(copy_insert(alloc, insert)?)),
+        Stmt::Replace(replace) => Ok(Stmt::Replace(copy_replace(alloc, replace)?)),
+        Stmt::Update(update) => Ok(Stmt::Update(copy_update(alloc, update)?)),
+        Stmt::Delete(delete) => Ok(Stmt::Delete(copy_delete(alloc, delete)?)),
+        Stmt::Select(select) => Ok(Stmt::Select(copy_select(alloc, select)?)),
+        Stmt::Do(exprs) => Ok(Stmt::Do(copy_exprs(alloc, exprs)?)),
+        Stmt::Set(assignments) => Ok(Stmt::Set(copy_assignments(alloc, assignments)?)),
+        Stmt::Call { name, arguments } => Ok(Stmt::Call {
+            name: name.duplicate(alloc)?,
+            arguments: copy_exprs(alloc, arguments)?,
+        }),
+        Stmt::Begin => Ok(Stmt::Begin),
+        Stmt::Commit => Ok(Stmt::Commit),
+        Stmt::Rollback => Ok(Stmt::Rollback),
+        Stmt::Savepoint(name) => Ok(Stmt::Savepoint(name.duplicate(alloc)?)),
+        Stmt::RollbackTo(name) => Ok(Stmt::RollbackTo(name.duplicate(alloc)?)),
+        Stmt::ReleaseSavepoint(name) => Ok(Stmt::ReleaseSavepoint(name.duplicate(alloc)?)),
+        Stmt::Block { declarations, body } => Ok(Stmt::Block {
+            declarations: copy_declarations(alloc, declarations)?,
+            body: copy_steps(alloc, body)?,
+        }),
+        Stmt::If { arms, otherwise } => Ok(Stmt::If {
+            arms: copy_branches(alloc, arms)?,
+            otherwise: copy_otherwise(alloc, otherwise)?,
+        }),
+        Stmt::While { condition, steps } => Ok(Stmt::While {
+            condition: copy_expr(alloc, condition)?,
+            steps: copy_steps(alloc, steps)?,
+        }),
+        Stmt::Return(expr) => Ok(Stmt::Return(copy_expr(alloc, expr)?)),
+    }
+}
+
+#[cycle(copies)]
+fn copy_steps(alloc: Global, steps: &List<Stmt>) -> Result<List<Stmt>, NoMemory>
+    ensures { IfOk result (λ copy. copy ≡ steps.now) }
+{
+    let mut copy = List::new(alloc);
+    for step in steps.as_slice() {
+        copy.push(copy_stmt(alloc, step)?)?;
+    }
+    Ok(copy)
+}
+
+#[cycle(copies)]
+fn copy_branches(alloc: Global, branches: &List<Branch>) -> Result<List<Branch>, NoMemory>
+    ensures { IfOk result (λ copy. copy ≡ branches.now) }
+{
+    let mut copy = List::new(alloc);
+    for branch in branches.as_slice() {
+        let condition = copy_expr(alloc, &branch.condition)?;
+        let steps = copy_steps(alloc, &branch.steps)?;
+        copy.push(Branch { condition, steps })?;
+    }
+    Ok(copy)
+}
+
+#[cycle(copies)]
+fn copy_otherwise(
+    alloc: Global,
+    otherwise: &Option<List<Stmt>>,
+) -> Result<Option<List<Stmt>>, NoMemory>
+    ensures { IfOk result (λ copy. copy ≡ otherwise.now) }
+{
+    match otherwise {
+        None => Ok(None),
+        Some(steps) => Ok(Some(copy_steps(alloc, steps)?)),
+    }
+}
+
+#[cycle(copies)]
+fn copy_boxed(alloc: Global, routine: &Boxed<Routine>) -> Result<Boxed<Routine>, NoMemory>
+    ensures { IfOk result (λ copy. copy ≡ routine.now) }
+{
+    Boxed::new(alloc, copy_routine(alloc, routine.get())?)
+}
+
+/// An equal stored function or procedure.
+#[cycle(copies)]
+pub fn copy_routine(alloc: Global, routine: &Routine) -> Result<Routine, NoMemory>
+    ensures { IfOk result (λ copy. copy ≡ routine.now) }
+{
+    let name = routine.name.duplicate(alloc)?;
+    let parameters = routine.parameters.duplicate(alloc)?;
+    let body = copy_stmt(alloc, &routine.body)?;
+    Ok(Routine {
+        name,
+        parameters,
+        returns: routine.returns,
+        body,
+    })
+}
+
+/// An equal trigger.
+#[cycle(copies)]
+pub fn copy_trigger(alloc: Global, trigger: &TriggerDef) -> Result<TriggerDef, NoMemory>
+    ensures { IfOk result (λ copy. copy ≡ trigger.now) }
+{
+    let name = trigger.name.duplicate(alloc)?;
+    let table = trigger.table.duplicate(alloc)?;
+    let body = copy_stmt(alloc, &trigger.body)?;
+    Ok(TriggerDef {
+        name,
+        time: trigger.time,
+        event: trigger.event,
+        table,
+        body,
+    })
+}
