@@ -16,3 +16,12 @@ mod Changes
 mod Tables
 mod Programs
 mod Statements
+mod Good
+mod GoodParts
+mod GoodSelects
+mod GoodExpressions
+mod GoodTables
+mod GoodChanges
+mod GoodPrograms
+mod GoodTokens
+mod GoodTexts

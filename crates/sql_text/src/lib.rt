@@ -1,4 +1,4 @@
-//! The canonical text of a statement is read back as that statement: laws alone, no code.
+//! The canonical text of a statement is read back as that statement: laws, and no code but tests.
 //!
 //! `sql_print` says how a statement is written, `sql_parse` which statement a text is, and
 //! `sql_tree` which statements the parser can give. This crate stands above the three and shows
@@ -10,7 +10,10 @@
 //! rules are: one behind the other, lists, steps of operators. Each level of a tree opens at most
 //! two constructs at once, so a tree of 200 levels opens at most 400.
 //!
-//! - [`laws`]: the text is read, and as nothing else
+//! The other way goes once over the rules: the tokens of a text of bytes [are
+//! good](../proofs/Good.antt), and from good tokens each rule takes what is well and leaves good ones.
+//!
+//! - [`laws`]: the text is read, and as nothing else; and whatever is read is well
 //! - [`worked`]: statements that these laws speak of
 #![tactic(auto)]
 
@@ -19,5 +22,5 @@ mod laws;
 mod tests;
 mod worked;
 
-pub use laws::{prints_are_read, prints_tell_statements_apart};
+pub use laws::{prints_are_read, prints_tell_statements_apart, readings_are_well};
 pub use worked::these_are_well;
