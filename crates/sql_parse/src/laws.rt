@@ -7,7 +7,7 @@ ghost use Rattle.sql_lex.specs.declared.token.TokenKind.TheVariants as kinds;
 ghost use Rattle.sql_parse.specs.Expressions.{expression, select};
 ghost use Rattle.sql_parse.specs.Spoken.{spoken};
 ghost use Rattle.sql_parse.specs.Statements.{statement};
-ghost use Rattle.sql_parse.specs.Texts.{IsRefusedAt, IsStatement, IsTooDeepAt, toks};
+ghost use Rattle.sql_parse.specs.Texts.{IsRefusedAt, IsStatement, IsTooDeepAt, place_of, toks};
 ghost use Rattle.sql_parse.specs.Tokens.{broken_minus, tight_minus};
 ghost use Rattle.sql_parse.specs.Written.{num, sg};
 ghost use Rattle.sql_tree.specs.Statement.{Statement};
@@ -54,4 +54,10 @@ pub fn minuses_are_told_apart()
 /// The tokens of a text can be computed.
 pub fn tokens_are_computed()
     ensures { (text : List ℕ) (ts : List Token) (stop : ℕ) → IsFront text ts stop → spoken text ≡ toks text ts }
+{}
+
+/// A syntax error is at the first byte of its token; where no token is left, where none begins.
+pub fn places_are_first_bytes()
+    ensures token { (t : Token) (ts : List Token) (stop : ℕ) → place_of (t ∷ ts) stop ≡ t.at }
+    ensures stop { (stop : ℕ) → place_of [] stop ≡ stop }
 {}

@@ -17,8 +17,8 @@ mod worked;
 
 pub use bytes::bytes_are_read;
 pub use laws::{
-    expressions_are_exact, minuses_are_told_apart, selects_are_exact, statements_are_exact,
-    texts_have_one_answer, tokens_are_computed,
+    expressions_are_exact, minuses_are_told_apart, places_are_first_bytes, selects_are_exact,
+    statements_are_exact, texts_have_one_answer, tokens_are_computed,
 };
 pub use worked::{
     changes_are_read, depths_are_placed, expressions_are_read, faults_are_placed,
