@@ -34,8 +34,6 @@ mod session;
 mod source;
 mod streams;
 mod table;
-#[cfg(test)]
-mod tests;
 
 pub use answers::Answer;
 pub use carry::first_apply;

@@ -1,26 +1,50 @@
-//! Statements of SQL, read from tokens. So far this crate has definitions and their laws, and no
-//! code.
+//! Statements of SQL, read from the bytes of a text, or the place where a text is no statement.
 //!
-//! The grammar is a set of [rules](../specs/Statements.antt), made as `sql_grammar` says, each with
-//! the number of constructs that may still be opened. Their tokens tell a minus directly before a
-//! number from another: [`toks`](../specs/Texts.antt) makes them of the lexer's, and
-//! [`spoken`](../specs/Spoken.antt) computes them from bytes. `reads` there says which statement a
-//! text is, `IsRefusedAt` where it is refused, and `IsTooDeep` that it is too deep.
+//! [`parse`](parsing) is the one public call. What a text is, where it is refused and what is too
+//! deep say the rules of `sql_syntax`; a tree is that of `sql_tree`. Tokens are made once, by
+//! `sql_lex`, and each function reads from a [`Rest`](rest) of them exactly what its rule reads. A
+//! part of a tree is held with its number of levels, and not at all where it has more than a
+//! statement may have, so that no tree is ever deeper than that.
 //!
-//! - [`laws`]: statements, SELECTs and expressions are read exactly; each text has one answer
-//! - [`worked`], [`bytes`]: worked texts, as tokens and as bytes
+//! - `lexeme`, `word`, `rest`, `lexing`: tokens as the parser looks at them
+//! - `fault`, `kept`, `opening`: why reading stops, parts of trees, tokens that open a construct
+//! - `parts`, `types`, `limits`, `heads`: what holds no expression
+//! - `leaves`, `nodes`, `operators`: leaves of expressions, and nodes put together
+//! - `expressions`, `primaries`, `calls`, `selects`: expressions and SELECTs, which nest in one
+//!   another
+//! - `name_set`, `tables`, `sessions`, `assignments`, `changes`, `common`: statements
+//! - `closing`, `bodies`, `programs`: stored programs and the statements in them
+//! - `statements`, `parsing`: a statement, and the statement that a text is
 #![tactic(auto)]
 
-mod bytes;
-mod laws;
-mod worked;
+mod assignments;
+mod bodies;
+mod calls;
+mod changes;
+mod closing;
+mod common;
+mod expressions;
+mod fault;
+mod heads;
+mod kept;
+mod leaves;
+mod lexeme;
+mod lexing;
+mod limits;
+mod name_set;
+mod nodes;
+mod opening;
+mod operators;
+mod parsing;
+mod parts;
+mod primaries;
+mod programs;
+mod rest;
+mod selects;
+mod sessions;
+mod statements;
+mod tables;
+mod types;
+mod word;
 
-pub use bytes::bytes_are_read;
-pub use laws::{
-    expressions_are_exact, minuses_are_told_apart, places_are_first_bytes, selects_are_exact,
-    statements_are_exact, texts_have_one_answer, tokens_are_computed,
-};
-pub use worked::{
-    changes_are_read, depths_are_placed, expressions_are_read, faults_are_placed,
-    programs_are_read, selects_are_read, sessions_are_read, tables_are_read,
-};
+pub use parsing::{ParseRefusal, parse};

@@ -4,7 +4,7 @@ use Rattle.sql_lex.specs.declared.keyword.Keyword.{Keyword}
 use Rattle.sql_lex.specs.declared.keyword.Keyword.TheVariants.{Alter, And, As, Asc, Before, Between, Bigint, By, Call, Case, Create, Declare, Default, Delete, Desc, Deterministic, Distinct, Div, Drop, Each, Else, Elseif, Exists, For, From, Group, If, Ignore, In, Insert, Int, Integer, Into, Is, Join, Key, Limit, Mod, Modifies, Not, Null, On, Or, Order, Primary, Procedure, Reads, Release, Replace, Return, Select, Set, Sql, Table, Then, To, Trigger, Union, Unique, Update, Values, Varchar, When, Where, While, After, AutoIncrement, Begin, Commit, Contains, Data, Do, Duplicate, End, Engine, Function, Index, Innodb, Mixed, New, No, Offset, Old, Returns, Rollback, Row, Savepoint, Session, Start, Statement, Transaction, Truncate, Value, Work, Abs, Coalesce, Concat, ConnectionId, Count, Floor, Ifnull, LastInsertId, Length, Max, Min, NameConst, Now, Rand, RowCount, Substring, Sum, Sysdate, UnixTimestamp, User, Uuid}
 use Rattle.sql_lex.specs.Keywords.{word_of}
 use Rattle.sql_grammar.specs.Sets.{member}
-use Rattle.sql_parse.specs.Tokens.{code, names, but}
+use Rattle.sql_syntax.specs.Tokens.{code, names, but}
 use Rattle.sql_print.specs.Names.{is_reserved}
 
 -- the word is reserved, or SESSION, or another name

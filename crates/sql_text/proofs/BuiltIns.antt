@@ -10,9 +10,9 @@ use Rattle.sql_grammar.specs.Rule.{Rule, of_kinds, paired}
 use Rattle.sql_tree.specs.Tree.{Tree, name_const, floor_rand, call_abs, call_coalesce, call_ifnull, call_concat, call_length, call_substring, call_now, call_unix_timestamp, call_sysdate, call_user, call_uuid, call_connection_id, call_last_insert_id, call_row_count}
 use Rattle.sql_tree.specs.Tree.{Trees}
 use Rattle.sql_tree.specs.Well.{is_literal}
-use Rattle.sql_parse.specs.Tokens.{Tok, key, kind, code, keyword_said, sign}
-use Rattle.sql_parse.specs.Parts.{exprs, closed}
-use Rattle.sql_parse.specs.Expressions.{Nested, built, built_in, built_ins, with_one, with_some, with_none, one_of, many_of, none_of, two_arguments, three_arguments, constant, random, prefix_by}
+use Rattle.sql_syntax.specs.Tokens.{Tok, key, kind, code, keyword_said, sign}
+use Rattle.sql_syntax.specs.Parts.{exprs, closed}
+use Rattle.sql_syntax.specs.Expressions.{Nested, built, built_in, built_ins, with_one, with_some, with_none, one_of, many_of, none_of, two_arguments, three_arguments, constant, random, prefix_by}
 use Rattle.sql_text.proofs.Lines.{group5}
 use Rattle.sql_text.proofs.Reading.{Said, Reading, via, written, spaced, one, then'}
 use Rattle.sql_text.proofs.Written.{say_close, say_times}

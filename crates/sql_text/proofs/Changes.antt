@@ -12,9 +12,9 @@ use Rattle.sql_tree.specs.declared.expressions.Count.{Count}
 use Rattle.sql_print.specs.Names.{quoted_name as name_text, names_of, more_of, count_if}
 use Rattle.sql_print.specs.Spelling.{tree_text, trees_text, where_text, orders_text}
 use Rattle.sql_print.specs.StatementSpelling.{columns_text, more_rows_text, rows_text, supply_text, more_sets_text, sets_text, update_text, ignore_text}
-use Rattle.sql_parse.specs.Parts.{a_name, list_of, exprs, closed, names_in}
-use Rattle.sql_parse.specs.Expressions.{expression}
-use Rattle.sql_parse.specs.Changes.{sets_of, row_list, set_item, sets, into, columns, a_row, source, on_duplicate, inserted, insert, replaced, replace, chosen, updated, update, deleted, delete}
+use Rattle.sql_syntax.specs.Parts.{a_name, list_of, exprs, closed, names_in}
+use Rattle.sql_syntax.specs.Expressions.{expression}
+use Rattle.sql_syntax.specs.Changes.{sets_of, row_list, set_item, sets, into, columns, a_row, source, on_duplicate, inserted, insert, replaced, replace, chosen, updated, update, deleted, delete}
 use Rattle.sql_text.proofs.Saying.{soft, soft_on}
 use Rattle.sql_text.proofs.Lines.{group4, group5, group7}
 use Rattle.sql_text.proofs.Reading.{Reading, via, written, spaced, nothing, then', More, no_more, more}

@@ -9,7 +9,7 @@ use Rattle.sql_grammar.specs.Sets.{member}
 use Rattle.sql_grammar.specs.Grammar.{Grammar, One, Both, Pure, Mapped, WithTokens, Chain, first, next}
 use Rattle.sql_grammar.specs.Rule.{Rule, only_then, of_kinds, any_of, only_if, opened, paired, then_one, alone}
 use Rattle.sql_tree.specs.Well.{is_name, is_number, is_literal}
-use Rattle.sql_parse.specs.Tokens.{Tok, key, plain_name, quoted_name, digits, least_digits, literal_text, mark, tight_minus, broken_minus, kind, code, sign_code, keyword, sign}
+use Rattle.sql_syntax.specs.Tokens.{Tok, key, plain_name, quoted_name, digits, least_digits, literal_text, mark, tight_minus, broken_minus, kind, code, sign_code, keyword, sign}
 
 -- what the token says may stand in a statement
 abbrev pub is_good : Tok → Bool

@@ -12,12 +12,12 @@ use Rattle.sql_tree.specs.Statement.{Statement, Supply, rows, rows_of, Sets, no_
 use Rattle.sql_tree.specs.declared.expressions.Count.{Count}
 use Rattle.sql_tree.specs.declared.statements.Target.{Target}
 use Rattle.sql_tree.specs.Well.{is_name, are_names_if, has_tree, is_literal, is_well_tree, are_well_trees, is_well_part, are_well_orders, is_count_if, are_well_rows, is_well_supply, has_set, are_well_sets, is_target, are_well_assignments, stands_alone, is_well_step}
-use Rattle.sql_parse.specs.Tokens.{Tok, code}
-use Rattle.sql_parse.specs.Parts.{a_name, exprs, closed, arguments}
-use Rattle.sql_parse.specs.Changes.{sets_of, row_list, set_item, sets, ignore, into, columns, a_row, values_word, source, on_duplicate, inserted, replaced, chosen, updated, deleted, change}
-use Rattle.sql_parse.specs.Sessions.{new_by, target, format_word, format_said, is_format, format_or, assigned, assignment, assignments_of, set, do_exprs, call, drop, truncated, savepoint_name, transaction}
-use Rattle.sql_parse.specs.Tokens.{keyword_said}
-use Rattle.sql_parse.specs.Expressions.{expression}
+use Rattle.sql_syntax.specs.Tokens.{Tok, code}
+use Rattle.sql_syntax.specs.Parts.{a_name, exprs, closed, arguments}
+use Rattle.sql_syntax.specs.Changes.{sets_of, row_list, set_item, sets, ignore, into, columns, a_row, values_word, source, on_duplicate, inserted, replaced, chosen, updated, deleted, change}
+use Rattle.sql_syntax.specs.Sessions.{new_by, target, format_word, format_said, is_format, format_or, assigned, assignment, assignments_of, set, do_exprs, call, drop, truncated, savepoint_name, transaction}
+use Rattle.sql_syntax.specs.Tokens.{keyword_said}
+use Rattle.sql_syntax.specs.Expressions.{expression}
 use Rattle.sql_text.proofs.Good.{Gives, Any, Pair, Each, Some', IfSome, weaker, either_gives, optional_gives, mapped_gives, tokens_give, paired_gives, both_gives, behind_gives, keyword_gives, sign_gives, key_gives, mark_gives}
 use Rattle.sql_text.proofs.GoodParts.{Name, Well, Wells, name_well, but_well, word_name_well, list_well, closed_well, parens_well, names_in_well, exprs_well, arguments_well}
 use Rattle.sql_text.proofs.GoodSelects.{WellPart, WellOrders, WellCount, where_well, order_well, limit_well}

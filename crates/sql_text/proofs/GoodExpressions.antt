@@ -16,9 +16,9 @@ use Rattle.sql_tree.specs.Tree.{Tree, literal, user_variable, system_variable, u
 use Rattle.sql_tree.specs.Tree.{Trees, Part, no_part, part}
 use Rattle.sql_tree.specs.View.{arms_of}
 use Rattle.sql_tree.specs.Well.{is_name, is_literal, has_tree, gives_one, is_well_tree, are_well_trees, are_well_arms, is_well_part, is_well_query}
-use Rattle.sql_parse.specs.Tokens.{Tok, keyword_said, name_said, kind, code, sign_code, names, sign}
-use Rattle.sql_parse.specs.Parts.{a_name, exprs, closed, arguments, a_value}
-use Rattle.sql_parse.specs.Expressions.{Nested, Tail, alone, of_column, called, column_by, named, column_tail, name_tail, own_names, uncalled_names, Following, with_tail, with_arguments, built, built_in, with_none, with_one, with_some, none_of, one_of, many_of, two_arguments, three_arguments, constant, random, built_ins, when_arm, else_part, case_body, grouped, system_name, primary, prefix_by, applied, product_ops, is_percent, product, sum_ops, sum_op, sum, comparison_ops, comparison_op, Test, compared, null_test, among, tested, membership, nullness, test, comparison, negation_by, conjunction, disjunction, whole_by, nested_by, nested, expression, select}
+use Rattle.sql_syntax.specs.Tokens.{Tok, keyword_said, name_said, kind, code, sign_code, names, sign}
+use Rattle.sql_syntax.specs.Parts.{system_name, a_name, exprs, closed, arguments, a_value}
+use Rattle.sql_syntax.specs.Expressions.{Nested, Tail, alone, of_column, called, column_by, named, column_tail, name_tail, own_names, uncalled_names, Following, with_tail, with_arguments, built, built_in, with_none, with_one, with_some, none_of, one_of, many_of, two_arguments, three_arguments, constant, random, built_ins, when_arm, else_part, case_body, grouped, primary, prefix_by, applied, product_ops, is_percent, product, sum_ops, sum_op, sum, comparison_ops, comparison_op, Test, compared, null_test, among, tested, membership, nullness, test, comparison, negation_by, conjunction, disjunction, whole_by, nested_by, nested, expression, select}
 use Rattle.sql_text.proofs.Good.{Gives, Any, Pair, Each, Some', IfSome, either_gives, pure_gives, optional_gives, mapped_gives, paired_gives, both_gives, behind_gives, before_gives, chain_gives, rows_give, said_gives, keyword_gives, sign_gives, key_gives, mark_gives, opened_gives}
 use Rattle.sql_text.proofs.GoodParts.{Name, Lit, Well, Wells, name_well, but_well, word_name_well, named_within, text_well, plain_well, negative_well, value_well, closed_well, parens_well, exprs_well, arguments_well}
 use Rattle.sql_text.proofs.GoodSelects.{WellPart, WellQuery, OneQuery, select_by_well, single_by_well}

@@ -16,8 +16,8 @@ use Rattle.sql_grammar.proofs.Lists.{within_member}
 use Rattle.sql_tree.specs.Tree.{Tree, Trees, no_tree}
 use Rattle.sql_tree.specs.View.{trees_of}
 use Rattle.sql_tree.specs.Well.{is_name, are_names, is_number, is_literal, has_tree, is_well_tree, are_well_trees}
-use Rattle.sql_parse.specs.Tokens.{Tok, key, plain_name, quoted_name, digits, least_digits, literal_text, mark, tight_minus, broken_minus, kind, code, sign_code, number_code, least_code, text_code, tight_code, names, but, name_said, text_said, number_said}
-use Rattle.sql_parse.specs.Parts.{a_name, name_but, word_name, list_of, exprs, closed, arguments, in_parentheses, names_in, a_text, a_number, plain_value, negative_value, a_value}
+use Rattle.sql_syntax.specs.Tokens.{Tok, key, plain_name, quoted_name, digits, least_digits, literal_text, mark, tight_minus, broken_minus, kind, code, sign_code, number_code, least_code, text_code, tight_code, names, but, name_said, text_said, number_said}
+use Rattle.sql_syntax.specs.Parts.{a_name, name_but, word_name, list_of, exprs, closed, arguments, in_parentheses, names_in, a_text, a_number, plain_value, negative_value, a_value}
 use Rattle.sql_text.proofs.Good.{is_good, Gives, Each, Some', each_all, weaker, either_gives, mapped_gives, behind_gives, before_gives, rows_give, said_gives, any_gives, keyword_gives, sign_gives, mark_gives, opened_gives}
 
 -- ---- what is well, as properties

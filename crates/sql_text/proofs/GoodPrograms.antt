@@ -13,10 +13,12 @@ use Rattle.sql_tree.specs.declared.statements.Parameter.{Parameter}
 use Rattle.sql_tree.specs.declared.statements.Time.{Time}
 use Rattle.sql_tree.specs.declared.statements.Cause.{Cause}
 use Rattle.sql_tree.specs.Well.{is_name, are_names, is_type, is_parameter, is_well_tree, is_well_part, are_well_declarations, has_statement, is_begin, stands_alone, is_well_step, are_well_steps, are_well_branches, is_well_otherwise, is_whole}
-use Rattle.sql_parse.specs.Tokens.{Tok, code}
-use Rattle.sql_parse.specs.Parts.{list_of}
-use Rattle.sql_parse.specs.Programs.{Head, function_head, procedure_head, trigger_head, with_body, parameter, in_parameter, parameters, trait', traits, function, procedure, time, event, trigger_of, each_row, triggered, head, create, created_within, common, statements_of, a_step, steps', steps_if, declarations_of, declaration, block_body, branches_of, a_branch, otherwise, if_body, while_body, inner_core, inner_by, inner}
-use Rattle.sql_parse.specs.Statements.{statement as whole_statement}
+use Rattle.sql_syntax.specs.Tokens.{Tok, code}
+use Rattle.sql_syntax.specs.Parts.{list_of}
+use Rattle.sql_syntax.specs.declared.heads.Head.{Head}
+use Rattle.sql_syntax.specs.declared.heads.Head.TheVariants as heads
+use Rattle.sql_syntax.specs.Programs.{with_body, parameter, in_parameter, parameters, trait', traits, function, procedure, time, event, trigger_of, each_row, triggered, head, create, created_within, common, statements_of, a_step, steps', steps_if, declarations_of, declaration, block_body, branches_of, a_branch, otherwise, if_body, while_body, inner_core, inner_by, inner}
+use Rattle.sql_syntax.specs.Statements.{statement as whole_statement}
 use Rattle.sql_text.proofs.Good.{Gives, Any, Pair, Each, Some', each_all, weaker, either_gives, pure_gives, optional_gives, mapped_gives, paired_gives, both_gives, behind_gives, before_gives, chain_gives, rows_give, repeated_gives, keyword_gives, sign_gives, key_gives, opened_gives}
 use Rattle.sql_text.proofs.GoodParts.{Name, Well, name_well, list_well, closed_well, parens_well, names_well}
 use Rattle.sql_text.proofs.GoodSelects.{WellPart}
@@ -36,16 +38,16 @@ abbrev WellParameters : List Parameter → Type 0
 WellParameters ps = list_all is_parameter ps ≡ true
 
 abbrev HeadWell : Head → Type 0
-HeadWell (function_head n ps k) = Name n × WellParameters ps × WellType k
-HeadWell (procedure_head n ps) = Name n × WellParameters ps
-HeadWell (trigger_head n t e on) = Name n × Name on
+HeadWell (heads.Function n ps k) = Name n × WellParameters ps × WellType k
+HeadWell (heads.Procedure n ps) = Name n × WellParameters ps
+HeadWell (heads.Trigger n t e on) = Name n × Name on
 
 with_good : (h : Head) (s : Statement) → HeadWell h → Step s → Common (with_body h s)
-with_good (function_head n ps k) s p q =
+with_good (heads.Function n ps k) s p q =
     (refl, and_from (is_name n && list_all is_parameter ps && is_type k) (is_well_step s) (and_from (is_name n && list_all is_parameter ps) (is_type k) (and_from (is_name n) (list_all is_parameter ps) p.0 p.1) p.2) q)
-with_good (procedure_head n ps) s p q =
+with_good (heads.Procedure n ps) s p q =
     (refl, and_from (is_name n && list_all is_parameter ps && true) (is_well_step s) (and_from (is_name n && list_all is_parameter ps) true (and_from (is_name n) (list_all is_parameter ps) p.0 p.1) refl) q)
-with_good (trigger_head n t e on) s p q = (refl, and_from (is_name n && is_name on) (is_well_step s) (and_from (is_name n) (is_name on) p.0 p.1) q)
+with_good (heads.Trigger n t e on) s p q = (refl, and_from (is_name n && is_name on) (is_well_step s) (and_from (is_name n) (is_name on) p.0 p.1) q)
 
 parameter_well : (n : ℕ) → Gives WellParameter (parameter n).texts
 parameter_well n = both_gives (λ c k. record { name = c; kind = k }) (λ c k p q. and_from (is_name c) (is_type k) p q) name_well (type_well n)
@@ -72,20 +74,20 @@ trait_well =
 traits_well : Gives Any traits.texts
 traits_well = chain_gives {P = Any} {Q = Any} (λ u v. tt) (λ u v p q. tt) (pure_gives tt tt) (λ a. trait_well)
 
-function_good : (f : List ℕ) (x : List Parameter × SqlType) → Name f → Pair WellParameters WellType x → HeadWell (function_head f x.0 x.1)
+function_good : (f : List ℕ) (x : List Parameter × SqlType) → Name f → Pair WellParameters WellType x → HeadWell (heads.Function f x.0 x.1)
 function_good f x p q = (p, q.0, q.1)
 
 function_well : (n : ℕ) → Gives HeadWell (function n).texts
 function_well n =
-    both_gives (λ f rest. function_head f rest.0 rest.1) function_good name_well (
+    both_gives (λ f rest. heads.Function f rest.0 rest.1) function_good name_well (
     paired_gives (parens_well n (parameters (parameter (pred n))) (parameters_well (parameter (pred n)) (parameter_well (pred n)))) (key_gives (before_gives (type_well n) traits_well) words.Returns))
 
-procedure_good : (f : List ℕ) (ps : List Parameter) → Name f → WellParameters ps → HeadWell (procedure_head f ps)
+procedure_good : (f : List ℕ) (ps : List Parameter) → Name f → WellParameters ps → HeadWell (heads.Procedure f ps)
 procedure_good f ps p q = (p, q)
 
 procedure_well : (n : ℕ) → Gives HeadWell (procedure n).texts
 procedure_well n =
-    both_gives procedure_head procedure_good name_well (before_gives (parens_well n (parameters (in_parameter (pred n))) (parameters_well (in_parameter (pred n)) (in_parameter_well (pred n)))) traits_well)
+    both_gives heads.Procedure procedure_good name_well (before_gives (parens_well n (parameters (in_parameter (pred n))) (parameters_well (in_parameter (pred n)) (in_parameter_well (pred n)))) traits_well)
 
 time_well : Gives Any time.texts
 time_well = either_gives (mapped_gives (λ u. Time.Before) (λ u p. tt) (keyword_gives words.Before)) (mapped_gives (λ u. Time.After) (λ u p. tt) (keyword_gives words.After))

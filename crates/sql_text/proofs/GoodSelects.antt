@@ -14,9 +14,9 @@ use Rattle.sql_tree.specs.Well.{is_name, is_count, is_count_if, is_limit_if, has
 use Rattle.sql_tree.specs.declared.expressions.Count.{Count}
 use Rattle.sql_tree.specs.declared.expressions.Count.TheVariants as counts
 use Rattle.sql_tree.specs.declared.expressions.Limit.{Limit}
-use Rattle.sql_parse.specs.Tokens.{Tok, keyword_said}
-use Rattle.sql_parse.specs.Parts.{closed}
-use Rattle.sql_parse.specs.Selects.{where_part, direction, order, count, limit, Bound, no_bound, offset_is, count_is, limit_by, bound, limits, origin_of, from_part, plain_from, one_sided, function_of, counted, agg, itemized, itemized_one, select_by, single_by}
+use Rattle.sql_syntax.specs.Tokens.{Tok, keyword_said}
+use Rattle.sql_syntax.specs.Parts.{closed}
+use Rattle.sql_syntax.specs.Selects.{where_part, direction, order, count, limit, Bound, no_bound, offset_is, count_is, limit_by, bound, limits, origin_of, from_part, plain_from, one_sided, function_of, counted, agg, itemized, itemized_one, select_by, single_by}
 use Rattle.sql_text.proofs.Good.{Gives, Any, Pair, Each, Some', IfSome, weaker, either_gives, optional_gives, mapped_gives, paired_gives, both_gives, before_gives, said_gives, keyword_gives, sign_gives, key_gives, mark_gives}
 use Rattle.sql_text.proofs.GoodParts.{Name, Well, Wells, name_well, number_well, list_well, closed_well, parens_well, exprs_well}
 

@@ -10,9 +10,12 @@ use Rattle.sql_tree.specs.declared.statements.SqlType.{SqlType}
 use Rattle.sql_tree.specs.declared.statements.CreateTable.{CreateTable}
 use Rattle.sql_tree.specs.declared.statements.UniqueKey.{UniqueKey}
 use Rattle.sql_tree.specs.Well.{is_name, are_names, are_names_if, is_literal_if, is_type, is_in_key, is_column, is_unique, has_table_part, is_table}
-use Rattle.sql_parse.specs.Tokens.{Tok, kind, code, keyword}
-use Rattle.sql_parse.specs.Parts.{a_name, name_but, a_number, a_value, closed, names_in}
-use Rattle.sql_parse.specs.Tables.{width, a_type, Mark, takes_null, preset, auto_increment, primary_key, unique_key, Marks, no_marks, marked, mark, marks, TablePart, column, primary, unique, is_primary, key_of, key_named, unique_part, column_of, table_part, table_parts, key_in, is_one_of, columns_in, uniques_in, table_of, engine, table}
+use Rattle.sql_syntax.specs.Tokens.{Tok, kind, code, keyword}
+use Rattle.sql_syntax.specs.Parts.{a_name, name_but, a_number, a_value, closed, names_in}
+use Rattle.sql_syntax.specs.declared.table_parts.Marks.{Marks}
+use Rattle.sql_syntax.specs.declared.table_parts.TablePart.{TablePart}
+use Rattle.sql_syntax.specs.declared.table_parts.TablePart.TheVariants as parts
+use Rattle.sql_syntax.specs.Tables.{width, a_type, Mark, takes_null, preset, auto_increment, primary_key, unique_key, no_marks, marked, mark, marks, is_primary, key_of, key_named, unique_part, column_of, table_part, table_parts, key_in, is_one_of, columns_in, uniques_in, table_of, engine, table}
 use Rattle.sql_text.proofs.Good.{Gives, Any, Pair, Each, Some', IfSome, either_gives, pure_gives, optional_gives, only_gives, mapped_gives, paired_gives, both_gives, before_gives, behind_gives, chain_gives, rows_give, keyword_gives, sign_gives, key_gives, mark_gives}
 use Rattle.sql_text.proofs.GoodParts.{Name, Lit, name_well, but_well, word_name_well, number_well, value_well, closed_well, parens_well, names_in_well}
 use Rattle.sql_text.proofs.GoodExpressions.{name_or}
@@ -67,12 +70,12 @@ abbrev Names : List (List ℕ) → Type 0
 Names ns = are_names ns ≡ true
 
 abbrev PartWell : TablePart → Type 0
-PartWell (column c k m) = Name c × WellType k × MarksWell m
-PartWell (primary ns) = Names ns
-PartWell (unique n ns) = Name n × Names ns
+PartWell (parts.Column c k m) = Name c × WellType k × MarksWell m
+PartWell (parts.Primary ns) = Names ns
+PartWell (parts.Unique n ns) = Name n × Names ns
 
 key_of_well : (n : ℕ) (r : Rule Tok (List ℕ)) → Gives Name r.texts → Gives PartWell (key_of n r).texts
-key_of_well n r q = both_gives {P = Name} {Q = Names} unique (λ c ns p g. (p, g)) q (names_in_well n)
+key_of_well n r q = both_gives {P = Name} {Q = Names} parts.Unique (λ c ns p g. (p, g)) q (names_in_well n)
 
 named_good : (index : List ℕ) (x : Option (List ℕ) × List (List ℕ)) → Name index → Pair (IfSome Name) Names x → PartWell (key_named index x)
 named_good index x p q = (name_or index x.0 p q.0, q.1)
@@ -88,7 +91,7 @@ column_good c x p q = (p, q.0, q.1)
 
 part_well : (n : ℕ) (b : Bool) → Gives PartWell (table_part n b).texts
 part_well n b =
-    either_gives (only_gives (not b) (mapped primary (behind (keyword words.Primary) (behind (keyword words.Key) (names_in n)))) (mapped_gives primary (λ ns p. p) (key_gives (key_gives (names_in_well n) words.Key) words.Primary))) (
+    either_gives (only_gives (not b) (mapped parts.Primary (behind (keyword words.Primary) (behind (keyword words.Key) (names_in n)))) (mapped_gives parts.Primary (λ ns p. p) (key_gives (key_gives (names_in_well n) words.Key) words.Primary))) (
     either_gives (key_gives (unique_well n) words.Unique) (both_gives column_of column_good name_well (paired_gives (type_well n) (marks_well b))))
 
 parts_well : (n : ℕ) → Gives (Some' PartWell) (table_parts n).texts
@@ -101,9 +104,9 @@ key_by false c o p q = q
 
 key_good : (ps : List TablePart) → Each PartWell ps → are_names_if (key_in ps) ≡ true
 key_good [] g = refl
-key_good (column c k m ∷ ps) g = key_by m.keyed c (key_in ps) g.0.0 (key_good ps g.1)
-key_good (primary ns ∷ ps) g = g.0
-key_good (unique n ns ∷ ps) g = key_good ps g.1
+key_good (parts.Column c k m ∷ ps) g = key_by m.keyed c (key_in ps) g.0.0 (key_good ps g.1)
+key_good (parts.Primary ns ∷ ps) g = g.0
+key_good (parts.Unique n ns ∷ ps) g = key_good ps g.1
 
 -- a column of the key is NOT NULL
 free_by : (b k : Bool) → not ((b && not k) && k) ≡ true
@@ -119,12 +122,12 @@ free (Some ns) b c = free_by b (is_one_of ns c)
 
 columns_good : (o : Option (List (List ℕ))) (ps : List TablePart) → Each PartWell ps → list_all (is_column o) (columns_in (unwrap_or o []) ps) ≡ true
 columns_good o [] g = refl
-columns_good o (column c k m ∷ ps) g =
+columns_good o (parts.Column c k m ∷ ps) g =
     and_from (is_name c && is_type k && is_literal_if m.value && not ((unwrap_or m.null true && not (is_one_of (unwrap_or o []) c)) && is_in_key o c)) (list_all (is_column o) (columns_in (unwrap_or o []) ps))
     (and_from (is_name c && is_type k && is_literal_if m.value) (not ((unwrap_or m.null true && not (is_one_of (unwrap_or o []) c)) && is_in_key o c))
     (and_from (is_name c && is_type k) (is_literal_if m.value) (and_from (is_name c) (is_type k) g.0.0 g.0.1) g.0.2) (free o (unwrap_or m.null true) c)) (columns_good o ps g.1)
-columns_good o (primary ns ∷ ps) g = columns_good o ps g.1
-columns_good o (unique n ns ∷ ps) g = columns_good o ps g.1
+columns_good o (parts.Primary ns ∷ ps) g = columns_good o ps g.1
+columns_good o (parts.Unique n ns ∷ ps) g = columns_good o ps g.1
 
 abbrev Uniques : List UniqueKey → Type 0
 Uniques us = list_all is_unique us ≡ true
@@ -136,20 +139,20 @@ uniques_by false c us p q = q
 
 uniques_good : (ps : List TablePart) → Each PartWell ps → Uniques (uniques_in ps)
 uniques_good [] g = refl
-uniques_good (column c k m ∷ ps) g = uniques_by m.unique c (uniques_in ps) g.0.0 (uniques_good ps g.1)
-uniques_good (primary ns ∷ ps) g = uniques_good ps g.1
-uniques_good (unique n ns ∷ ps) g = and_from (is_name n && are_names ns) (list_all is_unique (uniques_in ps)) (and_from (is_name n) (are_names ns) g.0.0 g.0.1) (uniques_good ps g.1)
+uniques_good (parts.Column c k m ∷ ps) g = uniques_by m.unique c (uniques_in ps) g.0.0 (uniques_good ps g.1)
+uniques_good (parts.Primary ns ∷ ps) g = uniques_good ps g.1
+uniques_good (parts.Unique n ns ∷ ps) g = and_from (is_name n && are_names ns) (list_all is_unique (uniques_in ps)) (and_from (is_name n) (are_names ns) g.0.0 g.0.1) (uniques_good ps g.1)
 
 has_part : (t : List ℕ) (ps : List TablePart) → Some' PartWell ps → has_table_part (table_of t ps) ≡ true
 has_part t [] g = absurd g
-has_part t (column c k m ∷ ps) g =
-    let u = table_of t (column c k m ∷ ps) in
+has_part t (parts.Column c k m ∷ ps) g =
+    let u = table_of t (parts.Column c k m ∷ ps) in
     or_left (nat_le 1 (length u.columns) || is_some u.primary) (nat_le 1 (length u.uniques)) (or_left (nat_le 1 (length u.columns)) (is_some u.primary) (le-leb 1 (length u.columns) (omega arith)))
-has_part t (primary ns ∷ ps) g =
-    let u = table_of t (primary ns ∷ ps) in
+has_part t (parts.Primary ns ∷ ps) g =
+    let u = table_of t (parts.Primary ns ∷ ps) in
     or_left (nat_le 1 (length u.columns) || is_some u.primary) (nat_le 1 (length u.uniques)) (or_right (nat_le 1 (length u.columns)) (is_some u.primary) refl)
-has_part t (unique n ns ∷ ps) g =
-    let u = table_of t (unique n ns ∷ ps) in
+has_part t (parts.Unique n ns ∷ ps) g =
+    let u = table_of t (parts.Unique n ns ∷ ps) in
     or_right (nat_le 1 (length u.columns) || is_some u.primary) (nat_le 1 (length u.uniques)) (le-leb 1 (length u.uniques) (omega arith))
 
 each_part : (ps : List TablePart) → Some' PartWell ps → Each PartWell ps

@@ -6,7 +6,7 @@ use Rattle.hex.specs.Hex.{IsBytes}
 use Rattle.sql_tree.specs.Statement.{Statement}
 use Rattle.sql_tree.specs.Depth.{depth_of}
 use Rattle.sql_tree.specs.Well.{is_whole, IsWell}
-use Rattle.sql_parse.specs.Texts.{toks, limit_open, reads}
+use Rattle.sql_syntax.specs.Texts.{toks, limit_open, reads}
 use Rattle.sql_text.proofs.GoodTokens.{tokens_good}
 use Rattle.sql_text.proofs.GoodPrograms.{whole_well}
 

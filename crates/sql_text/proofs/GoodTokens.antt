@@ -28,7 +28,7 @@ use Rattle.sql_lex.specs.Plain.{plain_by, inside, hex_bytes, literal_bytes}
 use Rattle.sql_lex.specs.Quotes.{begins, closing, leads, escaped_byte, escaped, stands_for, meant_from, meant, is_printable}
 use Rattle.sql_lex.specs.Quotes.{is_name as is_short}
 use Rattle.sql_tree.specs.Well.{is_name_byte, is_name}
-use Rattle.sql_parse.specs.Texts.{begins_with_digit, minus_by, word_by, said_by, tok_before, toks}
+use Rattle.sql_syntax.specs.Texts.{begins_with_digit, minus_by, word_by, said_by, tok_before, toks}
 use Rattle.sql_text.proofs.Good.{is_good, AllGood, Each}
 
 -- ---- bytes

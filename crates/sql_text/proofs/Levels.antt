@@ -5,9 +5,9 @@ use Rattle.val_types.specs.declared.ops.BinOp.{BinOp}
 use Rattle.sql_grammar.specs.Rule.{refused}
 use Rattle.sql_tree.specs.Tree.{Tree, unary, binary, is_in, Trees, Query}
 use Rattle.sql_print.specs.Spelling.{operator_of, in_of}
-use Rattle.sql_parse.specs.Parts.{exprs}
-use Rattle.sql_parse.specs.Selects.{select_by, single_by}
-use Rattle.sql_parse.specs.Expressions.{Nested, prefix_by, negation_by, whole_by, nested}
+use Rattle.sql_syntax.specs.Parts.{exprs}
+use Rattle.sql_syntax.specs.Selects.{select_by, single_by}
+use Rattle.sql_syntax.specs.Expressions.{Nested, prefix_by, negation_by, whole_by, nested}
 use Rattle.sql_text.proofs.Reading.{Reading}
 use Rattle.sql_text.proofs.Operands.{from_prefix, to_negation, operated, null_read, not_null_read, in_read, negated_read, not_read}
 

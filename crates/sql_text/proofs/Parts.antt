@@ -13,9 +13,9 @@ use Rattle.sql_grammar.specs.Grammar.{Grammar, Both, Mapped, Chain}
 use Rattle.sql_grammar.specs.Rule.{Rule, any_of, of_kinds, only_then, opened, alone, then_one}
 use Rattle.sql_tree.specs.Well.{is_name, is_number, is_literal}
 use Rattle.sql_print.specs.Names.{quoted_name as name_text, doubled as doubled_text}
-use Rattle.sql_parse.specs.Tokens.{Tok, key, quoted_name, digits, least_digits, mark, tight_minus, kind, code, sign_code, number_code, least_code, number_said, keyword, sign}
-use Rattle.sql_parse.specs.Parts.{a_name, list_of, in_parentheses, a_text, a_number, plain_value, negative_value, a_value}
-use Rattle.sql_parse.proofs.Words.{keyword_kind, sign_kind}
+use Rattle.sql_syntax.specs.Tokens.{Tok, key, quoted_name, digits, least_digits, mark, tight_minus, kind, code, sign_code, number_code, least_code, number_said, keyword, sign}
+use Rattle.sql_syntax.specs.Parts.{a_name, list_of, in_parentheses, a_text, a_number, plain_value, negative_value, a_value}
+use Rattle.sql_syntax.proofs.Words.{keyword_kind, sign_kind}
 use Rattle.sql_text.proofs.Saying.{soft}
 use Rattle.sql_text.proofs.Reading.{Said, Firm, Reading, Steps, via, spaced, firm_said, one, then', token_then, stay, step, chained, More, no_more, more, more_soft, Rows', row_steps}
 use Rattle.sql_text.proofs.Written.{name_written, number_written, text_written, negative_written, kw, say_open, say_close, say_comma, at_says}

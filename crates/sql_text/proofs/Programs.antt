@@ -19,9 +19,10 @@ use Rattle.sql_tree.specs.Well.{is_name, are_names, are_names_if, is_count_if, i
 use Rattle.sql_print.specs.Names.{quoted_name as name_text, names_of, more_of, commas, type_of}
 use Rattle.sql_print.specs.Spelling.{tree_text}
 use Rattle.sql_print.specs.StatementSpelling.{parameter_text, time_text, cause_text, default_text, declarations_text, spelling}
-use Rattle.sql_parse.specs.Tokens.{Tok, kind, code}
-use Rattle.sql_parse.specs.Expressions.{expression}
-use Rattle.sql_parse.specs.Programs.{with_body, function_head, procedure_head, trigger_head, parameter, in_parameter, parameters, traits, function, procedure, time, event, trigger_of, each_row, triggered, create, created_within, common, statements_of, a_step, steps', steps_if, declarations_of, declaration, block_body, a_branch, otherwise, if_body, while_body, inner_core, inner}
+use Rattle.sql_syntax.specs.Tokens.{Tok, kind, code}
+use Rattle.sql_syntax.specs.Expressions.{expression}
+use Rattle.sql_syntax.specs.declared.heads.Head.TheVariants as heads
+use Rattle.sql_syntax.specs.Programs.{with_body, parameter, in_parameter, parameters, traits, function, procedure, time, event, trigger_of, each_row, triggered, create, created_within, common, statements_of, a_step, steps', steps_if, declarations_of, declaration, block_body, a_branch, otherwise, if_body, while_body, inner_core, inner}
 use Rattle.sql_text.proofs.Lines.{declaration_line, function_line, procedure_line, trigger_line}
 use Rattle.sql_text.proofs.Reading.{Reading, via, written, spaced, nothing, then', then_nothing, More, no_more, more}
 use Rattle.sql_text.proofs.Sure.{Sure, sure_via, sure_written, sure_nothing, sure_then, then_sure, sure_spaced, key_sure, ended_sure, SureRows, no_sure, sure_row, sure_repeated, sure_chain}
@@ -61,8 +62,8 @@ module _ (n : ℕ) (body : Rule Tok Statement) (x : List ℕ) (good : is_name x 
   pub function_read : (ps : List Parameter) (k : SqlType) → 0 < n → 0 < pred n → list_all is_parameter ps ≡ true → is_type k ≡ true
       → Reading (create n body).texts (create_function (program x ps (Some k) s)) (codes "CREATE FUNCTION " ++ (name_text x ++ codes "(" ++ commas (map parameter_text ps) ++ codes ")" ++ (codes " RETURNS " ++ type_of k) ++ codes " " ++ w))
   function_read ps k l m wp wk =
-      let head : Reading (function n).texts (function_head x ps k) (name_text x ++ (40 ∷ ((commas (map parameter_text ps) ++ 41 ∷ []) ++ (codes " RETURNS " ++ type_of k)))) =
-      then' (λ f rest. function_head f rest.0 rest.1) (name_read x good) (then' paired (in_parens (parameters (parameter (pred n))) n l (parameters_read (parameter (pred n)) (λ p h. parameter_read p (pred n) m h) ps wp))
+      let head : Reading (function n).texts (heads.Function x ps k) (name_text x ++ (40 ∷ ((commas (map parameter_text ps) ++ 41 ∷ []) ++ (codes " RETURNS " ++ type_of k)))) =
+      then' (λ f rest. heads.Function f rest.0 rest.1) (name_read x good) (then' paired (in_parens (parameters (parameter (pred n))) n l (parameters_read (parameter (pred n)) (λ p h. parameter_read p (pred n) m h) ps wp))
       (spaced (key_then say_returns (then_nothing (λ t u. t) (type_read k n l wk) traits_read))) refl) refl in
       written (key_then say_create (via (λ ts rest g. inr g) (then' with_body (via (λ ts rest g. inl g) (key_then say_function head)) (spaced rb) refl)))
       (ap (λ z. codes "CREATE FUNCTION " ++ z) (function_line (name_text x) (commas (map parameter_text ps)) (type_of k) w))
@@ -70,8 +71,8 @@ module _ (n : ℕ) (body : Rule Tok Statement) (x : List ℕ) (good : is_name x 
   pub procedure_read : (ps : List Parameter) → 0 < n → 0 < pred n → list_all is_parameter ps ≡ true
       → Reading (create n body).texts (create_procedure (program x ps None s)) (codes "CREATE PROCEDURE " ++ (name_text x ++ codes "(" ++ commas (map parameter_text ps) ++ codes ")" ++ [] ++ codes " " ++ w))
   procedure_read ps l m wp =
-      let head : Reading (procedure n).texts (procedure_head x ps) (name_text x ++ (40 ∷ (commas (map parameter_text ps) ++ 41 ∷ []))) =
-      then' procedure_head (name_read x good) (then_nothing (λ t u. t) (in_parens (parameters (in_parameter (pred n))) n l (parameters_read (in_parameter (pred n)) (λ p h. in_parameter_read p (pred n) m h) ps wp)) traits_read) refl in
+      let head : Reading (procedure n).texts (heads.Procedure x ps) (name_text x ++ (40 ∷ (commas (map parameter_text ps) ++ 41 ∷ []))) =
+      then' heads.Procedure (name_read x good) (then_nothing (λ t u. t) (in_parens (parameters (in_parameter (pred n))) n l (parameters_read (in_parameter (pred n)) (λ p h. in_parameter_read p (pred n) m h) ps wp)) traits_read) refl in
       written (key_then say_create (via (λ ts rest g. inr g) (then' with_body (via (λ ts rest g. inr (inl g)) (key_then say_procedure head)) (spaced rb) refl)))
       (ap (λ z. codes "CREATE PROCEDURE " ++ z) (procedure_line (name_text x) (commas (map parameter_text ps)) w))
 
@@ -109,7 +110,7 @@ each_row_read = key_then say_for (key_then say_each (kw say_row))
 pub trigger_read : (n : ℕ) (body : Rule Tok Statement) (x : List ℕ) (time' : Time) (cause : Cause) (t : List ℕ) {s : Statement} {w : List ℕ} → is_name x ≡ true → is_name t ≡ true → Reading body.texts s w
     → Reading (create n body).texts (create_trigger (trigger x time' cause t s)) (codes "CREATE TRIGGER " ++ (name_text x ++ time_text time' ++ cause_text cause ++ name_text t ++ codes " FOR EACH ROW " ++ w))
 trigger_read n body x time' cause t {w = w} good well rb =
-    let head : Reading triggered.texts (trigger_head x time' cause t) (name_text x ++ (32 ∷ (time_word time' ++ (32 ∷ (cause_word cause ++ (32 ∷ (codes "ON " ++ (name_text t ++ (32 ∷ codes "FOR EACH ROW"))))))))) =
+    let head : Reading triggered.texts (heads.Trigger x time' cause t) (name_text x ++ (32 ∷ (time_word time' ++ (32 ∷ (cause_word cause ++ (32 ∷ (codes "ON " ++ (name_text t ++ (32 ∷ codes "FOR EACH ROW"))))))))) =
     then' trigger_of (name_read x good) (spaced (then' paired (time_read time') (spaced (then' paired (cause_read cause) (spaced (key_then say_on (then' (λ a u. a) (name_read t well) (spaced each_row_read) refl))) refl)) refl)) refl in
     written (key_then say_create (via (λ ts rest g. inr g) (then' with_body (via (λ ts rest g. inr (inr g)) (key_then say_trigger head)) (spaced rb) refl)))
     (ap (λ z. codes "CREATE TRIGGER " ++ (name_text x ++ z ++ cause_text cause ++ name_text t ++ codes " FOR EACH ROW " ++ w)) (time_same time')

@@ -2,7 +2,7 @@
 use Rattle.std.proofs.Common.{◌≡◌, ℕ, true, false, List, [], ◌∷◌, ◌++◌, Some, Option, refl, sym, subst, append_assoc, append-nil}
 use Rattle.sql_grammar.specs.Grammar.{Grammar, One, Both, Pure, Chain, first, next}
 use Rattle.sql_grammar.specs.Rule.{then_one}
-use Rattle.sql_parse.specs.Tokens.{Tok}
+use Rattle.sql_syntax.specs.Tokens.{Tok}
 use Rattle.sql_text.proofs.Saying.{Says, soft, soft_on, space_says}
 
 -- these bytes say this token, before what may stand behind a word

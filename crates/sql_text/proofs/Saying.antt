@@ -14,11 +14,11 @@ use Rattle.sql_lex.specs.Plain.{plain_by}
 use Rattle.sql_lex.specs.Quotes.{begins}
 use Rattle.sql_lex.specs.Spelled.{Ends}
 use Rattle.sql_tree.specs.Statement.{Statement}
-use Rattle.sql_parse.specs.Tokens.{Tok}
-use Rattle.sql_parse.specs.Statements.{statement}
-use Rattle.sql_parse.specs.Texts.{said_by, toks, limit_open, IsStatement}
-use Rattle.sql_parse.specs.Spoken.{tok_by}
-use Rattle.sql_parse.proofs.SpokenLaws.{token_same}
+use Rattle.sql_syntax.specs.Tokens.{Tok}
+use Rattle.sql_syntax.specs.Statements.{statement}
+use Rattle.sql_syntax.specs.Texts.{said_by, toks, limit_open, IsStatement}
+use Rattle.sql_syntax.specs.Spoken.{tok_by}
+use Rattle.sql_syntax.proofs.SpokenLaws.{token_same}
 
 -- Directly behind a minus or not, these bytes say these tokens and nothing else.
 pub data Says : Bool → List ℕ → List Tok → Type 0 where

@@ -13,9 +13,9 @@ use Rattle.sql_tree.specs.declared.expressions.Count.TheVariants as counts
 use Rattle.sql_tree.specs.declared.expressions.Limit.{Limit}
 use Rattle.sql_print.specs.Names.{quoted_name as name_text, count_of, count_if, offset_if, limit_if}
 use Rattle.sql_print.specs.Spelling.{aggregate_of, direction_of}
-use Rattle.sql_parse.specs.Tokens.{Tok, kind, code}
-use Rattle.sql_parse.specs.Parts.{list_of, exprs, closed}
-use Rattle.sql_parse.specs.Selects.{where_part, direction, order, count, limit, Bound, no_bound, offset_is, limit_by, bound, limits, origin_of, from_part, plain_from, counted, agg, select_by, single_by}
+use Rattle.sql_syntax.specs.Tokens.{Tok, kind, code}
+use Rattle.sql_syntax.specs.Parts.{list_of, exprs, closed}
+use Rattle.sql_syntax.specs.Selects.{where_part, direction, order, count, limit, Bound, no_bound, offset_is, limit_by, bound, limits, origin_of, from_part, plain_from, counted, agg, select_by, single_by}
 use Rattle.sql_text.proofs.Saying.{soft, soft_on}
 use Rattle.sql_text.proofs.Lines.{group5}
 use Rattle.sql_text.proofs.Reading.{Reading, via, written, valued, spaced, one, nothing, then', More}

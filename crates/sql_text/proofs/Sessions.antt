@@ -14,11 +14,11 @@ use Rattle.sql_tree.specs.declared.statements.Target.{Target}
 use Rattle.sql_print.specs.Names.{quoted_name as name_text}
 use Rattle.sql_print.specs.Spelling.{tree_text, trees_text}
 use Rattle.sql_print.specs.StatementSpelling.{target_text, assignments_text, more_assignments_text}
-use Rattle.sql_parse.specs.Tokens.{Tok, key, quoted_name, kind, name_said, keyword_said}
-use Rattle.sql_parse.specs.Parts.{arguments}
-use Rattle.sql_parse.specs.Expressions.{Nested, prefix_by, whole_by, own_names, alone as no_tail, nested, expression}
-use Rattle.sql_parse.specs.Sessions.{new_by, target, format_said, format_word, format_or, is_format, assigned, assigning, assignment, assignments_of, set, do_exprs, call, drop, truncated, transaction, begun}
-use Rattle.sql_parse.proofs.ExpressionLaws.{expression_lawful, expression_exact}
+use Rattle.sql_syntax.specs.Tokens.{Tok, key, quoted_name, kind, name_said, keyword_said}
+use Rattle.sql_syntax.specs.Parts.{arguments}
+use Rattle.sql_syntax.specs.Expressions.{Nested, prefix_by, whole_by, own_names, alone as no_tail, nested, expression}
+use Rattle.sql_syntax.specs.Sessions.{new_by, target, format_said, format_word, format_or, is_format, assigned, assigning, assignment, assignments_of, set, do_exprs, call, drop, truncated, transaction, begun}
+use Rattle.sql_syntax.proofs.ExpressionLaws.{expression_lawful, expression_exact}
 use Rattle.sql_text.proofs.Lines.{group5}
 use Rattle.sql_text.proofs.Reading.{Reading, via, written, spaced, one, nothing, then', then_nothing, More, no_more, more}
 use Rattle.sql_text.proofs.Sure.{sure_via, sure_nothing, sure_then}

@@ -11,11 +11,11 @@ use Rattle.sql_tree.specs.Statement.{Statements, no_statement, statement, Branch
 use Rattle.sql_tree.specs.Depth.{depth_of, depth_of_statements, depth_of_branches, depth_of_otherwise, depth_of_program, depth_of_trigger}
 use Rattle.sql_tree.specs.Well.{is_name, is_type_if, is_parameter, is_well_tree, are_well_declarations, has_statement, has_result, is_well_step, are_well_steps, are_well_branches, is_well_otherwise, is_well_program, is_well_trigger, is_whole, IsWell}
 use Rattle.sql_print.specs.StatementSpelling.{spelling, steps_text, more_branches_text, otherwise_text}
-use Rattle.sql_parse.specs.Tokens.{Tok, keyword}
-use Rattle.sql_parse.specs.Programs.{create, a_step, steps', branches_of, a_branch, otherwise, if_body, inner}
-use Rattle.sql_parse.specs.Statements.{statement as whole_statement}
-use Rattle.sql_parse.specs.Texts.{reads}
-use Rattle.sql_parse.proofs.TextLaws.{statement_once}
+use Rattle.sql_syntax.specs.Tokens.{Tok, keyword}
+use Rattle.sql_syntax.specs.Programs.{create, a_step, steps', branches_of, a_branch, otherwise, if_body, inner}
+use Rattle.sql_syntax.specs.Statements.{statement as whole_statement}
+use Rattle.sql_syntax.specs.Texts.{reads}
+use Rattle.sql_syntax.proofs.TextLaws.{statement_once}
 use Rattle.sql_text.proofs.Saying.{Says, end', says_statement}
 use Rattle.sql_text.proofs.Reading.{Reading, via, written, valued}
 use Rattle.sql_text.proofs.Sure.{Sure, sure_via, sure_then, sure_both, key_sure, SureRows, no_sure, sure_row, sure_chain}

@@ -4,7 +4,7 @@ use Rattle.sql_lex.specs.declared.keyword.Keyword.{Keyword}
 use Rattle.sql_lex.specs.declared.token.Symbol.TheVariants as signs
 use Rattle.sql_grammar.specs.Grammar.{Grammar, Both, Pure, Chain, first, next}
 use Rattle.sql_grammar.specs.Rule.{then_one}
-use Rattle.sql_parse.specs.Tokens.{Tok, key, mark, keyword, sign}
+use Rattle.sql_syntax.specs.Tokens.{Tok, key, mark, keyword, sign}
 use Rattle.sql_text.proofs.Saying.{Says, soft, space_says}
 use Rattle.sql_text.proofs.Reading.{Said, Reading, both_found}
 use Rattle.sql_text.proofs.Written.{kw, say_semicolon}

@@ -15,9 +15,12 @@ use Rattle.sql_tree.specs.Well.{is_name, are_names, are_names_if, is_type, is_li
 use Rattle.sql_print.specs.Names.{quoted_name as name_text, names_of, more_of, commas, type_of}
 use Rattle.sql_print.specs.StatementSpelling.{nullable_text, preset_text, auto_text, column_text, primary_parts, unique_text, table_text}
 use Rattle.sql_print.specs.StatementSpelling as print
-use Rattle.sql_parse.specs.Tokens.{Tok, sign}
-use Rattle.sql_parse.specs.Parts.{a_number, closed}
-use Rattle.sql_parse.specs.Tables.{a_type, Marks, no_marks, marked, mark, marks, TablePart, column, primary, unique, is_primary, column_of, table_part, table_parts, key_in, is_one_of, columns_in, uniques_in, table_of, table}
+use Rattle.sql_syntax.specs.Tokens.{Tok, sign}
+use Rattle.sql_syntax.specs.Parts.{a_number, closed}
+use Rattle.sql_syntax.specs.declared.table_parts.Marks.{Marks}
+use Rattle.sql_syntax.specs.declared.table_parts.TablePart.{TablePart}
+use Rattle.sql_syntax.specs.declared.table_parts.TablePart.TheVariants as parts
+use Rattle.sql_syntax.specs.Tables.{a_type, no_marks, marked, mark, marks, is_primary, column_of, table_part, table_parts, key_in, is_one_of, columns_in, uniques_in, table_of, table}
 use Rattle.sql_text.proofs.Saying.{soft, soft_on}
 use Rattle.sql_text.proofs.Lines.{group5, group6}
 use Rattle.sql_text.proofs.Reading.{Reading, Steps, via, written, valued, spaced, nothing, then', then_nothing, stay, last_step, step, steps_then, chained}
@@ -79,20 +82,20 @@ module _ (has_key : Bool) where
 
 -- the part of a column
 abbrev column_part : Column → TablePart
-column_part c = column c.name c.kind (marks_by c.nullable c.preset c.auto_increment)
+column_part c = parts.Column c.name c.kind (marks_by c.nullable c.preset c.auto_increment)
 
 column_read : (c : Column) (n : ℕ) (has_key : Bool) → 0 < n → is_name c.name ≡ true → is_type c.kind ≡ true → is_literal_if c.preset ≡ true → Reading (table_part n has_key).texts (column_part c) (column_text c)
 column_read c n has_key l good wk wp =
     via (λ ts rest g. inr (inr g)) (written (then' column_of (name_read c.name good) (spaced (then' paired (type_read c.kind n l wk) (marks_read has_key c.nullable c.preset c.auto_increment wp) (options_soft has_key c.nullable c.preset c.auto_increment))) refl)
     (group6 (name_text c.name) (codes " ") (type_of c.kind) (nullable_text c.nullable) (preset_text c.preset) (auto_text c.auto_increment)))
 
-primary_read : (ns : List (List ℕ)) (n : ℕ) → 0 < n → are_names ns ≡ true → Reading (table_part n false).texts (primary ns) (codes "PRIMARY KEY (" ++ names_of ns ++ codes ")")
+primary_read : (ns : List (List ℕ)) (n : ℕ) → 0 < n → are_names ns ≡ true → Reading (table_part n false).texts (parts.Primary ns) (codes "PRIMARY KEY (" ++ names_of ns ++ codes ")")
 primary_read ns n l w = via (λ ts rest g. inl (ns, refl, g)) (key_then say_primary (key_then say_key (names_in_read ns w n l)))
 
-unique_read : (u : UniqueKey) (n : ℕ) (has_key : Bool) → 0 < n → is_unique u ≡ true → Reading (table_part n has_key).texts (unique u.name u.columns) (unique_text u)
+unique_read : (u : UniqueKey) (n : ℕ) (has_key : Bool) → 0 < n → is_unique u ≡ true → Reading (table_part n has_key).texts (parts.Unique u.name u.columns) (unique_text u)
 unique_read u n has_key l w =
     let p = and_parts (is_name u.name) (are_names u.columns) w in
-    via (λ ts rest g. inr (inl g)) (written (key_then say_unique (via (λ ts rest g. inl g) (key_then say_key (then' unique (name_read u.name p.0) (spaced (names_in_read u.columns p.1 n l)) refl))))
+    via (λ ts rest g. inr (inl g)) (written (key_then say_unique (via (λ ts rest g. inl g) (key_then say_key (then' parts.Unique (name_read u.name p.0) (spaced (names_in_read u.columns p.1 n l)) refl))))
     (group5 (codes "UNIQUE KEY ") (name_text u.name) (codes " (") (names_of u.columns) (codes ")")))
 
 -- ---- the list of parts
@@ -140,7 +143,7 @@ module _ (n : ℕ) where
 
 -- ---- a table as its parts
 abbrev unique_part' : UniqueKey → TablePart
-unique_part' u = unique u.name u.columns
+unique_part' u = parts.Unique u.name u.columns
 
 unique_parts : (us : List UniqueKey) (n : ℕ) (h : Bool) → 0 < n → list_all is_unique us ≡ true → PartList n h (map unique_part' us) (map unique_text us)
 unique_parts [] n h l w = no_part'
@@ -150,7 +153,7 @@ unique_parts (u ∷ us) n false l w = let p = and_parts (is_unique u) (list_all 
 -- the part of the primary key, where there is one
 abbrev key_parts : Option (List (List ℕ)) → List TablePart
 key_parts None = []
-key_parts (Some ns) = primary ns ∷ []
+key_parts (Some ns) = parts.Primary ns ∷ []
 
 key_part_list : (key : Option (List (List ℕ))) (us : List UniqueKey) (n : ℕ) → 0 < n → are_names_if key ≡ true → list_all is_unique us ≡ true
     → PartList n false (key_parts key ++ map unique_part' us) (primary_parts key ++ map unique_text us)
@@ -200,7 +203,7 @@ key_uniques (u ∷ us) = key_uniques us
 
 key_same : (cs : List Column) (key : Option (List (List ℕ))) (us : List UniqueKey) → key_in (all_parts cs key us) ≡ key
 key_same cs None us = key_columns cs (map unique_part' us) ∙ key_uniques us
-key_same cs (Some ns) us = key_columns cs (primary ns ∷ map unique_part' us)
+key_same cs (Some ns) us = key_columns cs (parts.Primary ns ∷ map unique_part' us)
 
 uniques_columns : (cs : List Column) (ps : List TablePart) → uniques_in (map column_part cs ++ ps) ≡ uniques_in ps
 uniques_columns [] ps = refl
@@ -212,7 +215,7 @@ uniques_of (u ∷ us) = ap (λ z. u ∷ z) (uniques_of us)
 
 uniques_same : (cs : List Column) (key : Option (List (List ℕ))) (us : List UniqueKey) → uniques_in (all_parts cs key us) ≡ us
 uniques_same cs None us = uniques_columns cs (map unique_part' us) ∙ uniques_of us
-uniques_same cs (Some ns) us = uniques_columns cs (primary ns ∷ map unique_part' us) ∙ uniques_of us
+uniques_same cs (Some ns) us = uniques_columns cs (parts.Primary ns ∷ map unique_part' us) ∙ uniques_of us
 
 no_column_in_uniques : (names : List (List ℕ)) (us : List UniqueKey) → columns_in names (map unique_part' us) ≡ []
 no_column_in_uniques names [] = refl
@@ -259,9 +262,9 @@ table_read t n l m w =
     let s = and_parts (is_name t.name) (has_table_part t) r.0 in
     let list = column_parts t.primary t.columns (pred n) (key_parts t.primary ++ map unique_part' t.uniques) (primary_parts t.primary ++ map unique_text t.uniques) m r.1
     (key_part_list t.primary t.uniques (pred n) m q.1 p.1) in
-    let parts = commas_read (pred n) (all_parts t.columns t.primary t.uniques) (all_texts t.columns t.primary t.uniques) list (some_part t.columns t.primary t.uniques s.1) in
+    let listed = commas_read (pred n) (all_parts t.columns t.primary t.uniques) (all_texts t.columns t.primary t.uniques) list (some_part t.columns t.primary t.uniques s.1) in
     let texts : commas (print.table_parts t) ≡ commas (all_texts t.columns t.primary t.uniques) = ap commas (append_assoc (map column_text t.columns) (primary_parts t.primary) (map unique_text t.uniques)) in
     let whole : Reading (table n).texts t (codes "TABLE " ++ (name_text t.name ++ (32 ∷ 40 ∷ (commas (all_texts t.columns t.primary t.uniques) ++ 41 ∷ [])))) =
-    valued (key_then say_table (then_nothing (λ a u. a) (then' table_of (name_read t.name s.0) (spaced (in_parens (closed (table_parts (pred n))) n l (closing parts))) refl) (via (λ ts rest g. inr g) (nothing tt))))
+    valued (key_then say_table (then_nothing (λ a u. a) (then' table_of (name_read t.name s.0) (spaced (in_parens (closed (table_parts (pred n))) n l (closing listed))) refl) (via (λ ts rest g. inr g) (nothing tt))))
     (table_same t.name t.columns t.primary t.uniques r.1) in
     written whole (ap (λ z. codes "TABLE " ++ name_text t.name ++ codes " (" ++ z ++ codes ")") texts ∙ group5 (codes "TABLE ") (name_text t.name) (codes " (") (commas (all_texts t.columns t.primary t.uniques)) (codes ")"))

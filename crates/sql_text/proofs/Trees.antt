@@ -15,10 +15,10 @@ use Rattle.sql_tree.specs.View.{trees_of, arms_of, orders_of, aggregates_of}
 use Rattle.sql_tree.specs.Well.{is_name, is_literal, is_limit_if, has_tree, has_arm, has_aggregate, has_origin, is_unordered, gives_one, goes_with_origin, is_well_tree, are_well_trees, are_well_arms, is_well_part, is_well_query, is_well_selected, are_well_aggregates, is_well_origin, are_well_orders}
 use Rattle.sql_print.specs.Names.{quoted_name as name_text}
 use Rattle.sql_print.specs.Spelling.{is_choice, tree_text, trees_text, more_trees_text, arms_text, else_text, where_text, query_text, aggregates_text, more_aggregates_text, origin_text, orders_text, more_orders_text, aggregate_of}
-use Rattle.sql_parse.specs.Tokens.{Tok}
-use Rattle.sql_parse.specs.Parts.{list_of, exprs, arguments}
-use Rattle.sql_parse.specs.Selects.{where_part, direction, order, from_part, plain_from, agg}
-use Rattle.sql_parse.specs.Expressions.{when_arm, else_part, nested}
+use Rattle.sql_syntax.specs.Tokens.{Tok}
+use Rattle.sql_syntax.specs.Parts.{list_of, exprs, arguments}
+use Rattle.sql_syntax.specs.Selects.{where_part, direction, order, from_part, plain_from, agg}
+use Rattle.sql_syntax.specs.Expressions.{when_arm, else_part, nested}
 use Rattle.sql_text.proofs.Saying.{soft}
 use Rattle.sql_text.proofs.Lines.{group4}
 use Rattle.sql_text.proofs.Reading.{Reading, via, written, valued, spaced, nothing, then', More, no_more, more, Rows', no_row', row'}

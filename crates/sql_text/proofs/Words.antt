@@ -1,7 +1,7 @@
 -- The words of the grammar as they are written.
 use Rattle.std.proofs.Common.{codes, refl}
 use Rattle.sql_lex.specs.declared.keyword.Keyword.TheVariants as words
-use Rattle.sql_parse.specs.Tokens.{key}
+use Rattle.sql_syntax.specs.Tokens.{key}
 use Rattle.sql_text.proofs.Reading.{Said}
 use Rattle.sql_text.proofs.Written.{keyword_said}
 

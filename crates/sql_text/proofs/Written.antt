@@ -29,9 +29,9 @@ use Rattle.sql_grammar.specs.Rule.{only_then}
 use Rattle.sql_tree.specs.Well.{is_name, is_name_byte, is_number}
 use Rattle.sql_print.specs.Names as print
 use Rattle.sql_print.specs.Names.{doubled as doubled_text, quoted_name as name_text}
-use Rattle.sql_parse.specs.Tokens.{Tok, key, quoted_name, digits, least_digits, literal_text, mark, tight_minus, kind, code, names, but, name_said as name_of, keyword}
-use Rattle.sql_parse.specs.Texts.{minus_by, word_by}
-use Rattle.sql_parse.proofs.Words.{keyword_kind}
+use Rattle.sql_syntax.specs.Tokens.{Tok, key, quoted_name, digits, least_digits, literal_text, mark, tight_minus, kind, code, names, but, name_said as name_of, keyword}
+use Rattle.sql_syntax.specs.Texts.{minus_by, word_by}
+use Rattle.sql_syntax.proofs.Words.{keyword_kind}
 use Rattle.sql_text.proofs.Saying.{Says, say', soft, soft_word, soft_digit, soft_quote, soft_backquote, says_slice, space_says}
 use Rattle.sql_text.proofs.Reading.{Said, Firm, Reading, one}
 use Rattle.sql_text.proofs.BareWords.{reserved_or_name}

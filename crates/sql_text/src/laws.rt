@@ -1,6 +1,6 @@
 //! What holds of the canonical text of every statement that the parser can give, and which those are.
 ghost use Rattle.hex.specs.Hex.{IsBytes};
-ghost use Rattle.sql_parse.specs.Texts.{reads};
+ghost use Rattle.sql_syntax.specs.Texts.{reads};
 ghost use Rattle.sql_print.specs.StatementSpelling.{spelling};
 ghost use Rattle.sql_tree.specs.Statement.{Statement};
 ghost use Rattle.sql_tree.specs.Well.{IsWell};

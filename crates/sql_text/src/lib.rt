@@ -1,6 +1,6 @@
-//! The canonical text of a statement is read back as that statement: laws, and no code but tests.
+//! The canonical text of a statement is read back as that statement: laws without code.
 //!
-//! `sql_print` says how a statement is written, `sql_parse` which statement a text is, and
+//! `sql_print` says how a statement is written, `sql_syntax` which statement a text is, and
 //! `sql_tree` which statements the parser can give. This crate stands above the three and shows
 //! that they fit, through bytes and tokens.
 //!
@@ -18,8 +18,6 @@
 #![tactic(auto)]
 
 mod laws;
-#[cfg(test)]
-mod tests;
 mod worked;
 
 pub use laws::{prints_are_read, prints_tell_statements_apart, readings_are_well};

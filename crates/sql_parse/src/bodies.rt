@@ -1,0 +1,234 @@
+//! Programs round their bodies, and the parts of blocks, IF and WHILE.
+ghost use Rattle.std.specs.Prelude.{◌≡◌, IfOk, Some, map};
+ghost use Rattle.sql_syntax.specs.Expressions.{expression};
+ghost use Rattle.sql_parse.specs.Kept.{IsKept, Keeps, above, beside, deepest, in_place};
+ghost use Rattle.sql_parse.specs.KeptParts.{depth_of_default, view_declaration};
+ghost use Rattle.sql_syntax.specs.Programs as spec;
+ghost use Rattle.sql_tree.specs.Depth.{depth_of, depth_of_declarations, depth_of_part};
+ghost use Rattle.sql_tree.specs.Statement.{Statement};
+ghost use Rattle.sql_tree.specs.StatementView.{view, view_declarations};
+ghost use Rattle.sql_tree.specs.View.{view_part};
+ghost use Rattle.sql_tree.specs.declared.statements.Stmt.{Stmt};
+
+use crate::expressions::whole;
+use crate::fault::Stop;
+use crate::kept::{Kept, Levelled, above, beside, push};
+use crate::parts::name_list;
+use crate::rest::Rest;
+use crate::types::a_type;
+use sql_lex::{Keyword, Symbol};
+use sql_syntax::Head;
+use sql_tree::{Branch, Declaration, Expr, Routine, SqlType, Stmt, TriggerDef};
+use std::alloc::Global;
+use val_types::{Boxed, Bytes, List, NoMemory};
+
+/// A stored program with its body.
+fn with_body(alloc: Global, head: Head, body: Stmt) -> Result<Stmt, NoMemory>
+    ensures { IfOk result (λ s. view s ≡ spec.with_body head (view body)) }
+{
+    match head {
+        Head::Function(name, parameters, kind) => {
+            let returns = Some(kind);
+            let program = Routine {
+                name,
+                parameters,
+                returns,
+                body,
+            };
+            Ok(Stmt::CreateFunction(Boxed::new(alloc, program)?))
+        }
+        Head::Procedure(name, parameters) => {
+            let returns = None;
+            let program = Routine {
+                name,
+                parameters,
+                returns,
+                body,
+            };
+            Ok(Stmt::CreateProcedure(Boxed::new(alloc, program)?))
+        }
+        Head::Trigger(name, time, event, table) => {
+            let trigger = TriggerDef {
+                name,
+                time,
+                event,
+                table,
+                body,
+            };
+            Ok(Stmt::CreateTrigger(Boxed::new(alloc, trigger)?))
+        }
+    }
+}
+
+/// A stored program with its body, where both are kept.
+pub fn with_kept_body(alloc: Global, head: Head, body: Kept<Stmt>) -> Result<Kept<Stmt>, NoMemory>
+    ensures { IfOk result (λ k. (s : Statement) → IsKept view depth_of s body → IsKept view depth_of (spec.with_body head s) k) }
+{
+    let Some(Levelled { part, levels }) = above(body) else {
+        return Ok(None);
+    };
+    let part = with_body(alloc, head, part)?;
+    Ok(Some(Levelled { part, levels }))
+}
+
+/// Stored programs in one another round the body of the last.
+pub fn with_heads(
+    alloc: Global,
+    heads: List<Head>,
+    body: Kept<Stmt>,
+) -> Result<Kept<Stmt>, NoMemory>
+    ensures { IfOk result (λ k. (s : Statement) → IsKept view depth_of s body → IsKept view depth_of (spec.with_heads heads s) k) }
+{
+    let mut heads = heads;
+    let mut body = body;
+    while let Some(head) = heads.pop() {
+        body = with_kept_body(alloc, head, body)?;
+    }
+    Ok(body)
+}
+
+/// A preset, where there is one.
+fn some_preset(value: Kept<Expr>) -> Kept<Option<Expr>>
+    ensures { result ≡ in_place (λ e. Some e) value }
+{
+    let Levelled { part, levels } = value?;
+    let part = Some(part);
+    Some(Levelled { part, levels })
+}
+
+/// DEFAULT and its value, or nothing.
+fn preset<'t>(
+    alloc: Global,
+    depth: u32,
+    rest: Rest<'t>,
+) -> Result<(Kept<Option<Expr>>, Rest<'t>), Stop<'t>>
+    ensures { Keeps view_part depth_of_part result ((spec.preset (expression depth)).read rest.entry) }
+{
+    if !rest.is_key(Keyword::Default) {
+        let part = None;
+        return Ok((Some(Levelled { part, levels: 0 }), rest));
+    }
+    let ((), rest) = rest.skip_key(Keyword::Default)?;
+    let (value, rest) = whole(alloc, depth, rest)?;
+    Ok((some_preset(value), rest))
+}
+
+/// A DECLARE of these parts.
+fn declared(names: List<Bytes>, kind: SqlType, preset: Kept<Option<Expr>>) -> Kept<Declaration>
+    ensures { result ≡ in_place (λ p. record { names = names; kind = kind; preset = p }) preset }
+{
+    let Levelled { part, levels } = preset?;
+    let part = Declaration {
+        names,
+        kind,
+        preset: part,
+    };
+    Some(Levelled { part, levels })
+}
+
+/// DECLARE and its semicolon.
+fn declaration<'t>(
+    alloc: Global,
+    depth: u32,
+    rest: Rest<'t>,
+) -> Result<(Kept<Declaration>, Rest<'t>), Stop<'t>>
+    ensures { Keeps view_declaration depth_of_default result ((spec.declaration depth).read rest.entry) }
+{
+    let ((), rest) = rest.skip_key(Keyword::Declare)?;
+    let (names, rest) = name_list(alloc, rest)?;
+    let (kind, rest) = a_type(depth, rest)?;
+    let (preset, rest) = preset(alloc, depth, rest)?;
+    let ((), rest) = rest.skip_mark(Symbol::Semicolon)?;
+    Ok((declared(names, kind, preset), rest))
+}
+
+/// DECLAREs, none too.
+fn declaration_list<'t>(
+    alloc: Global,
+    depth: u32,
+    rest: Rest<'t>,
+) -> Result<(Kept<List<Declaration>>, Rest<'t>), Stop<'t>>
+    ensures { Keeps (map view_declaration) (deepest depth_of_default) result ((spec.declaration_list depth).read rest.entry) }
+{
+    let part = List::new(alloc);
+    let mut items = Some(Levelled { part, levels: 0 });
+    let mut rest = rest;
+    for _turn in 0..rest.len() {
+        if !rest.is_key(Keyword::Declare) {
+            return Ok((items, rest));
+        }
+        let (item, after) = declaration(alloc, depth, rest)?;
+        items = push(items, item)?;
+        rest = after;
+    }
+    Ok((items, rest))
+}
+
+/// DECLAREs, none too, as they stand in a block.
+pub fn declarations<'t>(
+    alloc: Global,
+    depth: u32,
+    rest: Rest<'t>,
+) -> Result<(Kept<List<Declaration>>, Rest<'t>), Stop<'t>>
+    ensures { Keeps view_declarations depth_of_declarations result ((spec.declarations depth).read rest.entry) }
+{
+    declaration_list(alloc, depth, rest)
+}
+
+/// A block of these parts.
+pub fn blocked(declarations: Kept<List<Declaration>>, body: Kept<List<Stmt>>) -> Kept<Stmt>
+    ensures { result ≡ in_place (λ p. Stmt.Block p.0 p.1) (above (beside declarations body)) }
+{
+    let Levelled { part, levels } = above(beside(declarations, body))?;
+    let (declarations, body) = part;
+    let part = Stmt::Block { declarations, body };
+    Some(Levelled { part, levels })
+}
+
+/// A branch of an IF of these parts.
+pub fn branched(condition: Kept<Expr>, steps: Kept<List<Stmt>>) -> Kept<Branch>
+    ensures { result ≡ in_place (λ p. record { condition = p.0; steps = p.1 }) (beside condition steps) }
+{
+    let Levelled { part, levels } = beside(condition, steps)?;
+    let (condition, steps) = part;
+    let part = Branch { condition, steps };
+    Some(Levelled { part, levels })
+}
+
+/// Steps behind ELSE.
+pub fn some_steps(steps: Kept<List<Stmt>>) -> Kept<Option<List<Stmt>>>
+    ensures { result ≡ in_place (λ ss. Some ss) steps }
+{
+    let Levelled { part, levels } = steps?;
+    let part = Some(part);
+    Some(Levelled { part, levels })
+}
+
+/// An IF of these parts.
+pub fn chosen(arms: Kept<List<Branch>>, otherwise: Kept<Option<List<Stmt>>>) -> Kept<Stmt>
+    ensures { result ≡ in_place (λ p. Stmt.If p.0 p.1) (above (beside arms otherwise)) }
+{
+    let Levelled { part, levels } = above(beside(arms, otherwise))?;
+    let (arms, otherwise) = part;
+    let part = Stmt::If { arms, otherwise };
+    Some(Levelled { part, levels })
+}
+
+/// A WHILE of these parts.
+pub fn repeated(condition: Kept<Expr>, steps: Kept<List<Stmt>>) -> Kept<Stmt>
+    ensures { result ≡ in_place (λ p. Stmt.While p.0 p.1) (above (beside condition steps)) }
+{
+    let Levelled { part, levels } = above(beside(condition, steps))?;
+    let (condition, steps) = part;
+    let part = Stmt::While { condition, steps };
+    Some(Levelled { part, levels })
+}
+
+/// A RETURN of this value.
+pub fn returned(value: Kept<Expr>) -> Kept<Stmt>
+    ensures { result ≡ in_place (λ e. Stmt.Return e) (above value) }
+{
+    let Levelled { part, levels } = above(value)?;
+    let part = Stmt::Return(part);
+    Some(Levelled { part, levels })
+}

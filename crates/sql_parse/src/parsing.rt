@@ -1,0 +1,123 @@
+//! The statement that a text is.
+ghost use Rattle.std.specs.Prelude.{◌≡◌, ◌≤◌, ℕ, IfErr, IfOk, List as Items, Ok, length};
+ghost use Rattle.sql_tree.specs.Statement.{Statement};
+ghost use Rattle.sql_tree.specs.StatementView.{view};
+ghost use Rattle.sql_parse.specs.Answers.{Answers, IsCause, IsRead, IsRefused, IsSunk, IsWhole, place_left, reading};
+ghost use Rattle.sql_parse.specs.Kept.{IsKept};
+ghost use Rattle.sql_syntax.specs.Tokens.{Tok};
+ghost use Rattle.sql_tree.specs.Depth.{depth_of};
+ghost use Rattle.sql_parse.specs.Lexemes.{seen};
+ghost use Rattle.sql_syntax.specs.Texts.{IsRefusedAt, IsTooDeep, reads};
+
+use crate::fault::Stop;
+use crate::kept::{Kept, Levelled};
+use crate::lexeme::Lexeme;
+use crate::lexing::lexemes;
+use crate::rest::Rest;
+use crate::statements::statement;
+use sql_lex::lex_front;
+use sql_tree::Stmt;
+use std::alloc::{AllocError, Global};
+use thiserror::Error;
+
+/// Why a text is no statement: no statement goes on as the text does at this byte, counted from 0;
+/// more than 400 constructs are open at once, or the statement has more than 200 levels; or want
+/// of memory.
+#[derive(Clone, Copy, PartialEq, Eq, Debug, Error)]
+pub enum ParseRefusal {
+    #[error("no statement goes on so at byte {at}")]
+    Syntax { at: u32 },
+    #[error("the statement is too deep")]
+    Deep,
+    #[error("out of memory")]
+    NoMemory,
+}
+
+impl From<AllocError> for ParseRefusal {
+    ghost use Rattle.sql_parse.specs.declared.parsing.ParseRefusal.TheVariants.{NoMemory};
+
+    ghost from_gives = { λ _ e. e ≡ NoMemory };
+
+    fn from(_e: AllocError) -> ParseRefusal {
+        ParseRefusal::NoMemory
+    }
+}
+
+/// So many constructs may be open at once.
+const MOST_OPEN: u32 = 400;
+
+/// Where the token stands behind which fewer than so many are left, or where no token begins.
+fn place(lexemes: &[Lexeme], left: usize, stop: u32) -> u32
+    ensures { result ≡ place_left lexemes.now left stop }
+{
+    let from = lexemes.len().saturating_sub(left);
+    match lexemes.split_at(from).1 {
+        [first, ..] => first.at,
+        [] => stop,
+    }
+}
+
+/// The statement, where it is kept.
+fn whole(kept: Kept<Stmt>) -> Result<Stmt, ParseRefusal>
+    ensures { IsWhole kept result }
+{
+    match kept {
+        Some(Levelled { part, .. }) => Ok(part),
+        None => Err(ParseRefusal::Deep),
+    }
+}
+
+/// The answer to a text with these lexemes up to a place where no token begins, of which this
+/// statement was read and these tokens are left.
+fn ended(
+    text: &[u8],
+    lexemes: &[Lexeme],
+    stop: u32,
+    kept: Kept<Stmt>,
+    left: usize,
+) -> Result<Stmt, ParseRefusal>
+    requires { stop ≤ length text.now }
+    ensures { (s : Statement) (us : Items Tok) → length us ≡ left → IsKept view depth_of s kept
+        → Answers text.now lexemes.now stop (Ok (s, us)) result }
+{
+    if left > 0 {
+        let at = place(lexemes, left, stop);
+        return Err(ParseRefusal::Syntax { at });
+    }
+    if (stop as usize) < text.len() {
+        return Err(ParseRefusal::Syntax { at: stop });
+    }
+    whole(kept)
+}
+
+/// The answer to a text with these lexemes up to a place where no token begins.
+fn answer(alloc: Global, text: &[u8], lexemes: &[Lexeme], stop: u32) -> Result<Stmt, ParseRefusal>
+    requires { stop ≤ length text.now }
+    ensures { Answers text.now lexemes.now stop (reading (seen text.now lexemes.now)) result }
+{
+    match statement(alloc, MOST_OPEN, Rest::new(text, lexemes)) {
+        Ok((kept, rest)) => ended(text, lexemes, stop, kept, rest.len()),
+        Err(Stop::Syntax(rest)) => {
+            let at = place(lexemes, rest.len(), stop);
+            Err(ParseRefusal::Syntax { at })
+        }
+        Err(Stop::Deep(_)) => Err(ParseRefusal::Deep),
+        Err(Stop::NoMemory) => Err(ParseRefusal::NoMemory),
+    }
+}
+
+/// The statement that a text of at most 4294967295 bytes is.
+pub fn parse(alloc: Global, text: &[u8]) -> Result<Stmt, ParseRefusal>
+    requires { length text.now ≤ 4294967295 }
+    ensures statement { IfOk result (λ s. reads text.now (view s)) }
+    ensures cause { IfErr result (IsCause text.now) }
+
+    // Each text gives its one answer, unless memory runs out.
+    ensures read { (s : Statement) → reads text.now s → IsRead s result }
+    ensures refused { (at : ℕ) → IsRefusedAt text.now at → IsRefused at result }
+    ensures deep { IsTooDeep text.now → IsSunk result }
+{
+    let (tokens, stop) = lex_front(alloc, text)?;
+    let lexemes = lexemes(alloc, text, tokens.as_slice())?;
+    answer(alloc, text, lexemes.as_slice(), stop as u32)
+}

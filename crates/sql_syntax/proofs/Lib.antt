@@ -1,0 +1,12 @@
+pub mod Words
+pub mod Shapes
+pub mod PartLaws
+pub mod SelectLaws
+pub mod ExpressionLaws
+pub mod ChangeLaws
+pub mod TableLaws
+pub mod SessionLaws
+pub mod ProgramLaws
+pub mod StatementLaws
+pub mod TextLaws
+pub mod SpokenLaws

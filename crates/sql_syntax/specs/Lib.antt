@@ -1,0 +1,12 @@
+pub mod Tokens
+pub mod Parts
+pub mod Selects
+pub mod Expressions
+pub mod Changes
+pub mod Tables
+pub mod Sessions
+pub mod Programs
+pub mod Statements
+pub mod Texts
+pub mod Written
+pub mod Spoken
