@@ -1,5 +1,5 @@
 -- What is kept of SET, DO and CALL.
-use Rattle.std.proofs.Common.{◌≡◌, ◌∙◌, ◌<◌, ◌≤◌, ℕ, zero, suc, ◌-◌, max, Bool, true, false, ◌==◌, ◌&&◌, if◌then◌else◌, List, [], ◌∷◌, length, take, map, Option, Some, None, Result, Ok, Err, refl, sym, ap, rules, arith}
+use Rattle.std.proofs.Common.{◌≡◌, ◌∙◌, ◌≤◌, ℕ, zero, suc, ◌-◌, max, Bool, true, false, List, [], ◌∷◌, length, take, map, Option, None, Result, Ok, Err, refl, ap, rules, arith}
 use Rattle.sql_grammar.specs.Reader.{Read, Reader, bind, front_of, read_mapped, read_with_tokens}
 use Rattle.sql_grammar.specs.Rule.{paired}
 use Rattle.sql_parse.specs.declared.fault.Stop.{Stop}

@@ -1,19 +1,18 @@
 -- The numbers of a text's tokens have at most 63 bits.
-use Rattle.std.proofs.Common.{◌≡◌, ◌<◌, ◌≤◌, ℕ, ◌+◌, ◌-◌, min, Bool, true, false, if◌then◌else◌, nat_lt, nat_le, ◌||◌, ◌&&◌, ◌==◌, List, [], ◌∷◌, length, take, drop, map, codes, nat_eq, Option, Some, None, refl, sym, ap, ◌∙◌, arith}
+use Rattle.std.proofs.Common.{◌≡◌, ℕ, ◌+◌, ◌-◌, min, Bool, true, false, if◌then◌else◌, nat_lt, ◌||◌, ◌&&◌, ◌==◌, List, [], ◌∷◌, take, map, codes, nat_eq, Option, Some, None, refl, sym, ap, ◌∙◌, arith}
 use Rattle.std.proofs.lemmas.Bool.{ltb-true}
 use Rattle.std.specs.Option.{option_map, option_and_then, option_or}
 use Rattle.std.specs.List.{starts_with}
 use Rattle.std.specs.Char.{is_ascii_digit}
-use Rattle.sql_lex.specs.declared.pieces.Piece.{Piece}
 use Rattle.sql_lex.specs.declared.pieces.Piece.TheVariants as pieces
 use Rattle.sql_lex.specs.declared.token.Symbol.{Symbol}
 use Rattle.sql_lex.specs.declared.token.Symbol.TheVariants as signs
 use Rattle.sql_lex.specs.declared.token.Token.{Token}
 use Rattle.sql_lex.specs.declared.token.TokenKind.{TokenKind}
 use Rattle.sql_lex.specs.declared.token.TokenKind.TheVariants as kinds
-use Rattle.sql_lex.specs.Begins.{sized, number_kind, number_from, number_token, is_letter, word_token, name_kind, quoted_token, string_token, hex_token, signed, symbol_of_one, symbol_of_two, short_symbol, symbol_token, token_by, token_of, is_word_byte}
+use Rattle.sql_lex.specs.Begins.{sized, is_letter, name_kind, signed, symbol_of_one, symbol_of_two, short_symbol, token_of}
 use Rattle.sql_lex.specs.Blanks.{blank_length}
-use Rattle.sql_lex.specs.Lexes.{Front, stop', blank', token', IsFront, is_minus}
+use Rattle.sql_lex.specs.Lexes.{Front, stop', blank', token', IsFront}
 use Rattle.sql_lex.specs.Pieces.{piece_by, piece_of}
 use Rattle.sql_lex.specs.Quotes.{begins, closing, is_name, meant}
 use Rattle.sql_parse.specs.Lexing.{bounded, bounded_kind}

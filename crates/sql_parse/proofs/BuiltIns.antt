@@ -1,5 +1,5 @@
 -- Built-ins: what stands behind their names.
-use Rattle.std.proofs.Common.{◌≡◌, ℕ, pred, List, [], ◌∷◌, Bool, true, false, Some, Option, Result, Ok, Err, refl}
+use Rattle.std.proofs.Common.{◌≡◌, ℕ, pred, List, [], ◌∷◌, true, false, Some, Option, Result, Ok, Err, refl}
 use Rattle.sql_lex.specs.declared.token.Symbol.TheVariants as signs
 use Rattle.sql_grammar.specs.Reader.{Read, bind}
 use Rattle.sql_grammar.specs.Rule.{Rule, token, mapped}
@@ -11,7 +11,7 @@ use Rattle.sql_tree.specs.declared.expressions.Expr.{Expr}
 use Rattle.sql_syntax.specs.Tokens.{Tok, kind, sign_code}
 use Rattle.sql_syntax.specs.Parts.{opening}
 use Rattle.sql_parse.specs.Kept.{Keeps}
-use Rattle.sql_syntax.specs.Expressions.{Tail, Following, with_tail, with_arguments, built, built_in, named, column_tail}
+use Rattle.sql_syntax.specs.Expressions.{Tail, with_tail, with_arguments, built, built_in, named, column_tail}
 use Rattle.sql_parse.specs.declared.fault.Stop.{Stop}
 use Rattle.sql_parse.specs.declared.kept.Levelled.{Levelled}
 use Rattle.sql_parse.proofs.Openings.{opened_as}

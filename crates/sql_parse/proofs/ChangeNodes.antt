@@ -1,7 +1,7 @@
 -- What is kept of INSERT, REPLACE, UPDATE and DELETE.
-use Rattle.std.proofs.Common.{◌≡◌, ℕ, max, Bool, List, [], ◌∷◌, map, Option, Some, None, refl, ap, rules, arith}
+use Rattle.std.proofs.Common.{◌≡◌, ℕ, max, Bool, List, [], ◌∷◌, map, Option, Some, refl, ap, rules}
 use Rattle.sql_tree.specs.Depth.{depth_of, depth_of_tree, depth_of_trees, depth_of_part, depth_of_orders, depth_of_query, depth_of_rows, depth_of_sets, depth_of_supply}
-use Rattle.sql_tree.specs.Statement.{Statement, insert_into, replace_into, update_rows, delete_rows, Supply, rows, rows_of, Sets}
+use Rattle.sql_tree.specs.Statement.{insert_into, replace_into, update_rows, delete_rows, Supply, rows, rows_of, Sets}
 use Rattle.sql_tree.specs.StatementView.{view, view_rows, view_sets, view_supply}
 use Rattle.sql_tree.specs.Tree.{Tree, Trees, Part, part, Query, Orders}
 use Rattle.sql_tree.specs.View.{view_tree, view_trees, view_part, view_query, view_orders}

@@ -1,13 +1,12 @@
 -- What is kept of parts that are put together.
 use Rattle.std.proofs.Common.{◌≡◌, ◌∙◌, ◌<◌, ◌≤◌, ℕ, suc, max, List, [], ◌∷◌, ◌++◌, map, Result, Err, nat_le, Bool, true, false, if◌then◌else◌, Option, Some, None, Ok, refl, sym, ap, arith}
 use Rattle.std.proofs.lemmas.Bool.{leb-true, leb-false, le-leb, lt-leb}
-use Rattle.std.specs.Option.{option_map}
 use Rattle.sql_grammar.specs.Reader.{Read, bind}
 use Rattle.sql_syntax.specs.Tokens.{Tok}
 use Rattle.sql_parse.specs.declared.fault.Stop.{Stop}
 use Rattle.sql_parse.specs.declared.kept.Levelled.{Levelled}
 use Rattle.sql_parse.proofs.Reading.{fails_behind}
-use Rattle.sql_parse.specs.Kept.{kept, kept_as, IsKept, beside, above, limited, in_place, view_beside, depth_beside, deepest, Keeps}
+use Rattle.sql_parse.specs.Kept.{kept, kept_as, IsKept, beside, above, in_place, view_beside, depth_beside, deepest, Keeps}
 
 -- A part is held, or it has too many levels.
 pub data Held {X A : Type 0} (view : X → A) (depth_of : A → ℕ) (a : A) : Option (Levelled X) → Type 0 where

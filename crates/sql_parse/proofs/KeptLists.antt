@@ -1,18 +1,17 @@
 -- Lists of kept parts, item by item, and parts behind a value or in a construct.
-use Rattle.std.proofs.Common.{◌≡◌, ◌∙◌, ◌+◌, ◌-◌, ◌<◌, ◌≤◌, ℕ, suc, pred, max, Bool, true, false, List, [], ◌∷◌, ◌++◌, length, map, Option, Some, None, Result, Ok, Err, refl, sym, ap, subst, arith}
+use Rattle.std.proofs.Common.{◌≡◌, ◌+◌, ◌-◌, ◌<◌, ◌≤◌, ℕ, pred, Bool, true, false, List, [], ◌∷◌, ◌++◌, length, map, Option, Some, Result, Ok, refl, sym, subst, arith}
 use Rattle.sql_lex.specs.declared.token.Symbol.TheVariants as signs
-use Rattle.sql_grammar.specs.Reader.{Read, Reader, bind, read_mapped, steps}
-use Rattle.sql_grammar.specs.Rule.{Rule, mapped, alone, then_one, behind, opened, any_of, pure}
+use Rattle.sql_grammar.specs.Reader.{Read, Reader, bind, steps}
+use Rattle.sql_grammar.specs.Rule.{Rule, mapped, alone, then_one, behind, opened, pure}
 use Rattle.sql_grammar.specs.Sets.{next_in}
 use Rattle.sql_parse.specs.declared.fault.Stop.{Stop}
-use Rattle.sql_parse.specs.declared.fault.Stop.TheVariants as stops
 use Rattle.sql_parse.specs.declared.kept.Levelled.{Levelled}
 use Rattle.sql_parse.specs.Gives.{Fails}
-use Rattle.sql_parse.specs.Kept.{IsKept, Keeps, beside, deepest, in_place, view_beside, depth_beside}
+use Rattle.sql_parse.specs.Kept.{IsKept, Keeps, beside, deepest, in_place}
 use Rattle.sql_syntax.specs.Parts.{list_of}
 use Rattle.sql_syntax.specs.Tokens.{Tok, kind, sign, sign_code}
 use Rattle.sql_parse.proofs.KeptLaws.{kept_alone, kept_push}
-use Rattle.sql_parse.proofs.Reading.{fails_made, opened_is, one_less}
+use Rattle.sql_parse.proofs.Reading.{opened_is, one_less}
 use Rattle.sql_parse.proofs.Turns.{Turns, turns_begin, turns_on, turns_stop, turns_end, turns_fail}
 
 abbrev pub comma_next : List Tok → Bool

@@ -18,3 +18,4 @@ pub mod TableSteps
 pub mod TraitSteps
 pub mod ParseLaws
 pub mod Bounds
+pub mod Pushed

@@ -9,7 +9,7 @@ use Rattle.sql_tree.specs.Tree.{Tree, unary}
 use Rattle.sql_syntax.specs.Tokens.{Tok, kind, code, sign}
 use Rattle.sql_syntax.specs.Parts.{closed}
 use Rattle.sql_syntax.specs.Selects.{select_by, single_by}
-use Rattle.sql_syntax.specs.Expressions.{Nested, nested, nested_by, disjunction, comparison, prefix_by, two_arguments, three_arguments, as_three}
+use Rattle.sql_syntax.specs.Expressions.{nested, disjunction, comparison, prefix_by, two_arguments, three_arguments, as_three}
 
 pub whole_is : (n : ℕ) → (nested n).whole ≡ disjunction (nested n).negation
 unfolding nested

@@ -1,13 +1,12 @@
 -- What is kept of the nodes of expressions.
-use Rattle.std.proofs.Common.{◌≡◌, ℕ, suc, max, Option, Some, List, refl, rules}
+use Rattle.std.proofs.Common.{◌≡◌, ℕ, suc, Option, Some}
 use Rattle.sql_parse.specs.declared.kept.Levelled.{Levelled}
-use Rattle.sql_parse.specs.Kept.{kept, kept_as, IsKept, beside, above, in_place, view_beside, depth_beside}
-use Rattle.sql_tree.specs.declared.expressions.Expr
-use Rattle.sql_tree.specs.declared.expressions.Expr.{Expr, the_lemmas}
-use Rattle.sql_tree.specs.Tree.{Tree, binary}
+use Rattle.sql_parse.specs.Kept.{kept, IsKept, beside, above, view_beside, depth_beside}
+use Rattle.sql_tree.specs.declared.expressions.Expr.{Expr}
+use Rattle.sql_tree.specs.Tree.{Tree}
 use Rattle.sql_tree.specs.View.{view_tree}
 use Rattle.sql_tree.specs.Depth.{depth_of_tree}
-use Rattle.sql_parse.proofs.KeptLaws.{raised, placed, kept_beside}
+use Rattle.sql_parse.proofs.KeptLaws.{raised, kept_beside}
 
 module _ {X A : Type 0} (view : X → A) (depth_of : A → ℕ) (f : A → Tree) (g : X → Expr) (seen : (x : X) → view_tree (g x) ≡ f (view x)) (more : (a : A) → depth_of_tree (f a) ≡ suc (depth_of a)) where
   -- a node over a part

@@ -1,6 +1,6 @@
 -- Tokens that are numbers.
-use Rattle.std.proofs.Common.{◌≡◌, ℕ, Bool, true, false, List, [], ◌∷◌, Some, Ok, Err, refl, sym, ap, ◌∙◌}
-use Rattle.sql_grammar.specs.Reader.{Syntax, take_by}
+use Rattle.std.proofs.Common.{◌≡◌, Bool, true, false, List, [], ◌∷◌, Some, Ok, refl, sym, ap, ◌∙◌}
+use Rattle.sql_grammar.specs.Reader.{take_by}
 use Rattle.sql_grammar.specs.Rule.{token, only_then}
 use Rattle.sql_grammar.specs.Sets.{member}
 use Rattle.sql_syntax.specs.Tokens.{Tok, kind, number_code, least_digits}

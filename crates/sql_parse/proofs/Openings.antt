@@ -1,6 +1,6 @@
 -- Constructs: the token that opens one, and what stands in it.
 use Rattle.std.proofs.Common.{◌≡◌, ◌+◌, ℕ, zero, suc, pred, List, [], ◌∷◌, Option, Some, None, Result, Ok, Err, refl, arith}
-use Rattle.sql_grammar.specs.Reader.{Read, Syntax, bind, take_by, refuse_by}
+use Rattle.sql_grammar.specs.Reader.{Read, bind, take_by, refuse_by}
 use Rattle.sql_grammar.specs.Rule.{Rule, opened, any_of}
 use Rattle.sql_syntax.specs.Tokens.{Tok, kind}
 use Rattle.sql_syntax.specs.Parts.{opening}

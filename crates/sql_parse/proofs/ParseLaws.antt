@@ -1,24 +1,22 @@
 -- From what is read of the tokens to the answer to the text.
-use Rattle.std.proofs.Common.{◌≡◌, ◌<◌, ◌≤◌, ℕ, zero, suc, ◌+◌, ◌-◌, min, ◌⊎◌, inl, inr, Bool, true, false, if◌then◌else◌, nat_lt, ◌||◌, ◌&&◌, ◌==◌, List, [], ◌∷◌, ◌++◌, length, drop, map, Option, Some, None, Result, Ok, Err, refl, sym, ◌∙◌, ap, subst, arith}
+use Rattle.std.proofs.Common.{◌≡◌, ◌<◌, ◌≤◌, ℕ, zero, suc, ◌+◌, ◌-◌, ◌⊎◌, inl, inr, List, [], ◌∷◌, ◌++◌, length, drop, map, Option, Some, None, Result, Ok, Err, refl, sym, ◌∙◌, ap, subst, arith}
 use Rattle.std.specs.Prelude.{IfOk, IfErr}
 use Rattle.sql_lex.specs.declared.token.Token.{Token}
 use Rattle.sql_lex.specs.Lexes.{IsFront, Lexes}
-use Rattle.sql_lex.proofs.Fronts.{one_front}
-use Rattle.sql_lex.proofs.SpanLaws.{tokens_within}
 use Rattle.sql_tree.specs.Depth.{depth_of}
 use Rattle.sql_tree.specs.Statement.{Statement}
 use Rattle.sql_tree.specs.StatementView.{view}
 use Rattle.sql_tree.specs.declared.statements.Stmt.{Stmt}
 use Rattle.sql_grammar.specs.Reader.{Fault, Read, Syntax as syntax, Deep as deep}
 use Rattle.sql_grammar.specs.Rule.{Rule}
-use Rattle.sql_grammar.specs.Whole.{read_whole, whole_of, IsPlaced, IsExact}
+use Rattle.sql_grammar.specs.Whole.{whole_of, IsPlaced, IsExact}
 use Rattle.sql_parse.specs.declared.lexeme.Lexeme.{Lexeme}
 use Rattle.sql_parse.specs.declared.parsing.ParseRefusal.{ParseRefusal}
 use Rattle.sql_parse.specs.declared.parsing.ParseRefusal.TheVariants.{Syntax, Deep, NoMemory}
 use Rattle.sql_syntax.specs.Tokens.{Tok}
 use Rattle.sql_parse.specs.Lexing.{bounded, lexeme_place, place}
 use Rattle.sql_syntax.specs.Statements.{statement}
-use Rattle.sql_syntax.specs.Texts.{toks, limit_open, limit_deep, reads, IsStatement, place_of, Stops, IsRefusedAt, IsTooDeepAt, IsTooDeep}
+use Rattle.sql_syntax.specs.Texts.{toks, limit_open, limit_deep, reads, IsStatement, place_of, Stops, IsRefusedAt, IsTooDeep}
 use Rattle.sql_parse.specs.declared.kept.Levelled.{Levelled}
 use Rattle.sql_parse.specs.declared.fault.Stop.{Stop}
 use Rattle.sql_parse.specs.declared.fault.Stop.TheVariants as stops

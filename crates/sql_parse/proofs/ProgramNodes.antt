@@ -1,7 +1,7 @@
 -- What is kept of the parts of programs.
-use Rattle.std.proofs.Common.{◌≡◌, ◌∙◌, ℕ, suc, max, List, [], ◌∷◌, ◌++◌, map, Option, Some, None, refl, ap, subst, sym, rules, arith}
+use Rattle.std.proofs.Common.{◌≡◌, ◌∙◌, ℕ, suc, max, List, [], ◌∷◌, ◌++◌, map, Option, Some, None, refl, ap, subst, rules}
 use Rattle.sql_tree.specs.Depth.{depth_of, depth_of_branches, depth_of_declarations, depth_of_otherwise, depth_of_part, depth_of_query, depth_of_statements, depth_of_tree}
-use Rattle.sql_tree.specs.Statement.{Statement, Statements, Branches, Otherwise, Declarations, create_table, block, if_steps, while_steps, return_value, select, else_steps}
+use Rattle.sql_tree.specs.Statement.{Statement, Statements, Otherwise, Declarations, create_table, block, if_steps, while_steps, return_value, select, else_steps}
 use Rattle.sql_tree.specs.StatementView.{view, view_branch, view_branches, view_declarations, view_otherwise, view_statements}
 use Rattle.sql_tree.specs.StatementView as views
 use Rattle.sql_tree.specs.Tree.{Tree, Part, part, Query}

@@ -1,7 +1,7 @@
 -- The equations of reading, as the code's steps need them.
-use Rattle.std.proofs.Common.{◌≡◌, ℕ, zero, suc, pred, ◌+◌, ◌-◌, ◌<◌, ◌≤◌, ◌==◌, Bool, true, false, not, ◌||◌, ◌&&◌, if◌then◌else◌, List, [], ◌∷◌, length, Option, Some, None, Result, Ok, Err, refl, sym, ap, subst, ◌∙◌, arith}
-use Rattle.sql_grammar.specs.Reader.{Reader, Read, Fault, Syntax, Deep, bind, steps, take_by, refuse_by, refuse_one, read_mapped}
-use Rattle.sql_grammar.specs.Rule.{Rule, only_then, only_if, token, opened, pure, any_of, behind, then_one}
+use Rattle.std.proofs.Common.{◌≡◌, ℕ, zero, suc, pred, ◌+◌, ◌-◌, ◌<◌, ◌≤◌, ◌==◌, Bool, true, false, ◌||◌, if◌then◌else◌, List, [], ◌∷◌, length, Option, Some, None, Result, Ok, Err, refl, sym, ap, subst, ◌∙◌, arith}
+use Rattle.sql_grammar.specs.Reader.{Reader, Read, Fault, Syntax, Deep, bind, steps, take_by, refuse_by, read_mapped}
+use Rattle.sql_grammar.specs.Rule.{Rule, only_then, only_if, token, opened, pure, behind, then_one}
 use Rattle.sql_grammar.specs.Sets.{member, next_in}
 use Rattle.sql_lex.specs.declared.token.Symbol.TheVariants as signs
 use Rattle.sql_parse.specs.declared.fault.Stop.{Stop}

@@ -1,5 +1,5 @@
 -- The steps of reading the options of a column and the parts of a table.
-use Rattle.std.proofs.Common.{◌≡◌, ℕ, ◌+◌, ◌-◌, ◌<◌, ◌≤◌, Bool, true, false, ◌||◌, List, [], ◌∷◌, ◌++◌, length, Ok, refl, sym, ap, subst, ◌∙◌, arith}
+use Rattle.std.proofs.Common.{◌≡◌, ℕ, ◌+◌, ◌-◌, ◌<◌, Bool, true, false, ◌||◌, List, [], ◌∷◌, ◌++◌, length, Ok, refl, sym, ap, subst, ◌∙◌, arith}
 use Rattle.std.proofs.lemmas.List.Folds.{list_any-append}
 use Rattle.std.specs.List.{list_any}
 use Rattle.sql_lex.specs.declared.token.Symbol.TheVariants as signs
@@ -12,7 +12,7 @@ use Rattle.sql_syntax.specs.Tokens.{Tok, kind, sign, sign_code}
 use Rattle.sql_syntax.specs.Tables.{marked, mark, mark_words, table_part, table_parts, is_primary}
 use Rattle.sql_parse.specs.declared.fault.Stop.{Stop}
 use Rattle.sql_parse.specs.Gives.{Fails}
-use Rattle.sql_parse.proofs.Reading.{steps_turn, steps_stop, steps_end, step_goes, step_fails, fails_made}
+use Rattle.sql_parse.proofs.Reading.{step_goes, step_fails, fails_made}
 
 -- options behind those so far, in so many turns
 abbrev pub more_marks : Bool → ℕ → Marks → Reader Tok Marks

@@ -1,6 +1,6 @@
 -- The steps of reading traits.
-use Rattle.std.proofs.Common.{◌≡◌, ℕ, ◌+◌, ◌-◌, ◌<◌, ◌≤◌, Bool, true, false, List, Ok, refl}
-use Rattle.sql_grammar.specs.Reader.{Reader, Read, bind, steps}
+use Rattle.std.proofs.Common.{◌≡◌, ℕ, ◌+◌, ◌-◌, ◌<◌, ◌≤◌, true, false, List, Ok, refl}
+use Rattle.sql_grammar.specs.Reader.{Reader, Read, steps}
 use Rattle.sql_grammar.specs.Sets.{next_in}
 use Rattle.sql_parse.specs.declared.fault.Stop.{Stop}
 use Rattle.sql_parse.specs.Gives.{Fails}

@@ -1,5 +1,5 @@
 -- Lists of parts, as the tree has them.
-use Rattle.std.proofs.Common.{◌≡◌, ℕ, Bool, suc, max, ap, List, [], ◌∷◌, Option, Some, None, refl}
+use Rattle.std.proofs.Common.{◌≡◌, Bool, suc, max, ap, List, [], ◌∷◌, Option, Some, None, refl}
 use Rattle.val_types.specs.declared.ops.Agg.{Agg}
 use Rattle.sql_tree.specs.Tree.{Tree}
 use Rattle.sql_tree.specs.View.{trees_of, arms_of, aggregates_of, orders_of}

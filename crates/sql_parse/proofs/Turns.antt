@@ -1,6 +1,6 @@
 -- Steps behind a value, turn by turn.
-use Rattle.std.proofs.Common.{◌≡◌, ◌∙◌, ℕ, zero, suc, ◌+◌, ◌-◌, ◌<◌, ◌≤◌, Bool, true, false, List, length, Option, Ok, Err, refl, sym, arith}
-use Rattle.sql_grammar.specs.Reader.{Reader, Read, bind, steps, read_chain}
+use Rattle.std.proofs.Common.{◌≡◌, ◌∙◌, ℕ, ◌+◌, ◌-◌, ◌<◌, ◌≤◌, Bool, true, false, List, length, Option, Ok, refl, sym, arith}
+use Rattle.sql_grammar.specs.Reader.{Reader, Read, steps, read_chain}
 use Rattle.sql_syntax.specs.Tokens.{Tok}
 use Rattle.sql_parse.specs.Gives.{Fails}
 use Rattle.sql_parse.specs.Kept.{IsKept, Keeps}

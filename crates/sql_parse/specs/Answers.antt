@@ -10,7 +10,7 @@ use Rattle.sql_parse.specs.declared.parsing.ParseRefusal.{ParseRefusal}
 use Rattle.sql_parse.specs.declared.parsing.ParseRefusal.TheVariants.{Syntax, Deep, NoMemory}
 use Rattle.sql_parse.specs.declared.kept.Levelled.{Levelled}
 use Rattle.sql_syntax.specs.Statements.{statement}
-use Rattle.sql_syntax.specs.Texts.{limit_deep, limit_open, reads, IsRefusedAt, IsTooDeep}
+use Rattle.sql_syntax.specs.Texts.{limit_deep, limit_open, IsRefusedAt, IsTooDeep}
 use Rattle.sql_syntax.specs.Tokens.{Tok}
 
 -- ---- by what is read of the tokens

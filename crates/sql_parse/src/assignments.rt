@@ -27,7 +27,7 @@ use crate::sessions::{assigning, target};
 use sql_lex::{Keyword, Symbol};
 use sql_tree::{Assignment, Expr, Stmt, Target};
 use std::alloc::Global;
-use val_types::{Bytes, List, NoMemory, Value};
+use val_types::{Boxed, Bytes, List, NoMemory, Value};
 
 /// The format that a word without quotes names.
 fn format_word(word: Option<Keyword>) -> Option<&'static [u8]>
@@ -56,15 +56,16 @@ fn is_format(target: &Target) -> bool
 fn format_or(
     alloc: Global,
     format: Option<&[u8]>,
-    value: Kept<Expr>,
-) -> Result<Kept<Expr>, NoMemory>
+    value: Kept<Boxed<Expr>>,
+) -> Result<Kept<Boxed<Expr>>, NoMemory>
     ensures { IfOk result (λ k. (t : Tree) → IsKept view_tree depth_of_tree t value
         → IsKept view_tree depth_of_tree (spec.format_or (option_map (λ w. w.now) format.entry) t) k) }
 {
     let Some(word) = format else {
         return Ok(value);
     };
-    let part = Expr::Literal(Value::Text(List::from_slice(alloc, word)?));
+    let text = List::from_slice(alloc, word)?;
+    let part = Boxed::new(alloc, Expr::Literal(Value::Text(text)))?;
     Ok(Some(Levelled { part, levels: 1 }))
 }
 
@@ -80,7 +81,7 @@ fn format_or_value<'t>(
     alloc: Global,
     depth: u32,
     rest: Rest<'t>,
-) -> Result<(Kept<Expr>, Rest<'t>), Stop<'t>>
+) -> Result<(Kept<Boxed<Expr>>, Rest<'t>), Stop<'t>>
     ensures { Keeps view_tree depth_of_tree result ((mapped (spec.value_assigned true) (with_tokens paired (expression depth))).read rest.entry) }
 {
     let format = format_next(&rest);
@@ -99,7 +100,7 @@ fn assigned<'t>(
     depth: u32,
     is_format: bool,
     rest: Rest<'t>,
-) -> Result<(Kept<Expr>, Rest<'t>), Stop<'t>>
+) -> Result<(Kept<Boxed<Expr>>, Rest<'t>), Stop<'t>>
     ensures { Keeps view_tree depth_of_tree result ((mapped (spec.value_assigned is_format) (with_tokens paired (expression depth))).read rest.entry) }
 {
     if is_format {
@@ -110,13 +111,13 @@ fn assigned<'t>(
 }
 
 /// A value for a target.
-fn assignment_of(target: Target, value: Kept<Expr>) -> Kept<Assignment>
+fn assignment_of(target: Target, value: Kept<Boxed<Expr>>) -> Kept<Assignment>
     ensures { result ≡ in_place (λ v. record { target = target; value = v }) value }
 {
     let Levelled { part, levels } = value?;
     let part = Assignment {
         target,
-        value: part,
+        value: part.into_inner(),
     };
     Some(Levelled { part, levels })
 }

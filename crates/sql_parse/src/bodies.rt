@@ -61,13 +61,18 @@ fn with_body(alloc: Global, head: Head, body: Stmt) -> Result<Stmt, NoMemory>
 }
 
 /// A stored program with its body, where both are kept.
-pub fn with_kept_body(alloc: Global, head: Head, body: Kept<Stmt>) -> Result<Kept<Stmt>, NoMemory>
+pub fn with_kept_body(
+    alloc: Global,
+    head: Head,
+    body: Kept<Boxed<Stmt>>,
+) -> Result<Kept<Boxed<Stmt>>, NoMemory>
     ensures { IfOk result (λ k. (s : Statement) → IsKept view depth_of s body → IsKept view depth_of (spec.with_body head s) k) }
 {
     let Some(Levelled { part, levels }) = above(body) else {
         return Ok(None);
     };
-    let part = with_body(alloc, head, part)?;
+    let program = with_body(alloc, head, part.into_inner())?;
+    let part = Boxed::new(alloc, program)?;
     Ok(Some(Levelled { part, levels }))
 }
 
@@ -75,8 +80,8 @@ pub fn with_kept_body(alloc: Global, head: Head, body: Kept<Stmt>) -> Result<Kep
 pub fn with_heads(
     alloc: Global,
     heads: List<Head>,
-    body: Kept<Stmt>,
-) -> Result<Kept<Stmt>, NoMemory>
+    body: Kept<Boxed<Stmt>>,
+) -> Result<Kept<Boxed<Stmt>>, NoMemory>
     ensures { IfOk result (λ k. (s : Statement) → IsKept view depth_of s body → IsKept view depth_of (spec.with_heads heads s) k) }
 {
     let mut heads = heads;
@@ -88,11 +93,11 @@ pub fn with_heads(
 }
 
 /// A preset, where there is one.
-fn some_preset(value: Kept<Expr>) -> Kept<Option<Expr>>
+fn some_preset(value: Kept<Boxed<Expr>>) -> Kept<Option<Expr>>
     ensures { result ≡ in_place (λ e. Some e) value }
 {
     let Levelled { part, levels } = value?;
-    let part = Some(part);
+    let part = Some(part.into_inner());
     Some(Levelled { part, levels })
 }
 
@@ -176,23 +181,36 @@ pub fn declarations<'t>(
 }
 
 /// A block of these parts.
-pub fn blocked(declarations: Kept<List<Declaration>>, body: Kept<List<Stmt>>) -> Kept<Stmt>
-    ensures { result ≡ in_place (λ p. Stmt.Block p.0 p.1) (above (beside declarations body)) }
+pub fn blocked(
+    alloc: Global,
+    declarations: Kept<List<Declaration>>,
+    body: Kept<List<Stmt>>,
+) -> Result<Kept<Boxed<Stmt>>, NoMemory>
+    ensures { IfOk result (λ r. r ≡ in_place (λ p. Stmt.Block p.0 p.1) (above (beside declarations body))) }
 {
-    let Levelled { part, levels } = above(beside(declarations, body))?;
+    let Some(Levelled { part, levels }) = above(beside(declarations, body)) else {
+        return Ok(None);
+    };
     let (declarations, body) = part;
-    let part = Stmt::Block { declarations, body };
-    Some(Levelled { part, levels })
+    let part = Boxed::new(alloc, Stmt::Block { declarations, body })?;
+    Ok(Some(Levelled { part, levels }))
 }
 
 /// A branch of an IF of these parts.
-pub fn branched(condition: Kept<Expr>, steps: Kept<List<Stmt>>) -> Kept<Branch>
-    ensures { result ≡ in_place (λ p. record { condition = p.0; steps = p.1 }) (beside condition steps) }
+pub fn branched(
+    alloc: Global,
+    condition: Kept<Boxed<Expr>>,
+    steps: Kept<List<Stmt>>,
+) -> Result<Kept<Boxed<Branch>>, NoMemory>
+    ensures { IfOk result (λ r. r ≡ in_place (λ p. record { condition = p.0; steps = p.1 }) (beside condition steps)) }
 {
-    let Levelled { part, levels } = beside(condition, steps)?;
+    let Some(Levelled { part, levels }) = beside(condition, steps) else {
+        return Ok(None);
+    };
     let (condition, steps) = part;
-    let part = Branch { condition, steps };
-    Some(Levelled { part, levels })
+    let condition = condition.into_inner();
+    let part = Boxed::new(alloc, Branch { condition, steps })?;
+    Ok(Some(Levelled { part, levels }))
 }
 
 /// Steps behind ELSE.
@@ -205,30 +223,45 @@ pub fn some_steps(steps: Kept<List<Stmt>>) -> Kept<Option<List<Stmt>>>
 }
 
 /// An IF of these parts.
-pub fn chosen(arms: Kept<List<Branch>>, otherwise: Kept<Option<List<Stmt>>>) -> Kept<Stmt>
-    ensures { result ≡ in_place (λ p. Stmt.If p.0 p.1) (above (beside arms otherwise)) }
+pub fn chosen(
+    alloc: Global,
+    arms: Kept<List<Branch>>,
+    otherwise: Kept<Option<List<Stmt>>>,
+) -> Result<Kept<Boxed<Stmt>>, NoMemory>
+    ensures { IfOk result (λ r. r ≡ in_place (λ p. Stmt.If p.0 p.1) (above (beside arms otherwise))) }
 {
-    let Levelled { part, levels } = above(beside(arms, otherwise))?;
+    let Some(Levelled { part, levels }) = above(beside(arms, otherwise)) else {
+        return Ok(None);
+    };
     let (arms, otherwise) = part;
-    let part = Stmt::If { arms, otherwise };
-    Some(Levelled { part, levels })
+    let part = Boxed::new(alloc, Stmt::If { arms, otherwise })?;
+    Ok(Some(Levelled { part, levels }))
 }
 
 /// A WHILE of these parts.
-pub fn repeated(condition: Kept<Expr>, steps: Kept<List<Stmt>>) -> Kept<Stmt>
-    ensures { result ≡ in_place (λ p. Stmt.While p.0 p.1) (above (beside condition steps)) }
+pub fn repeated(
+    alloc: Global,
+    condition: Kept<Boxed<Expr>>,
+    steps: Kept<List<Stmt>>,
+) -> Result<Kept<Boxed<Stmt>>, NoMemory>
+    ensures { IfOk result (λ r. r ≡ in_place (λ p. Stmt.While p.0 p.1) (above (beside condition steps))) }
 {
-    let Levelled { part, levels } = above(beside(condition, steps))?;
+    let Some(Levelled { part, levels }) = above(beside(condition, steps)) else {
+        return Ok(None);
+    };
     let (condition, steps) = part;
-    let part = Stmt::While { condition, steps };
-    Some(Levelled { part, levels })
+    let condition = condition.into_inner();
+    let part = Boxed::new(alloc, Stmt::While { condition, steps })?;
+    Ok(Some(Levelled { part, levels }))
 }
 
 /// A RETURN of this value.
-pub fn returned(value: Kept<Expr>) -> Kept<Stmt>
-    ensures { result ≡ in_place (λ e. Stmt.Return e) (above value) }
+pub fn returned(alloc: Global, value: Kept<Boxed<Expr>>) -> Result<Kept<Boxed<Stmt>>, NoMemory>
+    ensures { IfOk result (λ r. r ≡ in_place (λ e. Stmt.Return e) (above value)) }
 {
-    let Levelled { part, levels } = above(value)?;
-    let part = Stmt::Return(part);
-    Some(Levelled { part, levels })
+    let Some(Levelled { part, levels }) = above(value) else {
+        return Ok(None);
+    };
+    let part = Boxed::new(alloc, Stmt::Return(part.into_inner()))?;
+    Ok(Some(Levelled { part, levels }))
 }

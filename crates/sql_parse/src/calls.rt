@@ -22,7 +22,7 @@ use crate::rest::Rest;
 use sql_lex::{Keyword, Symbol};
 use sql_tree::Expr;
 use std::alloc::Global;
-use val_types::List;
+use val_types::{Boxed, List};
 
 /// The built-ins of one argument.
 const WITH_ONE: [u8; 2] = [Keyword::Abs as u8, Keyword::Length as u8];
@@ -83,7 +83,7 @@ pub fn by_name<'t>(
     alloc: Global,
     depth: u32,
     rest: Rest<'t>,
-) -> Result<(Kept<Expr>, Rest<'t>), Stop<'t>>
+) -> Result<(Kept<Boxed<Expr>>, Rest<'t>), Stop<'t>>
     ensures { Keeps view_tree depth_of_tree result
         ((spec.by_name depth (spec.nested (pred depth))).read rest.entry) }
 {
@@ -100,7 +100,7 @@ pub fn by_name<'t>(
 }
 
 /// A column or a table's, where the name is an aggregate's or RAND.
-fn uncalled<'t>(alloc: Global, rest: Rest<'t>) -> Result<(Kept<Expr>, Rest<'t>), Stop<'t>>
+fn uncalled<'t>(alloc: Global, rest: Rest<'t>) -> Result<(Kept<Boxed<Expr>>, Rest<'t>), Stop<'t>>
     ensures { Keeps view_tree depth_of_tree result
         ((both spec.named (token kind spec.uncalled_names (λ t. Some t)) spec.column_tail).read rest.entry) }
 {
@@ -114,7 +114,7 @@ fn name_or_call<'t>(
     alloc: Global,
     depth: u32,
     rest: Rest<'t>,
-) -> Result<(Kept<Expr>, Rest<'t>), Stop<'t>>
+) -> Result<(Kept<Boxed<Expr>>, Rest<'t>), Stop<'t>>
     ensures { Keeps view_tree depth_of_tree result
         ((both spec.named (token kind spec.own_names (λ t. Some t)) (spec.name_tail depth (spec.nested (pred depth)).whole)).read rest.entry) }
 {
@@ -124,7 +124,7 @@ fn name_or_call<'t>(
     }
     let (inside, rest) = open_mark(depth, Symbol::Open, rest)?;
     let (items, rest) = arguments(alloc, inside, rest)?;
-    Ok((call(word.name(alloc)?, items), rest))
+    Ok((call(alloc, word.name(alloc)?, items)?, rest))
 }
 
 /// Expressions, none too, and the closing parenthesis.
@@ -150,7 +150,7 @@ fn built_ins<'t>(
     alloc: Global,
     depth: u32,
     rest: Rest<'t>,
-) -> Result<(Kept<Expr>, Rest<'t>), Stop<'t>>
+) -> Result<(Kept<Boxed<Expr>>, Rest<'t>), Stop<'t>>
     ensures { Keeps view_tree depth_of_tree result
         ((spec.built_ins depth (spec.nested (pred depth))).read rest.entry) }
 {
@@ -181,7 +181,7 @@ fn with_one<'t>(
     alloc: Global,
     depth: u32,
     rest: Rest<'t>,
-) -> Result<(Kept<Expr>, Rest<'t>), Stop<'t>>
+) -> Result<(Kept<Boxed<Expr>>, Rest<'t>), Stop<'t>>
     ensures { Keeps view_tree depth_of_tree result
         ((spec.of_one depth (spec.nested (pred depth)).whole).read rest.entry) }
 {
@@ -200,7 +200,7 @@ fn with_some<'t>(
     alloc: Global,
     depth: u32,
     rest: Rest<'t>,
-) -> Result<(Kept<Expr>, Rest<'t>), Stop<'t>>
+) -> Result<(Kept<Boxed<Expr>>, Rest<'t>), Stop<'t>>
     ensures { Keeps view_tree depth_of_tree result
         ((spec.of_some depth (spec.nested (pred depth)).whole).read rest.entry) }
 {
@@ -210,7 +210,7 @@ fn with_some<'t>(
     }
     let (inside, rest) = open_mark(depth, Symbol::Open, rest)?;
     let (items, rest) = closed_list(alloc, inside, rest)?;
-    Ok((many_of(word.key(), items), rest))
+    Ok((many_of(alloc, word.key(), items)?, rest))
 }
 
 /// NOW, UUID and the others without arguments.
@@ -218,7 +218,7 @@ fn with_none<'t>(
     alloc: Global,
     depth: u32,
     rest: Rest<'t>,
-) -> Result<(Kept<Expr>, Rest<'t>), Stop<'t>>
+) -> Result<(Kept<Boxed<Expr>>, Rest<'t>), Stop<'t>>
     ensures { Keeps view_tree depth_of_tree result ((spec.of_none depth).read rest.entry) }
 {
     let (word, rest) = rest.take(&WITH_NONE)?;
@@ -227,7 +227,7 @@ fn with_none<'t>(
     }
     let (_, rest) = open_mark(depth, Symbol::Open, rest)?;
     let ((), rest) = rest.skip_mark(Symbol::Close)?;
-    Ok((call_of(word.key()), rest))
+    Ok((call_of(alloc, word.key())?, rest))
 }
 
 /// IFNULL.
@@ -236,7 +236,7 @@ fn ifnull_call<'t>(
     alloc: Global,
     depth: u32,
     rest: Rest<'t>,
-) -> Result<(Kept<Expr>, Rest<'t>), Stop<'t>>
+) -> Result<(Kept<Boxed<Expr>>, Rest<'t>), Stop<'t>>
     ensures { Keeps view_tree depth_of_tree result
         ((spec.of_ifnull depth (spec.nested (pred depth)).whole).read rest.entry) }
 {
@@ -255,7 +255,7 @@ fn substring_call<'t>(
     alloc: Global,
     depth: u32,
     rest: Rest<'t>,
-) -> Result<(Kept<Expr>, Rest<'t>), Stop<'t>>
+) -> Result<(Kept<Boxed<Expr>>, Rest<'t>), Stop<'t>>
     ensures { Keeps view_tree depth_of_tree result
         ((spec.of_substring depth (spec.nested (pred depth)).whole).read rest.entry) }
 {
@@ -273,7 +273,7 @@ fn name_const_call<'t>(
     alloc: Global,
     depth: u32,
     rest: Rest<'t>,
-) -> Result<(Kept<Expr>, Rest<'t>), Stop<'t>>
+) -> Result<(Kept<Boxed<Expr>>, Rest<'t>), Stop<'t>>
     ensures { Keeps view_tree depth_of_tree result ((spec.of_name_const depth).read rest.entry) }
 {
     let (word, rest) = rest.take(&[Keyword::NameConst as u8])?;
@@ -290,7 +290,7 @@ fn floor_call<'t>(
     alloc: Global,
     depth: u32,
     rest: Rest<'t>,
-) -> Result<(Kept<Expr>, Rest<'t>), Stop<'t>>
+) -> Result<(Kept<Boxed<Expr>>, Rest<'t>), Stop<'t>>
     ensures { Keeps view_tree depth_of_tree result
         ((spec.of_floor depth (spec.nested (pred depth)).prefix).read rest.entry) }
 {
@@ -304,7 +304,11 @@ fn floor_call<'t>(
 
 /// `RAND() * operand)`: what stands in FLOOR's.
 #[cycle(expressions)]
-fn random<'t>(alloc: Global, depth: u32, rest: Rest<'t>) -> Result<(Kept<Expr>, Rest<'t>), Stop<'t>>
+fn random<'t>(
+    alloc: Global,
+    depth: u32,
+    rest: Rest<'t>,
+) -> Result<(Kept<Boxed<Expr>>, Rest<'t>), Stop<'t>>
     ensures { Keeps view_tree depth_of_tree result
         ((spec.random depth (spec.nested depth).prefix).read rest.entry) }
 {

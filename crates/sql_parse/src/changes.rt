@@ -36,7 +36,7 @@ use sql_tree::{
     UpdateStmt,
 };
 use std::alloc::Global;
-use val_types::{Bytes, List};
+use val_types::{Boxed, Bytes, List};
 
 /// A part that is left out.
 fn nothing<T>(part: T) -> Kept<T>
@@ -46,13 +46,13 @@ fn nothing<T>(part: T) -> Kept<T>
 }
 
 /// A value for a column.
-fn column_set(column: Bytes, value: Kept<Expr>) -> Kept<ColumnSet>
+fn column_set(column: Bytes, value: Kept<Boxed<Expr>>) -> Kept<ColumnSet>
     ensures { result ≡ in_place (λ v. record { column = column; value = v }) value }
 {
     let Levelled { part, levels } = value?;
     let part = ColumnSet {
         column,
-        value: part,
+        value: part.into_inner(),
     };
     Some(Levelled { part, levels })
 }
@@ -231,11 +231,11 @@ fn row_source(rows: Kept<List<List<Expr>>>) -> Kept<Source>
 }
 
 /// A SELECT as the source of an INSERT.
-fn select_source(query: Kept<sql_tree::Select>) -> Kept<Source>
+fn select_source(query: Kept<Boxed<sql_tree::Select>>) -> Kept<Source>
     ensures { result ≡ in_place (λ q. Source.Select q) query }
 {
     let Levelled { part, levels } = query?;
-    let part = Source::Select(part);
+    let part = Source::Select(part.into_inner());
     Some(Levelled { part, levels })
 }
 
@@ -338,11 +338,11 @@ fn replace<'t>(
 }
 
 /// A condition, where there is one.
-fn some_filter(filter: Kept<Expr>) -> Kept<Option<Expr>>
+fn some_filter(filter: Kept<Boxed<Expr>>) -> Kept<Option<Expr>>
     ensures { result ≡ in_place (λ e. Some e) filter }
 {
     let Levelled { part, levels } = filter?;
-    let part = Some(part);
+    let part = Some(part.into_inner());
     Some(Levelled { part, levels })
 }
 

@@ -16,6 +16,7 @@ use crate::sessions::{drop_named, transaction, truncated};
 use sql_lex::Keyword;
 use sql_tree::{Select, Stmt};
 use std::alloc::Global;
+use val_types::Boxed;
 
 /// A statement of one level.
 pub fn leaf(part: Stmt) -> Kept<Stmt>
@@ -25,11 +26,11 @@ pub fn leaf(part: Stmt) -> Kept<Stmt>
 }
 
 /// A SELECT as a statement.
-fn selected(query: Kept<Select>) -> Kept<Stmt>
+fn selected(query: Kept<Boxed<Select>>) -> Kept<Stmt>
     ensures { result ≡ in_place (λ q. Stmt.Select q) query }
 {
     let Levelled { part, levels } = query?;
-    let part = Stmt::Select(part);
+    let part = Stmt::Select(part.into_inner());
     Some(Levelled { part, levels })
 }
 

@@ -8,7 +8,7 @@ ghost use Rattle.sql_tree.specs.View.{view_tree, view_trees};
 ghost use Rattle.std.specs.Prelude.{pred};
 
 use crate::fault::Stop;
-use crate::kept::{Kept, alone, push};
+use crate::kept::{Kept, alone_boxed, push_boxed};
 use crate::leaves::negative_literal;
 use crate::nodes::{Trial, among, binary, compared, null_test, tested, unary};
 use crate::opening::{open_key, open_mark};
@@ -21,7 +21,7 @@ use crate::rest::Rest;
 use sql_lex::{Keyword, Symbol};
 use sql_tree::Expr;
 use std::alloc::Global;
-use val_types::{BinOp, List, UnOp};
+use val_types::{BinOp, Boxed, List, UnOp};
 
 /// An expression, with so many constructs still to be opened.
 #[cycle(expressions)]
@@ -29,7 +29,7 @@ pub fn whole<'t>(
     alloc: Global,
     depth: u32,
     rest: Rest<'t>,
-) -> Result<(Kept<Expr>, Rest<'t>), Stop<'t>>
+) -> Result<(Kept<Boxed<Expr>>, Rest<'t>), Stop<'t>>
     ensures { Keeps view_tree depth_of_tree result ((spec.nested depth).whole.read rest.entry) }
 {
     disjunction(alloc, depth, rest)
@@ -41,7 +41,7 @@ fn disjunction<'t>(
     alloc: Global,
     depth: u32,
     rest: Rest<'t>,
-) -> Result<(Kept<Expr>, Rest<'t>), Stop<'t>>
+) -> Result<(Kept<Boxed<Expr>>, Rest<'t>), Stop<'t>>
     ensures { Keeps view_tree depth_of_tree result
         ((spec.disjunction (spec.nested depth).negation).read rest.entry) }
 {
@@ -64,7 +64,7 @@ fn conjunction<'t>(
     alloc: Global,
     depth: u32,
     rest: Rest<'t>,
-) -> Result<(Kept<Expr>, Rest<'t>), Stop<'t>>
+) -> Result<(Kept<Boxed<Expr>>, Rest<'t>), Stop<'t>>
     ensures { Keeps view_tree depth_of_tree result
         ((spec.conjunction (spec.nested depth).negation).read rest.entry) }
 {
@@ -87,7 +87,7 @@ fn negation<'t>(
     alloc: Global,
     depth: u32,
     rest: Rest<'t>,
-) -> Result<(Kept<Expr>, Rest<'t>), Stop<'t>>
+) -> Result<(Kept<Boxed<Expr>>, Rest<'t>), Stop<'t>>
     ensures { Keeps view_tree depth_of_tree result ((spec.nested depth).negation.read rest.entry) }
 {
     if !rest.is_key(Keyword::Not) {
@@ -104,7 +104,7 @@ fn comparison<'t>(
     alloc: Global,
     depth: u32,
     rest: Rest<'t>,
-) -> Result<(Kept<Expr>, Rest<'t>), Stop<'t>>
+) -> Result<(Kept<Boxed<Expr>>, Rest<'t>), Stop<'t>>
     ensures { Keeps view_tree depth_of_tree result
         ((spec.comparison depth (spec.nested (pred depth)).whole (spec.nested depth).prefix).read rest.entry) }
 {
@@ -185,14 +185,14 @@ pub fn list<'t>(
         ((part.exprs (spec.nested depth).whole).read rest.entry) }
 {
     let (first, mut rest) = whole(alloc, depth, rest)?;
-    let mut items = alone(alloc, first)?;
+    let mut items = alone_boxed(alloc, first)?;
     for _turn in 0..rest.len() {
         if !rest.is_mark(Symbol::Comma) {
             return Ok((items, rest));
         }
         let ((), after) = rest.skip_mark(Symbol::Comma)?;
         let (item, after) = whole(alloc, depth, after)?;
-        items = push(items, item)?;
+        items = push_boxed(items, item)?;
         rest = after;
     }
     Ok((items, rest))
@@ -200,7 +200,11 @@ pub fn list<'t>(
 
 /// Products with `+` and `-` between.
 #[cycle(expressions)]
-fn sum<'t>(alloc: Global, depth: u32, rest: Rest<'t>) -> Result<(Kept<Expr>, Rest<'t>), Stop<'t>>
+fn sum<'t>(
+    alloc: Global,
+    depth: u32,
+    rest: Rest<'t>,
+) -> Result<(Kept<Boxed<Expr>>, Rest<'t>), Stop<'t>>
     ensures { Keeps view_tree depth_of_tree result ((spec.sum (spec.nested depth).prefix).read rest.entry) }
 {
     let (mut left, mut rest) = product(alloc, depth, rest)?;
@@ -222,7 +226,7 @@ fn product<'t>(
     alloc: Global,
     depth: u32,
     rest: Rest<'t>,
-) -> Result<(Kept<Expr>, Rest<'t>), Stop<'t>>
+) -> Result<(Kept<Boxed<Expr>>, Rest<'t>), Stop<'t>>
     ensures { Keeps view_tree depth_of_tree result ((spec.product (spec.nested depth).prefix).read rest.entry) }
 {
     let (mut left, mut rest) = prefix(alloc, depth, rest)?;
@@ -244,11 +248,11 @@ pub fn prefix<'t>(
     alloc: Global,
     depth: u32,
     rest: Rest<'t>,
-) -> Result<(Kept<Expr>, Rest<'t>), Stop<'t>>
+) -> Result<(Kept<Boxed<Expr>>, Rest<'t>), Stop<'t>>
     ensures { Keeps view_tree depth_of_tree result ((spec.nested depth).prefix.read rest.entry) }
 {
     if rest.is_in(&[TIGHT_MINUS]) {
-        return negative_literal(rest);
+        return negative_literal(alloc, rest);
     }
     if !rest.is_mark(Symbol::Minus) {
         return primary(alloc, depth, rest);

@@ -21,16 +21,16 @@ use crate::word::Word;
 use sql_lex::{Keyword, Symbol};
 use sql_tree::Expr;
 use std::alloc::Global;
-use val_types::{Bytes, NoMemory};
+use val_types::{Boxed, Bytes, NoMemory};
 
 /// A name and the closing parenthesis: what stands in VALUES's.
-fn values_name<'t>(alloc: Global, rest: Rest<'t>) -> Result<(Kept<Expr>, Rest<'t>), Stop<'t>>
+fn values_name<'t>(alloc: Global, rest: Rest<'t>) -> Result<(Kept<Boxed<Expr>>, Rest<'t>), Stop<'t>>
     ensures { Keeps view_tree depth_of_tree result
         ((mapped tree.values_of (part.closed part.a_name)).read rest.entry) }
 {
     let (name, rest) = a_name(alloc, rest)?;
     let ((), rest) = rest.skip_mark(Symbol::Close)?;
-    Ok((leaf(Expr::Values(name)), rest))
+    Ok((leaf(alloc, Expr::Values(name))?, rest))
 }
 
 /// `VALUES(c)`
@@ -38,7 +38,7 @@ pub fn values_call<'t>(
     alloc: Global,
     depth: u32,
     rest: Rest<'t>,
-) -> Result<(Kept<Expr>, Rest<'t>), Stop<'t>>
+) -> Result<(Kept<Boxed<Expr>>, Rest<'t>), Stop<'t>>
     ensures { Keeps view_tree depth_of_tree result
         ((behind (token.keyword words.Values) (part.in_parentheses depth (mapped tree.values_of (part.closed part.a_name)))).read rest.entry) }
 {
@@ -48,64 +48,76 @@ pub fn values_call<'t>(
 }
 
 /// `@x`
-pub fn user_variable<'t>(alloc: Global, rest: Rest<'t>) -> Result<(Kept<Expr>, Rest<'t>), Stop<'t>>
+pub fn user_variable<'t>(
+    alloc: Global,
+    rest: Rest<'t>,
+) -> Result<(Kept<Boxed<Expr>>, Rest<'t>), Stop<'t>>
     ensures { Keeps view_tree depth_of_tree result
         ((mapped tree.user_variable (behind (token.sign signs.At) part.a_name)).read rest.entry) }
 {
     let ((), rest) = rest.skip_mark(Symbol::At)?;
     let (name, rest) = a_name(alloc, rest)?;
-    Ok((leaf(Expr::UserVariable(name)), rest))
+    Ok((leaf(alloc, Expr::UserVariable(name))?, rest))
 }
 
 /// `@@x`
 pub fn system_variable<'t>(
     alloc: Global,
     rest: Rest<'t>,
-) -> Result<(Kept<Expr>, Rest<'t>), Stop<'t>>
+) -> Result<(Kept<Boxed<Expr>>, Rest<'t>), Stop<'t>>
     ensures { Keeps view_tree depth_of_tree result
         ((mapped tree.system_variable (behind (token.sign signs.AtAt) part.system_name)).read rest.entry) }
 {
     let ((), rest) = rest.skip_mark(Symbol::AtAt)?;
     let (name, rest) = system_name(alloc, rest)?;
-    Ok((leaf(Expr::SystemVariable(name)), rest))
+    Ok((leaf(alloc, Expr::SystemVariable(name))?, rest))
 }
 
 /// A number below 0.
-pub fn negative_literal<'t>(rest: Rest<'t>) -> Result<(Kept<Expr>, Rest<'t>), Stop<'t>>
+pub fn negative_literal<'t>(
+    alloc: Global,
+    rest: Rest<'t>,
+) -> Result<(Kept<Boxed<Expr>>, Rest<'t>), Stop<'t>>
     ensures { Keeps view_tree depth_of_tree result ((mapped tree.literal part.negative_value).read rest.entry) }
 {
     let (value, rest) = negative_value(rest)?;
-    Ok((leaf(Expr::Literal(value)), rest))
+    Ok((leaf(alloc, Expr::Literal(value))?, rest))
 }
 
 /// A literal without a sign.
-pub fn plain_literal<'t>(alloc: Global, rest: Rest<'t>) -> Result<(Kept<Expr>, Rest<'t>), Stop<'t>>
+pub fn plain_literal<'t>(
+    alloc: Global,
+    rest: Rest<'t>,
+) -> Result<(Kept<Boxed<Expr>>, Rest<'t>), Stop<'t>>
     ensures { Keeps view_tree depth_of_tree result ((mapped tree.literal part.plain_value).read rest.entry) }
 {
     let (value, rest) = plain_value(alloc, rest)?;
-    Ok((leaf(Expr::Literal(value)), rest))
+    Ok((leaf(alloc, Expr::Literal(value))?, rest))
 }
 
 /// A text, a literal, and the closing parenthesis: what stands in NAME_CONST's.
-pub fn constant<'t>(alloc: Global, rest: Rest<'t>) -> Result<(Kept<Expr>, Rest<'t>), Stop<'t>>
+pub fn constant<'t>(
+    alloc: Global,
+    rest: Rest<'t>,
+) -> Result<(Kept<Boxed<Expr>>, Rest<'t>), Stop<'t>>
     ensures { Keeps view_tree depth_of_tree result (spec.constant.read rest.entry) }
 {
     let (name, rest) = a_text(alloc, rest)?;
     let ((), rest) = rest.skip_mark(Symbol::Comma)?;
     let (value, rest) = a_value(alloc, rest)?;
     let ((), rest) = rest.skip_mark(Symbol::Close)?;
-    Ok((leaf(Expr::NameConst(name, value)), rest))
+    Ok((leaf(alloc, Expr::NameConst(name, value))?, rest))
 }
 
 /// A column of a table, or of a trigger's row where the word is NEW or OLD without quotes.
-fn column_by(alloc: Global, word: &Word<'_>, column: Bytes) -> Result<Kept<Expr>, NoMemory>
+fn column_by(alloc: Global, word: &Word<'_>, column: Bytes) -> Result<Kept<Boxed<Expr>>, NoMemory>
     ensures { IfOk result (λ k. IsKept view_tree depth_of_tree
         (spec.column_by (token.keyword_said word.now) (token.name_said word.now) column) k) }
 {
     match word.key() {
-        Some(Keyword::New) => Ok(leaf(Expr::NewColumn(column))),
-        Some(Keyword::Old) => Ok(leaf(Expr::OldColumn(column))),
-        _ => Ok(leaf(Expr::Column(word.name(alloc)?, column))),
+        Some(Keyword::New) => leaf(alloc, Expr::NewColumn(column)),
+        Some(Keyword::Old) => leaf(alloc, Expr::OldColumn(column)),
+        _ => leaf(alloc, Expr::Column(word.name(alloc)?, column)),
     }
 }
 
@@ -114,11 +126,11 @@ pub fn column<'t>(
     alloc: Global,
     word: Word<'t>,
     rest: Rest<'t>,
-) -> Result<(Kept<Expr>, Rest<'t>), Stop<'t>>
+) -> Result<(Kept<Boxed<Expr>>, Rest<'t>), Stop<'t>>
     ensures { Keeps view_tree depth_of_tree result ((mapped (spec.named word.entry) spec.column_tail).read rest.entry) }
 {
     if !rest.is_mark(Symbol::Dot) {
-        return Ok((leaf(Expr::Name(word.name(alloc)?)), rest));
+        return Ok((leaf(alloc, Expr::Name(word.name(alloc)?))?, rest));
     }
     let ((), rest) = rest.skip_mark(Symbol::Dot)?;
     let (column, rest) = a_name(alloc, rest)?;
@@ -126,10 +138,11 @@ pub fn column<'t>(
 }
 
 /// The call of the built-in without arguments that a word names.
-pub fn call_of(word: Option<Keyword>) -> Kept<Expr>
-    ensures { IsKept view_tree depth_of_tree (spec.none_of word) result }
+fn name_of(word: Option<Keyword>) -> Expr
+    ensures name { view_tree result ≡ spec.none_of word }
+    ensures leaf { depth_of_tree (view_tree result) ≡ 1 }
 {
-    leaf(match word {
+    match word {
         Some(Keyword::UnixTimestamp) => Expr::UnixTimestamp,
         Some(Keyword::Sysdate) => Expr::SysDate,
         Some(Keyword::User) => Expr::User,
@@ -138,5 +151,12 @@ pub fn call_of(word: Option<Keyword>) -> Kept<Expr>
         Some(Keyword::LastInsertId) => Expr::LastInsertId,
         Some(Keyword::RowCount) => Expr::RowCount,
         _ => Expr::Now,
-    })
+    }
+}
+
+/// The same call as a part.
+pub fn call_of(alloc: Global, word: Option<Keyword>) -> Result<Kept<Boxed<Expr>>, NoMemory>
+    ensures { IfOk result (λ k. IsKept view_tree depth_of_tree (spec.none_of word) k) }
+{
+    leaf(alloc, name_of(word))
 }

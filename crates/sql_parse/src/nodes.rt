@@ -13,29 +13,30 @@ ghost use Rattle.sql_tree.specs.Tree.{Tree, Trees, Arms, Part, Query, Selected, 
 ghost use Rattle.sql_tree.specs.Tree as tree;
 ghost use Rattle.sql_tree.specs.View.{view_tree, view_trees, view_arm, view_arms, view_part, view_query, view_selected, view_aggregate, view_aggregates, view_origin, view_order, view_orders};
 
-use crate::kept::{Kept, Levelled, above, beside};
+use crate::kept::{Kept, Levelled, above, beside, on_heap};
 use sql_lex::Keyword;
 use sql_tree::{Aggregate, Arm, Expr, FromClause, Limit, OrderItem, Select, Selection};
 use std::alloc::Global;
 use val_types::{Agg, BinOp, Boxed, Bytes, List, NoMemory, UnOp};
 
 /// A node without parts.
-pub fn leaf(part: Expr) -> Kept<Expr>
-    ensures { depth_of_tree (view_tree part) ≡ 1
-        → IsKept view_tree depth_of_tree (view_tree part) result }
+pub fn leaf(alloc: Global, part: Expr) -> Result<Kept<Boxed<Expr>>, NoMemory>
+    ensures { IfOk result (λ k. depth_of_tree (view_tree part) ≡ 1
+        → IsKept view_tree depth_of_tree (view_tree part) k) }
 {
-    Some(Levelled { part, levels: 1 })
+    let part = Boxed::new(alloc, part)?;
+    Ok(Some(Levelled { part, levels: 1 }))
 }
 
 /// An operator before its operand.
-pub fn unary(alloc: Global, op: UnOp, a: Kept<Expr>) -> Result<Kept<Expr>, NoMemory>
+pub fn unary(alloc: Global, op: UnOp, a: Kept<Boxed<Expr>>) -> Result<Kept<Boxed<Expr>>, NoMemory>
     ensures { IfOk result (λ k. (t : Tree) → IsKept view_tree depth_of_tree t a
         → IsKept view_tree depth_of_tree (tree.unary op t) k) }
 {
     let Some(k) = above(a) else {
         return Ok(None);
     };
-    let part = Expr::Unary(op, Boxed::new(alloc, k.part)?);
+    let part = Boxed::new(alloc, Expr::Unary(op, k.part))?;
     let levels = k.levels;
     Ok(Some(Levelled { part, levels }))
 }
@@ -44,9 +45,9 @@ pub fn unary(alloc: Global, op: UnOp, a: Kept<Expr>) -> Result<Kept<Expr>, NoMem
 pub fn binary(
     alloc: Global,
     op: BinOp,
-    a: Kept<Expr>,
-    b: Kept<Expr>,
-) -> Result<Kept<Expr>, NoMemory>
+    a: Kept<Boxed<Expr>>,
+    b: Kept<Boxed<Expr>>,
+) -> Result<Kept<Boxed<Expr>>, NoMemory>
     ensures { IfOk result (λ k. (t u : Tree)
         → IsKept view_tree depth_of_tree t a → IsKept view_tree depth_of_tree u b
         → IsKept view_tree depth_of_tree (tree.binary op t u) k) }
@@ -55,7 +56,7 @@ pub fn binary(
         return Ok(None);
     };
     let (a, b) = k.part;
-    let part = Expr::Binary(op, Boxed::new(alloc, a)?, Boxed::new(alloc, b)?);
+    let part = Boxed::new(alloc, Expr::Binary(op, a, b))?;
     let levels = k.levels;
     Ok(Some(Levelled { part, levels }))
 }
@@ -64,7 +65,7 @@ pub fn binary(
 #[derive(Drop)]
 pub enum Trial {
     /// A sign that compares, and the right operand.
-    Compared(BinOp, Expr),
+    Compared(BinOp, Boxed<Expr>),
     /// IS NULL or IS NOT NULL.
     IsNull(UnOp),
     /// The expressions of IN, or of NOT IN where `true`.
@@ -72,7 +73,7 @@ pub enum Trial {
 }
 
 /// A sign that compares, and the right operand.
-pub fn compared(op: BinOp, a: Kept<Expr>) -> Kept<Trial>
+pub fn compared(op: BinOp, a: Kept<Boxed<Expr>>) -> Kept<Trial>
     ensures { (t : Tree) → IsKept view_tree depth_of_tree t a
         → IsKept view_trial depth_of_test (spec.compared op t) result }
 {
@@ -108,7 +109,11 @@ pub fn among(negated: bool, items: Kept<List<Expr>>) -> Kept<Trial>
 }
 
 /// The left operand with what stands behind it.
-pub fn tested(alloc: Global, left: Kept<Expr>, trial: Kept<Trial>) -> Result<Kept<Expr>, NoMemory>
+pub fn tested(
+    alloc: Global,
+    left: Kept<Boxed<Expr>>,
+    trial: Kept<Trial>,
+) -> Result<Kept<Boxed<Expr>>, NoMemory>
     ensures { IfOk result (λ k. (t : Tree) (u : spec.Test)
         → IsKept view_tree depth_of_tree t left → IsKept view_trial depth_of_test u trial
         → IsKept view_tree depth_of_tree (spec.tested t u) k) }
@@ -128,9 +133,9 @@ pub fn tested(alloc: Global, left: Kept<Expr>, trial: Kept<Trial>) -> Result<Kep
 fn is_in(
     alloc: Global,
     negated: bool,
-    a: Kept<Expr>,
+    a: Kept<Boxed<Expr>>,
     items: Kept<List<Expr>>,
-) -> Result<Kept<Expr>, NoMemory>
+) -> Result<Kept<Boxed<Expr>>, NoMemory>
     ensures { IfOk result (λ k. (t : Tree) (ts : Trees)
         → IsKept view_tree depth_of_tree t a → IsKept view_trees depth_of_trees ts items
         → IsKept view_tree depth_of_tree (tree.is_in negated t ts) k) }
@@ -139,116 +144,124 @@ fn is_in(
         return Ok(None);
     };
     let (left, items) = k.part;
-    let left = Boxed::new(alloc, left)?;
+    let test = Expr::In {
+        negated,
+        left,
+        items,
+    };
+    let part = Boxed::new(alloc, test)?;
     let levels = k.levels;
-    Ok(Some(Levelled {
-        part: Expr::In {
-            negated,
-            left,
-            items,
-        },
-        levels,
-    }))
+    Ok(Some(Levelled { part, levels }))
 }
 
 /// CASE.
-pub fn choice(arms: Kept<List<Arm>>, otherwise: Kept<Option<Boxed<Expr>>>) -> Kept<Expr>
-    ensures { (as' : Arms) (o : Part)
+pub fn choice(
+    alloc: Global,
+    arms: Kept<List<Arm>>,
+    otherwise: Kept<Option<Boxed<Expr>>>,
+) -> Result<Kept<Boxed<Expr>>, NoMemory>
+    ensures { IfOk result (λ k. (as' : Arms) (o : Part)
         → IsKept view_arms depth_of_arms as' arms → IsKept view_part depth_of_part o otherwise
-        → IsKept view_tree depth_of_tree (tree.choice as' o) result }
+        → IsKept view_tree depth_of_tree (tree.choice as' o) k) }
 {
-    let k = above(beside(arms, otherwise))?;
+    let Some(k) = above(beside(arms, otherwise)) else {
+        return Ok(None);
+    };
     let (arms, otherwise) = k.part;
+    let part = Boxed::new(alloc, Expr::Case { arms, otherwise })?;
     let levels = k.levels;
-    Some(Levelled {
-        part: Expr::Case { arms, otherwise },
-        levels,
-    })
+    Ok(Some(Levelled { part, levels }))
 }
 
 /// A SELECT of one value, which stands in parentheses and is no level more.
-pub fn subquery(alloc: Global, query: Kept<Select>) -> Result<Kept<Expr>, NoMemory>
+pub fn subquery(alloc: Global, query: Kept<Boxed<Select>>) -> Result<Kept<Boxed<Expr>>, NoMemory>
     ensures { IfOk result (λ k. (q : Query) → IsKept view_query depth_of_query q query
         → IsKept view_tree depth_of_tree (tree.subquery q) k) }
 {
     let Some(k) = query else {
         return Ok(None);
     };
-    let part = Expr::Subquery(Boxed::new(alloc, k.part)?);
+    let part = Boxed::new(alloc, Expr::Subquery(k.part))?;
     let levels = k.levels;
     Ok(Some(Levelled { part, levels }))
 }
 
 /// EXISTS.
-pub fn exists(alloc: Global, query: Kept<Select>) -> Result<Kept<Expr>, NoMemory>
+pub fn exists(alloc: Global, query: Kept<Boxed<Select>>) -> Result<Kept<Boxed<Expr>>, NoMemory>
     ensures { IfOk result (λ k. (q : Query) → IsKept view_query depth_of_query q query
         → IsKept view_tree depth_of_tree (tree.exists q) k) }
 {
     let Some(k) = above(query) else {
         return Ok(None);
     };
-    let part = Expr::Exists(Boxed::new(alloc, k.part)?);
+    let part = Boxed::new(alloc, Expr::Exists(k.part))?;
     let levels = k.levels;
     Ok(Some(Levelled { part, levels }))
 }
 
 /// A call of a stored function.
-pub fn call(name: Bytes, arguments: Kept<List<Expr>>) -> Kept<Expr>
-    ensures { (ts : Trees) → IsKept view_trees depth_of_trees ts arguments
-        → IsKept view_tree depth_of_tree (tree.call name ts) result }
+pub fn call(
+    alloc: Global,
+    name: Bytes,
+    arguments: Kept<List<Expr>>,
+) -> Result<Kept<Boxed<Expr>>, NoMemory>
+    ensures { IfOk result (λ k. (ts : Trees) → IsKept view_trees depth_of_trees ts arguments
+        → IsKept view_tree depth_of_tree (tree.call name ts) k) }
 {
-    let k = above(arguments)?;
+    let Some(k) = above(arguments) else {
+        return Ok(None);
+    };
+    let arguments = k.part;
+    let part = Boxed::new(alloc, Expr::Call { name, arguments })?;
     let levels = k.levels;
-    Some(Levelled {
-        part: Expr::Call {
-            name,
-            arguments: k.part,
-        },
-        levels,
-    })
+    Ok(Some(Levelled { part, levels }))
 }
 
 /// `FLOOR(RAND() * a)`
-pub fn floor_rand(alloc: Global, a: Kept<Expr>) -> Result<Kept<Expr>, NoMemory>
+pub fn floor_rand(alloc: Global, a: Kept<Boxed<Expr>>) -> Result<Kept<Boxed<Expr>>, NoMemory>
     ensures { IfOk result (λ k. (t : Tree) → IsKept view_tree depth_of_tree t a
         → IsKept view_tree depth_of_tree (tree.floor_rand t) k) }
 {
     let Some(k) = above(a) else {
         return Ok(None);
     };
-    let part = Expr::FloorRand(Boxed::new(alloc, k.part)?);
+    let part = Boxed::new(alloc, Expr::FloorRand(k.part))?;
     let levels = k.levels;
     Ok(Some(Levelled { part, levels }))
 }
 
 /// ABS.
-fn abs(alloc: Global, a: Kept<Expr>) -> Result<Kept<Expr>, NoMemory>
+fn abs(alloc: Global, a: Kept<Boxed<Expr>>) -> Result<Kept<Boxed<Expr>>, NoMemory>
     ensures { IfOk result (λ k. (t : Tree) → IsKept view_tree depth_of_tree t a
         → IsKept view_tree depth_of_tree (tree.call_abs t) k) }
 {
     let Some(k) = above(a) else {
         return Ok(None);
     };
-    let part = Expr::Abs(Boxed::new(alloc, k.part)?);
+    let part = Boxed::new(alloc, Expr::Abs(k.part))?;
     let levels = k.levels;
     Ok(Some(Levelled { part, levels }))
 }
 
 /// LENGTH.
-fn length(alloc: Global, a: Kept<Expr>) -> Result<Kept<Expr>, NoMemory>
+fn length(alloc: Global, a: Kept<Boxed<Expr>>) -> Result<Kept<Boxed<Expr>>, NoMemory>
     ensures { IfOk result (λ k. (t : Tree) → IsKept view_tree depth_of_tree t a
         → IsKept view_tree depth_of_tree (tree.call_length t) k) }
 {
     let Some(k) = above(a) else {
         return Ok(None);
     };
-    let part = Expr::Length(Boxed::new(alloc, k.part)?);
+    let part = Boxed::new(alloc, Expr::Length(k.part))?;
     let levels = k.levels;
     Ok(Some(Levelled { part, levels }))
 }
 
 /// A call of the built-in of one argument that a word names.
-pub fn one_of(alloc: Global, word: Option<Keyword>, a: Kept<Expr>) -> Result<Kept<Expr>, NoMemory>
+pub fn one_of(
+    alloc: Global,
+    word: Option<Keyword>,
+    a: Kept<Boxed<Expr>>,
+) -> Result<Kept<Boxed<Expr>>, NoMemory>
     ensures { IfOk result (λ k. (t : Tree) → IsKept view_tree depth_of_tree t a
         → IsKept view_tree depth_of_tree (spec.one_of word t) k) }
 {
@@ -259,7 +272,7 @@ pub fn one_of(alloc: Global, word: Option<Keyword>, a: Kept<Expr>) -> Result<Kep
 }
 
 /// A call of the built-in of one argument or more that a word names.
-pub fn many_of(word: Option<Keyword>, arguments: Kept<List<Expr>>) -> Kept<Expr>
+fn many(word: Option<Keyword>, arguments: Kept<List<Expr>>) -> Kept<Expr>
     ensures { (ts : Trees) → IsKept view_trees depth_of_trees ts arguments
         → IsKept view_tree depth_of_tree (spec.many_of word ts) result }
 {
@@ -272,8 +285,24 @@ pub fn many_of(word: Option<Keyword>, arguments: Kept<List<Expr>>) -> Kept<Expr>
     Some(Levelled { part, levels })
 }
 
+/// The same call, on the heap.
+pub fn many_of(
+    alloc: Global,
+    word: Option<Keyword>,
+    arguments: Kept<List<Expr>>,
+) -> Result<Kept<Boxed<Expr>>, NoMemory>
+    ensures { IfOk result (λ k. (ts : Trees) → IsKept view_trees depth_of_trees ts arguments
+        → IsKept view_tree depth_of_tree (spec.many_of word ts) k) }
+{
+    let call = on_heap(alloc, many(word, arguments))?;
+    Ok(call)
+}
+
 /// IFNULL.
-pub fn ifnull(alloc: Global, two: Kept<(Expr, Expr)>) -> Result<Kept<Expr>, NoMemory>
+pub fn ifnull(
+    alloc: Global,
+    two: Kept<(Boxed<Expr>, Boxed<Expr>)>,
+) -> Result<Kept<Boxed<Expr>>, NoMemory>
     ensures { IfOk result (λ k. (ts : Tree × Tree)
         → IsKept (view_beside view_tree view_tree) (depth_beside depth_of_tree depth_of_tree) ts two
         → IsKept view_tree depth_of_tree (tree.call_ifnull ts.0 ts.1) k) }
@@ -282,16 +311,16 @@ pub fn ifnull(alloc: Global, two: Kept<(Expr, Expr)>) -> Result<Kept<Expr>, NoMe
         return Ok(None);
     };
     let (a, b) = k.part;
-    let part = Expr::IfNull(Boxed::new(alloc, a)?, Boxed::new(alloc, b)?);
+    let part = Boxed::new(alloc, Expr::IfNull(a, b))?;
     let levels = k.levels;
     Ok(Some(Levelled { part, levels }))
 }
 
 /// The parts of a call of three arguments.
-pub type Three = (Expr, (Expr, Expr));
+pub type Three = (Boxed<Expr>, (Boxed<Expr>, Boxed<Expr>));
 
 /// IF as an expression.
-pub fn choose(alloc: Global, three: Kept<Three>) -> Result<Kept<Expr>, NoMemory>
+pub fn choose(alloc: Global, three: Kept<Three>) -> Result<Kept<Boxed<Expr>>, NoMemory>
     ensures { IfOk result (λ k. (ts : Tree × (Tree × Tree))
         → IsKept (view_beside view_tree (view_beside view_tree view_tree))
         (depth_beside depth_of_tree (depth_beside depth_of_tree depth_of_tree)) ts three
@@ -301,15 +330,13 @@ pub fn choose(alloc: Global, three: Kept<Three>) -> Result<Kept<Expr>, NoMemory>
         return Ok(None);
     };
     let (a, (b, c)) = k.part;
-    let a = Boxed::new(alloc, a)?;
-    let b = Boxed::new(alloc, b)?;
-    let part = Expr::If(a, b, Boxed::new(alloc, c)?);
+    let part = Boxed::new(alloc, Expr::If(a, b, c))?;
     let levels = k.levels;
     Ok(Some(Levelled { part, levels }))
 }
 
 /// SUBSTRING.
-pub fn substring(alloc: Global, three: Kept<Three>) -> Result<Kept<Expr>, NoMemory>
+pub fn substring(alloc: Global, three: Kept<Three>) -> Result<Kept<Boxed<Expr>>, NoMemory>
     ensures { IfOk result (λ k. (ts : Tree × (Tree × Tree))
         → IsKept (view_beside view_tree (view_beside view_tree view_tree))
         (depth_beside depth_of_tree (depth_beside depth_of_tree depth_of_tree)) ts three
@@ -319,9 +346,7 @@ pub fn substring(alloc: Global, three: Kept<Three>) -> Result<Kept<Expr>, NoMemo
         return Ok(None);
     };
     let (a, (b, c)) = k.part;
-    let a = Boxed::new(alloc, a)?;
-    let b = Boxed::new(alloc, b)?;
-    let part = Expr::Substring(a, b, Boxed::new(alloc, c)?);
+    let part = Boxed::new(alloc, Expr::Substring(a, b, c))?;
     let levels = k.levels;
     Ok(Some(Levelled { part, levels }))
 }
@@ -337,57 +362,68 @@ pub fn no_part() -> Kept<Option<Boxed<Expr>>>
 }
 
 /// An expression that may be left out, and is there.
-pub fn part(alloc: Global, a: Kept<Expr>) -> Result<Kept<Option<Boxed<Expr>>>, NoMemory>
-    ensures { IfOk result (λ k. (t : Tree) → IsKept view_tree depth_of_tree t a
-        → IsKept view_part depth_of_part (tree.part t) k) }
+pub fn part(a: Kept<Boxed<Expr>>) -> Kept<Option<Boxed<Expr>>>
+    ensures { (t : Tree) → IsKept view_tree depth_of_tree t a
+        → IsKept view_part depth_of_part (tree.part t) result }
 {
-    let Some(k) = a else {
-        return Ok(None);
-    };
-    let part = Some(Boxed::new(alloc, k.part)?);
+    let k = a?;
+    let part = Some(k.part);
     let levels = k.levels;
-    Ok(Some(Levelled { part, levels }))
+    Some(Levelled { part, levels })
 }
 
 /// A WHEN of a CASE.
-pub fn arm(condition: Kept<Expr>, value: Kept<Expr>) -> Kept<Arm>
-    ensures { (t u : Tree) → IsKept view_tree depth_of_tree t condition → IsKept view_tree depth_of_tree u value
-        → IsKept view_arm (depth_beside depth_of_tree depth_of_tree) (t, u) result }
+pub fn arm(
+    alloc: Global,
+    condition: Kept<Boxed<Expr>>,
+    value: Kept<Boxed<Expr>>,
+) -> Result<Kept<Boxed<Arm>>, NoMemory>
+    ensures { IfOk result (λ k. (t u : Tree)
+        → IsKept view_tree depth_of_tree t condition → IsKept view_tree depth_of_tree u value
+        → IsKept view_arm (depth_beside depth_of_tree depth_of_tree) (t, u) k) }
 {
-    let k = beside(condition, value)?;
+    let Some(k) = beside(condition, value) else {
+        return Ok(None);
+    };
     let (condition, value) = k.part;
+    let arm = Arm {
+        condition: condition.into_inner(),
+        value: value.into_inner(),
+    };
+    let part = Boxed::new(alloc, arm)?;
     let levels = k.levels;
-    Some(Levelled {
-        part: Arm { condition, value },
-        levels,
-    })
+    Ok(Some(Levelled { part, levels }))
 }
 
 /// ORDER BY's items, and whether they descend.
-pub fn order_item(by: Kept<Expr>, descending: bool) -> Kept<OrderItem>
-    ensures { (t : Tree) → IsKept view_tree depth_of_tree t by
-        → IsKept view_order (λ o. depth_of_tree o.0) (t, descending) result }
+pub fn order_item(
+    alloc: Global,
+    by: Kept<Boxed<Expr>>,
+    descending: bool,
+) -> Result<Kept<Boxed<OrderItem>>, NoMemory>
+    ensures { IfOk result (λ k. (t : Tree) → IsKept view_tree depth_of_tree t by
+        → IsKept view_order (λ o. depth_of_tree o.0) (t, descending) k) }
 {
-    let k = by?;
-    let by = k.part;
+    let Some(k) = by else {
+        return Ok(None);
+    };
+    let by = k.part.into_inner();
+    let part = Boxed::new(alloc, OrderItem { by, descending })?;
     let levels = k.levels;
-    Some(Levelled {
-        part: OrderItem { by, descending },
-        levels,
-    })
+    Ok(Some(Levelled { part, levels }))
 }
 
 /// An aggregate of an expression.
-pub fn aggregate(alloc: Global, function: Agg, a: Kept<Expr>) -> Result<Kept<Aggregate>, NoMemory>
-    ensures { IfOk result (λ k. (t : Tree) → IsKept view_tree depth_of_tree t a
-        → IsKept view_aggregate depth_of_aggregate (Some (function, t)) k) }
+pub fn aggregate(function: Agg, a: Kept<Boxed<Expr>>) -> Kept<Aggregate>
+    ensures { (t : Tree) → IsKept view_tree depth_of_tree t a
+        → IsKept view_aggregate depth_of_aggregate (Some (function, t)) result }
 {
-    let Some(k) = above(a) else {
-        return Ok(None);
-    };
-    let part = Aggregate::Of(function, Boxed::new(alloc, k.part)?);
+    let k = above(a)?;
     let levels = k.levels;
-    Ok(Some(Levelled { part, levels }))
+    Some(Levelled {
+        part: Aggregate::Of(function, k.part),
+        levels,
+    })
 }
 
 /// `COUNT(*)`
@@ -512,16 +548,20 @@ pub fn no_origin() -> Kept<Option<FromClause>>
 }
 
 /// A SELECT.
-pub fn select(what: Kept<Selection>, from: Kept<Option<FromClause>>) -> Kept<Select>
-    ensures { (s : Selected) (o : Origin)
+pub fn select(
+    alloc: Global,
+    what: Kept<Selection>,
+    from: Kept<Option<FromClause>>,
+) -> Result<Kept<Boxed<Select>>, NoMemory>
+    ensures { IfOk result (λ k. (s : Selected) (o : Origin)
         → IsKept view_selected depth_of_selected s what → IsKept view_origin depth_of_origin o from
-        → IsKept view_query depth_of_query (tree.query s o) result }
+        → IsKept view_query depth_of_query (tree.query s o) k) }
 {
-    let k = above(beside(what, from))?;
+    let Some(k) = above(beside(what, from)) else {
+        return Ok(None);
+    };
     let (what, from) = k.part;
+    let part = Boxed::new(alloc, Select { what, from })?;
     let levels = k.levels;
-    Some(Levelled {
-        part: Select { what, from },
-        levels,
-    })
+    Ok(Some(Levelled { part, levels }))
 }

@@ -14,7 +14,7 @@ ghost use Rattle.std.specs.Prelude.{map, pred};
 use crate::calls::by_name;
 use crate::expressions::whole;
 use crate::fault::Stop;
-use crate::kept::{Kept, alone, beside, push};
+use crate::kept::{Kept, alone_boxed, beside, push_boxed};
 use crate::leaves::{system_variable, user_variable, values_call};
 use crate::nodes::{Three, arm, choice, choose, exists, no_part, part, subquery};
 use crate::opening::{open_key, open_mark};
@@ -31,7 +31,7 @@ pub fn primary<'t>(
     alloc: Global,
     depth: u32,
     rest: Rest<'t>,
-) -> Result<(Kept<Expr>, Rest<'t>), Stop<'t>>
+) -> Result<(Kept<Boxed<Expr>>, Rest<'t>), Stop<'t>>
     ensures { Keeps view_tree depth_of_tree result
         ((spec.primary depth (spec.nested (pred depth))).read rest.entry) }
 {
@@ -67,7 +67,7 @@ fn grouped<'t>(
     alloc: Global,
     depth: u32,
     rest: Rest<'t>,
-) -> Result<(Kept<Expr>, Rest<'t>), Stop<'t>>
+) -> Result<(Kept<Boxed<Expr>>, Rest<'t>), Stop<'t>>
     ensures { Keeps view_tree depth_of_tree result ((spec.grouped (spec.nested depth)).read rest.entry) }
 {
     if !rest.is_key(Keyword::Select) {
@@ -84,7 +84,7 @@ pub fn closed_whole<'t>(
     alloc: Global,
     depth: u32,
     rest: Rest<'t>,
-) -> Result<(Kept<Expr>, Rest<'t>), Stop<'t>>
+) -> Result<(Kept<Boxed<Expr>>, Rest<'t>), Stop<'t>>
     ensures { Keeps view_tree depth_of_tree result ((part.closed (spec.nested depth).whole).read rest.entry) }
 {
     let (a, rest) = whole(alloc, depth, rest)?;
@@ -98,7 +98,7 @@ fn exists_call<'t>(
     alloc: Global,
     depth: u32,
     rest: Rest<'t>,
-) -> Result<(Kept<Expr>, Rest<'t>), Stop<'t>>
+) -> Result<(Kept<Boxed<Expr>>, Rest<'t>), Stop<'t>>
     ensures { Keeps view_tree depth_of_tree result
         ((behind (keyword words.Exists) (part.in_parentheses depth (mapped tree.exists (part.closed (spec.nested (pred depth)).select)))).read rest.entry) }
 {
@@ -115,7 +115,7 @@ fn if_call<'t>(
     alloc: Global,
     depth: u32,
     rest: Rest<'t>,
-) -> Result<(Kept<Expr>, Rest<'t>), Stop<'t>>
+) -> Result<(Kept<Boxed<Expr>>, Rest<'t>), Stop<'t>>
     ensures { Keeps view_tree depth_of_tree result
         ((behind (keyword words.If) (part.in_parentheses depth (spec.three_arguments tree.call_if (spec.nested (pred depth)).whole))).read rest.entry) }
 {
@@ -147,7 +147,7 @@ fn comma_two<'t>(
     alloc: Global,
     depth: u32,
     rest: Rest<'t>,
-) -> Result<(Kept<(Expr, Expr)>, Rest<'t>), Stop<'t>>
+) -> Result<(Kept<(Boxed<Expr>, Boxed<Expr>)>, Rest<'t>), Stop<'t>>
     ensures { Keeps (view_beside view_tree view_tree) (depth_beside depth_of_tree depth_of_tree) result
         ((behind (sign signs.Comma) (spec.two_arguments paired (spec.nested depth).whole)).read rest.entry) }
 {
@@ -161,7 +161,7 @@ pub fn two_arguments<'t>(
     alloc: Global,
     depth: u32,
     rest: Rest<'t>,
-) -> Result<(Kept<(Expr, Expr)>, Rest<'t>), Stop<'t>>
+) -> Result<(Kept<(Boxed<Expr>, Boxed<Expr>)>, Rest<'t>), Stop<'t>>
     ensures { Keeps (view_beside view_tree view_tree) (depth_beside depth_of_tree depth_of_tree) result
         ((spec.two_arguments paired (spec.nested depth).whole).read rest.entry) }
 {
@@ -176,7 +176,7 @@ fn comma_one<'t>(
     alloc: Global,
     depth: u32,
     rest: Rest<'t>,
-) -> Result<(Kept<Expr>, Rest<'t>), Stop<'t>>
+) -> Result<(Kept<Boxed<Expr>>, Rest<'t>), Stop<'t>>
     ensures { Keeps view_tree depth_of_tree result
         ((behind (sign signs.Comma) (part.closed (spec.nested depth).whole)).read rest.entry) }
 {
@@ -190,7 +190,7 @@ fn case_body<'t>(
     alloc: Global,
     depth: u32,
     rest: Rest<'t>,
-) -> Result<(Kept<Expr>, Rest<'t>), Stop<'t>>
+) -> Result<(Kept<Boxed<Expr>>, Rest<'t>), Stop<'t>>
     ensures { Keeps view_tree depth_of_tree result ((spec.case_body (spec.nested depth).whole).read rest.entry) }
 {
     let (parts, rest) = case_parts(alloc, depth, rest)?;
@@ -204,12 +204,12 @@ fn case_parts<'t>(
     alloc: Global,
     depth: u32,
     rest: Rest<'t>,
-) -> Result<(Kept<Expr>, Rest<'t>), Stop<'t>>
+) -> Result<(Kept<Boxed<Expr>>, Rest<'t>), Stop<'t>>
     ensures { Keeps view_tree depth_of_tree result ((spec.case_parts (spec.nested depth).whole).read rest.entry) }
 {
     let (arms, rest) = when_arms(alloc, depth, rest)?;
     let (otherwise, rest) = else_part(alloc, depth, rest)?;
-    Ok((choice(arms, otherwise), rest))
+    Ok((choice(alloc, arms, otherwise)?, rest))
 }
 
 /// The WHENs of a CASE, one or more.
@@ -223,13 +223,13 @@ fn when_arms<'t>(
         ((spec.when_arms (spec.nested depth).whole).read rest.entry) }
 {
     let (first, mut rest) = when_arm(alloc, depth, rest)?;
-    let mut arms = alone(alloc, first)?;
+    let mut arms = alone_boxed(alloc, first)?;
     for _turn in 0..rest.len() {
         if !rest.is_key(Keyword::When) {
             return Ok((arms, rest));
         }
         let (arm, after) = when_arm(alloc, depth, rest)?;
-        arms = push(arms, arm)?;
+        arms = push_boxed(arms, arm)?;
         rest = after;
     }
     Ok((arms, rest))
@@ -241,14 +241,14 @@ fn when_arm<'t>(
     alloc: Global,
     depth: u32,
     rest: Rest<'t>,
-) -> Result<(Kept<Arm>, Rest<'t>), Stop<'t>>
+) -> Result<(Kept<Boxed<Arm>>, Rest<'t>), Stop<'t>>
     ensures { Keeps view_arm (depth_beside depth_of_tree depth_of_tree) result
         ((spec.when_arm (spec.nested depth).whole).read rest.entry) }
 {
     let ((), rest) = rest.skip_key(Keyword::When)?;
     let (condition, rest) = whole(alloc, depth, rest)?;
     let (value, rest) = then_value(alloc, depth, rest)?;
-    Ok((arm(condition, value), rest))
+    Ok((arm(alloc, condition, value)?, rest))
 }
 
 /// THEN value
@@ -257,7 +257,7 @@ fn then_value<'t>(
     alloc: Global,
     depth: u32,
     rest: Rest<'t>,
-) -> Result<(Kept<Expr>, Rest<'t>), Stop<'t>>
+) -> Result<(Kept<Boxed<Expr>>, Rest<'t>), Stop<'t>>
     ensures { Keeps view_tree depth_of_tree result
         ((behind (keyword words.Then) (spec.nested depth).whole).read rest.entry) }
 {
@@ -280,5 +280,5 @@ fn else_part<'t>(
     }
     let ((), rest) = rest.skip_key(Keyword::Else)?;
     let (a, rest) = whole(alloc, depth, rest)?;
-    Ok((part(alloc, a)?, rest))
+    Ok((part(a), rest))
 }

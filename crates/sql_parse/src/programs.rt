@@ -19,7 +19,7 @@ use crate::common::{common, leaf};
 use crate::expressions::whole;
 use crate::fault::Stop;
 use crate::heads::a_head;
-use crate::kept::{Kept, Levelled, alone, push};
+use crate::kept::{Kept, Levelled, alone_boxed, on_heap, push_boxed};
 use crate::lexeme::code;
 use crate::opening::opening;
 use crate::rest::Rest;
@@ -28,7 +28,7 @@ use sql_lex::{Keyword, Symbol};
 use sql_syntax::Head;
 use sql_tree::{Branch, Stmt};
 use std::alloc::Global;
-use val_types::List;
+use val_types::{Boxed, List};
 
 /// What a statement in a program begins with.
 const INNER_WORDS: [u8; 19] = [
@@ -60,7 +60,7 @@ pub fn inner<'t>(
     alloc: Global,
     depth: u32,
     rest: Rest<'t>,
-) -> Result<(Kept<Stmt>, Rest<'t>), Stop<'t>>
+) -> Result<(Kept<Boxed<Stmt>>, Rest<'t>), Stop<'t>>
     ensures { Keeps view depth_of result ((spec.inner depth).read rest.entry) }
 {
     let mut heads = List::new(alloc);
@@ -86,11 +86,12 @@ fn tabled<'t>(
     depth: u32,
     heads: List<Head>,
     rest: Rest<'t>,
-) -> Result<(Kept<Stmt>, Rest<'t>), Stop<'t>>
+) -> Result<(Kept<Boxed<Stmt>>, Rest<'t>), Stop<'t>>
     ensures { Keeps view depth_of result ((mapped (λ t. spec.with_heads heads (create_table t)) (tables.table depth)).read rest.entry) }
 {
     let (part, rest) = table(alloc, depth, rest)?;
-    let program = with_heads(alloc, heads, leaf(Stmt::CreateTable(part)))?;
+    let body = on_heap(alloc, leaf(Stmt::CreateTable(part)))?;
+    let program = with_heads(alloc, heads, body)?;
     Ok((program, rest))
 }
 
@@ -101,7 +102,7 @@ fn bodied<'t>(
     depth: u32,
     heads: List<Head>,
     rest: Rest<'t>,
-) -> Result<(Kept<Stmt>, Rest<'t>), Stop<'t>>
+) -> Result<(Kept<Boxed<Stmt>>, Rest<'t>), Stop<'t>>
     ensures { Keeps view depth_of result ((mapped (spec.with_heads heads) (spec.core depth)).read rest.entry) }
 {
     let (body, rest) = inner_core(alloc, depth, rest)?;
@@ -115,7 +116,7 @@ fn inner_core<'t>(
     alloc: Global,
     depth: u32,
     rest: Rest<'t>,
-) -> Result<(Kept<Stmt>, Rest<'t>), Stop<'t>>
+) -> Result<(Kept<Boxed<Stmt>>, Rest<'t>), Stop<'t>>
     ensures { Keeps view depth_of result ((spec.core depth).read rest.entry) }
 {
     if rest.is_key(Keyword::Begin) {
@@ -130,7 +131,19 @@ fn inner_core<'t>(
     if rest.is_key(Keyword::Return) {
         return return_value(alloc, depth, rest);
     }
-    common(alloc, depth, rest)
+    common_step(alloc, depth, rest)
+}
+
+/// A statement that may stand outside of programs too.
+fn common_step<'t>(
+    alloc: Global,
+    depth: u32,
+    rest: Rest<'t>,
+) -> Result<(Kept<Boxed<Stmt>>, Rest<'t>), Stop<'t>>
+    ensures { Keeps view depth_of result ((spec.common depth).read rest.entry) }
+{
+    let (step, rest) = common(alloc, depth, rest)?;
+    Ok((on_heap(alloc, step)?, rest))
 }
 
 /// RETURN and its value.
@@ -138,17 +151,21 @@ fn return_value<'t>(
     alloc: Global,
     depth: u32,
     rest: Rest<'t>,
-) -> Result<(Kept<Stmt>, Rest<'t>), Stop<'t>>
+) -> Result<(Kept<Boxed<Stmt>>, Rest<'t>), Stop<'t>>
     ensures { Keeps view depth_of result ((spec.a_return depth).read rest.entry) }
 {
     let ((), rest) = rest.skip_key(Keyword::Return)?;
     let (value, rest) = whole(alloc, depth, rest)?;
-    Ok((returned(value), rest))
+    Ok((returned(alloc, value)?, rest))
 }
 
 /// A block.
 #[cycle(programs)]
-fn block<'t>(alloc: Global, depth: u32, rest: Rest<'t>) -> Result<(Kept<Stmt>, Rest<'t>), Stop<'t>>
+fn block<'t>(
+    alloc: Global,
+    depth: u32,
+    rest: Rest<'t>,
+) -> Result<(Kept<Boxed<Stmt>>, Rest<'t>), Stop<'t>>
     ensures { Keeps view depth_of result ((opened depth (any_of kind (code words.Begin)) (λ u s. s) (spec.block_body (pred depth) (spec.inside depth))).read rest.entry) }
 {
     let (depth, rest) = opening(depth, code(Keyword::Begin), rest)?;
@@ -161,12 +178,12 @@ fn block_body<'t>(
     alloc: Global,
     depth: u32,
     rest: Rest<'t>,
-) -> Result<(Kept<Stmt>, Rest<'t>), Stop<'t>>
+) -> Result<(Kept<Boxed<Stmt>>, Rest<'t>), Stop<'t>>
     ensures { Keeps view depth_of result ((spec.block_body depth (spec.inner depth)).read rest.entry) }
 {
     let (declarations, rest) = declarations(alloc, depth, rest)?;
     let (body, rest) = steps_to_end(alloc, depth, rest)?;
-    Ok((blocked(declarations, body), rest))
+    Ok((blocked(alloc, declarations, body)?, rest))
 }
 
 /// Steps, none too, and END.
@@ -184,7 +201,11 @@ fn steps_to_end<'t>(
 
 /// A statement and its semicolon.
 #[cycle(programs)]
-fn a_step<'t>(alloc: Global, depth: u32, rest: Rest<'t>) -> Result<(Kept<Stmt>, Rest<'t>), Stop<'t>>
+fn a_step<'t>(
+    alloc: Global,
+    depth: u32,
+    rest: Rest<'t>,
+) -> Result<(Kept<Boxed<Stmt>>, Rest<'t>), Stop<'t>>
     ensures { Keeps view depth_of result ((spec.a_step (spec.inner depth)).read rest.entry) }
 {
     let (step, rest) = inner(alloc, depth, rest)?;
@@ -209,7 +230,7 @@ fn more_steps<'t>(
             return Ok((items, rest));
         }
         let (item, after) = a_step(alloc, depth, rest)?;
-        items = push(items, item)?;
+        items = push_boxed(items, item)?;
         rest = after;
     }
     Ok((items, rest))
@@ -238,7 +259,7 @@ fn steps<'t>(
     ensures { Keeps view_statements depth_of_statements result ((spec.steps' (spec.inner depth)).read rest.entry) }
 {
     let (first, rest) = a_step(alloc, depth, rest)?;
-    let first = alone(alloc, first)?;
+    let first = alone_boxed(alloc, first)?;
     more_steps(alloc, depth, first, rest)
 }
 
@@ -248,12 +269,12 @@ fn a_branch<'t>(
     alloc: Global,
     depth: u32,
     rest: Rest<'t>,
-) -> Result<(Kept<Branch>, Rest<'t>), Stop<'t>>
+) -> Result<(Kept<Boxed<Branch>>, Rest<'t>), Stop<'t>>
     ensures { Keeps view_branch depth_of_branch result ((spec.a_branch depth (spec.inner depth)).read rest.entry) }
 {
     let (condition, rest) = whole(alloc, depth, rest)?;
     let (steps, rest) = then_steps(alloc, depth, rest)?;
-    Ok((branched(condition, steps), rest))
+    Ok((branched(alloc, condition, steps)?, rest))
 }
 
 /// THEN and steps.
@@ -275,7 +296,7 @@ fn next_branch<'t>(
     alloc: Global,
     depth: u32,
     rest: Rest<'t>,
-) -> Result<(Kept<Branch>, Rest<'t>), Stop<'t>>
+) -> Result<(Kept<Boxed<Branch>>, Rest<'t>), Stop<'t>>
     ensures { Keeps view_branch depth_of_branch result ((spec.next_branch depth (spec.inner depth)).read rest.entry) }
 {
     let ((), rest) = rest.skip_key(Keyword::Elseif)?;
@@ -292,13 +313,13 @@ fn branches<'t>(
     ensures { Keeps (map view_branch) (deepest depth_of_branch) result ((spec.branches depth (spec.inner depth)).read rest.entry) }
 {
     let (first, mut rest) = a_branch(alloc, depth, rest)?;
-    let mut items = alone(alloc, first)?;
+    let mut items = alone_boxed(alloc, first)?;
     for _turn in 0..rest.len() {
         if !rest.is_key(Keyword::Elseif) {
             return Ok((items, rest));
         }
         let (item, after) = next_branch(alloc, depth, rest)?;
-        items = push(items, item)?;
+        items = push_boxed(items, item)?;
         rest = after;
     }
     Ok((items, rest))
@@ -328,7 +349,7 @@ fn if_body<'t>(
     alloc: Global,
     depth: u32,
     rest: Rest<'t>,
-) -> Result<(Kept<Stmt>, Rest<'t>), Stop<'t>>
+) -> Result<(Kept<Boxed<Stmt>>, Rest<'t>), Stop<'t>>
     ensures { Keeps view depth_of result ((spec.if_body depth (spec.inner depth)).read rest.entry) }
 {
     let (choice, rest) = if_parts(alloc, depth, rest)?;
@@ -341,17 +362,21 @@ fn if_parts<'t>(
     alloc: Global,
     depth: u32,
     rest: Rest<'t>,
-) -> Result<(Kept<Stmt>, Rest<'t>), Stop<'t>>
+) -> Result<(Kept<Boxed<Stmt>>, Rest<'t>), Stop<'t>>
     ensures { Keeps view depth_of result ((both (λ bs o. if_steps (spec.branches_of bs) o) (spec.branches depth (spec.inner depth)) (spec.otherwise (spec.inner depth))).read rest.entry) }
 {
     let (arms, rest) = branches(alloc, depth, rest)?;
     let (otherwise, rest) = otherwise(alloc, depth, rest)?;
-    Ok((chosen(arms, otherwise), rest))
+    Ok((chosen(alloc, arms, otherwise)?, rest))
 }
 
 /// An IF.
 #[cycle(programs)]
-fn choice<'t>(alloc: Global, depth: u32, rest: Rest<'t>) -> Result<(Kept<Stmt>, Rest<'t>), Stop<'t>>
+fn choice<'t>(
+    alloc: Global,
+    depth: u32,
+    rest: Rest<'t>,
+) -> Result<(Kept<Boxed<Stmt>>, Rest<'t>), Stop<'t>>
     ensures { Keeps view depth_of result ((opened depth (any_of kind (code words.If)) (λ u s. s) (spec.if_body (pred depth) (spec.inside depth))).read rest.entry) }
 {
     let (depth, rest) = opening(depth, code(Keyword::If), rest)?;
@@ -364,12 +389,12 @@ fn while_body<'t>(
     alloc: Global,
     depth: u32,
     rest: Rest<'t>,
-) -> Result<(Kept<Stmt>, Rest<'t>), Stop<'t>>
+) -> Result<(Kept<Boxed<Stmt>>, Rest<'t>), Stop<'t>>
     ensures { Keeps view depth_of result ((spec.while_body depth (spec.inner depth)).read rest.entry) }
 {
     let (condition, rest) = whole(alloc, depth, rest)?;
     let (steps, rest) = do_steps(alloc, depth, rest)?;
-    Ok((repeated(condition, steps), rest))
+    Ok((repeated(alloc, condition, steps)?, rest))
 }
 
 /// DO, steps and END WHILE.
@@ -392,7 +417,7 @@ fn repetition<'t>(
     alloc: Global,
     depth: u32,
     rest: Rest<'t>,
-) -> Result<(Kept<Stmt>, Rest<'t>), Stop<'t>>
+) -> Result<(Kept<Boxed<Stmt>>, Rest<'t>), Stop<'t>>
     ensures { Keeps view depth_of result ((opened depth (any_of kind (code words.While)) (λ u s. s) (spec.while_body (pred depth) (spec.inside depth))).read rest.entry) }
 {
     let (depth, rest) = opening(depth, code(Keyword::While), rest)?;

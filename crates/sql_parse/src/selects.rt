@@ -14,7 +14,7 @@ ghost use Rattle.std.specs.Prelude.{◌≡◌, ◌∷◌, [], Some, map, pred};
 
 use crate::expressions::{list, whole};
 use crate::fault::Stop;
-use crate::kept::{Kept, alone, beside, empty, push};
+use crate::kept::{Kept, alone, alone_boxed, beside, empty, push, push_boxed};
 use crate::limits::limits;
 use crate::nodes;
 use crate::nodes::{
@@ -50,7 +50,7 @@ pub fn select<'t>(
     alloc: Global,
     depth: u32,
     rest: Rest<'t>,
-) -> Result<(Kept<Select>, Rest<'t>), Stop<'t>>
+) -> Result<(Kept<Boxed<Select>>, Rest<'t>), Stop<'t>>
     ensures { Keeps view_query depth_of_query result
         ((spec.nested depth).select.read rest.entry) }
 {
@@ -64,7 +64,7 @@ pub fn single<'t>(
     alloc: Global,
     depth: u32,
     rest: Rest<'t>,
-) -> Result<(Kept<Select>, Rest<'t>), Stop<'t>>
+) -> Result<(Kept<Boxed<Select>>, Rest<'t>), Stop<'t>>
     ensures { Keeps view_query depth_of_query result
         ((spec.nested depth).single.read rest.entry) }
 {
@@ -78,7 +78,7 @@ fn single_selection<'t>(
     alloc: Global,
     depth: u32,
     rest: Rest<'t>,
-) -> Result<(Kept<Select>, Rest<'t>), Stop<'t>>
+) -> Result<(Kept<Boxed<Select>>, Rest<'t>), Stop<'t>>
     ensures { Keeps view_query depth_of_query result
         ((selects.single_selected depth (spec.nested depth).whole (spec.nested (pred depth)).whole).read rest.entry) }
 {
@@ -94,14 +94,14 @@ fn selection<'t>(
     alloc: Global,
     depth: u32,
     rest: Rest<'t>,
-) -> Result<(Kept<Select>, Rest<'t>), Stop<'t>>
+) -> Result<(Kept<Boxed<Select>>, Rest<'t>), Stop<'t>>
     ensures { Keeps view_query depth_of_query result
         ((selects.selected depth (spec.nested depth).whole (spec.nested (pred depth)).whole).read rest.entry) }
 {
     if rest.is_mark(Symbol::Star) {
         let ((), rest) = rest.skip_mark(Symbol::Star)?;
         let (from, rest) = from_part(alloc, depth, rest)?;
-        return Ok((nodes::select(all_columns(), from), rest));
+        return Ok((nodes::select(alloc, all_columns(), from)?, rest));
     }
     if rest.are_in(&AGGREGATES, &[OPEN]) {
         return aggregated(alloc, depth, rest);
@@ -115,13 +115,13 @@ fn itemized<'t>(
     alloc: Global,
     depth: u32,
     rest: Rest<'t>,
-) -> Result<(Kept<Select>, Rest<'t>), Stop<'t>>
+) -> Result<(Kept<Boxed<Select>>, Rest<'t>), Stop<'t>>
     ensures { Keeps view_query depth_of_query result
         ((selects.itemized (spec.nested depth).whole).read rest.entry) }
 {
     let (what, rest) = list(alloc, depth, rest)?;
     let (from, rest) = origin(alloc, depth, rest)?;
-    Ok((nodes::select(items(what), from), rest))
+    Ok((nodes::select(alloc, items(what), from)?, rest))
 }
 
 /// One expression, with FROM or not.
@@ -130,14 +130,14 @@ fn itemized_one<'t>(
     alloc: Global,
     depth: u32,
     rest: Rest<'t>,
-) -> Result<(Kept<Select>, Rest<'t>), Stop<'t>>
+) -> Result<(Kept<Boxed<Select>>, Rest<'t>), Stop<'t>>
     ensures { Keeps view_query depth_of_query result
         ((selects.itemized_one (spec.nested depth).whole).read rest.entry) }
 {
     let (what, rest) = whole(alloc, depth, rest)?;
-    let what = alone(alloc, what)?;
+    let what = alone_boxed(alloc, what)?;
     let (from, rest) = origin(alloc, depth, rest)?;
-    Ok((nodes::select(items(what), from), rest))
+    Ok((nodes::select(alloc, items(what), from)?, rest))
 }
 
 /// Aggregates, with FROM and WHERE.
@@ -146,13 +146,13 @@ fn aggregated<'t>(
     alloc: Global,
     depth: u32,
     rest: Rest<'t>,
-) -> Result<(Kept<Select>, Rest<'t>), Stop<'t>>
+) -> Result<(Kept<Boxed<Select>>, Rest<'t>), Stop<'t>>
     ensures { Keeps view_query depth_of_query result
         ((selects.aggregated depth (spec.nested depth).whole (spec.nested (pred depth)).whole).read rest.entry) }
 {
     let (what, rest) = aggregate_list(alloc, depth, rest)?;
     let (from, rest) = plain_from(alloc, depth, rest)?;
-    Ok((nodes::select(aggregates(what), from), rest))
+    Ok((nodes::select(alloc, aggregates(what), from)?, rest))
 }
 
 /// One aggregate, with FROM and WHERE.
@@ -161,14 +161,14 @@ fn aggregated_one<'t>(
     alloc: Global,
     depth: u32,
     rest: Rest<'t>,
-) -> Result<(Kept<Select>, Rest<'t>), Stop<'t>>
+) -> Result<(Kept<Boxed<Select>>, Rest<'t>), Stop<'t>>
     ensures { Keeps view_query depth_of_query result
         ((selects.aggregated_one depth (spec.nested depth).whole (spec.nested (pred depth)).whole).read rest.entry) }
 {
     let (what, rest) = one_aggregate(alloc, depth, rest)?;
     let what = alone(alloc, what)?;
     let (from, rest) = plain_from(alloc, depth, rest)?;
-    Ok((nodes::select(aggregates(what), from), rest))
+    Ok((nodes::select(alloc, aggregates(what), from)?, rest))
 }
 
 /// Aggregates with commas between.
@@ -213,7 +213,7 @@ fn one_aggregate<'t>(
     let (function, rest) = one_sided(rest)?;
     let (inside, rest) = open_mark(depth, Symbol::Open, rest)?;
     let (a, rest) = closed_whole(alloc, inside, rest)?;
-    Ok((aggregate(alloc, function, a)?, rest))
+    Ok((aggregate(function, a), rest))
 }
 
 /// The aggregate that a word names.
@@ -253,7 +253,7 @@ fn counted<'t>(
     }
     let (a, rest) = whole(alloc, depth, rest)?;
     let ((), rest) = rest.skip_mark(Symbol::Close)?;
-    Ok((aggregate(alloc, Agg::Count, a)?, rest))
+    Ok((aggregate(Agg::Count, a), rest))
 }
 
 /// FROM and what stands behind it, or nothing.
@@ -349,7 +349,7 @@ pub fn where_part<'t>(
     }
     let ((), rest) = rest.skip_key(Keyword::Where)?;
     let (a, rest) = whole(alloc, depth, rest)?;
-    Ok((part(alloc, a)?, rest))
+    Ok((part(a), rest))
 }
 
 /// [ORDER BY ..]
@@ -381,14 +381,14 @@ fn order_list<'t>(
         ((mapped orders_of (part.list_of (both paired (spec.nested depth).whole selects.direction))).read rest.entry) }
 {
     let (first, mut rest) = order_one(alloc, depth, rest)?;
-    let mut list = alone(alloc, first)?;
+    let mut list = alone_boxed(alloc, first)?;
     for _turn in 0..rest.len() {
         if !rest.is_mark(Symbol::Comma) {
             return Ok((list, rest));
         }
         let ((), after) = rest.skip_mark(Symbol::Comma)?;
         let (item, after) = order_one(alloc, depth, after)?;
-        list = push(list, item)?;
+        list = push_boxed(list, item)?;
         rest = after;
     }
     Ok((list, rest))
@@ -400,13 +400,13 @@ fn order_one<'t>(
     alloc: Global,
     depth: u32,
     rest: Rest<'t>,
-) -> Result<(Kept<OrderItem>, Rest<'t>), Stop<'t>>
+) -> Result<(Kept<Boxed<OrderItem>>, Rest<'t>), Stop<'t>>
     ensures { Keeps view_order (λ o. depth_of_tree o.0) result
         ((both paired (spec.nested depth).whole selects.direction).read rest.entry) }
 {
     let (by, rest) = whole(alloc, depth, rest)?;
     let (descending, rest) = direction(rest)?;
-    Ok((order_item(by, descending), rest))
+    Ok((order_item(alloc, by, descending)?, rest))
 }
 
 /// [ASC | DESC]

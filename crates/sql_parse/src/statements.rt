@@ -10,7 +10,7 @@ use crate::bodies::with_kept_body;
 use crate::common::{common, leaf};
 use crate::fault::Stop;
 use crate::heads::a_head;
-use crate::kept::Kept;
+use crate::kept::{Kept, unboxed};
 use crate::programs::inner;
 use crate::rest::Rest;
 use crate::sessions::{begun, started};
@@ -30,7 +30,7 @@ fn created<'t>(
     let (head, rest) = a_head(alloc, depth, rest)?;
     let (body, rest) = inner(alloc, depth, rest)?;
     let program = with_kept_body(alloc, head, body)?;
-    Ok((program, rest))
+    Ok((unboxed(program), rest))
 }
 
 /// CREATE of a table or a stored program.

@@ -249,13 +249,13 @@ pub primaries::when_arm-returns : goal.primaries::when_arm-returns
 primaries::when_arm-returns t c =
     let r = c.in_ok-condition.ensures in
     let s = c.in_ok-value.ensures in
-    ((r.0, s.0), rw (c.in_ok-rest.ensures, r.1, s.1) refl, c.arm.ensures r.0 s.0 r.2 s.2)
+    ((r.0, s.0), rw (c.in_ok-rest.ensures, r.1, s.1) refl, c.in_ok-arm.ensures r.0 s.0 r.2 s.2)
 
 pub primaries::case_parts-returns : goal.primaries::case_parts-returns
 primaries::case_parts-returns t c =
     let r = c.in_ok-arms.ensures in
     let s = c.in_ok-otherwise.ensures in
-    (choice (arms_of r.0) s.0, rw (r.1, s.1) refl, c.choice.ensures (arms_of r.0) s.0 (kept_seen (map view_arm) (deepest (depth_beside depth_of_tree depth_of_tree)) view_arms depth_of_arms arms_of (λ x. refl) deepest_arms r.0 _ r.2) s.2)
+    (choice (arms_of r.0) s.0, rw (r.1, s.1) refl, c.in_ok-choice.ensures (arms_of r.0) s.0 (kept_seen (map view_arm) (deepest (depth_beside depth_of_tree depth_of_tree)) view_arms depth_of_arms arms_of (λ x. refl) deepest_arms r.0 _ r.2) s.2)
 
 pub primaries::when_arms-loop-turn-init : goal.primaries::when_arms-loop-turn-init
 primaries::when_arms-loop-turn-init t c =
@@ -331,7 +331,7 @@ calls::with_some-returns t c =
     let r = c.in_ok-items.ensures in (
       many_of (keyword_said c.in_ok-word.word) r.0,
       rw (called_as with_some (λ t a. many_of (keyword_said t) a) c.args.depth c.in_ok-inside.inside (λ m. closed (exprs (nested m).whole)) c.args.rest _ _ _ c.in_ok-word.ensures c.if-not-is_mark.ensures c.in_ok-inside.ensures.reads, r.1) refl,
-      rw c.key.ensures at (c.many_of.ensures r.0 r.2),
+      rw c.key.ensures at (c.in_ok-many_of.ensures r.0 r.2),
     )
 
 pub calls::ifnull_call-returns-then-not-is_mark : goal.calls::ifnull_call-returns-then-not-is_mark
@@ -386,7 +386,7 @@ calls::name_or_call-returns t c =
     let r = c.in_ok-items.ensures in (
       call (name_said c.in_ok-word.word) r.0,
       rw (c.in_ok-word.ensures, ← c.if-not-is_mark.ensures, opened_as c.args.depth (sign_code signs.Open) (λ a. a) (λ m. arguments (nested m).whole) c.in_ok-word.rest, c.in_ok-inside.ensures.reads, r.1) refl,
-      rw c.in_ok-name.ensures at (c.call.ensures r.0 r.2),
+      rw c.in_ok-name.ensures at (c.in_ok-call.ensures r.0 r.2),
     )
 
 pub calls::by_name-returns-then-is_in-2 : goal.calls::by_name-returns-then-is_in-2
@@ -419,7 +419,7 @@ primaries::else_part-returns-then-not-is_key t c = (no_part, rw (← c.if-not-is
 pub primaries::else_part-returns : goal.primaries::else_part-returns
 primaries::else_part-returns t c =
     let r = c.in_ok-a.ensures in
-    (part r.0, rw (← c.if-not-is_key.ensures, c.in_ok-rest.ensures, r.1) refl, c.in_ok-part.ensures r.0 r.2)
+    (part r.0, rw (← c.if-not-is_key.ensures, c.in_ok-rest.ensures, r.1) refl, c.part.ensures r.0 r.2)
 
 pub primaries::grouped-returns : goal.primaries::grouped-returns
 primaries::grouped-returns t c =
@@ -443,34 +443,34 @@ selects::single-returns-in_err-rest t c = rw (single_is c.args.depth) (search ru
 pub selects::selection-returns-then-is_mark : goal.selects::selection-returns-then-is_mark
 selects::selection-returns-then-is_mark t c =
     let r = c.in_ok-from.ensures in
-    (query all_columns r.0, rw (← c.if-is_mark.ensures, c.in_ok-rest.ensures, r.1) refl, c.select.ensures all_columns r.0 c.all_columns.ensures r.2)
+    (query all_columns r.0, rw (← c.if-is_mark.ensures, c.in_ok-rest.ensures, r.1) refl, c.in_ok-select.ensures all_columns r.0 c.all_columns.ensures r.2)
 
 pub selects::itemized-returns : goal.selects::itemized-returns
 selects::itemized-returns t c =
     let r = c.in_ok-what.ensures in
     let s = c.in_ok-from.ensures in
-    (query (items r.0) s.0, rw (r.1, s.1) refl, c.select.ensures (items r.0) s.0 (c.items.ensures r.0 r.2) s.2)
+    (query (items r.0) s.0, rw (r.1, s.1) refl, c.in_ok-select.ensures (items r.0) s.0 (c.items.ensures r.0 r.2) s.2)
 
 pub selects::itemized_one-returns : goal.selects::itemized_one-returns
 selects::itemized_one-returns t c =
     let r = c.in_ok-what.ensures in
     let s = c.in_ok-from.ensures in
     let k = kept_seen (map view_tree) (deepest depth_of_tree) view_trees depth_of_trees trees_of (λ x. refl) deepest_trees (r.0 ∷ []) _ (kept_alone view_tree depth_of_tree r.0 _ _ r.2 c.in_ok-what-2.ensures) in
-    (query (items (tree r.0 no_tree)) s.0, rw (r.1, s.1) refl, c.select.ensures (items (tree r.0 no_tree)) s.0 (c.items.ensures (tree r.0 no_tree) k) s.2)
+    (query (items (tree r.0 no_tree)) s.0, rw (r.1, s.1) refl, c.in_ok-select.ensures (items (tree r.0 no_tree)) s.0 (c.items.ensures (tree r.0 no_tree) k) s.2)
 
 pub selects::aggregated-returns : goal.selects::aggregated-returns
 selects::aggregated-returns t c =
     let r = c.in_ok-what.ensures in
     let s = c.in_ok-from.ensures in
     let k = kept_seen (map view_aggregate) (deepest depth_of_aggregate) view_aggregates depth_of_aggregates aggregates_of (λ x. refl) deepest_aggregates r.0 _ r.2 in
-    (query (aggregates (aggregates_of r.0)) s.0, rw (r.1, s.1) refl, c.select.ensures (aggregates (aggregates_of r.0)) s.0 (c.aggregates.ensures (aggregates_of r.0) k) s.2)
+    (query (aggregates (aggregates_of r.0)) s.0, rw (r.1, s.1) refl, c.in_ok-select.ensures (aggregates (aggregates_of r.0)) s.0 (c.aggregates.ensures (aggregates_of r.0) k) s.2)
 
 pub selects::aggregated_one-returns : goal.selects::aggregated_one-returns
 selects::aggregated_one-returns t c =
     let r = c.in_ok-what.ensures in
     let s = c.in_ok-from.ensures in
     let k = kept_seen (map view_aggregate) (deepest depth_of_aggregate) view_aggregates depth_of_aggregates aggregates_of (λ x. refl) deepest_aggregates (r.0 ∷ []) _ (kept_alone view_aggregate depth_of_aggregate r.0 _ _ r.2 c.in_ok-what-2.ensures) in
-    (query (aggregates (aggregates_of (r.0 ∷ []))) s.0, rw (r.1, s.1) refl, c.select.ensures (aggregates (aggregates_of (r.0 ∷ []))) s.0 (c.aggregates.ensures (aggregates_of (r.0 ∷ [])) k) s.2)
+    (query (aggregates (aggregates_of (r.0 ∷ []))) s.0, rw (r.1, s.1) refl, c.in_ok-select.ensures (aggregates (aggregates_of (r.0 ∷ []))) s.0 (c.aggregates.ensures (aggregates_of (r.0 ∷ [])) k) s.2)
 
 pub selects::one_aggregate-returns-then-is_key : goal.selects::one_aggregate-returns-then-is_key
 selects::one_aggregate-returns-then-is_key t c =
@@ -551,7 +551,7 @@ selects::order-returns-then-not-is_key t c = (no_order, rw (← c.if-not-is_key.
 pub selects::order_one-returns : goal.selects::order_one-returns
 selects::order_one-returns t c =
     let r = c.in_ok-by.ensures in
-    ((r.0, c.in_ok-descending.descending), rw (r.1, c.in_ok-descending.ensures) refl, c.order_item.ensures r.0 r.2)
+    ((r.0, c.in_ok-descending.descending), rw (r.1, c.in_ok-descending.ensures) refl, c.in_ok-order_item.ensures r.0 r.2)
 
 pub selects::ordering-returns : goal.selects::ordering-returns
 selects::ordering-returns t c =
@@ -572,4 +572,4 @@ selects::where_part-returns-then-not-is_key t c = (no_part, rw (← c.if-not-is_
 pub selects::where_part-returns : goal.selects::where_part-returns
 selects::where_part-returns t c =
     let r = c.in_ok-a.ensures in
-    (part r.0, rw (← c.if-not-is_key.ensures, c.in_ok-rest.ensures, r.1) refl, c.in_ok-part.ensures r.0 r.2)
+    (part r.0, rw (← c.if-not-is_key.ensures, c.in_ok-rest.ensures, r.1) refl, c.part.ensures r.0 r.2)

@@ -1,8 +1,8 @@
-use Rattle.std.proofs.Common.{◌≡◌, ◌+◌, ◌-◌, ◌*◌, ◌∷◌, [], pred, Some, map, length}
+use Rattle.std.proofs.Common.{◌+◌, ◌-◌, ◌*◌, ◌∷◌, [], pred, Some, map}
 use Rattle.sql_lex.specs.declared.keyword.Keyword.TheVariants as words
 use Rattle.sql_lex.specs.declared.token.Symbol.TheVariants as signs
 use Rattle.val_types.specs.declared.ops.BinOp.TheVariants as ops
-use Rattle.sql_grammar.specs.Rule.{behind, both, paired, token, then_one, mapped, alone, before}
+use Rattle.sql_grammar.specs.Rule.{behind, both, paired, token, then_one}
 use Rattle.sql_grammar.specs.Sets.{next_in}
 use Rattle.sql_tree.specs.Tree.{binary}
 use Rattle.sql_tree.specs.View.{view_tree, view_arm, view_aggregate, view_order}

@@ -1,9 +1,9 @@
-use Rattle.std.proofs.Common.{◌≡◌, Ok, refl, rules}
+use Rattle.std.proofs.Common.{rules}
 use Rattle.sql_grammar.specs.Rule.{with_tokens, paired}
 use Rattle.sql_syntax.specs.Expressions.{expression}
 use Rattle.sql_parse.specs.Gives.{Fails}
 use Rattle.sql_syntax.specs.Sessions.{assignment, is_format}
-use Rattle.sql_parse.proofs.AssignmentNodes.{assign_ok, assign_fail, assignment_kept, targeted}
+use Rattle.sql_parse.proofs.AssignmentNodes.{assign_ok, assign_fail, assignment_kept}
 use Rattle.sql_parse.proofs.assignments.assignment.Goals as goal
 
 pub returns-in_err-value : goal.returns-in_err-value

@@ -1,6 +1,4 @@
 use Rattle.std.proofs.Common.{◌-◌}
-use Rattle.sql_tree.specs.Depth.{depth_of_trees}
-use Rattle.sql_tree.specs.View.{view_trees}
 use Rattle.sql_syntax.specs.Sessions.{assignment}
 use Rattle.sql_parse.specs.KeptParts.{view_assignment, depth_of_value}
 use Rattle.sql_syntax.specs.Parts.{list_of}

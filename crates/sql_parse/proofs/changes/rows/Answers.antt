@@ -2,9 +2,7 @@ use Rattle.std.proofs.Common.{◌-◌, rules, arith}
 use Rattle.sql_tree.specs.Depth.{depth_of_trees}
 use Rattle.sql_tree.specs.View.{view_trees}
 use Rattle.sql_syntax.specs.Changes.{a_row}
-use Rattle.sql_syntax.specs.Expressions.{expression}
 use Rattle.sql_parse.specs.Gives.{Fails}
-use Rattle.sql_parse.specs.KeptParts.{view_set, depth_of_value}
 use Rattle.sql_syntax.specs.Parts.{list_of}
 use Rattle.sql_parse.proofs.KeptLists.{listed_begin, listed_on, listed_stop, listed_end, listed_fail}
 use Rattle.sql_parse.proofs.changes.rows.Goals as goal

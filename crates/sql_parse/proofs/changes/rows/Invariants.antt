@@ -2,8 +2,6 @@ use Rattle.std.proofs.Common.{◌-◌}
 use Rattle.sql_tree.specs.Depth.{depth_of_trees}
 use Rattle.sql_tree.specs.View.{view_trees}
 use Rattle.sql_syntax.specs.Changes.{a_row}
-use Rattle.sql_syntax.specs.Expressions.{expression}
-use Rattle.sql_parse.specs.KeptParts.{view_set, depth_of_value}
 use Rattle.sql_syntax.specs.Parts.{list_of}
 use Rattle.sql_parse.proofs.KeptLists.{Listed}
 use Rattle.sql_parse.proofs.changes.rows.Given as goal

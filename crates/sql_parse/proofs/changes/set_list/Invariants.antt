@@ -1,6 +1,4 @@
 use Rattle.std.proofs.Common.{◌-◌}
-use Rattle.sql_tree.specs.Depth.{depth_of_trees}
-use Rattle.sql_tree.specs.View.{view_trees}
 use Rattle.sql_syntax.specs.Changes.{set_item}
 use Rattle.sql_syntax.specs.Expressions.{expression}
 use Rattle.sql_parse.specs.KeptParts.{view_set, depth_of_value}

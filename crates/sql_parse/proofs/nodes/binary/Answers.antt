@@ -10,4 +10,4 @@ use Rattle.sql_parse.proofs.nodes.binary.Goals as goal
 pub returns : goal.returns
 returns c = λ t u h i.
     let op = c.args.op in
-    rw (c.in_ok-new.ensures, c.in_ok-new-2.ensures) (node_of_two view_tree depth_of_tree view_tree depth_of_tree (λ p. binary op p.0 p.1) (λ p. Expr.Binary op p.0 p.1) (λ p. search (rules, the_lemmas)) (λ p. refl) t u _ _ _ _ h i c.beside.ensures c.in-Some.ensures)
+    rw c.in_ok-part.ensures (node_of_two view_tree depth_of_tree view_tree depth_of_tree (λ p. binary op p.0 p.1) (λ p. Expr.Binary op p.0 p.1) (λ p. search (rules, the_lemmas)) (λ p. refl) t u _ _ _ _ h i c.beside.ensures c.in-Some.ensures)

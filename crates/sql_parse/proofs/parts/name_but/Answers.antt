@@ -1,4 +1,4 @@
-use Rattle.std.proofs.Common.{Some, ◌∙◌}
+use Rattle.std.proofs.Common.{Some}
 use Rattle.sql_syntax.specs.Tokens.{kind, names, name_said}
 use Rattle.sql_parse.proofs.Reading.{but_skips, but_keeps}
 use Rattle.sql_parse.proofs.parts.name_but.Goals as goal

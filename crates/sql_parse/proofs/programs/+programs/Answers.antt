@@ -159,19 +159,19 @@ pub block_body-returns : goal.block_body-returns
 block_body-returns t c =
     let d = c.in_ok-declarations.ensures in
     let s = c.in_ok-body.ensures in
-    (block d.0 s.0, rw (d.1, s.1) refl, rw c.blocked.ensures (block_kept d.0 s.0 c.in_ok-declarations.declarations c.in_ok-body.body d.2 s.2))
+    (block d.0 s.0, rw (d.1, s.1) refl, rw c.in_ok-blocked.ensures (block_kept d.0 s.0 c.in_ok-declarations.declarations c.in_ok-body.body d.2 s.2))
 
 pub a_branch-returns : goal.a_branch-returns
 a_branch-returns t c =
     let e = c.in_ok-condition.ensures in
     let s = c.in_ok-steps.ensures in
-    ((e.0, s.0), rw (e.1, s.1) refl, rw c.branched.ensures (branch_kept e.0 s.0 c.in_ok-condition.condition c.in_ok-steps.steps e.2 s.2))
+    ((e.0, s.0), rw (e.1, s.1) refl, rw c.in_ok-branched.ensures (branch_kept e.0 s.0 c.in_ok-condition.condition c.in_ok-steps.steps e.2 s.2))
 
 pub if_parts-returns : goal.if_parts-returns
 if_parts-returns t c =
     let b = c.in_ok-arms.ensures in
     let o = c.in_ok-otherwise.ensures in
-    (if_steps (branches_of b.0) o.0, rw (b.1, o.1) refl, rw c.chosen.ensures (if_kept b.0 o.0 c.in_ok-arms.arms c.in_ok-otherwise.otherwise b.2 o.2))
+    (if_steps (branches_of b.0) o.0, rw (b.1, o.1) refl, rw c.in_ok-chosen.ensures (if_kept b.0 o.0 c.in_ok-arms.arms c.in_ok-otherwise.otherwise b.2 o.2))
 
 pub if_body-returns : goal.if_body-returns
 if_body-returns t c =
@@ -182,7 +182,7 @@ pub while_body-returns : goal.while_body-returns
 while_body-returns t c =
     let e = c.in_ok-condition.ensures in
     let s = c.in_ok-steps.ensures in
-    (while_steps e.0 s.0, rw (e.1, s.1) refl, rw c.repeated.ensures (while_kept e.0 s.0 c.in_ok-condition.condition c.in_ok-steps.steps e.2 s.2))
+    (while_steps e.0 s.0, rw (e.1, s.1) refl, rw c.in_ok-repeated.ensures (while_kept e.0 s.0 c.in_ok-condition.condition c.in_ok-steps.steps e.2 s.2))
 
 pub do_steps-returns : goal.do_steps-returns
 do_steps-returns t c =

@@ -6,4 +6,4 @@ use Rattle.sql_parse.proofs.programs.return_value.Goals as goal
 pub returns : goal.returns
 returns c =
     let v = c.in_ok-value.ensures in
-    (return_value v.0, rw (c.in_ok-rest.ensures, v.1) refl, rw c.returned.ensures (return_kept v.0 c.in_ok-value.value v.2))
+    (return_value v.0, rw (c.in_ok-rest.ensures, v.1) refl, rw c.in_ok-returned.ensures (return_kept v.0 c.in_ok-value.value v.2))

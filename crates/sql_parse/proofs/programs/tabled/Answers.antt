@@ -7,4 +7,4 @@ use Rattle.sql_parse.proofs.programs.tabled.Goals as goal
 pub returns : goal.returns
 returns c =
     let t = c.in_ok-part.part in
-    (with_heads c.args.heads (create_table t), rw c.in_ok-part.ensures refl, c.in_ok-program.ensures (create_table t) (table_kept t c.leaf.result c.leaf.ensures))
+    (with_heads c.args.heads (create_table t), rw c.in_ok-part.ensures refl, c.in_ok-program.ensures (create_table t) (rw c.in_ok-body.ensures (table_kept t c.leaf.result c.leaf.ensures)))

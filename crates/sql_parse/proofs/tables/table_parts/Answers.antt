@@ -1,5 +1,4 @@
 use Rattle.std.proofs.Common.{◌-◌, ◌||◌, refl, ap, sym, ◌∙◌, rules, arith}
-use Rattle.std.specs.List.{list_any}
 use Rattle.sql_grammar.specs.Rule.{then_one}
 use Rattle.sql_parse.proofs.Reading.{steps_stop, steps_end}
 use Rattle.sql_parse.proofs.TableSteps.{part_step, comma_next, parts_begin, parts_go, parts_fail}
