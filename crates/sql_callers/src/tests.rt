@@ -4,7 +4,8 @@
 //! - `common`: a text read, and texts put together
 //! - `accepted`: texts that are statements, each read back from its canonical text
 //! - `printed`: texts with their canonical text
-//! - `refused`: texts that are no statement, with the place; fronts; words that are no names
+//! - `refused`, `refused_expressions`: texts that are no statement, with the place; fronts
+//! - `names`: words that are no names
 //! - `limits`: 400 constructs, and 200 levels
 //! - `refusals`: how a refusal is told
 //! - `prints`, `trees`: what makes trees and prints them, each public call once
@@ -12,8 +13,10 @@
 mod accepted;
 mod common;
 mod limits;
+mod names;
 mod printed;
 mod prints;
 mod refusals;
 mod refused;
+mod refused_expressions;
 mod trees;

@@ -1,0 +1,169 @@
+//! Which words are names without quotes.
+use crate::tests::common::{is_read_back, is_refused_at, repeated};
+use std::alloc::Global;
+use std::test::Fail;
+use val_types::{Bytes, NoMemory};
+
+/// The reserved words.
+static RESERVED: &[&str] = &[
+    "ALTER",
+    "AND",
+    "AS",
+    "ASC",
+    "BEFORE",
+    "BETWEEN",
+    "BIGINT",
+    "BY",
+    "CALL",
+    "CASE",
+    "CREATE",
+    "DECLARE",
+    "DEFAULT",
+    "DELETE",
+    "DESC",
+    "DETERMINISTIC",
+    "DISTINCT",
+    "DIV",
+    "DROP",
+    "EACH",
+    "ELSE",
+    "ELSEIF",
+    "EXISTS",
+    "FOR",
+    "FROM",
+    "GROUP",
+    "IF",
+    "IGNORE",
+    "IN",
+    "INSERT",
+    "INT",
+    "INTEGER",
+    "INTO",
+    "IS",
+    "JOIN",
+    "KEY",
+    "LIMIT",
+    "MOD",
+    "MODIFIES",
+    "NOT",
+    "NULL",
+    "ON",
+    "OR",
+    "ORDER",
+    "PRIMARY",
+    "PROCEDURE",
+    "READS",
+    "RELEASE",
+    "REPLACE",
+    "RETURN",
+    "SELECT",
+    "SET",
+    "SQL",
+    "TABLE",
+    "THEN",
+    "TO",
+    "TRIGGER",
+    "UNION",
+    "UNIQUE",
+    "UPDATE",
+    "VALUES",
+    "VARCHAR",
+    "WHEN",
+    "WHERE",
+    "WHILE",
+];
+
+/// Words of the grammar, and others, that are names without quotes too.
+static FREE: &[&str] = &[
+    "AFTER",
+    "AUTO_INCREMENT",
+    "BEGIN",
+    "COMMIT",
+    "CONTAINS",
+    "DATA",
+    "DO",
+    "DUPLICATE",
+    "END",
+    "ENGINE",
+    "FUNCTION",
+    "INDEX",
+    "INNODB",
+    "MIXED",
+    "NEW",
+    "NO",
+    "OFFSET",
+    "OLD",
+    "RETURNS",
+    "ROLLBACK",
+    "ROW",
+    "SAVEPOINT",
+    "SESSION",
+    "START",
+    "STATEMENT",
+    "TRANSACTION",
+    "TRUNCATE",
+    "VALUE",
+    "WORK",
+    "ABS",
+    "COALESCE",
+    "CONCAT",
+    "CONNECTION_ID",
+    "COUNT",
+    "FLOOR",
+    "IFNULL",
+    "LAST_INSERT_ID",
+    "LENGTH",
+    "MAX",
+    "MIN",
+    "NAME_CONST",
+    "NOW",
+    "RAND",
+    "ROW_COUNT",
+    "SUBSTRING",
+    "SUM",
+    "SYSDATE",
+    "UNIX_TIMESTAMP",
+    "USER",
+    "UUID",
+    "ALL",
+    "LIKE",
+    "XOR",
+    "TRUE",
+    "HAVING",
+    "USING",
+    "CHECK",
+    "CONSTRAINT",
+    "INNER",
+    "GLOBAL",
+    "VIEW",
+    "x",
+];
+
+fn named(alloc: Global, front: &str, word: &str, end: &str) -> Result<Bytes, NoMemory> {
+    repeated(alloc, front, 1, word, end)
+}
+
+/// Whether a word is a name in quotes alone.
+fn is_reserved(alloc: Global, word: &str) -> Result<bool, NoMemory> {
+    let bare = named(alloc, "SAVEPOINT ", word, "")?;
+    let quoted = named(alloc, "SAVEPOINT `", word, "`")?;
+    let refused = is_refused_at(alloc, bare.as_slice(), 10)?;
+    Ok(refused && is_read_back(alloc, quoted.as_slice())?)
+}
+
+/// Whether a word is a name without quotes too.
+fn is_free(alloc: Global, word: &str) -> Result<bool, NoMemory> {
+    let bare = named(alloc, "SAVEPOINT ", word, "")?;
+    is_read_back(alloc, bare.as_slice())
+}
+
+#[test]
+fn reserved_words_are_no_names(rt: HostRuntime) -> Result<(), Fail> {
+    for word in RESERVED.iter() {
+        assert!(rt; is_reserved(rt.alloc(), word)?, "{word}");
+    }
+    for word in FREE.iter() {
+        assert!(rt; is_free(rt.alloc(), word)?, "{word}");
+    }
+    Ok(())
+}
