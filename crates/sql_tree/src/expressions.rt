@@ -3,7 +3,7 @@ use val_types::{Agg, BinOp, Boxed, Bytes, List, UnOp, Value};
 
 /// An expression. Names are folded to lower case and stand without quotes.
 #[cycle(expression)]
-#[derive(Debug, Drop)]
+#[derive(Drop)]
 pub enum Expr {
     /// NULL, a number or a text. A number below 0 is one literal, as in `-5`.
     Literal(Value),
@@ -66,7 +66,7 @@ pub enum Expr {
 
 /// `WHEN condition THEN value` of a CASE.
 #[cycle(expression)]
-#[derive(Debug, Drop)]
+#[derive(Drop)]
 pub struct Arm {
     pub condition: Expr,
     pub value: Expr,
@@ -74,7 +74,7 @@ pub struct Arm {
 
 /// A SELECT.
 #[cycle(expression)]
-#[derive(Debug, Drop)]
+#[derive(Drop)]
 pub struct Select {
     pub what: Selection,
     pub from: Option<FromClause>,
@@ -82,7 +82,7 @@ pub struct Select {
 
 /// What a SELECT gives for each row, or for all rows together.
 #[cycle(expression)]
-#[derive(Debug, Drop)]
+#[derive(Drop)]
 pub enum Selection {
     Items(List<Expr>),
     /// `*`
@@ -92,7 +92,7 @@ pub enum Selection {
 
 /// An aggregate over the rows of a SELECT.
 #[cycle(expression)]
-#[derive(Debug, Drop)]
+#[derive(Drop)]
 pub enum Aggregate {
     /// `COUNT(*)`
     CountAll,
@@ -101,7 +101,7 @@ pub enum Aggregate {
 
 /// The table of a SELECT, which of its rows, in which order and how many.
 #[cycle(expression)]
-#[derive(Debug, Drop)]
+#[derive(Drop)]
 pub struct FromClause {
     pub table: Bytes,
     pub filter: Option<Boxed<Expr>>,
@@ -111,21 +111,21 @@ pub struct FromClause {
 
 /// An item of ORDER BY.
 #[cycle(expression)]
-#[derive(Debug, Drop)]
+#[derive(Drop)]
 pub struct OrderItem {
     pub by: Expr,
     pub descending: bool,
 }
 
 /// `LIMIT count OFFSET offset`. The text `LIMIT a, b` has the offset a and the count b.
-#[derive(Debug, Drop)]
+#[derive(Drop)]
 pub struct Limit {
     pub count: Count,
     pub offset: Option<Count>,
 }
 
 /// A number of rows: written out, or the name of a local variable that holds it.
-#[derive(Debug, Drop)]
+#[derive(Drop)]
 pub enum Count {
     Number(u64),
     Name(Bytes),

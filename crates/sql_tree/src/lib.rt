@@ -10,23 +10,21 @@
 //! - `locals`: [`Locals`], the local variables in scope in a stored program
 //! - `expression_depth`, `statement_depth`: [`depth`], how many nodes lie one in the other
 //! - `names`, `expression_rules`, `statement_rules`: [`well`], what the parser can give
-//! - `expression_copy`, `statement_copy`: copies that are equal to the original
+//! - `part_copies`: equal copies of what holds no tree
 //! - `worked`: worked examples of depth and of what the parser can give
 #![tactic(auto)]
 
-mod expression_copy;
 mod expression_depth;
 mod expression_rules;
 mod expressions;
 mod locals;
 mod names;
-mod statement_copy;
+mod part_copies;
 mod statement_depth;
 mod statement_rules;
 mod statements;
 mod worked;
 
-pub use expression_copy::{copy_expr, copy_exprs, copy_order, copy_select};
 pub use expression_depth::{expr_depth, select_depth};
 pub use expression_rules::{well_expr, well_select};
 pub use expressions::{
@@ -34,7 +32,6 @@ pub use expressions::{
 };
 pub use locals::{Local, Locals};
 pub use names::is_name;
-pub use statement_copy::{copy_routine, copy_stmt, copy_trigger};
 pub use statement_depth::depth;
 pub use statement_rules::{well, well_step};
 pub use statements::{

@@ -8,7 +8,7 @@ use std::marker::Model;
 use val_types::{Bytes, Duplicate, List, NoMemory, Value};
 
 /// A local variable or parameter with its type and its value.
-#[derive(Debug, Drop)]
+#[derive(Drop)]
 pub struct Local {
     pub name: Bytes,
     pub kind: SqlType,
@@ -16,7 +16,7 @@ pub struct Local {
 }
 
 /// Local variables, the outer ones first. The last one of a name counts.
-#[derive(Debug, Drop)]
+#[derive(Drop)]
 pub struct Locals {
     list: List<Local>,
 }

@@ -4,7 +4,7 @@ use val_types::{Boxed, Bytes, List, Value};
 
 /// A statement, or a statement inside a stored program.
 #[cycle(statement)]
-#[derive(Debug, Drop)]
+#[derive(Drop)]
 pub enum Stmt {
     CreateTable(CreateTable),
     CreateFunction(Boxed<Routine>),
@@ -53,7 +53,7 @@ pub enum Stmt {
 
 /// `condition THEN steps` of an IF.
 #[cycle(statement)]
-#[derive(Debug, Drop)]
+#[derive(Drop)]
 pub struct Branch {
     pub condition: Expr,
     pub steps: List<Stmt>,
@@ -61,7 +61,7 @@ pub struct Branch {
 
 /// A stored function or procedure.
 #[cycle(statement)]
-#[derive(Debug, Drop)]
+#[derive(Drop)]
 pub struct Routine {
     pub name: Bytes,
     pub parameters: List<Parameter>,
@@ -72,7 +72,7 @@ pub struct Routine {
 
 /// A trigger.
 #[cycle(statement)]
-#[derive(Debug, Drop)]
+#[derive(Drop)]
 pub struct TriggerDef {
     pub name: Bytes,
     pub time: Time,
@@ -82,14 +82,14 @@ pub struct TriggerDef {
 }
 
 /// When a trigger runs: before or after the change of the row.
-#[derive(Clone, Copy, PartialEq, Eq, Debug)]
+#[derive(Clone, Copy, PartialEq, Eq)]
 pub enum Time {
     Before,
     After,
 }
 
 /// The change that a trigger waits for.
-#[derive(Clone, Copy, PartialEq, Eq, Debug)]
+#[derive(Clone, Copy, PartialEq, Eq)]
 pub enum Cause {
     Insert,
     Update,
@@ -97,7 +97,7 @@ pub enum Cause {
 }
 
 /// A type as it was written. The number of VARCHAR may be above what a column can have.
-#[derive(Clone, Copy, PartialEq, Eq, Debug)]
+#[derive(Clone, Copy, PartialEq, Eq)]
 pub enum SqlType {
     Int,
     BigInt,
@@ -105,14 +105,14 @@ pub enum SqlType {
 }
 
 /// A parameter of a stored function or procedure.
-#[derive(Debug, Drop)]
+#[derive(Drop)]
 pub struct Parameter {
     pub name: Bytes,
     pub kind: SqlType,
 }
 
 /// CREATE TABLE. A key that stands at a column is in `primary` or `uniques`.
-#[derive(Debug, Drop)]
+#[derive(Drop)]
 pub struct CreateTable {
     pub name: Bytes,
     pub columns: List<Column>,
@@ -121,7 +121,7 @@ pub struct CreateTable {
 }
 
 /// A column of CREATE TABLE.
-#[derive(Debug, Drop)]
+#[derive(Drop)]
 pub struct Column {
     pub name: Bytes,
     pub kind: SqlType,
@@ -132,14 +132,14 @@ pub struct Column {
 }
 
 /// A unique key of CREATE TABLE.
-#[derive(Debug, Drop)]
+#[derive(Drop)]
 pub struct UniqueKey {
     pub name: Bytes,
     pub columns: List<Bytes>,
 }
 
 /// INSERT. Where `update` has items, they stand behind ON DUPLICATE KEY UPDATE.
-#[derive(Debug, Drop)]
+#[derive(Drop)]
 pub struct InsertStmt {
     pub ignore: bool,
     pub table: Bytes,
@@ -149,7 +149,7 @@ pub struct InsertStmt {
 }
 
 /// REPLACE.
-#[derive(Debug, Drop)]
+#[derive(Drop)]
 pub struct ReplaceStmt {
     pub table: Bytes,
     pub columns: Option<List<Bytes>>,
@@ -157,7 +157,7 @@ pub struct ReplaceStmt {
 }
 
 /// Where the rows of INSERT and REPLACE come from.
-#[derive(Debug, Drop)]
+#[derive(Drop)]
 pub enum Source {
     /// VALUES
     Rows(List<List<Expr>>),
@@ -165,14 +165,14 @@ pub enum Source {
 }
 
 /// `column = value` in UPDATE or behind ON DUPLICATE KEY UPDATE.
-#[derive(Debug, Drop)]
+#[derive(Drop)]
 pub struct ColumnSet {
     pub column: Bytes,
     pub value: Expr,
 }
 
 /// UPDATE.
-#[derive(Debug, Drop)]
+#[derive(Drop)]
 pub struct UpdateStmt {
     pub table: Bytes,
     pub sets: List<ColumnSet>,
@@ -182,7 +182,7 @@ pub struct UpdateStmt {
 }
 
 /// DELETE.
-#[derive(Debug, Drop)]
+#[derive(Drop)]
 pub struct DeleteStmt {
     pub table: Bytes,
     pub filter: Option<Expr>,
@@ -191,14 +191,14 @@ pub struct DeleteStmt {
 }
 
 /// An assignment of SET.
-#[derive(Debug, Drop)]
+#[derive(Drop)]
 pub struct Assignment {
     pub target: Target,
     pub value: Expr,
 }
 
 /// What an assignment of SET writes.
-#[derive(Debug, Drop)]
+#[derive(Drop)]
 pub enum Target {
     /// `@x`
     User(Bytes),
@@ -211,7 +211,7 @@ pub enum Target {
 }
 
 /// `DECLARE names kind DEFAULT preset` of a block.
-#[derive(Debug, Drop)]
+#[derive(Drop)]
 pub struct Declaration {
     pub names: List<Bytes>,
     pub kind: SqlType,

@@ -1,5 +1,5 @@
 use Rattle.std.proofs.Common.{◌≡◌, take}
-use Rattle.sql_tree.proofs.statement_copy.copy_rows.Given as goal
+use Rattle.tree_copies.proofs.statements.copy_rows.Given as goal
 
 abbrev pub invariant-loop-row : goal.invariant-loop-row
 invariant-loop-row l = l.copy ≡ take l.row-index l.row-items

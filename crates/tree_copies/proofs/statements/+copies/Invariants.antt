@@ -1,5 +1,5 @@
 use Rattle.std.proofs.Common.{◌≡◌, ◌+◌, ◌*◌, take}
-use Rattle.sql_tree.proofs.statement_copy.+copies.Given as goal
+use Rattle.tree_copies.proofs.statements.+copies.Given as goal
 
 -- Each measure is ten times the depth of what is copied, and a number that falls where a function
 -- hands on what it was given.

@@ -2,28 +2,9 @@
 ghost use Rattle.std.specs.Prelude.{◌≡◌, IfOk};
 ghost use Rattle.sql_tree.specs.declared.expressions.Expr.{Expr, Case, If, Substring};
 
-use crate::expressions::{
-    Aggregate, Arm, Count, Expr, FromClause, Limit, OrderItem, Select, Selection,
-};
+use sql_tree::{Aggregate, Arm, Expr, FromClause, OrderItem, Select, Selection};
 use std::alloc::Global;
 use val_types::{Boxed, Duplicate, List, NoMemory};
-
-impl Duplicate for Count {
-    fn duplicate(&self, alloc: Global) -> Result<Count, NoMemory> {
-        match self {
-            Count::Number(number) => Ok(Count::Number(*number)),
-            Count::Name(name) => Ok(Count::Name(name.duplicate(alloc)?)),
-        }
-    }
-}
-
-impl Duplicate for Limit {
-    fn duplicate(&self, alloc: Global) -> Result<Limit, NoMemory> {
-        let count = self.count.duplicate(alloc)?;
-        let offset = self.offset.duplicate(alloc)?;
-        Ok(Limit { count, offset })
-    }
-}
 
 /// An equal expression.
 #[cycle(copies)]

@@ -1,7 +1,7 @@
 use Rattle.std.proofs.Common.{◌≡◌, ◌+◌, ◌*◌, take}
 use Rattle.sql_tree.specs.declared.expressions.Expr.{In, Case, If, Substring}
 use Rattle.sql_tree.proofs.expressions.Expr.TheLaws.{the_size}
-use Rattle.sql_tree.proofs.expression_copy.+copies.Given as goal
+use Rattle.tree_copies.proofs.expressions.+copies.Given as goal
 
 -- Each measure is ten times the depth of what is copied, and a number that falls where a function
 -- hands on what it was given.

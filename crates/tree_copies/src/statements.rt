@@ -1,74 +1,13 @@
 //! Copies of statements and of the stored programs in them.
 ghost use Rattle.std.specs.Prelude.{◌≡◌, IfOk};
 
-use crate::expression_copy::{copy_expr, copy_exprs, copy_order, copy_select};
-use crate::expressions::Expr;
-use crate::statements::{
-    Assignment, Branch, Column, ColumnSet, CreateTable, Declaration, DeleteStmt, InsertStmt,
-    Parameter, ReplaceStmt, Routine, Source, SqlType, Stmt, Target, TriggerDef, UniqueKey,
-    UpdateStmt,
+use crate::expressions::{copy_expr, copy_exprs, copy_order, copy_select};
+use sql_tree::{
+    Assignment, Branch, ColumnSet, Declaration, DeleteStmt, Expr, InsertStmt, ReplaceStmt, Routine,
+    Source, Stmt, TriggerDef, UpdateStmt,
 };
 use std::alloc::Global;
 use val_types::{Boxed, Duplicate, List, NoMemory};
-
-impl Duplicate for SqlType {
-    fn duplicate(&self, alloc: Global) -> Result<SqlType, NoMemory> {
-        let _ = alloc;
-        Ok(*self)
-    }
-}
-
-impl Duplicate for Parameter {
-    fn duplicate(&self, alloc: Global) -> Result<Parameter, NoMemory> {
-        let name = self.name.duplicate(alloc)?;
-        Ok(Parameter {
-            name,
-            kind: self.kind,
-        })
-    }
-}
-
-impl Duplicate for Column {
-    fn duplicate(&self, alloc: Global) -> Result<Column, NoMemory> {
-        Ok(Column {
-            name: self.name.duplicate(alloc)?,
-            kind: self.kind,
-            nullable: self.nullable,
-            preset: self.preset.duplicate(alloc)?,
-            auto_increment: self.auto_increment,
-        })
-    }
-}
-
-impl Duplicate for UniqueKey {
-    fn duplicate(&self, alloc: Global) -> Result<UniqueKey, NoMemory> {
-        let name = self.name.duplicate(alloc)?;
-        let columns = self.columns.duplicate(alloc)?;
-        Ok(UniqueKey { name, columns })
-    }
-}
-
-impl Duplicate for CreateTable {
-    fn duplicate(&self, alloc: Global) -> Result<CreateTable, NoMemory> {
-        Ok(CreateTable {
-            name: self.name.duplicate(alloc)?,
-            columns: self.columns.duplicate(alloc)?,
-            primary: self.primary.duplicate(alloc)?,
-            uniques: self.uniques.duplicate(alloc)?,
-        })
-    }
-}
-
-impl Duplicate for Target {
-    fn duplicate(&self, alloc: Global) -> Result<Target, NoMemory> {
-        match self {
-            Target::User(name) => Ok(Target::User(name.duplicate(alloc)?)),
-            Target::Plain(name) => Ok(Target::Plain(name.duplicate(alloc)?)),
-            Target::System(name) => Ok(Target::System(name.duplicate(alloc)?)),
-            Target::New(name) => Ok(Target::New(name.duplicate(alloc)?)),
-        }
-    }
-}
 
 fn copy_option(alloc: Global, expr: &Option<Expr>) -> Result<Option<Expr>, NoMemory>
     ensures { IfOk result (λ copy. copy ≡ expr.now) }

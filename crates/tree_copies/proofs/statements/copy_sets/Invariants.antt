@@ -1,5 +1,5 @@
 use Rattle.std.proofs.Common.{◌≡◌, take}
-use Rattle.sql_tree.proofs.statement_copy.copy_sets.Given as goal
+use Rattle.tree_copies.proofs.statements.copy_sets.Given as goal
 
 abbrev pub invariant-loop-set : goal.invariant-loop-set
 invariant-loop-set l = l.copy ≡ take l.set-index l.set-items

@@ -1,5 +1,5 @@
 use Rattle.std.proofs.Common.{◌≡◌, take}
-use Rattle.sql_tree.proofs.statement_copy.copy_declarations.Given as goal
+use Rattle.tree_copies.proofs.statements.copy_declarations.Given as goal
 
 abbrev pub invariant-loop-declaration : goal.invariant-loop-declaration
 invariant-loop-declaration l = l.copy ≡ take l.declaration-index l.declaration-items
