@@ -9,10 +9,11 @@ use Rattle.std.proofs.lemmas.Bool.{and_parts, and_from, cases_lt}
 use Rattle.val_types.specs.declared.value.Value.{Value}
 use Rattle.val_types.specs.declared.change.Change.{Change}
 use Rattle.val_types.specs.declared.change.Change.TheVariants.{Insert, Update, Delete}
-use Rattle.val_types.specs.Tables.{Table}
-use Rattle.val_types.specs.Changes.{applied, inverse, AreKept}
-use Rattle.val_types.specs.Stored.{table_named, row_of_key, row_at, rows_beside, key_in_way, Obstacle, where_found, unless_taken, insertion_in, replacement_in, deletion_in, insertion, replacement, deletion, carried_out, all_applied, all_inverse}
-use Rattle.val_types.proofs.Taking.{tables_reversible}
+use Rattle.table_rules.specs.Tables.{Table}
+use Rattle.table_rules.specs.Changes.{applied, AreKept}
+use Rattle.val_types.specs.Changes.{inverse}
+use Rattle.table_rules.specs.Stored.{table_named, row_of_key, row_at, rows_beside, key_in_way, Obstacle, where_found, unless_taken, insertion_in, replacement_in, deletion_in, insertion, replacement, deletion, carried_out, all_applied, all_inverse}
+use Rattle.table_rules.proofs.Taking.{tables_reversible}
 use Rattle.row_store.specs.declared.refusal.RowRefusal.{RowRefusal}
 use Rattle.row_store.specs.declared.refusal.RowRefusal.TheVariants.{Taken, Absent, NoMemory}
 use Rattle.row_store.specs.declared.tables.Tables.{Tables}

@@ -3,7 +3,7 @@ use Rattle.std.specs.Prelude.{◌≡◌, ℕ, Bool, true, List, [], ◌∷◌, �
 use Rattle.std.specs.List.{list_all}
 use Rattle.val_types.specs.declared.change.Change.{Change}
 use Rattle.val_types.specs.Changes.{inverse}
-use Rattle.val_types.specs.Stored.{Obstacle, all_applied, all_inverse}
+use Rattle.table_rules.specs.Stored.{Obstacle, all_applied, all_inverse}
 use Rattle.row_store.specs.declared.refusal.RowRefusal.{RowRefusal}
 use Rattle.row_store.specs.declared.tables.Tables.{Tables}
 use Rattle.row_store.specs.Stores.{tables_of, keeps_put}

@@ -1,7 +1,7 @@
 //! One row stored, with its change noted.
 ghost use Rattle.std.specs.Prelude.{◌≡◌, ◌++◌, ◌∷◌, [], true, List};
 ghost use Rattle.val_types.specs.declared.change.Change.{Change};
-ghost use Rattle.val_types.specs.Stored.{deletion, fits_table, insertion, replacement};
+ghost use Rattle.table_rules.specs.Stored.{deletion, fits_table, insertion, replacement};
 ghost use Rattle.row_store.specs.Stores.{KeepsAll, Stores, tables_of};
 ghost use Rattle.dml_rows.specs.Noted.{Notes, StaysReversible};
 

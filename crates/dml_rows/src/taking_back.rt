@@ -1,6 +1,6 @@
 //! Changes taken back.
 ghost use Rattle.std.specs.Prelude.{◌≡◌, drop, take};
-ghost use Rattle.val_types.specs.Stored.{all_applied, all_inverse};
+ghost use Rattle.table_rules.specs.Stored.{all_applied, all_inverse};
 ghost use Rattle.row_store.specs.Stores.{KeepsSame, tables_of};
 ghost use Rattle.dml_rows.specs.Noted.{CanTakeBack, StaysReversible};
 

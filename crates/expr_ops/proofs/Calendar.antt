@@ -16,7 +16,7 @@ use Rattle.jiff_core.proofs.DateLemmas.{civil}
 use Rattle.jiff_core.proofs.DateTimeLemmas.{civil_nanos-parts, epoch_day-civil_nanos}
 use Rattle.jiff.specs.Words.{date_text as jiff_date_text, time_text as jiff_time_text}
 use Rattle.std.proofs.lemmas.Int.{by_lt_z}
-use Rattle.val_types.specs.Moments.{days_in_year, days_in_month, year_and_day, month_and_day, year_of_day, month_of_day, two_digits, four_digits, date_text, clock_text, moment_text}
+use Rattle.value_rules.specs.Moments.{days_in_year, days_in_month, year_and_day, month_and_day, year_of_day, month_of_day, two_digits, four_digits, date_text, clock_text, moment_text}
 
 -- ---- the year
 

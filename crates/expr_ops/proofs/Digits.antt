@@ -5,7 +5,7 @@ use Rattle.std.specs.Int.{to_be_bytes, w128}
 use Rattle.hex.specs.Hex.{lower_digits, encode_lower, encode_with}
 use Rattle.uuid.specs.Text.{hex_digit, hyphenated_text, lower, by_index}
 use Rattle.uuid.proofs.TextLemmas.{table_at}
-use Rattle.val_types.specs.Identifiers.{uuid_text, uuid_digits, grouped}
+use Rattle.value_rules.specs.Identifiers.{uuid_text, uuid_digits, grouped}
 
 cons_same : (x y : ℕ) (xs ys : List ℕ) → x ≡ y → xs ≡ ys → x ∷ xs ≡ y ∷ ys
 cons_same x y xs ys e es = cc

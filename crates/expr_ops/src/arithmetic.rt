@@ -3,8 +3,8 @@ ghost use Rattle.std.specs.Prelude.{◌≡◌, ◌+ℤ◌, ◌-ℤ◌, ◌*ℤ�
 ghost use Rattle.std.specs.Option.{ok_or, option_map};
 ghost use Rattle.val_types.specs.declared.value.Value.TheVariants.{Int};
 ghost use Rattle.val_types.specs.Errors.{number_overflow};
-ghost use Rattle.val_types.specs.Functions.{absolute};
-ghost use Rattle.val_types.specs.Operators.{arithmetic, negated, number, operands, quotient, remainder};
+ghost use Rattle.value_rules.specs.Functions.{absolute};
+ghost use Rattle.value_rules.specs.Operators.{arithmetic, negated, number, operands, quotient, remainder};
 
 use val_types::{DIVISION_BY_ZERO, KINDS_MIXED, NUMBER_OVERFLOW, SqlError, Value};
 

@@ -1,6 +1,6 @@
 //! Comparisons.
 ghost use Rattle.std.specs.Prelude.{◌≡◌};
-ghost use Rattle.val_types.specs.Operators.{comparison, null_safe_equal};
+ghost use Rattle.value_rules.specs.Operators.{comparison, null_safe_equal};
 
 use std::cmp::Ordering;
 use val_types::{KINDS_MIXED, SqlError, Value};

@@ -1,7 +1,7 @@
 //! The built-in functions that depend on their arguments alone.
 ghost use Rattle.std.specs.Prelude.{◌≡◌, ◌<◌, length, IfOk, IsTrue};
 ghost use Rattle.val_types.specs.Answers.{Gives};
-ghost use Rattle.val_types.specs.Functions.{argument, builtin_value, chosen, first_known, takes};
+ghost use Rattle.value_rules.specs.Functions.{argument, builtin_value, chosen, first_known, takes};
 
 use crate::arithmetic::absolute;
 use crate::texts::{concat, is_null, length, substring};

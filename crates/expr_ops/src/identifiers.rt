@@ -1,6 +1,6 @@
 //! UUIDs as text.
 ghost use Rattle.std.specs.Prelude.{◌≡◌, IfOk};
-ghost use Rattle.val_types.specs.Identifiers.{uuid_text};
+ghost use Rattle.value_rules.specs.Identifiers.{uuid_text};
 
 use std::alloc::Global;
 use uuid::Uuid;

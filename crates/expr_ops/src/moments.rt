@@ -1,7 +1,7 @@
 //! Moments as text.
 ghost use Rattle.std.specs.Prelude.{◌≡◌, ◌*◌, pos, IfOk};
 ghost use Rattle.jiff.specs.Words.{civil_nanos, date_text as plain_date_text, time_text as plain_time_text};
-ghost use Rattle.val_types.specs.Moments.{moment_text};
+ghost use Rattle.value_rules.specs.Moments.{moment_text};
 
 use jiff::Timestamp;
 use jiff::civil::{Date, DateTime, Time};

@@ -1,6 +1,6 @@
 //! Every operator on values.
 ghost use Rattle.std.specs.Prelude.{◌≡◌};
-ghost use Rattle.val_types.specs.Operators.{binary_value, null_safe_equal, unary_value};
+ghost use Rattle.value_rules.specs.Operators.{binary_value, null_safe_equal, unary_value};
 
 use crate::arithmetic::{difference, negated, product, quotient, remainder, sum};
 use crate::comparing::compare;

@@ -1,6 +1,6 @@
 //! What RAND() draws.
 ghost use Rattle.std.specs.Prelude.{◌≡◌};
-ghost use Rattle.val_types.specs.Random.{scaled, seeds_after};
+ghost use Rattle.value_rules.specs.Random.{scaled, seeds_after};
 
 use val_types::{KINDS_MIXED, NUMBER_OVERFLOW, SqlError, Value};
 

@@ -3,7 +3,7 @@ ghost use Rattle.std.specs.Prelude.{◌≡◌, ◌++◌, length, IfOk, OnOk};
 ghost use Rattle.std.specs.List.{flat_map, list_any};
 ghost use Rattle.val_types.specs.Answers.{Gives};
 ghost use Rattle.val_types.specs.Fitting.{is_null};
-ghost use Rattle.val_types.specs.Functions.{bytes_from, concatenated, count_of, length_value, piece_of, place_of, substring, text_value};
+ghost use Rattle.value_rules.specs.Functions.{bytes_from, concatenated, count_of, length_value, piece_of, place_of, substring, text_value};
 
 use std::alloc::Global;
 use val_types::{Bytes, KINDS_MIXED, List, NoMemory, SqlError, SqlRefusal, TEXT_TOO_LONG, Value};

@@ -1,7 +1,7 @@
 //! Conditions, and logic with three values: true, false and unknown.
 ghost use Rattle.std.specs.Prelude.{◌≡◌};
 ghost use Rattle.std.specs.Option.{option_map};
-ghost use Rattle.val_types.specs.Operators.{binary_value, both, decided, either, negation, truth_of, truth_value, value_of_truth};
+ghost use Rattle.value_rules.specs.Operators.{binary_value, both, decided, either, negation, truth_of, truth_value, value_of_truth};
 
 use val_types::{BinOp, KINDS_MIXED, SqlError, Value};
 

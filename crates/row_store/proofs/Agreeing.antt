@@ -11,7 +11,7 @@ use Rattle.val_types.specs.declared.definitions.KeyDef.{KeyDef}
 use Rattle.val_types.specs.Order.{value_order, key_order}
 use Rattle.val_types.specs.Fitting.{is_null}
 use Rattle.val_types.specs.Keys.{values_at, same_values, agree_on}
-use Rattle.val_types.specs.Stored.{first_agreed}
+use Rattle.table_rules.specs.Stored.{first_agreed}
 use Rattle.row_store.specs.Slots.{agree_in_all}
 
 equal_both : (o p : Ordering) → is_eq (ordering_then o p) ≡ (is_eq o && is_eq p)

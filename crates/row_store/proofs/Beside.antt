@@ -11,10 +11,11 @@ use Rattle.val_types.specs.declared.definitions.TableDef.{TableDef}
 use Rattle.val_types.specs.declared.change.Change.{Change}
 use Rattle.val_types.specs.declared.change.Change.TheVariants.{Insert, Update, Delete}
 use Rattle.val_types.specs.Keys.{primary_key}
-use Rattle.val_types.specs.Tables.{Table}
-use Rattle.val_types.specs.Changes.{rows_after, table_of, applied, inverse}
-use Rattle.val_types.specs.Stored.{row_put}
-use Rattle.val_types.proofs.Storing.{applied_where}
+use Rattle.table_rules.specs.Tables.{Table}
+use Rattle.table_rules.specs.Changes.{rows_after, applied}
+use Rattle.val_types.specs.Changes.{table_of, inverse}
+use Rattle.table_rules.specs.Stored.{row_put}
+use Rattle.table_rules.proofs.Storing.{applied_where}
 use Rattle.row_store.specs.declared.shelf.Shelf.{Shelf}
 use Rattle.row_store.specs.Slots.{place, rows_in}
 use Rattle.row_store.specs.Shelves.{table_on, tables_on, is_named, has_slot, has_slot_for, has_slot_to_put}

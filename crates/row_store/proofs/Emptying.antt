@@ -10,12 +10,12 @@ use Rattle.val_types.specs.declared.definitions.TableDef.{TableDef}
 use Rattle.val_types.specs.Order.{key_order}
 use Rattle.val_types.specs.Fitting.{row_fits}
 use Rattle.val_types.specs.Keys.{primary_key, same_values, agree_on, collide}
-use Rattle.val_types.specs.Tables.{rise, are_apart}
-use Rattle.val_types.specs.Changes.{with_row}
-use Rattle.val_types.specs.Stored.{has_key, row_of_key, rows_beside}
+use Rattle.table_rules.specs.Tables.{rise, are_apart}
+use Rattle.table_rules.specs.Changes.{with_row}
+use Rattle.table_rules.specs.Stored.{has_key, row_of_key, rows_beside}
 use Rattle.val_types.proofs.Values.{key_order_total}
-use Rattle.val_types.proofs.Taking.{Kept, as_kept, is_kept, same_is, same_self, kept_with, taken_out}
-use Rattle.val_types.proofs.Storing.{without_is_beside}
+use Rattle.table_rules.proofs.Taking.{Kept, as_kept, is_kept, same_is, same_self, kept_with, taken_out}
+use Rattle.table_rules.proofs.Storing.{without_is_beside}
 use Rattle.row_store.specs.declared.slots.Slot.{Slot}
 use Rattle.row_store.specs.Slots.{place, rows_in, keys_in, is_slot_of, is_not_before, is_among, all_above, keys_rise, has_own_key, rows_are_kept, is_sound}
 

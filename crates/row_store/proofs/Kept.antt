@@ -1,5 +1,5 @@
 -- What holds of all that is stored.
-use Rattle.val_types.specs.Changes.{AreKept}
+use Rattle.table_rules.specs.Changes.{AreKept}
 use Rattle.row_store.specs.declared.tables.Tables.{Tables}
 use Rattle.row_store.specs.Stores.{tables_of}
 use Rattle.row_store.proofs.Swapping.{shelves_kept}

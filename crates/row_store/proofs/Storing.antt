@@ -9,10 +9,11 @@ use Rattle.val_types.specs.declared.change.Change.{Change}
 use Rattle.val_types.specs.declared.change.Change.TheVariants.{Insert, Update, Delete}
 use Rattle.val_types.specs.Fitting.{row_fits}
 use Rattle.val_types.specs.Keys.{primary_key, collide}
-use Rattle.val_types.specs.Tables.{Table}
-use Rattle.val_types.specs.Changes.{without, with_row, put, rows_after, table_of, table_after, applied}
-use Rattle.val_types.specs.Stored.{table_named, row_of_key, row_at, rows_beside, key_in_way, Obstacle, row_absent, where_found, unless_taken, insertion_in, replacement_in, deletion_in, insertion, replacement, deletion, carried_out, fits_table, keys_at}
-use Rattle.val_types.proofs.Storing.{keys_in_way, without_is_beside}
+use Rattle.table_rules.specs.Tables.{Table}
+use Rattle.table_rules.specs.Changes.{without, with_row, put, rows_after, table_after, applied}
+use Rattle.val_types.specs.Changes.{table_of}
+use Rattle.table_rules.specs.Stored.{table_named, row_of_key, row_at, rows_beside, key_in_way, Obstacle, row_absent, where_found, unless_taken, insertion_in, replacement_in, deletion_in, insertion, replacement, deletion, carried_out, fits_table, keys_at}
+use Rattle.table_rules.proofs.Storing.{keys_in_way, without_is_beside}
 use Rattle.row_store.specs.declared.refusal.RowRefusal.{RowRefusal}
 use Rattle.row_store.specs.declared.refusal.RowRefusal.TheVariants.{Taken, Absent, NoMemory}
 use Rattle.row_store.specs.declared.shelf.Shelf.{Shelf}

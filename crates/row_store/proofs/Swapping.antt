@@ -8,10 +8,11 @@ use Rattle.val_types.specs.declared.value.Value.{Value}
 use Rattle.val_types.specs.declared.definitions.TableDef.{TableDef}
 use Rattle.val_types.specs.declared.change.Change.{Change}
 use Rattle.val_types.specs.Keys.{primary_key}
-use Rattle.val_types.specs.Tables.{Table}
-use Rattle.val_types.specs.Changes.{table_of, table_after, applied, AreKept}
-use Rattle.val_types.specs.Stored.{table_named, tables_beside, tables_cleared}
-use Rattle.val_types.proofs.Taking.{is_kept}
+use Rattle.table_rules.specs.Tables.{Table}
+use Rattle.table_rules.specs.Changes.{table_after, applied, AreKept}
+use Rattle.val_types.specs.Changes.{table_of}
+use Rattle.table_rules.specs.Stored.{table_named, tables_beside, tables_cleared}
+use Rattle.table_rules.proofs.Taking.{is_kept}
 use Rattle.row_store.specs.declared.shelf.Shelf.{Shelf}
 use Rattle.row_store.specs.Slots.{place, rows_in, keys_in, is_among}
 use Rattle.row_store.specs.Shelves.{table_on, tables_on, is_named, has_slot, has_slot_for, KeepsSlots}

@@ -9,9 +9,9 @@ use Rattle.val_types.specs.declared.value.Value.{Value}
 use Rattle.val_types.specs.declared.definitions.TableDef.{TableDef}
 use Rattle.val_types.specs.Order.{key_order}
 use Rattle.val_types.specs.Keys.{primary_key}
-use Rattle.val_types.specs.Tables.{Table}
-use Rattle.val_types.specs.Stored.{table_named, row_of_key}
-use Rattle.val_types.proofs.Taking.{Kept}
+use Rattle.table_rules.specs.Tables.{Table}
+use Rattle.table_rules.specs.Stored.{table_named, row_of_key}
+use Rattle.table_rules.proofs.Taking.{Kept}
 use Rattle.row_store.specs.declared.slots.Slot.{Slot}
 use Rattle.row_store.specs.declared.shelf.Shelf.{Shelf}
 use Rattle.row_store.specs.Slots.{rows_in, keys_in, all_above, keys_rise, has_own_key, is_sound, is_full, is_slot_of, is_among}

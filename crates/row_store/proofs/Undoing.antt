@@ -9,12 +9,12 @@ use Rattle.val_types.specs.declared.definitions.TableDef.{TableDef}
 use Rattle.val_types.specs.Order.{key_order}
 use Rattle.val_types.specs.Fitting.{row_fits}
 use Rattle.val_types.specs.Keys.{primary_key, same_values, collide}
-use Rattle.val_types.specs.Tables.{is_below}
-use Rattle.val_types.specs.Changes.{without, with_row, put}
-use Rattle.val_types.specs.Stored.{has_key, row_of_key, rows_beside}
+use Rattle.table_rules.specs.Tables.{is_below}
+use Rattle.table_rules.specs.Changes.{without, with_row, put}
+use Rattle.table_rules.specs.Stored.{has_key, row_of_key, rows_beside}
 use Rattle.val_types.proofs.Values.{key_order_total}
-use Rattle.val_types.proofs.Taking.{Kept, same_is, same_self, taken_out}
-use Rattle.val_types.proofs.Storing.{without_is_beside}
+use Rattle.table_rules.proofs.Taking.{Kept, same_is, same_self, taken_out}
+use Rattle.table_rules.proofs.Storing.{without_is_beside}
 
 above_differs : (o : Ordering) → is_lt o ≡ true → is_eq (ordering_reverse o) ≡ false
 above_differs Less e = refl

@@ -7,10 +7,10 @@ use Rattle.val_types.specs.declared.value.Value.{Value}
 use Rattle.val_types.specs.declared.definitions.TableDef.{TableDef}
 use Rattle.val_types.specs.Fitting.{row_fits}
 use Rattle.val_types.specs.Keys.{primary_key, same_values, collide}
-use Rattle.val_types.specs.Changes.{with_row}
-use Rattle.val_types.specs.Stored.{row_of_key, rows_beside, first_agreed, key_in_way}
-use Rattle.val_types.proofs.Taking.{same_self, taken_out}
-use Rattle.val_types.proofs.Storing.{keys_in_way, key_is, without_is_beside}
+use Rattle.table_rules.specs.Changes.{with_row}
+use Rattle.table_rules.specs.Stored.{row_of_key, rows_beside, first_agreed, key_in_way}
+use Rattle.table_rules.proofs.Taking.{same_self, taken_out}
+use Rattle.table_rules.proofs.Storing.{keys_in_way, key_is, without_is_beside}
 use Rattle.row_store.specs.declared.slots.Slot.{Slot}
 use Rattle.row_store.specs.declared.refusal.RowRefusal.{RowRefusal}
 use Rattle.row_store.specs.declared.refusal.RowRefusal.TheVariants.{Taken, Absent, NoMemory}

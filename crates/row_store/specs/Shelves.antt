@@ -6,10 +6,10 @@ use Rattle.std.specs.Cmp.Lexicographic.{pointwise}
 use Rattle.val_types.specs.declared.value.Value.{Value}
 use Rattle.val_types.specs.declared.definitions.TableDef.{TableDef}
 use Rattle.val_types.specs.Keys.{primary_key}
-use Rattle.val_types.specs.Tables.{Table}
-use Rattle.val_types.specs.Changes.{with_row}
+use Rattle.table_rules.specs.Tables.{Table}
+use Rattle.table_rules.specs.Changes.{with_row}
 use Rattle.val_types.specs.declared.change.Change.{Change}
-use Rattle.val_types.specs.Stored.{row_of_key, rows_beside, key_in_way, row_put}
+use Rattle.table_rules.specs.Stored.{row_of_key, rows_beside, key_in_way, row_put}
 use Rattle.row_store.specs.declared.refusal.RowRefusal.{RowRefusal}
 use Rattle.row_store.specs.declared.refusal.RowRefusal.TheVariants.{Taken, Absent, NoMemory}
 use Rattle.row_store.specs.declared.shelf.Shelf.{Shelf}

@@ -8,7 +8,7 @@ use Rattle.val_types.specs.declared.definitions.TableDef.{TableDef}
 use Rattle.val_types.specs.Order.{key_order}
 use Rattle.val_types.specs.Fitting.{row_fits}
 use Rattle.val_types.specs.Keys.{primary_key, same_values, agree_on}
-use Rattle.val_types.specs.Tables.{rise, are_apart}
+use Rattle.table_rules.specs.Tables.{rise, are_apart}
 use Rattle.row_store.specs.declared.slots.Slot.{Slot}
 
 -- how many items stand before the first that passes a test, or all where none does

@@ -4,10 +4,10 @@ use Rattle.std.specs.Option.{option_map_or}
 use Rattle.std.specs.Cmp.Lexicographic.{pointwise}
 use Rattle.val_types.specs.declared.value.Value.{Value}
 use Rattle.val_types.specs.declared.change.Change.{Change}
-use Rattle.val_types.specs.Tables.{Table}
+use Rattle.table_rules.specs.Tables.{Table}
 use Rattle.val_types.specs.Changes.{table_of}
 use Rattle.val_types.specs.Keys.{primary_key}
-use Rattle.val_types.specs.Stored.{table_named, row_of_key, Obstacle, key_taken, row_absent, carried_out, row_put}
+use Rattle.table_rules.specs.Stored.{table_named, row_of_key, Obstacle, key_taken, row_absent, carried_out, row_put}
 use Rattle.row_store.specs.declared.refusal.RowRefusal.{RowRefusal}
 use Rattle.row_store.specs.declared.refusal.RowRefusal.TheVariants.{Taken, Absent, NoMemory}
 use Rattle.row_store.specs.declared.shelf.Shelf.{Shelf}

@@ -1,5 +1,5 @@
 //! What holds of all that is stored.
-ghost use Rattle.val_types.specs.Changes.{AreKept};
+ghost use Rattle.table_rules.specs.Changes.{AreKept};
 ghost use Rattle.row_store.specs.Stores.{tables_of};
 
 use crate::tables::Tables;

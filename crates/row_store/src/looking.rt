@@ -3,7 +3,7 @@ ghost use Rattle.std.specs.Prelude.{◌≡◌, suc};
 ghost use Rattle.std.specs.Option.{option_map};
 ghost use Rattle.std.specs.List.{list_any};
 ghost use Rattle.val_types.specs.Keys.{agree_on, primary_key};
-ghost use Rattle.val_types.specs.Stored.{first_agreed};
+ghost use Rattle.table_rules.specs.Stored.{first_agreed};
 ghost use Rattle.row_store.specs.Slots.{is_not_before, is_slot_of, place, rows_in};
 
 use crate::comparing::{agree_on, has_key};

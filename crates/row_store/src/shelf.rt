@@ -19,10 +19,11 @@ pub struct Shelf {
 impl Shelf {
     ghost use Rattle.std.specs.Prelude.{◌≡◌, [], true, false, map, is_some, option_copied, IfOk, IsSome, OnOk};
     ghost use Rattle.std.specs.List.{list_any};
-    ghost use Rattle.val_types.specs.Changes.{inverse, rows_after, with_row};
+    ghost use Rattle.table_rules.specs.Changes.{rows_after, with_row};
+    ghost use Rattle.val_types.specs.Changes.{inverse};
     ghost use Rattle.val_types.specs.Fitting.{row_fits};
     ghost use Rattle.val_types.specs.Keys.{collide, primary_key};
-    ghost use Rattle.val_types.specs.Stored.{key_in_way, row_of_key, rows_beside};
+    ghost use Rattle.table_rules.specs.Stored.{key_in_way, row_of_key, rows_beside};
     ghost use Rattle.row_store.specs.Slots.{keys_in, rows_in};
     ghost use Rattle.row_store.specs.Shelves.{all_full, has_slot, has_slot_to_put, Inserted, KeepsSlots, Replaced};
 

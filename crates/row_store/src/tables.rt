@@ -16,8 +16,9 @@ pub struct Tables {
 impl Tables {
     ghost use Rattle.std.specs.Prelude.{◌≡◌, ◌++◌, ◌∷◌, [], true, option_copied, IfOk, IsSome, List, OnErr, OnOk};
     ghost use Rattle.val_types.specs.declared.value.Value.{Value};
-    ghost use Rattle.val_types.specs.Changes.{applied, inverse};
-    ghost use Rattle.val_types.specs.Stored.{deletion, fits_table, insertion, keys_at, replacement, row_at, table_named, tables_beside, tables_cleared};
+    ghost use Rattle.table_rules.specs.Changes.{applied};
+    ghost use Rattle.val_types.specs.Changes.{inverse};
+    ghost use Rattle.table_rules.specs.Stored.{deletion, fits_table, insertion, keys_at, replacement, row_at, table_named, tables_beside, tables_cleared};
     ghost use Rattle.row_store.specs.Stores.{keeps, keeps_put, KeepsAll, KeepsBeside, KeepsOnlyRows, KeepsSame, Stores, tables_of};
 
     /// No table, which takes no memory.

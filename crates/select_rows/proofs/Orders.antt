@@ -3,7 +3,7 @@ use Rattle.std.proofs.Common.{Bool, true, false, List, [], ◌∷◌, refl, drop
 use Rattle.std.specs.Cmp.{IsTotalOrder, IsStrictWeakOrder}
 use Rattle.std.proofs.lemmas.Cmp.{back_total, on_total, then_total}
 use Rattle.std.proofs.lemmas.List.Sorted.{ranks_by}
-use Rattle.val_types.specs.Selecting.{directed, first_value, by_items}
+use Rattle.value_rules.specs.Selecting.{directed, first_value, by_items}
 use Rattle.val_types.proofs.Values.{value_order_total}
 use Rattle.select_rows.specs.Keyed.{comes_before}
 

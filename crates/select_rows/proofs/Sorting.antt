@@ -5,7 +5,7 @@ use Rattle.std.specs.List.{filter}
 use Rattle.std.specs.List.Sorted.{IsSortedBy, IsStableBy, ties}
 use Rattle.std.proofs.lemmas.Bool.{false_from_ne_true, true≢false, and_parts, not-true}
 use Rattle.std.proofs.lemmas.List.Sorted.{sorted_far}
-use Rattle.val_types.specs.Selecting.{put_in_order, in_order}
+use Rattle.value_rules.specs.Selecting.{put_in_order, in_order}
 
 module _ {X : Type 0} (lt : X → X → Bool) (o : IsStrictWeakOrder lt) where
   irreflexive : (x : X) → lt x x ≡ false

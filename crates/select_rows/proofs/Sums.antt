@@ -3,7 +3,7 @@ use Rattle.std.proofs.Common.{◌≡◌, ℕ, suc, ◌+◌, ◌<◌, ◌≤◌, 
 use Rattle.std.specs.List.{filter}
 use Rattle.val_types.specs.declared.value.Value.{Value}
 use Rattle.val_types.specs.Fitting.{is_null}
-use Rattle.val_types.specs.Selecting.{known_count, addend, total}
+use Rattle.value_rules.specs.Selecting.{known_count, addend, total}
 
 choice : (b : Bool) (x : Value) (xs : List Value) (n : ℕ) → length xs ≤ n → length (cond b (x ∷ xs) xs) ≤ suc n
 choice true x xs n h = omega arith

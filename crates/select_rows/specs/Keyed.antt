@@ -1,7 +1,7 @@
 -- Rows with what they are ordered by, in order.
 use Rattle.std.specs.Prelude.{Bool, List, [], ◌∷◌}
 use Rattle.std.specs.Ordering.{is_lt}
-use Rattle.val_types.specs.Selecting.{by_items, in_order}
+use Rattle.value_rules.specs.Selecting.{by_items, in_order}
 use Rattle.select_rows.specs.declared.keyed.Keyed.{Keyed}
 
 -- whether a row comes before another by the values of its items

@@ -4,7 +4,7 @@ ghost use Rattle.std.specs.Int.{w128};
 ghost use Rattle.std.specs.List.{list_any};
 ghost use Rattle.val_types.specs.Answers.{Gives};
 ghost use Rattle.val_types.specs.Fitting.{is_null};
-ghost use Rattle.val_types.specs.Selecting.{addend, aggregate_value, better, comes_first, extreme, extreme_of, is_number, is_text, known_count, sum_of, total};
+ghost use Rattle.value_rules.specs.Selecting.{addend, aggregate_value, better, comes_first, extreme, extreme_of, is_number, is_text, known_count, sum_of, total};
 ghost use Rattle.val_types.specs.declared.value.Value.TheVariants.{Int, Null};
 
 use std::alloc::Global;

@@ -1,6 +1,6 @@
 //! LIMIT and OFFSET.
 ghost use Rattle.std.specs.Prelude.{◌≡◌};
-ghost use Rattle.val_types.specs.Selecting.{cut};
+ghost use Rattle.value_rules.specs.Selecting.{cut};
 
 use crate::keyed::Keyed;
 use val_types::List;

@@ -1,7 +1,7 @@
 //! ORDER BY.
 ghost use Rattle.std.specs.Prelude.{◌≡◌, slice_index_or, IfOk, OnOk};
 ghost use Rattle.val_types.specs.declared.value.Value.TheVariants.{Null};
-ghost use Rattle.val_types.specs.Selecting.{by_items, directed, in_order};
+ghost use Rattle.value_rules.specs.Selecting.{by_items, directed, in_order};
 ghost use Rattle.select_rows.specs.Keyed.{comes_before, ordered_rows};
 
 use crate::keyed::Keyed;

@@ -2,15 +2,8 @@ pub mod Answers
 pub mod Changes
 pub mod Errors
 pub mod Fitting
-pub mod Functions
-pub mod Identifiers
 pub mod Keys
-pub mod Moments
-pub mod Operators
 pub mod Order
-pub mod Random
-pub mod Selecting
-pub mod Stored
-pub mod Tables
 pub mod Text
+pub mod Worked
 pub mod formers

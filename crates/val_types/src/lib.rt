@@ -14,10 +14,24 @@
 //! - `fitting`: which values and rows fit their columns
 //! - `keys`: the key of a row
 //! - `change`: [`Change`], and its inverse
-//! - `laws`: what follows from the definitions
+//! - `worked`: texts, orders, fitting and keys by hand, which the checker computes
 //!
-//! The definitions in specs/ say beside this what the operators and built-in functions give, and what
-//! a change makes of a list of tables. The crates above compute them.
+//! An edit here proves everything again, so only what nearly all crates cite stands here: what
+//! operators and functions give stands in `value_rules`, what tables are in `table_rules`.
+//!
+//! # Proved
+//! - each method of [`List`] and [`Boxed`] is one equation on lists; want of memory leaves a list as it
+//!   was
+//! - [`Duplicate::duplicate`] gives an equal copy, or want of memory
+//! - [`key_cmp`] is the order of keys, Equal exactly on equal keys, and a total order
+//!   (`key_order_is_total`)
+//! - [`value_text`] and [`row_text`] give exactly the text of the definitions, [`fits`], [`row_fits`],
+//!   [`Change::inverse`] and [`Change::table`] exactly what theirs say, [`key_of`] the key or want of
+//!   memory
+//! - the worked texts, orders, fittings and keys
+//!
+//! # Only tested
+//! That calls succeed with ample memory, in `list_callers`.
 #![tactic(auto)]
 
 mod boxed;
@@ -26,14 +40,12 @@ mod definitions;
 mod duplicate;
 mod fitting;
 mod keys;
-mod laws;
 mod list;
 mod ops;
 mod refusal;
-#[cfg(test)]
-mod tests;
 mod text;
 mod value;
+mod worked;
 
 pub use boxed::Boxed;
 pub use change::Change;
@@ -41,10 +53,6 @@ pub use definitions::{ColType, ColumnDef, KeyDef, TableDef};
 pub use duplicate::Duplicate;
 pub use fitting::{fits, row_fits};
 pub use keys::key_of;
-pub use laws::{
-    all_turn_back, changes_turn_back, comparisons_follow_keys, definitions_stay,
-    keys_in_way_collide, left_operands_decide, null_safe_equality_is_equality, refusals_are_exact,
-};
 pub use list::{Bytes, List, NoMemory};
 pub use ops::{Agg, BinOp, Func, UnOp};
 pub use refusal::{
@@ -53,3 +61,4 @@ pub use refusal::{
 };
 pub use text::{row_text, value_text};
 pub use value::{Row, Value, key_cmp, key_order_is_total};
+pub use worked::{keys_of_rows, orders_of_keys, rows_that_fit, texts_of_values, values_that_fit};

@@ -1,7 +1,7 @@
 //! Built-in functions, moments, identifiers and random numbers.
 
 ghost use Rattle.std.specs.Prelude.{IsTrue};
-ghost use Rattle.val_types.specs.Functions.{takes};
+ghost use Rattle.value_rules.specs.Functions.{takes};
 
 use super::{Part, outcome, value};
 use crate::{builtin, floor_rand, rand_step, time_text, uuid_text};

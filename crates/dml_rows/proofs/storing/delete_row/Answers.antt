@@ -2,8 +2,8 @@ use Rattle.std.proofs.Common.{rules, ◌≡◌, List, [], ◌∷◌, ◌++◌, d
 use Rattle.val_types.specs.declared.value.Value.{Value}
 use Rattle.val_types.specs.declared.change.Change.{Change}
 use Rattle.val_types.specs.declared.change.Change.TheVariants.{Delete}
-use Rattle.val_types.specs.Changes.{applied}
-use Rattle.val_types.specs.Stored.{row_at, deletion}
+use Rattle.table_rules.specs.Changes.{applied}
+use Rattle.table_rules.specs.Stored.{row_at, deletion}
 use Rattle.row_store.specs.Stores.{tables_of, keeps}
 use Rattle.row_store.proofs.Kept.{stored_kept}
 use Rattle.dml_rows.specs.Noted.{CanTakeBack}

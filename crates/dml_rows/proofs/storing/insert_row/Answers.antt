@@ -1,8 +1,8 @@
 use Rattle.std.proofs.Common.{rules, ◌≡◌, List, [], ◌∷◌, ◌++◌, drop, Some, refl, sym, subst}
 use Rattle.val_types.specs.declared.change.Change.{Change}
 use Rattle.val_types.specs.declared.change.Change.TheVariants.{Insert}
-use Rattle.val_types.specs.Changes.{applied}
-use Rattle.val_types.specs.Stored.{insertion}
+use Rattle.table_rules.specs.Changes.{applied}
+use Rattle.table_rules.specs.Stored.{insertion}
 use Rattle.row_store.specs.Stores.{tables_of}
 use Rattle.row_store.proofs.Kept.{stored_kept}
 use Rattle.dml_rows.specs.Noted.{CanTakeBack}

@@ -1,8 +1,8 @@
 use Rattle.std.proofs.Common.{rules, ◌≡◌, List, [], ◌∷◌, ◌++◌, drop, Some, sym, subst}
 use Rattle.val_types.specs.declared.change.Change.{Change}
 use Rattle.val_types.specs.declared.change.Change.TheVariants.{Update}
-use Rattle.val_types.specs.Changes.{applied}
-use Rattle.val_types.specs.Stored.{row_at, replacement}
+use Rattle.table_rules.specs.Changes.{applied}
+use Rattle.table_rules.specs.Stored.{row_at, replacement}
 use Rattle.row_store.specs.Stores.{tables_of}
 use Rattle.row_store.proofs.Kept.{stored_kept}
 use Rattle.dml_rows.specs.Noted.{CanTakeBack}

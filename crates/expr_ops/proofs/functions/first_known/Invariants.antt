@@ -1,5 +1,5 @@
 use Rattle.std.proofs.Common.{◌≡◌, drop}
-use Rattle.val_types.specs.Functions.{first_known}
+use Rattle.value_rules.specs.Functions.{first_known}
 use Rattle.expr_ops.proofs.functions.first_known.Given as goal
 
 -- the values before this one are NULL, so the rest decides

@@ -1,6 +1,6 @@
 use Rattle.std.proofs.Common.{◌≡◌, ◌∙◌, ap}
 use Rattle.uuid.specs.Text.{hyphenated_text, lower}
-use Rattle.val_types.specs.Identifiers.{uuid_text}
+use Rattle.value_rules.specs.Identifiers.{uuid_text}
 use Rattle.expr_ops.proofs.Digits.{uuid_same}
 use Rattle.expr_ops.proofs.identifiers.uuid_text.Goals as goal
 

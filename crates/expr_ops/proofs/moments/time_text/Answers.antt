@@ -4,7 +4,7 @@ use Rattle.jiff_core.specs.declared.civil.date.Date.{Date}
 use Rattle.jiff_core.specs.declared.civil.time.Time.{Time}
 use Rattle.jiff_core.specs.declared.civil.datetime.DateTime.{DateTime}
 use Rattle.jiff.specs.Words.{civil_nanos, date_text as plain_date_text, time_text as plain_time_text}
-use Rattle.val_types.specs.Moments.{moment_text}
+use Rattle.value_rules.specs.Moments.{moment_text}
 use Rattle.expr_ops.proofs.Calendar.{moment_same}
 use Rattle.expr_ops.proofs.moments.time_text.Goals as goal
 

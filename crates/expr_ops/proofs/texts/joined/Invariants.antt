@@ -1,6 +1,6 @@
 use Rattle.std.proofs.Common.{◌≡◌, ◌++◌, drop}
 use Rattle.std.specs.List.{flat_map}
-use Rattle.val_types.specs.Functions.{piece_of}
+use Rattle.value_rules.specs.Functions.{piece_of}
 use Rattle.expr_ops.proofs.texts.joined.Given as goal
 
 -- the text so far and the pieces that are left make the whole

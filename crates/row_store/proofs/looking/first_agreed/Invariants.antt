@@ -1,6 +1,6 @@
 use Rattle.std.proofs.Common.{◌≡◌, ◌+◌, drop}
 use Rattle.std.specs.Option.{option_map}
-use Rattle.val_types.specs.Stored.{first_agreed}
+use Rattle.table_rules.specs.Stored.{first_agreed}
 use Rattle.row_store.specs.Slots.{rows_in}
 use Rattle.row_store.proofs.looking.first_agreed.Given as goal
 

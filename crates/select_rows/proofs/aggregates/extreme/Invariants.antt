@@ -1,5 +1,5 @@
 use Rattle.std.proofs.Common.{◌≡◌, drop}
-use Rattle.val_types.specs.Selecting.{comes_first, extreme}
+use Rattle.value_rules.specs.Selecting.{comes_first, extreme}
 use Rattle.select_rows.proofs.aggregates.extreme.Given as goal
 
 -- the best so far and the rest make the whole

@@ -1,7 +1,7 @@
 use Rattle.std.proofs.Common.{◌≡◌, ℕ, drop, ◌+◌, ◌*◌, ◌^◌, arith, ℤ, pos, neg_ℤ, ◌+ℤ◌, ◌≤ℤ◌, FitsSigned, to_z, of_z, to_z-of_z, refl, ap, sym, ◌∙◌}
 use Rattle.std.specs.Int.{w64, w128}
 use Rattle.std.proofs.lemmas.Int.{ints}
-use Rattle.val_types.specs.Selecting.{total}
+use Rattle.value_rules.specs.Selecting.{total}
 use Rattle.select_rows.proofs.Sums.{total_step}
 use Rattle.select_rows.proofs.aggregates.total.Goals as goal
 

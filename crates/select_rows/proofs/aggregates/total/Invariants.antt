@@ -1,5 +1,5 @@
 use Rattle.std.proofs.Common.{◌≡◌, ◌*◌, ◌^◌, drop, pos, neg_ℤ, ◌+ℤ◌, ◌≤ℤ◌}
-use Rattle.val_types.specs.Selecting.{total}
+use Rattle.value_rules.specs.Selecting.{total}
 use Rattle.select_rows.proofs.aggregates.total.Given as goal
 
 -- the sum so far and the rest make the whole, and each number has at most 63 bits

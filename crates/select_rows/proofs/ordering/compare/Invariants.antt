@@ -1,5 +1,5 @@
 use Rattle.std.proofs.Common.{◌≡◌, drop}
-use Rattle.val_types.specs.Selecting.{by_items}
+use Rattle.value_rules.specs.Selecting.{by_items}
 use Rattle.select_rows.proofs.ordering.compare.Given as goal
 
 -- the items so far are equal, so the rest decides

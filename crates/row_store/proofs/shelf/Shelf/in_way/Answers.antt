@@ -2,7 +2,7 @@ use Rattle.std.proofs.Common.{rules, ◌≡◌, sym, ◌∙◌}
 use Rattle.row_store.specs.Slots.{rows_in}
 use Rattle.std.specs.Prelude.{suc}
 use Rattle.std.specs.Option.{option_map}
-use Rattle.val_types.specs.Stored.{first_agreed}
+use Rattle.table_rules.specs.Stored.{first_agreed}
 use Rattle.row_store.proofs.Writing.{primary_in_way, unique_in_way}
 use Rattle.row_store.proofs.shelf.Shelf.in_way.Goals as goal
 

@@ -7,8 +7,9 @@ use Rattle.std.specs.Prelude.{is_some}
 use Rattle.std.specs.List.{list_any}
 use Rattle.val_types.specs.declared.change.Change.{Change}
 use Rattle.val_types.specs.declared.change.Change.TheVariants.{Insert, Update}
-use Rattle.val_types.specs.Changes.{inverse, rows_after, with_row}
-use Rattle.val_types.proofs.Taking.{Kept}
+use Rattle.table_rules.specs.Changes.{rows_after, with_row}
+use Rattle.val_types.specs.Changes.{inverse}
+use Rattle.table_rules.proofs.Taking.{Kept}
 use Rattle.row_store.proofs.Emptying.{sound}
 use Rattle.row_store.proofs.Undoing.{out_is_beside, Exchanged, exchanged}
 use Rattle.row_store.proofs.shelf.Shelf.take_back.Goals as goal

@@ -6,8 +6,8 @@ use Rattle.val_types.specs.Keys.{primary_key, collide}
 use Rattle.std.specs.Prelude.{Err}
 use Rattle.std.specs.List.{list_any}
 use Rattle.val_types.specs.Fitting.{row_fits}
-use Rattle.val_types.specs.Changes.{with_row}
-use Rattle.val_types.specs.Stored.{row_of_key, rows_beside}
+use Rattle.table_rules.specs.Changes.{with_row}
+use Rattle.table_rules.specs.Stored.{row_of_key, rows_beside}
 use Rattle.row_store.specs.Shelves.{has_slot, Inserted}
 use Rattle.row_store.proofs.Emptying.{all_stay}
 use Rattle.row_store.proofs.Writing.{TakenRow, taken_row, among_of_row, refused_same, replaced_err}

@@ -7,8 +7,8 @@ use Rattle.row_store.specs.Slots.{place, rows_in, is_among}
 use Rattle.row_store.specs.Shelves.{tables_on, is_named, has_slot}
 use Rattle.row_store.specs.Stores.{tables_of, keeps, kept_on}
 use Rattle.row_store.proofs.Swapping.{shelf_named, swap, named_there, unnamed, swapped, equal_swap, same_rows}
-use Rattle.val_types.specs.Stored.{row_of_key}
-use Rattle.val_types.proofs.Storing.{key_is}
+use Rattle.table_rules.specs.Stored.{row_of_key}
+use Rattle.table_rules.proofs.Storing.{key_is}
 use Rattle.row_store.proofs.Emptying.{all_stay}
 use Rattle.row_store.proofs.Writing.{among_of_row}
 use Rattle.row_store.proofs.Storing.{delete_stored, delete_absent, nothing_deleted, row_found, shelf_same}

@@ -7,7 +7,7 @@ use Rattle.row_store.specs.Shelves.{tables_on, is_named, has_slot}
 use Rattle.row_store.specs.Stores.{tables_of, keeps, kept_on, Stores}
 use Rattle.row_store.proofs.Swapping.{shelf_named, swap, named_there, unnamed, swapped, keeps_swap, keeps_rows}
 use Rattle.val_types.specs.Fitting.{row_fits}
-use Rattle.val_types.specs.Stored.{insertion}
+use Rattle.table_rules.specs.Stored.{insertion}
 use Rattle.row_store.proofs.Storing.{fits_shelf, insert_stored, nothing_inserted}
 use Rattle.row_store.proofs.Beside.{here_kept, on_ok}
 use Rattle.row_store.proofs.tables.Tables.insert.Goals as goal

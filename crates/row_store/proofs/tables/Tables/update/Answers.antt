@@ -8,8 +8,8 @@ use Rattle.row_store.specs.Shelves.{tables_on, is_named, has_slot}
 use Rattle.row_store.specs.Stores.{tables_of, keeps, kept_on, Stores}
 use Rattle.row_store.proofs.Swapping.{shelf_named, swap, named_there, unnamed, swapped, keeps_swap, keeps_rows}
 use Rattle.val_types.specs.Fitting.{row_fits}
-use Rattle.val_types.specs.Stored.{replacement}
-use Rattle.val_types.proofs.Storing.{key_is}
+use Rattle.table_rules.specs.Stored.{replacement}
+use Rattle.table_rules.proofs.Storing.{key_is}
 use Rattle.row_store.proofs.Storing.{fits_shelf, update_stored, nothing_replaced, row_found}
 use Rattle.row_store.proofs.Beside.{here_kept, on_ok}
 use Rattle.row_store.proofs.tables.Tables.update.Goals as goal

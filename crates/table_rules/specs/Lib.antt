@@ -1,0 +1,4 @@
+pub mod Changes
+pub mod Stored
+pub mod Tables
+pub mod Worked

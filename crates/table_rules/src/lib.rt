@@ -1,0 +1,27 @@
+//! Tables as lists of rows, and what changes make of them: definitions with their laws, and no code.
+//!
+//! The definitions stand in specs/, for the crates that keep tables and for those that say what
+//! statements and logs mean: `Tables` (a table, and what holds of its rows), `Changes` (a change
+//! applied to tables), `Stored` (rows by their keys; what storing a row comes to; changes taken back).
+//!
+//! - `laws`: what follows from the definitions, for all changes and tables
+//! - `worked`: keys in the way and changes by hand, which the checker computes
+//!
+//! # Proved
+//! - a change that can be made to tables that hold what tables have to hold leaves such tables, and its
+//!   inverse takes it back (`changes_turn_back`); so do the inverses of several, the last one first
+//!   (`all_turn_back`)
+//! - a key is in the way just where a row has a key in common with one that is there
+//!   (`keys_in_way_collide`), and storing a row that fits is refused just where its change cannot be
+//!   made (`refusals_are_exact`)
+//! - no change of rows changes a definition (`definitions_stay`)
+//! - the worked tables
+#![tactic(auto)]
+
+mod laws;
+mod worked;
+
+pub use laws::{
+    all_turn_back, changes_turn_back, definitions_stay, keys_in_way_collide, refusals_are_exact,
+};
+pub use worked::{changes_of_pens, keys_in_the_way};

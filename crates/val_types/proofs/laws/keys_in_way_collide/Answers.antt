@@ -1,5 +1,0 @@
-use Rattle.val_types.proofs.Storing.{keys_in_way}
-use Rattle.val_types.proofs.laws.keys_in_way_collide.Goals as goal
-
-pub returns : goal.returns
-returns c = keys_in_way

@@ -1,5 +1,0 @@
-use Rattle.val_types.proofs.Comparing.{null_safe_is_equality}
-use Rattle.val_types.proofs.laws.null_safe_equality_is_equality.Goals as goal
-
-pub returns : goal.returns
-returns c = null_safe_is_equality

@@ -1,5 +1,0 @@
-use Rattle.val_types.proofs.Storing.{inserts_where, replaces_where, deletes_there}
-use Rattle.val_types.proofs.laws.refusals_are_exact.Goals as goal
-
-pub returns : goal.returns
-returns c = record { inserts = inserts_where; replaces = replaces_where; deletes = deletes_there }
