@@ -1,8 +1,17 @@
-//! Callers of `val_types`, as a test of how little proof its lists ask of the crates above.
+//! Callers of `val_types`, as a test of how little proof its lists ask of the crates above, and its
+//! tests.
 //!
 //! Loops, chains, indexing, comparing, copying and moving to and from vectors, each in a small
 //! function with an exact contract. Two loops have an invariant of one line; nothing else has a
 //! proof file.
+//!
+//! - `tests`: calls of `val_types` with ample memory
+//!
+//! # Proved
+//! Each function by one equation, or want of memory.
+//!
+//! # Only tested
+//! Texts, orders, fitting, keys, inverses, copies and refusals of `val_types`, by hand.
 #![tactic(auto)]
 
 ghost use Rattle.std.specs.Prelude.{◌≡◌, ◌^◌, ◌<◌, ◌++◌, ◌∷◌, [], length, IfOk, sum_by, slice_get, slice_index_or, option_copied, IsTrue, IsPermutation, ◌↔◌, reverse};
@@ -11,6 +20,9 @@ ghost use Rattle.list_callers.specs.Rows.{widths};
 use std::alloc::Global;
 use std::cmp::Ordering;
 use val_types::{Bytes, Duplicate, List, NoMemory, Row, Value, key_cmp};
+
+#[cfg(test)]
+mod tests;
 
 /// How many values there are, by a loop.
 pub fn width(rows: &List<Row>) -> usize

@@ -8,7 +8,7 @@ use crate::value::Row;
 use std::alloc::Global;
 
 /// A change of one row of a table.
-#[derive(Clone, PartialEq, Eq, Debug, Drop)]
+#[derive(PartialEq, Eq, Debug, Drop)]
 pub enum Change {
     Insert {
         table: Bytes,

@@ -10,7 +10,7 @@ use std::cmp::Ordering;
 ///
 /// The derived comparisons are those of keys: NULL before numbers before texts, where `==` holds
 /// between two NULLs. SQL's `=` is another thing and does not stand here.
-#[derive(Clone, PartialEq, Eq, PartialOrd, Ord, Debug, Drop)]
+#[derive(PartialEq, Eq, PartialOrd, Ord, Debug, Drop)]
 pub enum Value {
     Null,
     Int(i64),
