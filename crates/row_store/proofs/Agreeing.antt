@@ -1,5 +1,5 @@
 -- Keys compared value by value, and keys on which rows agree.
-use Rattle.std.proofs.Common.{◌≡◌, ℕ, suc, ◌+◌, ◌<◌, List, [], ◌∷◌, length, get_or, drop, Bool, true, false, not, ◌&&◌, ◌||◌, cond, Option, Some, None, Ordering, Less, Equal, Greater, refl, sym, ap, ◌∙◌, arith}
+use Rattle.std.proofs.Common.{◌≡◌, ℕ, zero, suc, ◌+◌, ◌<◌, ◌≤◌, List, [], ◌∷◌, length, get_or, drop, Bool, true, false, not, ◌&&◌, ◌||◌, cond, Option, Some, None, Ordering, Less, Equal, Greater, refl, sym, ap, ◌∙◌, arith}
 use Rattle.std.proofs.Math.Seq.{drop-cons}
 use Rattle.std.specs.Prelude.{slice_index_or}
 use Rattle.std.specs.List.{list_any}
@@ -23,24 +23,23 @@ equal_both Greater p = refl
 pub same_values_cons : (v w : Value) (vs ws : List Value) → same_values (v ∷ vs) (w ∷ ws) ≡ (is_eq (value_order v w) && same_values vs ws)
 same_values_cons v w vs ws = equal_both (value_order v w) (key_order vs ws)
 
-pub longer_differ : (vs ws : List Value) → (length vs ≡ length ws → ⊥) → same_values vs ws ≡ false
-longer_differ [] [] h = absurd (h refl)
-longer_differ [] (w ∷ ws) h = refl
-longer_differ (v ∷ vs) [] h = refl
-longer_differ (v ∷ vs) (w ∷ ws) h =
-    same_values_cons v w vs ws ∙ ap (λ (b : Bool). is_eq (value_order v w) && b) (longer_differ vs ws (λ e. h (ap suc e))) ∙ nothing (is_eq (value_order v w))
-  where
-    nothing : (b : Bool) → (b && false) ≡ false
-    nothing true = refl
-    nothing false = refl
+-- a key that is a front of a row's stands before it
+pub front_before : (columns : List ℕ) (row key : List Value) (i : ℕ) → i < length columns → i ≡ length key → Less ≡ key_order (drop i key) (values_at (drop i columns) row)
+front_before [] row key i h e = absurd (omega arith)
+front_before (column ∷ columns) row [] zero h e = refl
+front_before (column ∷ columns) row (v ∷ key) zero h e = absurd (omega arith)
+front_before (column ∷ columns) row [] (suc i) h e = absurd (omega arith)
+front_before (column ∷ columns) row (v ∷ key) (suc i) h e = front_before columns row key i (omega arith) (omega arith)
 
-values_long : (columns : List ℕ) (row : List Value) → length (values_at columns row) ≡ length columns
-values_long [] row = refl
-values_long (column ∷ columns) row = ap suc (values_long columns row)
-
--- a key of another length is none of the row
-pub other_length : (columns : List ℕ) (row key : List Value) → (length columns ≡ length key → ⊥) → same_values (values_at columns row) key ≡ false
-other_length columns row key h = longer_differ (values_at columns row) key (λ e. h (sym (values_long columns row) ∙ e))
+-- one of which a row's is a front stands behind it
+pub behind_front : (columns : List ℕ) (row key : List Value) (i : ℕ) → length columns ≤ i → i ≤ length columns → length columns < length key
+    → Greater ≡ key_order (drop i key) (values_at (drop i columns) row)
+behind_front [] row [] i h up more = absurd (omega arith)
+behind_front [] row (v ∷ key) zero h up more = refl
+behind_front [] row (v ∷ key) (suc i) h up more = absurd (omega arith)
+behind_front (column ∷ columns) row key zero h up more = absurd (omega arith)
+behind_front (column ∷ columns) row [] (suc i) h up more = absurd (omega arith)
+behind_front (column ∷ columns) row (v ∷ key) (suc i) h up more = behind_front columns row key i (omega arith) (omega arith) (omega arith)
 
 agree_shuffled : (n m e f : Bool) → (not (n || m) && (e && f)) ≡ ((not n && e) && (not m && f))
 agree_shuffled true m e f = refl

@@ -21,7 +21,7 @@ use Rattle.row_store.specs.Slots.{place, rows_in, keys_in, is_slot_of, is_not_be
 
 -- ---- the order of keys
 
-lt_differs : (o : Ordering) → is_lt o ≡ true → is_eq o ≡ false
+pub lt_differs : (o : Ordering) → is_lt o ≡ true → is_eq o ≡ false
 lt_differs Less e = refl
 lt_differs Equal e = cc
 lt_differs Greater e = cc
@@ -44,10 +44,10 @@ neither Greater e f = refl
 not_back : (a b : List Value) → is_lt (key_order a b) ≡ true → is_lt (key_order b a) ≡ false
 not_back a b e = ap is_lt (key_order_total.antisymm b a) ∙ lt_back (key_order a b) e
 
-chain : (a b c : List Value) → is_lt (key_order a b) ≡ true → is_lt (key_order b c) ≡ true → is_lt (key_order a c) ≡ true
+pub chain : (a b c : List Value) → is_lt (key_order a b) ≡ true → is_lt (key_order b c) ≡ true → is_lt (key_order a c) ≡ true
 chain a b c e f = ap is_lt (key_order_total.trans a b c (lt_is _ e) (lt_is _ f))
 
-before_other : (a b : List Value) → is_lt (key_order b a) ≡ false → same_values a b ≡ false → is_lt (key_order a b) ≡ true
+pub before_other : (a b : List Value) → is_lt (key_order b a) ≡ false → same_values a b ≡ false → is_lt (key_order a b) ≡ true
 before_other a b e f =
     ap is_lt (key_order_total.antisymm a b) ∙ neither (key_order b a) e (ap is_eq (sym (key_order_total.antisymm a b)) ∙ f)
 
@@ -86,15 +86,6 @@ pub filled : (key : List Value) (row : Option (List Value)) (ss : List Slot) (at
 filled key row ss at d e is =
     ap (λ (k : ℕ). slice_set ss k (record { key = d.key; row = row })) e ∙ set_found key row ss d (subst (λ (k : ℕ). d ≡ get_or ss k d) e is)
 
-insert_step : (here : Bool) (k : ℕ) (s new : Slot) (ss more : List Slot) → insert ss k new ≡ more → insert (s ∷ ss) (cond here 0 (suc k)) new ≡ cond here (new ∷ s ∷ ss) (s ∷ more)
-insert_step true k s new ss more later = refl
-insert_step false k s new ss more later = ap (λ (rest : List Slot). s ∷ rest) later
-
--- an empty slot put in at the place of a key by its order
-pub slot_inserted : (key : List Value) (ss : List Slot) → insert ss (place (is_not_before key) ss) (record { key = key; row = None }) ≡ with_slot key ss
-slot_inserted key [] = refl
-slot_inserted key (s ∷ ss) = insert_step (is_not_before key s) (place (is_not_before key) ss) s (record { key = key; row = None }) ss (with_slot key ss) (slot_inserted key ss)
-
 row_step : (here : Bool) (k : ℕ) (s : Slot) (ss : List Slot) (o : Option (List Value)) → ((d : Slot) → k < length ss → (get_or ss k d).row ≡ o)
     → (d : Slot) → cond here 0 (suc k) < suc (length ss) → (get_or (s ∷ ss) (cond here 0 (suc k)) d).row ≡ cond here s.row o
 row_step true k s ss o later d h = refl
@@ -109,18 +100,13 @@ pub row_there : (key : List Value) (ss : List Slot) (at : ℕ) (d : Slot) → at
 row_there key ss at d e h is =
     ap (λ (s : Slot). s.row) is ∙ ap (λ (k : ℕ). (get_or ss k d).row) e ∙ row_found key ss d (subst (λ (k : ℕ). k < length ss) e h)
 
-none_step : (here : Bool) (k n : ℕ) (key : List Value) (row : Option (List Value)) (s : Slot) (ss : List Slot) → (n ≤ k → (row_in key ss ≡ None) × (fill key row ss ≡ ss)) → suc n ≤ cond here 0 (suc k)
-    → (cond here s.row (row_in key ss) ≡ None) × (cond here (record { key = s.key; row = row } ∷ ss) (s ∷ fill key row ss) ≡ s ∷ ss)
-none_step true k n key row s ss later h = absurd (omega arith)
-none_step false k n key row s ss later h = let both = later (omega arith) in (both.0, ap (λ (rest : List Slot). s ∷ rest) both.1)
-
-no_row : (key : List Value) (row : Option (List Value)) (ss : List Slot) → length ss ≤ place (is_slot_of key) ss → (row_in key ss ≡ None) × (fill key row ss ≡ ss)
-no_row key row [] h = (refl, refl)
-no_row key row (s ∷ ss) h = none_step (is_slot_of key s) (place (is_slot_of key) ss) (length ss) key row s ss (no_row key row ss) h
-
 -- where a key has no slot, it has no row, and filling it does nothing
-pub no_slot : (key : List Value) (row : Option (List Value)) (ss : List Slot) (at : ℕ) → at ≡ place (is_slot_of key) ss → length ss ≤ at → (row_in key ss ≡ None) × (fill key row ss ≡ ss)
-no_slot key row ss at e h = no_row key row ss (subst (λ (k : ℕ). length ss ≤ k) e h)
+pub no_slot : (key : List Value) (row : Option (List Value)) (ss : List Slot) → is_among key (keys_in ss) ≡ false → (row_in key ss ≡ None) × (fill key row ss ≡ ss)
+no_slot key row [] e = (refl, refl)
+no_slot key row (s ∷ ss) e =
+    let parts = or_parts (same_values key s.key) (is_among key (keys_in ss)) e in
+    let later = no_slot key row ss parts.1 in
+    rw parts.0 (later.0, ap (λ (rest : List Slot). s ∷ rest) later.1)
 
 -- a key is among those of the slots where one of them is its
 pub among_slots : (key : List Value) (ss : List Slot) → is_among key (keys_in ss) ≡ list_any (is_slot_of key) ss
@@ -186,7 +172,7 @@ is_sound_from d ss s =
 
 -- ---- a new slot
 
-above_more : (low key : List Value) (keys : List (List Value)) → is_lt (key_order low key) ≡ true → all_above key keys ≡ true → all_above low keys ≡ true
+pub above_more : (low key : List Value) (keys : List (List Value)) → is_lt (key_order low key) ≡ true → all_above key keys ≡ true → all_above low keys ≡ true
 above_more low key [] e all = refl
 above_more low key (k ∷ ks) e all =
     let parts = and_parts (is_lt (key_order key k)) (all_above key ks) all in

@@ -1,6 +1,8 @@
 pub mod Agreeing
 pub mod Beside
+pub mod Counting
 pub mod Emptying
+pub mod Halving
 pub mod Kept
 pub mod Places
 pub mod Storing

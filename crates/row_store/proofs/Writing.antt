@@ -1,5 +1,5 @@
 -- What a write at the place of a slot makes of the rows.
-use Rattle.std.proofs.Common.{◌≡◌, ℕ, suc, ◌<◌, ◌≤◌, List, [], ◌∷◌, length, get_or, Bool, true, false, ◌||◌, cond, Option, Some, None, Err, refl, sym, ap, subst, ◌∙◌}
+use Rattle.std.proofs.Common.{◌≡◌, ℕ, suc, ◌<◌, ◌≤◌, List, [], ◌∷◌, length, get_or, Bool, true, false, ◌||◌, cond, Option, Some, None, Ok, Err, refl, sym, ap, subst, ◌∙◌}
 use Rattle.std.specs.Prelude.{slice_set, is_some}
 use Rattle.std.specs.List.{insert, list_any}
 use Rattle.std.specs.Option.{option_map}
@@ -15,9 +15,10 @@ use Rattle.row_store.specs.declared.slots.Slot.{Slot}
 use Rattle.row_store.specs.declared.refusal.RowRefusal.{RowRefusal}
 use Rattle.row_store.specs.declared.refusal.RowRefusal.TheVariants.{Taken, Absent, NoMemory}
 use Rattle.row_store.specs.Shelves.{Inserted, Replaced}
-use Rattle.row_store.specs.Slots.{place, rows_in, keys_in, is_slot_of, is_not_before, is_among, is_sound}
-use Rattle.row_store.proofs.Places.{none_passes, some_passes}
-use Rattle.row_store.proofs.Emptying.{fill, with_slot, row_in, filled, slot_inserted, row_there, no_slot, among_slots, keys_filled, among_with, sound, is_sound_from, sound_with, row_of_slot, rows_emptied, sound_emptied, rows_filled, sound_put, any_of_key}
+use Rattle.row_store.specs.Slots.{place, rows_in, keys_in, is_slot_of, is_not_before, is_among, is_sound, Finds}
+use Rattle.row_store.proofs.Places.{some_passes}
+use Rattle.row_store.proofs.Halving.{before_differs}
+use Rattle.row_store.proofs.Emptying.{fill, with_slot, row_in, filled, row_there, no_slot, among_slots, keys_filled, among_with, rows_with, sound, is_sound_from, sound_with, row_of_slot, rows_emptied, sound_emptied, rows_filled, sound_put, any_of_key}
 
 -- a slot where one stands, with another row
 abbrev pub written : List Slot → ℕ → Slot → Option (List Value) → List Slot
@@ -44,45 +45,34 @@ emptied_rows d key ss at s row h e is none =
     ∙ rows_emptied d key ss (sound d ss h)
 
 -- the row in the slot of a key is the row of the key
-pub found_row : (d : TableDef) (key : List Value) (ss : List Slot) (at : ℕ) (s : Slot) → is_sound d ss ≡ true → at ≡ place (is_slot_of key) ss → at < length ss → s ≡ get_or ss at s
-    → s.row ≡ row_of_key d key (rows_in ss)
-found_row d key ss at s h e less is = row_there key ss at s e less is ∙ sym (row_of_slot d key ss (sound d ss h))
+pub found_row : (d : TableDef) (key : List Value) (ss : List Slot) (at : ℕ) (s : Slot) → is_sound d ss ≡ true → Finds key ss (Ok at) → s ≡ get_or ss at s → s.row ≡ row_of_key d key (rows_in ss)
+found_row d key ss at s h found is = row_there key ss at s found.1 found.0 is ∙ sym (row_of_slot d key ss (sound d ss h))
 
-pub no_row : (d : TableDef) (key : List Value) (ss : List Slot) (at : ℕ) → is_sound d ss ≡ true → at ≡ place (is_slot_of key) ss → length ss ≤ at → None ≡ row_of_key d key (rows_in ss)
-no_row d key ss at h e past = sym (row_of_slot d key ss (sound d ss h) ∙ (no_slot key None ss at e past).0)
+-- a key without a slot has no row
+pub no_row : (d : TableDef) (key : List Value) (ss : List Slot) → is_sound d ss ≡ true → is_among key (keys_in ss) ≡ false → None ≡ row_of_key d key (rows_in ss)
+no_row d key ss h missed = sym (row_of_slot d key ss (sound d ss h) ∙ (no_slot key None ss missed).0)
 
-pub all_beside : (d : TableDef) (key : List Value) (ss : List Slot) (at : ℕ) → is_sound d ss ≡ true → at ≡ place (is_slot_of key) ss → length ss ≤ at → rows_in ss ≡ rows_beside d key (rows_in ss)
-all_beside d key ss at h e past = ap rows_in (sym (no_slot key None ss at e past).1) ∙ rows_emptied d key ss (sound d ss h)
+pub all_beside : (d : TableDef) (key : List Value) (ss : List Slot) → is_sound d ss ≡ true → is_among key (keys_in ss) ≡ false → rows_in ss ≡ rows_beside d key (rows_in ss)
+all_beside d key ss h missed = ap rows_in (sym (no_slot key None ss missed).1) ∙ rows_emptied d key ss (sound d ss h)
+
+pub slot_within : (key : List Value) (ss : List Slot) (at : ℕ) → Finds key ss (Ok at) → is_among key (keys_in ss) ≡ true
+slot_within key ss at found = among_slots key ss ∙ some_passes (is_slot_of key) ss (subst (λ (k : ℕ). k < length ss) found.1 found.0)
 
 -- ---- a row put
 
-pub put_sound : (d : TableDef) (row : List Value) (ss : List Slot) (at : ℕ) (s : Slot) → is_sound d ss ≡ true → at ≡ place (is_slot_of (primary_key d row)) ss → s ≡ get_or ss at s
-    → is_among (primary_key d row) (keys_in ss) ≡ true → row_fits d.columns row ≡ true → list_any (collide d row) (rows_in ss) ≡ false
-    → is_sound d (written ss at s (Some row)) ≡ true
-put_sound d row ss at s h e is among fits free =
-    ap (is_sound d) (filled (primary_key d row) (Some row) ss at s e is)
-    ∙ is_sound_from d (fill (primary_key d row) (Some row) ss) (sound_put d row ss (sound d ss h) among fits free)
+pub put_sound : (d : TableDef) (row : List Value) (ss : List Slot) (at : ℕ) (s : Slot) → is_sound d ss ≡ true → Finds (primary_key d row) ss (Ok at) → s ≡ get_or ss at s
+    → row_fits d.columns row ≡ true → list_any (collide d row) (rows_in ss) ≡ false → is_sound d (written ss at s (Some row)) ≡ true
+put_sound d row ss at s h found is fits free =
+    ap (is_sound d) (filled (primary_key d row) (Some row) ss at s found.1 is)
+    ∙ is_sound_from d (fill (primary_key d row) (Some row) ss) (sound_put d row ss (sound d ss h) (slot_within (primary_key d row) ss at found) fits free)
 
-pub put_rows : (d : TableDef) (row : List Value) (ss : List Slot) (at : ℕ) (s : Slot) → is_sound d ss ≡ true → at ≡ place (is_slot_of (primary_key d row)) ss → s ≡ get_or ss at s
-    → is_among (primary_key d row) (keys_in ss) ≡ true → list_any (collide d row) (rows_in ss) ≡ false
-    → rows_in (written ss at s (Some row)) ≡ with_row d row (rows_in ss)
-put_rows d row ss at s h e is among free =
-    ap rows_in (filled (primary_key d row) (Some row) ss at s e is) ∙ rows_filled d row ss (sound d ss h) among free
+pub put_rows : (d : TableDef) (row : List Value) (ss : List Slot) (at : ℕ) (s : Slot) → is_sound d ss ≡ true → Finds (primary_key d row) ss (Ok at) → s ≡ get_or ss at s
+    → list_any (collide d row) (rows_in ss) ≡ false → rows_in (written ss at s (Some row)) ≡ with_row d row (rows_in ss)
+put_rows d row ss at s h found is free =
+    ap rows_in (filled (primary_key d row) (Some row) ss at s found.1 is)
+    ∙ rows_filled d row ss (sound d ss h) (slot_within (primary_key d row) ss at found) free
 
--- ---- a slot made
-
-pub made_is : (key : List Value) (ss : List Slot) (at : ℕ) (k : List Value) → at ≡ place (is_not_before k) ss → k ≡ key
-    → insert ss at (record { key = k; row = None }) ≡ with_slot key ss
-made_is key ss at k e same =
-    ap (λ (j : ℕ). insert ss j (record { key = k; row = None })) e
-    ∙ slot_inserted k ss
-    ∙ ap (λ (l : List Value). with_slot l ss) same
-
-new_key : (key : List Value) (ss : List Slot) (at : ℕ) → at ≡ place (is_slot_of key) ss → length ss ≤ at → is_among key (keys_in ss) ≡ false
-new_key key ss at e past = among_slots key ss ∙ none_passes (is_slot_of key) ss (subst (λ (k : ℕ). length ss ≤ k) e past)
-
-pub made_sound : (d : TableDef) (key : List Value) (ss : List Slot) (at : ℕ) → is_sound d ss ≡ true → at ≡ place (is_slot_of key) ss → length ss ≤ at → is_sound d (with_slot key ss) ≡ true
-made_sound d key ss at h e past = is_sound_from d (with_slot key ss) (sound_with d key ss (sound d ss h) (new_key key ss at e past))
+-- ---- a slot put in, with a row
 
 or_first : (a b : Bool) → a ≡ true → (a || b) ≡ true
 or_first true b e = refl
@@ -92,11 +82,57 @@ or_second : (a b : Bool) → b ≡ true → (a || b) ≡ true
 or_second true b e = refl
 or_second false b e = e
 
-pub made_there : (key : List Value) (ss : List Slot) → is_among key (keys_in (with_slot key ss)) ≡ true
+made_there : (key : List Value) (ss : List Slot) → is_among key (keys_in (with_slot key ss)) ≡ true
 made_there key ss = among_with key key ss ∙ or_first (same_values key key) (is_among key (keys_in ss)) (same_self key)
 
-pub made_keeps : (k key : List Value) (ss : List Slot) → is_among k (keys_in ss) ≡ true → is_among k (keys_in (with_slot key ss)) ≡ true
+made_keeps : (k key : List Value) (ss : List Slot) → is_among k (keys_in ss) ≡ true → is_among k (keys_in (with_slot key ss)) ≡ true
 made_keeps k key ss h = among_with k key ss ∙ or_second (same_values k key) (is_among k (keys_in ss)) h
+
+-- a new slot with a row is an empty one that is filled
+added_step : (here : Bool) (key : List Value) (row : Option (List Value)) (s : Slot) (ss : List Slot) → is_not_before key s ≡ here
+    → insert ss (place (is_not_before key) ss) (record { key = key; row = row }) ≡ fill key row (with_slot key ss)
+    → insert (s ∷ ss) (cond here 0 (suc (place (is_not_before key) ss))) (record { key = key; row = row })
+    ≡ fill key row (cond here (record { key = key; row = None } ∷ s ∷ ss) (s ∷ with_slot key ss))
+added_step true key row s ss e later = rw (same_self key) refl
+added_step false key row s ss e later = rw (before_differs key s e) (ap (λ (rest : List Slot). s ∷ rest) later)
+
+slot_added : (key : List Value) (row : Option (List Value)) (ss : List Slot) → insert ss (place (is_not_before key) ss) (record { key = key; row = row }) ≡ fill key row (with_slot key ss)
+slot_added key row [] = rw (same_self key) refl
+slot_added key row (s ∷ ss) = added_step (is_not_before key s) key row s ss refl (slot_added key row ss)
+
+added_is : (key : List Value) (row : Option (List Value)) (ss : List Slot) (at : ℕ) (k : List Value) → Finds key ss (Err at) → k ≡ key
+    → insert ss at (record { key = k; row = row }) ≡ fill key row (with_slot key ss)
+added_is key row ss at k missed same =
+    ap (λ (l : List Value). insert ss at (record { key = l; row = row })) same
+    ∙ ap (λ (j : ℕ). insert ss j (record { key = key; row = row })) missed.0
+    ∙ slot_added key row ss
+
+free_with : (d : TableDef) (row key : List Value) (ss : List Slot) → list_any (collide d row) (rows_in ss) ≡ false → list_any (collide d row) (rows_in (with_slot key ss)) ≡ false
+free_with d row key ss free = ap (λ (rows : List (List Value)). list_any (collide d row) rows) (rows_with key ss) ∙ free
+
+pub added_sound : (d : TableDef) (row : List Value) (ss : List Slot) (at : ℕ) (k : List Value) → is_sound d ss ≡ true → Finds (primary_key d row) ss (Err at) → k ≡ primary_key d row
+    → row_fits d.columns row ≡ true → list_any (collide d row) (rows_in ss) ≡ false → is_sound d (insert ss at (record { key = k; row = Some row })) ≡ true
+added_sound d row ss at k h missed same fits free =
+    let key = primary_key d row in
+    ap (is_sound d) (added_is key (Some row) ss at k missed same)
+    ∙ is_sound_from d (fill key (Some row) (with_slot key ss))
+    (sound_put d row (with_slot key ss) (sound_with d key ss (sound d ss h) missed.1) (made_there key ss) fits (free_with d row key ss free))
+
+pub added_rows : (d : TableDef) (row : List Value) (ss : List Slot) (at : ℕ) (k : List Value) → is_sound d ss ≡ true → Finds (primary_key d row) ss (Err at) → k ≡ primary_key d row
+    → list_any (collide d row) (rows_in ss) ≡ false → rows_in (insert ss at (record { key = k; row = Some row })) ≡ with_row d row (rows_in ss)
+added_rows d row ss at k h missed same free =
+    let key = primary_key d row in
+    ap rows_in (added_is key (Some row) ss at k missed same)
+    ∙ rows_filled d row (with_slot key ss) (sound_with d key ss (sound d ss h) missed.1) (made_there key ss) (free_with d row key ss free)
+    ∙ ap (with_row d row) (rows_with key ss)
+
+pub added_keeps : (kept : List Value) (d : TableDef) (row : List Value) (ss : List Slot) (at : ℕ) (k : List Value) → Finds (primary_key d row) ss (Err at) → k ≡ primary_key d row
+    → is_among kept (keys_in ss) ≡ true → is_among kept (keys_in (insert ss at (record { key = k; row = Some row }))) ≡ true
+added_keeps kept d row ss at k missed same h =
+    let key = primary_key d row in
+    ap (λ (slots : List Slot). is_among kept (keys_in slots)) (added_is key (Some row) ss at k missed same)
+    ∙ ap (is_among kept) (keys_filled key (Some row) (with_slot key ss))
+    ∙ made_keeps kept key ss h
 
 -- ---- keys in the way
 
@@ -151,9 +187,6 @@ replaced_err (Taken which) d key row before old mid new found p same = (ap (λ (
 replaced_err Absent d key row before old mid new found p same = absurd p
 replaced_err NoMemory d key row before old mid new found p same = same
 
-pub either_sound : (d : TableDef) (b : Bool) (xs ys : List Slot) → is_sound d xs ≡ true → is_sound d ys ≡ true → is_sound d (cond b xs ys) ≡ true
-either_sound d true xs ys e f = e
-either_sound d false xs ys e f = f
-
-pub slot_within : (key : List Value) (ss : List Slot) (at : ℕ) → at ≡ place (is_slot_of key) ss → at < length ss → is_among key (keys_in ss) ≡ true
-slot_within key ss at e less = among_slots key ss ∙ some_passes (is_slot_of key) ss (subst (λ (k : ℕ). k < length ss) e less)
+pub either : {X : Type 0} (P : X → Type 0) (b : Bool) (x y : X) → P x → P y → P (cond b x y)
+either P true x y p q = p
+either P false x y p q = q

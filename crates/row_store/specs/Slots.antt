@@ -1,5 +1,5 @@
 -- The slots in which a table keeps its rows: each has a primary key, and the row of that key or none.
-use Rattle.std.specs.Prelude.{ℕ, suc, Bool, true, not, ◌&&◌, if◌then◌else◌, List, [], ◌∷◌, ◌++◌, map, option_to_list, is_some}
+use Rattle.std.specs.Prelude.{◌≡◌, ◌<◌, ℕ, suc, Bool, true, false, not, ◌&&◌, if◌then◌else◌, List, [], ◌∷◌, ◌++◌, length, map, option_to_list, is_some, Result, Ok, Err}
 use Rattle.std.specs.List.{list_any, list_all}
 use Rattle.std.specs.Option.{option_map_or}
 use Rattle.std.specs.Ordering.{is_lt}
@@ -41,9 +41,18 @@ is_not_before key slot = not (is_lt (key_order slot.key key))
 abbrev pub is_full : Slot → Bool
 is_full slot = is_some slot.row
 
+-- whether a slot is empty
+abbrev pub is_bare : Slot → Bool
+is_bare slot = not (is_some slot.row)
+
 -- whether a key is among some
 abbrev pub is_among : List Value → List (List Value) → Bool
 is_among key keys = list_any (same_values key) keys
+
+-- where a key was looked for: the place of its slot, or the one at which a slot of it belongs
+abbrev pub Finds : List Value → List Slot → Result ℕ ℕ → Type 0
+Finds key slots (Ok at) = (at < length slots) × (at ≡ place (is_slot_of key) slots)
+Finds key slots (Err at) = (at ≡ place (is_not_before key) slots) × (is_among key (keys_in slots) ≡ false)
 
 -- whether all keys are above a key
 abbrev pub all_above : List Value → List (List Value) → Bool

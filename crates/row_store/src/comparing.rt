@@ -3,9 +3,10 @@ ghost use Rattle.std.specs.Prelude.{◌≡◌, ◌&&◌, not, slice_index_or};
 ghost use Rattle.std.specs.Ordering.{is_eq};
 ghost use Rattle.val_types.specs.declared.value.Value.TheVariants.{Null};
 ghost use Rattle.val_types.specs.Fitting.{is_null};
-ghost use Rattle.val_types.specs.Keys.{agree_on, primary_key, same_values};
-ghost use Rattle.val_types.specs.Order.{value_order};
+ghost use Rattle.val_types.specs.Keys.{agree_on, primary_key};
+ghost use Rattle.val_types.specs.Order.{key_order, value_order};
 
+use std::cmp::Ordering;
 use val_types::{KeyDef, Row, TableDef, Value};
 
 /// The value of a row in a column, another one where the row does not have that column.
@@ -18,26 +19,24 @@ fn value_at<'a>(row: &'a Row, column: u16, missing: &'a Value) -> &'a Value
     }
 }
 
-/// Whether a row has a value in a column. A column that the row does not have counts as NULL.
-fn has_value(row: &Row, column: u16, value: &Value) -> bool
-    ensures { result ≡ is_eq (value_order (slice_index_or row.now column Null) value.now) }
+/// How a key stands to the primary key of a row.
+pub(crate) fn key_row_cmp(key: &Row, definition: &TableDef, row: &Row) -> Ordering
+    ensures { result ≡ key_order key.now (primary_key definition.now row.now) }
 {
-    value_at(row, column, &Value::Null).cmp(value).is_eq()
-}
-
-/// Whether a row has a primary key.
-pub(crate) fn has_key(definition: &TableDef, row: &Row, key: &Row) -> bool
-    ensures { result ≡ same_values (primary_key definition.now row.now) key.now }
-{
-    if definition.primary.len() != key.len() {
-        return false;
-    }
     for (i, column) in definition.primary.as_slice().iter().enumerate() {
-        if !has_value(row, *column, &key[i]) {
-            return false;
+        if i == key.len() {
+            return Ordering::Less;
+        }
+        let order = key[i].cmp(value_at(row, *column, &Value::Null));
+        if !order.is_eq() {
+            return order;
         }
     }
-    true
+    if definition.primary.len() < key.len() {
+        Ordering::Greater
+    } else {
+        Ordering::Equal
+    }
 }
 
 /// Whether a value is NULL.

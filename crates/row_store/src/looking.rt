@@ -1,49 +1,29 @@
 //! Looking for the slot of a key, and for a key in the way.
-ghost use Rattle.std.specs.Prelude.{◌≡◌, suc};
+ghost use Rattle.std.specs.Prelude.{◌≡◌, suc, IsTrue};
 ghost use Rattle.std.specs.Option.{option_map};
 ghost use Rattle.std.specs.List.{list_any};
 ghost use Rattle.val_types.specs.Keys.{agree_on, primary_key};
 ghost use Rattle.table_rules.specs.Stored.{first_agreed};
-ghost use Rattle.row_store.specs.Slots.{is_not_before, is_slot_of, place, rows_in};
+ghost use Rattle.row_store.specs.Slots.{Finds, keys_in, keys_rise, rows_in};
 
-use crate::comparing::{agree_on, has_key};
+use crate::comparing::{agree_on, key_row_cmp};
 use crate::slots::Slot;
 use val_types::{KeyDef, Row, TableDef, key_cmp};
 
-/// How many slots stand before that of a key, or all where it has none.
-pub(crate) fn slot_of(slots: &[Slot], key: &Row) -> usize
-    ensures { result ≡ place (is_slot_of key.now) slots.now }
+/// The place of a key's slot, or else the one at which its slot belongs.
+pub(crate) fn slot_of(slots: &[Slot], key: &Row) -> Result<usize, usize>
+    requires { IsTrue (keys_rise (keys_in slots.now)) }
+    ensures { Finds key.now slots.now result }
 {
-    for (i, slot) in slots.iter().enumerate() {
-        if key_cmp(key, &slot.key).is_eq() {
-            return i;
-        }
-    }
-    slots.len()
+    slots.binary_search_by(|slot| key_cmp(&slot.key, key))
 }
 
-/// How many slots stand before that of a row's primary key, or all where it has none.
-pub(crate) fn slot_for(definition: &TableDef, row: &Row, slots: &[Slot]) -> usize
-    ensures { result ≡ place (is_slot_of (primary_key definition.now row.now)) slots.now }
+/// The same for the primary key of a row, of which no copy is made.
+pub(crate) fn slot_for(definition: &TableDef, row: &Row, slots: &[Slot]) -> Result<usize, usize>
+    requires { IsTrue (keys_rise (keys_in slots.now)) }
+    ensures { Finds (primary_key definition.now row.now) slots.now result }
 {
-    for (i, slot) in slots.iter().enumerate() {
-        if has_key(definition, row, &slot.key) {
-            return i;
-        }
-    }
-    slots.len()
-}
-
-/// How many slots stand before a key by its order.
-pub(crate) fn place_of(slots: &[Slot], key: &Row) -> usize
-    ensures { result ≡ place (is_not_before key.now) slots.now }
-{
-    for (i, slot) in slots.iter().enumerate() {
-        if !key_cmp(&slot.key, key).is_lt() {
-            return i;
-        }
-    }
-    slots.len()
+    slots.binary_search_by(|slot| key_row_cmp(&slot.key, definition, row))
 }
 
 /// Whether a row agrees with one in some slots on a unique key.

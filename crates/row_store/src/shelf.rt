@@ -1,30 +1,33 @@
 //! The slots of one table.
-ghost use Rattle.std.specs.Prelude.{IsTrue};
-ghost use Rattle.row_store.specs.Slots.{is_sound};
+ghost use Rattle.std.specs.Prelude.{◌≡◌, IsTrue, count_by};
+ghost use Rattle.row_store.specs.Slots.{is_bare, is_sound};
 
-use crate::looking::{first_agreed, place_of, slot_for, slot_of};
+use crate::looking::{first_agreed, slot_for, slot_of};
 use crate::refusal::{RowRefusal, taken};
 use crate::slots::Slot;
 use std::alloc::Global;
 use val_types::{Change, Duplicate, List, NoMemory, Row, TableDef, key_of};
 
-/// A table: its definition, and its slots in the order of their keys.
+/// A table: its definition, its slots in the order of their keys, and how many of them are empty.
 #[derive(Debug, Drop)]
 pub struct Shelf {
     pub definition: TableDef,
     pub slots: Vec<Slot>,
+    pub empties: usize,
     pub ghost sound: { IsTrue (is_sound definition slots.items) },
+    pub ghost counted: { empties ≡ count_by is_bare slots.items },
 }
 
 impl Shelf {
-    ghost use Rattle.std.specs.Prelude.{◌≡◌, [], true, false, map, is_some, option_copied, IfOk, IsSome, OnOk};
+    ghost use Rattle.std.specs.Prelude.{◌≡◌, ◌<◌, [], true, false, map, length, option_copied, IfOk, IsSome, List, OnErr, OnOk};
+    ghost use Rattle.val_types.specs.declared.value.Value.{Value};
     ghost use Rattle.std.specs.List.{list_any};
     ghost use Rattle.table_rules.specs.Changes.{rows_after, with_row};
     ghost use Rattle.val_types.specs.Changes.{inverse};
     ghost use Rattle.val_types.specs.Fitting.{row_fits};
     ghost use Rattle.val_types.specs.Keys.{collide, primary_key};
     ghost use Rattle.table_rules.specs.Stored.{key_in_way, row_of_key, rows_beside};
-    ghost use Rattle.row_store.specs.Slots.{keys_in, rows_in};
+    ghost use Rattle.row_store.specs.Slots.{is_slot_of, keys_in, place, rows_in, Finds};
     ghost use Rattle.row_store.specs.Shelves.{all_full, has_slot, has_slot_to_put, Inserted, KeepsSlots, Replaced};
 
     /// A table without rows.
@@ -35,6 +38,7 @@ impl Shelf {
         Shelf {
             definition,
             slots: Vec::new(alloc),
+            empties: 0,
         }
     }
 
@@ -43,11 +47,9 @@ impl Shelf {
         ensures { option_copied result
             ≡ row_of_key self.now.definition key.now (rows_in self.now.slots.items) }
     {
-        let at = slot_of(&self.slots, key);
-        if at < self.slots.len() {
-            self.slots[at].row.as_ref()
-        } else {
-            None
+        match slot_of(&self.slots, key) {
+            Ok(at) => self.slots[at].row.as_ref(),
+            Err(_) => None,
         }
     }
 
@@ -65,6 +67,22 @@ impl Shelf {
         Ok(keys)
     }
 
+    /// Takes the row out of a slot, and leaves the slot.
+    fn empty(&mut self, at: usize) -> Option<Row>
+        requires { at < length self.old.slots.items }
+        ensures found { (key : List Value) → at ≡ place (is_slot_of key) self.old.slots.items
+            → result ≡ row_of_key self.old.definition key (rows_in self.old.slots.items) }
+        ensures rows { (key : List Value) → at ≡ place (is_slot_of key) self.old.slots.items
+            → rows_in self.new.slots.items
+            ≡ rows_beside self.old.definition key (rows_in self.old.slots.items) }
+        ensures slots { keys_in self.new.slots.items ≡ keys_in self.old.slots.items }
+        ensures definition { self.new.definition ≡ self.old.definition }
+    {
+        let row = self.slots[at].row.take();
+        self.empties += usize::from(row.is_some());
+        row
+    }
+
     /// Takes the row of a key out, and leaves its slot.
     pub(crate) fn take(&mut self, key: &Row) -> Option<Row>
         ensures found { result
@@ -74,11 +92,9 @@ impl Shelf {
         ensures slots { keys_in self.new.slots.items ≡ keys_in self.old.slots.items }
         ensures definition { self.new.definition ≡ self.old.definition }
     {
-        let at = slot_of(&self.slots, key);
-        if at < self.slots.len() {
-            self.slots[at].row.take()
-        } else {
-            None
+        match slot_of(&self.slots, key) {
+            Ok(at) => self.empty(at),
+            Err(_) => None,
         }
     }
 
@@ -90,10 +106,25 @@ impl Shelf {
         ensures slots { keys_in self.new.slots.items ≡ keys_in self.old.slots.items }
         ensures definition { self.new.definition ≡ self.old.definition }
     {
-        let at = slot_for(&self.definition, row, &self.slots);
-        if at < self.slots.len() {
-            self.slots[at].row = None;
+        if let Ok(at) = slot_for(&self.definition, row, &self.slots) {
+            let _ = self.empty(at);
         }
+    }
+
+    /// Puts a row into the slot of its key, which stands at a place.
+    fn fill(&mut self, at: usize, row: Row)
+        requires slot { Finds (primary_key self.old.definition row) self.old.slots.items (Ok at) }
+        requires fits { row_fits self.old.definition.columns row ≡ true }
+        requires free { list_any (collide self.old.definition row) (rows_in self.old.slots.items) ≡ false }
+        ensures rows { rows_in self.new.slots.items
+            ≡ with_row self.old.definition row (rows_in self.old.slots.items) }
+        ensures slots { keys_in self.new.slots.items ≡ keys_in self.old.slots.items }
+        ensures definition { self.new.definition ≡ self.old.definition }
+    {
+        let slot = &mut self.slots[at];
+        let was_empty = slot.row.is_none();
+        slot.row = Some(row);
+        self.empties -= usize::from(was_empty);
     }
 
     /// Puts a row into the slot of its key.
@@ -106,47 +137,43 @@ impl Shelf {
         ensures slots { keys_in self.new.slots.items ≡ keys_in self.old.slots.items }
         ensures definition { self.new.definition ≡ self.old.definition }
     {
-        let at = slot_for(&self.definition, &row, &self.slots);
-        self.slots[at].row = Some(row);
+        if let Ok(at) = slot_for(&self.definition, &row, &self.slots) {
+            self.fill(at, row);
+        }
     }
 
-    /// Makes a slot for the key of a row, where there is none.
-    fn make_slot(&mut self, alloc: Global, row: &Row) -> Result<(), NoMemory>
-        ensures rows { rows_in self.new.slots.items ≡ rows_in self.old.slots.items }
-        ensures slot { OnOk result (has_slot (primary_key self.old.definition row.now) self.new ≡ true) }
+    /// Puts a row into a new slot, at the place where that of its key belongs.
+    fn add(&mut self, alloc: Global, at: usize, row: Row) -> Result<(), NoMemory>
+        requires place { Finds (primary_key self.old.definition row) self.old.slots.items (Err at) }
+        requires fits { row_fits self.old.definition.columns row ≡ true }
+        requires free { list_any (collide self.old.definition row) (rows_in self.old.slots.items) ≡ false }
+        ensures ok { OnOk result (rows_in self.new.slots.items
+            ≡ with_row self.old.definition row (rows_in self.old.slots.items)) }
+        ensures err { OnErr result (rows_in self.new.slots.items ≡ rows_in self.old.slots.items) }
+        ensures slot { OnOk result (has_slot (primary_key self.old.definition row) self.new ≡ true) }
         ensures slots { KeepsSlots self.old self.new }
         ensures definition { self.new.definition ≡ self.old.definition }
     {
-        if slot_for(&self.definition, row, &self.slots) < self.slots.len() {
-            return Ok(());
-        }
-        let key = key_of(alloc, &self.definition, row)?;
-        let at = place_of(&self.slots, &key);
-        self.slots.insert(at, Slot { key, row: None })?;
+        let key = key_of(alloc, &self.definition, &row)?;
+        self.slots.insert(
+            at,
+            Slot {
+                key,
+                row: Some(row),
+            },
+        )?;
         Ok(())
     }
 
-    /// Whether there is a row with the primary key of a row.
-    fn has_row(&self, row: &Row) -> bool
-        ensures { result ≡ is_some (row_of_key self.now.definition
-            (primary_key self.now.definition row.now) (rows_in self.now.slots.items)) }
-    {
-        let at = slot_for(&self.definition, row, &self.slots);
-        if at < self.slots.len() {
-            self.slots[at].row.is_some()
-        } else {
-            false
-        }
-    }
-
-    /// The first key of a row that another row has.
-    fn in_way(&self, row: &Row) -> Option<usize>
+    /// The first key of a row that another row has, by where its primary key was found.
+    fn in_way(&self, row: &Row, found: Result<usize, usize>) -> Option<usize>
+        requires { Finds (primary_key self.now.definition row.now) self.now.slots.items found }
         ensures { result ≡ key_in_way self.now.definition row.now (rows_in self.now.slots.items) }
     {
-        if self.has_row(row) {
-            return Some(0);
+        match found {
+            Ok(at) if self.slots[at].row.is_some() => Some(0),
+            _ => first_agreed(self.definition.uniques.as_slice(), row, &self.slots),
         }
-        first_agreed(self.definition.uniques.as_slice(), row, &self.slots)
     }
 
     /// Inserts a row.
@@ -158,11 +185,14 @@ impl Shelf {
         ensures slots { KeepsSlots self.old self.new }
         ensures definition { self.new.definition ≡ self.old.definition }
     {
-        if let Some(which) = self.in_way(&row) {
+        let found = slot_for(&self.definition, &row, &self.slots);
+        if let Some(which) = self.in_way(&row, found) {
             return Err(taken(which));
         }
-        self.make_slot(alloc, &row)?;
-        self.put(row);
+        match found {
+            Ok(at) => self.fill(at, row),
+            Err(at) => self.add(alloc, at, row)?,
+        }
         Ok(())
     }
 
@@ -214,7 +244,11 @@ impl Shelf {
         ensures rows { rows_in self.new.slots.items ≡ rows_in self.old.slots.items }
         ensures definition { self.new.definition ≡ self.old.definition }
     {
+        if self.empties == 0 {
+            return;
+        }
         self.slots.retain(|slot| slot.row.is_some());
+        self.empties = 0;
     }
 
     /// Drops all slots.
@@ -223,5 +257,6 @@ impl Shelf {
         ensures definition { self.new.definition ≡ self.old.definition }
     {
         self.slots.clear();
+        self.empties = 0;
     }
 }

@@ -13,49 +13,38 @@ pub trait Duplicate: Drop {
     /// An equal value with memory of its own.
     fn duplicate(&self, alloc: Global) -> Result<Self, NoMemory>
         ensures { IfOk result (λ copy. copy ≡ self.now) };
-}
 
-impl Duplicate for bool {
-    fn duplicate(&self, alloc: Global) -> Result<bool, NoMemory> {
-        let _ = alloc;
-        Ok(*self)
+    /// Equal values for those of a slice, in their order.
+    fn duplicate_all(alloc: Global, items: &[Self]) -> Result<List<Self>, NoMemory>
+        ensures { IfOk result (λ copies. copies ≡ items.now) }
+    {
+        let mut copies = List::with_capacity(alloc, items.len())?;
+        for item in items {
+            copies.push(item.duplicate(alloc)?)?;
+        }
+        Ok(copies)
     }
 }
 
-impl Duplicate for u8 {
-    fn duplicate(&self, alloc: Global) -> Result<u8, NoMemory> {
-        let _ = alloc;
-        Ok(*self)
-    }
+/// Copies of values that are plain bits: those of a slice are made at once.
+macro_rules! duplicate_plain {
+    ($($plain:ty),*) => {
+        $(
+            impl Duplicate for $plain {
+                fn duplicate(&self, alloc: Global) -> Result<$plain, NoMemory> {
+                    let _ = alloc;
+                    Ok(*self)
+                }
+
+                fn duplicate_all(alloc: Global, items: &[$plain]) -> Result<List<$plain>, NoMemory> {
+                    List::from_slice(alloc, items)
+                }
+            }
+        )*
+    };
 }
 
-impl Duplicate for u16 {
-    fn duplicate(&self, alloc: Global) -> Result<u16, NoMemory> {
-        let _ = alloc;
-        Ok(*self)
-    }
-}
-
-impl Duplicate for u32 {
-    fn duplicate(&self, alloc: Global) -> Result<u32, NoMemory> {
-        let _ = alloc;
-        Ok(*self)
-    }
-}
-
-impl Duplicate for u64 {
-    fn duplicate(&self, alloc: Global) -> Result<u64, NoMemory> {
-        let _ = alloc;
-        Ok(*self)
-    }
-}
-
-impl Duplicate for i64 {
-    fn duplicate(&self, alloc: Global) -> Result<i64, NoMemory> {
-        let _ = alloc;
-        Ok(*self)
-    }
-}
+duplicate_plain!(bool, u8, u16, u32, u64, i64);
 
 impl Duplicate for Value {
     fn duplicate(&self, alloc: Global) -> Result<Value, NoMemory> {
@@ -69,11 +58,7 @@ impl Duplicate for Value {
 
 impl<T: Duplicate> Duplicate for List<T> {
     fn duplicate(&self, alloc: Global) -> Result<List<T>, NoMemory> {
-        let mut copy = List::new(alloc);
-        for item in self.as_slice() {
-            copy.push(item.duplicate(alloc)?)?;
-        }
-        Ok(copy)
+        T::duplicate_all(alloc, self.as_slice())
     }
 }
 

@@ -45,6 +45,15 @@ impl<T> List<T> {
         }
     }
 
+    /// The empty list with room for some items, so that putting them in moves none.
+    pub fn with_capacity(alloc: Global, room: usize) -> Result<List<T>, NoMemory>
+        ensures { IfOk result (λ l. l ≡ []) }
+    {
+        Ok(List {
+            items: Vec::with_capacity(alloc, room)?,
+        })
+    }
+
     /// The items of a vector, without copying.
     pub fn from_vec(items: Vec<T>) -> List<T>
         ensures { result ≡ items.items }
