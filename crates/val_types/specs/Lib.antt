@@ -3,6 +3,7 @@ pub mod Changes
 pub mod Errors
 pub mod Fitting
 pub mod Keys
+pub mod Lookup
 pub mod Order
 pub mod Text
 pub mod Worked

@@ -53,7 +53,7 @@ pub fn fits(column: &ColumnDef, value: &Value) -> Result<(), SqlError>
 fn may_hold(column: &ColumnDef, value: &Value) -> bool
     ensures { result ≡ may_hold column.now value.now }
 {
-    fits(column, value).is_ok() && (column.nullable || !matches!(value, Value::Null))
+    fits(column, value).is_ok() && (column.nullable || !value.is_null())
 }
 
 /// Whether a row may stand in a table with these columns: it has one value for each, which fits the

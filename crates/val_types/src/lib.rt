@@ -12,7 +12,7 @@
 //! - `refusal`: [`SqlError`] with the numbers that values meet, and [`SqlRefusal`]
 //! - `definitions`: [`TableDef`], [`ColumnDef`], [`ColType`] and [`KeyDef`]
 //! - `fitting`: which values and rows fit their columns
-//! - `keys`: the key of a row
+//! - `keys`: the key of a row, and its value in a column
 //! - `change`: [`Change`], and its inverse
 //! - `worked`: texts, orders, fitting and keys by hand, which the checker computes
 //!
@@ -22,12 +22,12 @@
 //! # Proved
 //! - each method of [`List`] and [`Boxed`] is one equation on lists; want of memory leaves a list as it
 //!   was
-//! - [`Duplicate::duplicate`] gives an equal copy, or want of memory
+//! - [`Duplicate::duplicate`] and [`Duplicate::duplicate_all`] give equal copies, or want of memory
 //! - [`key_cmp`] is the order of keys, Equal exactly on equal keys, and a total order
 //!   (`key_order_is_total`)
 //! - [`value_text`] and [`row_text`] give exactly the text of the definitions, [`fits`], [`row_fits`],
-//!   [`Change::inverse`] and [`Change::table`] exactly what theirs say, [`key_of`] the key or want of
-//!   memory
+//!   [`Change::inverse`] and [`Change::table`] exactly what theirs say, [`value_at`] the value in a
+//!   column, [`key_of`] the key or want of memory
 //! - the worked texts, orders, fittings and keys
 //!
 //! # Only tested
@@ -52,7 +52,7 @@ pub use change::Change;
 pub use definitions::{ColType, ColumnDef, KeyDef, TableDef};
 pub use duplicate::Duplicate;
 pub use fitting::{fits, row_fits};
-pub use keys::key_of;
+pub use keys::{key_of, value_at};
 pub use list::{Bytes, List, NoMemory};
 pub use ops::{Agg, BinOp, Func, UnOp};
 pub use refusal::{

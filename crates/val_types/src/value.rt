@@ -1,6 +1,7 @@
 //! Values, rows, and the order in which a table keeps its rows.
 ghost use Rattle.std.specs.Prelude.{◌≡◌, ◌↔◌};
 ghost use Rattle.std.specs.Cmp.{IsTotalOrder};
+ghost use Rattle.val_types.specs.Fitting.{is_null};
 ghost use Rattle.val_types.specs.Order.{key_order};
 
 use crate::list::{Bytes, List};
@@ -15,6 +16,15 @@ pub enum Value {
     Null,
     Int(i64),
     Text(Bytes),
+}
+
+impl Value {
+    /// Whether this is NULL.
+    pub fn is_null(&self) -> bool
+        ensures { result ≡ is_null self.now }
+    {
+        matches!(self, Value::Null)
+    }
 }
 
 /// The values of a row, or those of a key, in the order of the columns.
