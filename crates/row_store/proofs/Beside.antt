@@ -1,6 +1,6 @@
 -- The keys of other tables, tables added, and requests that a change can be taken back.
 use Rattle.std.proofs.Common.{◌≡◌, ℕ, zero, suc, List, [], ◌∷◌, ◌++◌, get_or, Bool, true, false, cond, Option, Some, None, Result, Ok, Err, refl, sym, ap, ◌∙◌, OnOk, OnErr}
-use Rattle.std.specs.Prelude.{slice_set, is_some, nat_eq}
+use Rattle.std.specs.Prelude.{slice_set, is_some, nat_eq, position}
 use Rattle.std.specs.List.{remove}
 use Rattle.std.specs.Option.{option_map_or}
 use Rattle.std.specs.Cmp.Lexicographic.{pointwise}
@@ -11,13 +11,15 @@ use Rattle.val_types.specs.declared.definitions.TableDef.{TableDef}
 use Rattle.val_types.specs.declared.change.Change.{Change}
 use Rattle.val_types.specs.declared.change.Change.TheVariants.{Insert, Update, Delete}
 use Rattle.val_types.specs.Keys.{primary_key}
+use Rattle.val_types.specs.Lookup.{remove_first}
+use Rattle.val_types.proofs.Lookup.{removed}
 use Rattle.table_rules.specs.Tables.{Table}
 use Rattle.table_rules.specs.Changes.{rows_after, applied}
 use Rattle.val_types.specs.Changes.{table_of, inverse}
 use Rattle.table_rules.specs.Stored.{row_put}
 use Rattle.table_rules.proofs.Storing.{applied_where}
 use Rattle.row_store.specs.declared.shelf.Shelf.{Shelf}
-use Rattle.row_store.specs.Slots.{place, rows_in}
+use Rattle.row_store.specs.Slots.{rows_in}
 use Rattle.row_store.specs.Shelves.{table_on, tables_on, is_named, has_slot, has_slot_for, has_slot_to_put}
 use Rattle.row_store.specs.Stores.{kept_on}
 use Rattle.row_store.proofs.Swapping.{shelf_named, swap, same_name, later_kept, named_same, keeps_here, kept_found}
@@ -63,19 +65,19 @@ beside_swap name other row old new [] differ found same = cc
 beside_swap name other row old new (s ∷ ss) differ found same =
     beside_step (is_named name s) name other row s old new ss differ refl same (λ e. beside_swap name other row old new ss differ e same) found
 
-gone_step : (here : Bool) (name other : List ℕ) (row : List Value) (s : Shelf) (ss : List Shelf) (k : ℕ) → pointwise nat_eq name other ≡ false → is_named name s ≡ here
-    → kept_on other row (remove ss k) ≡ kept_on other row ss
-    → kept_on other row (remove (s ∷ ss) (cond here 0 (suc k))) ≡ kept_on other row (s ∷ ss)
-gone_step true name other row s ss k differ e later = sym (later_kept other row s ss (other_named name other s differ e))
-gone_step false name other row s ss k differ e later = ap (λ (b : Bool). cond (is_named other s) (has_slot_for row s) b) later
+left_step : (here : Bool) (name other : List ℕ) (row : List Value) (s : Shelf) (ss : List Shelf) → pointwise nat_eq name other ≡ false → is_named name s ≡ here
+    → kept_on other row (remove_first (is_named name) ss) ≡ kept_on other row ss
+    → kept_on other row (cond here ss (s ∷ remove_first (is_named name) ss)) ≡ kept_on other row (s ∷ ss)
+left_step true name other row s ss differ e later = sym (later_kept other row s ss (other_named name other s differ e))
+left_step false name other row s ss differ e later = ap (λ (b : Bool). cond (is_named other s) (has_slot_for row s) b) later
 
-gone : (name other : List ℕ) (row : List Value) (ss : List Shelf) → pointwise nat_eq name other ≡ false → kept_on other row (remove ss (place (is_named name) ss)) ≡ kept_on other row ss
-gone name other row [] differ = refl
-gone name other row (s ∷ ss) differ = gone_step (is_named name s) name other row s ss (place (is_named name) ss) differ refl (gone name other row ss differ)
+left : (name other : List ℕ) (row : List Value) (ss : List Shelf) → pointwise nat_eq name other ≡ false → kept_on other row (remove_first (is_named name) ss) ≡ kept_on other row ss
+left name other row [] differ = refl
+left name other row (s ∷ ss) differ = left_step (is_named name s) name other row s ss differ refl (left name other row ss differ)
 
 -- and where a shelf is taken out
-pub beside_removed : (name other : List ℕ) (row : List Value) (ss : List Shelf) (at : ℕ) → at ≡ place (is_named name) ss → pointwise nat_eq name other ≡ false → kept_on other row (remove ss at) ≡ kept_on other row ss
-beside_removed name other row ss at e differ = ap (λ (k : ℕ). kept_on other row (remove ss k)) e ∙ gone name other row ss differ
+pub beside_removed : (name other : List ℕ) (row : List Value) (ss : List Shelf) (at : ℕ) → position (is_named name) ss ≡ Some at → pointwise nat_eq name other ≡ false → kept_on other row (remove ss at) ≡ kept_on other row ss
+beside_removed name other row ss at e differ = ap (λ (left : List Shelf). kept_on other row left) (removed (is_named name) ss at e) ∙ left name other row ss differ
 
 more_step : (b here : Bool) (c d : Bool) → (c ≡ true → d ≡ true) → cond b here c ≡ true → cond b here d ≡ true
 more_step true here c d later e = e

@@ -1,6 +1,6 @@
 -- The shelf of a table among others, and what a change on it makes of the tables.
-use Rattle.std.proofs.Common.{◌≡◌, ℕ, suc, ◌<◌, ◌≤◌, List, [], ◌∷◌, length, get_or, Bool, true, false, cond, Option, Some, None, refl, sym, ap, subst, ◌∙◌, arith}
-use Rattle.std.specs.Prelude.{slice_set, nat_eq}
+use Rattle.std.proofs.Common.{◌≡◌, ℕ, List, [], ◌∷◌, Bool, true, false, cond, Option, Some, None, refl, sym, ap, ◌∙◌}
+use Rattle.std.specs.Prelude.{nat_eq, find, position}
 use Rattle.std.specs.List.{remove}
 use Rattle.std.specs.Option.{option_map}
 use Rattle.std.specs.Cmp.Lexicographic.{pointwise}
@@ -8,75 +8,31 @@ use Rattle.val_types.specs.declared.value.Value.{Value}
 use Rattle.val_types.specs.declared.definitions.TableDef.{TableDef}
 use Rattle.val_types.specs.declared.change.Change.{Change}
 use Rattle.val_types.specs.Keys.{primary_key}
+use Rattle.val_types.specs.Lookup.{change_first}
+use Rattle.val_types.proofs.Lookup.{removed, all_left, unchanged, place_mapped, find_mapped, left_mapped, change_mapped}
 use Rattle.table_rules.specs.Tables.{Table}
 use Rattle.table_rules.specs.Changes.{table_after, applied, AreKept}
 use Rattle.val_types.specs.Changes.{table_of}
-use Rattle.table_rules.specs.Stored.{table_named, tables_beside, tables_cleared}
+use Rattle.table_rules.specs.Stored.{has_name, table_named, tables_beside, tables_cleared}
 use Rattle.table_rules.proofs.Taking.{is_kept}
 use Rattle.row_store.specs.declared.shelf.Shelf.{Shelf}
-use Rattle.row_store.specs.Slots.{place, rows_in, keys_in, is_among}
+use Rattle.row_store.specs.Slots.{rows_in, keys_in, is_among}
 use Rattle.row_store.specs.Shelves.{table_on, tables_on, is_named, has_slot, has_slot_for, KeepsSlots}
 use Rattle.row_store.specs.Stores.{kept_on}
 use Rattle.row_store.proofs.Emptying.{sound}
 
 -- the shelf of a table
 abbrev pub shelf_named : List ℕ → List Shelf → Option Shelf
-shelf_named name [] = None
-shelf_named name (s ∷ ss) = cond (is_named name s) (Some s) (shelf_named name ss)
+shelf_named name ss = find (is_named name) ss
 
 -- the shelves, another one in the place of that of a table
 abbrev pub swap : List ℕ → Shelf → List Shelf → List Shelf
-swap name new [] = []
-swap name new (s ∷ ss) = cond (is_named name s) (new ∷ ss) (s ∷ swap name new ss)
-
--- ---- by places
-
-named_step : (here : Bool) (k : ℕ) (s d : Shelf) (ss : List Shelf) (o : Option Shelf) → (k < length ss → d ≡ get_or ss k d → o ≡ Some d)
-    → cond here 0 (suc k) < suc (length ss) → d ≡ get_or (s ∷ ss) (cond here 0 (suc k)) d → cond here (Some s) o ≡ Some d
-named_step true k s d ss o later h e = ap (λ (u : Shelf). Some u) (sym e)
-named_step false k s d ss o later h e = later (omega arith) e
-
-named_found : (name : List ℕ) (ss : List Shelf) (d : Shelf) → place (is_named name) ss < length ss → d ≡ get_or ss (place (is_named name) ss) d → shelf_named name ss ≡ Some d
-named_found name [] d h e = absurd (omega arith)
-named_found name (s ∷ ss) d h e = named_step (is_named name s) (place (is_named name) ss) s d ss (shelf_named name ss) (named_found name ss d) h e
-
--- what stands at the place of a table is its shelf
-pub named_there : (name : List ℕ) (ss : List Shelf) (at : ℕ) (d : Shelf) → at ≡ place (is_named name) ss → at < length ss → d ≡ get_or ss at d → shelf_named name ss ≡ Some d
-named_there name ss at d e h is =
-    named_found name ss d (subst (λ (k : ℕ). k < length ss) e h) (subst (λ (k : ℕ). d ≡ get_or ss k d) e is)
-
-unnamed_step : (here : Bool) (k n : ℕ) (s : Shelf) (o : Option Shelf) → (n ≤ k → o ≡ None) → suc n ≤ cond here 0 (suc k) → cond here (Some s) o ≡ None
-unnamed_step true k n s o later h = absurd (omega arith)
-unnamed_step false k n s o later h = later (omega arith)
-
-unnamed_found : (name : List ℕ) (ss : List Shelf) → length ss ≤ place (is_named name) ss → shelf_named name ss ≡ None
-unnamed_found name [] h = refl
-unnamed_found name (s ∷ ss) h = unnamed_step (is_named name s) (place (is_named name) ss) (length ss) s (shelf_named name ss) (unnamed_found name ss) h
-
-pub unnamed : (name : List ℕ) (ss : List Shelf) (at : ℕ) → at ≡ place (is_named name) ss → length ss ≤ at → shelf_named name ss ≡ None
-unnamed name ss at e h = unnamed_found name ss (subst (λ (k : ℕ). length ss ≤ k) e h)
-
-swap_step : (here : Bool) (k : ℕ) (new s : Shelf) (ss more : List Shelf) → slice_set ss k new ≡ more → slice_set (s ∷ ss) (cond here 0 (suc k)) new ≡ cond here (new ∷ ss) (s ∷ more)
-swap_step true k new s ss more later = refl
-swap_step false k new s ss more later = ap (λ (rest : List Shelf). s ∷ rest) later
-
-swap_found : (name : List ℕ) (new : Shelf) (ss : List Shelf) → slice_set ss (place (is_named name) ss) new ≡ swap name new ss
-swap_found name new [] = refl
-swap_found name new (s ∷ ss) = swap_step (is_named name s) (place (is_named name) ss) new s ss (swap name new ss) (swap_found name new ss)
-
--- a write at the place of a table swaps its shelf
-pub swapped : (name : List ℕ) (new : Shelf) (ss : List Shelf) (at : ℕ) → at ≡ place (is_named name) ss → slice_set ss at new ≡ swap name new ss
-swapped name new ss at e = ap (λ (k : ℕ). slice_set ss k new) e ∙ swap_found name new ss
+swap name new ss = change_first (is_named name) (λ s. new) ss
 
 -- ---- tables
 
-table_step : (here : Bool) (s : Shelf) (o : Option Table) (p : Option Shelf) → o ≡ option_map table_on p → cond here (Some (table_on s)) o ≡ option_map table_on (cond here (Some s) p)
-table_step true s o p e = refl
-table_step false s o p e = e
-
 pub table_of_shelf : (name : List ℕ) (ss : List Shelf) → table_named name (tables_on ss) ≡ option_map table_on (shelf_named name ss)
-table_of_shelf name [] = refl
-table_of_shelf name (s ∷ ss) = table_step (is_named name s) s (table_named name (tables_on ss)) (shelf_named name ss) (table_of_shelf name ss)
+table_of_shelf name ss = find_mapped table_on (has_name name) ss
 
 applied_step : (here : Bool) (change : Change) (s old new : Shelf) (ss : List Shelf) (more : List Shelf)
     → table_after change (table_on old) ≡ Some (table_on new)
@@ -220,44 +176,22 @@ named_swap name old new (s ∷ ss) found same = swapped_step (is_named name s) n
 
 -- ---- whole tables
 
-gone_step : (here : Bool) (k : ℕ) (s : Shelf) (ss : List Shelf) (more : List Table) → tables_on (remove ss k) ≡ more → tables_on (remove (s ∷ ss) (cond here 0 (suc k))) ≡ cond here (tables_on ss) (table_on s ∷ more)
-gone_step true k s ss more later = refl
-gone_step false k s ss more later = ap (λ (ts : List Table). table_on s ∷ ts) later
-
-gone : (name : List ℕ) (ss : List Shelf) → tables_on (remove ss (place (is_named name) ss)) ≡ tables_beside name (tables_on ss)
-gone name [] = refl
-gone name (s ∷ ss) = gone_step (is_named name s) (place (is_named name) ss) s ss (tables_beside name (tables_on ss)) (gone name ss)
-
 -- the shelf of a table taken out
-pub removed : (name : List ℕ) (ss : List Shelf) (at : ℕ) → at ≡ place (is_named name) ss → tables_on (remove ss at) ≡ tables_beside name (tables_on ss)
-removed name ss at e = ap (λ (k : ℕ). tables_on (remove ss k)) e ∙ gone name ss
-
-beside_step : (here : Bool) (name : List ℕ) (s : Shelf) (ss : List Shelf) → (shelf_named name ss ≡ None → (tables_beside name (tables_on ss) ≡ tables_on ss) × (tables_cleared name (tables_on ss) ≡ tables_on ss))
-    → cond here (Some s) (shelf_named name ss) ≡ None
-    → (cond here (tables_on ss) (table_on s ∷ tables_beside name (tables_on ss)) ≡ table_on s ∷ tables_on ss)
-    × (cond here (record (table_on s) { rows = [] } ∷ tables_on ss) (table_on s ∷ tables_cleared name (tables_on ss)) ≡ table_on s ∷ tables_on ss)
-beside_step true name s ss later e = cc
-beside_step false name s ss later e = let both = later e in (ap (λ (ts : List Table). table_on s ∷ ts) both.0, ap (λ (ts : List Table). table_on s ∷ ts) both.1)
-
--- where there is no table of a name, nothing is dropped or cleared
-pub none_dropped : (name : List ℕ) (ss : List Shelf) → shelf_named name ss ≡ None → (tables_beside name (tables_on ss) ≡ tables_on ss) × (tables_cleared name (tables_on ss) ≡ tables_on ss)
-none_dropped name [] e = (refl, refl)
-none_dropped name (s ∷ ss) e = beside_step (is_named name s) name s ss (none_dropped name ss) e
-
-cleared_step : (here : Bool) (name : List ℕ) (s old new : Shelf) (ss : List Shelf) → same_name old new → rows_in new.slots.items ≡ []
-    → (shelf_named name ss ≡ Some old → tables_on (swap name new ss) ≡ tables_cleared name (tables_on ss))
-    → cond here (Some s) (shelf_named name ss) ≡ Some old
-    → tables_on (cond here (new ∷ ss) (s ∷ swap name new ss)) ≡ cond here (record (table_on s) { rows = [] } ∷ tables_on ss) (table_on s ∷ tables_cleared name (tables_on ss))
-cleared_step true name s old new ss same none later found =
-    let first : s ≡ old = cc in
-    ap (λ (d : TableDef). record { definition = d; rows = rows_in new.slots.items } ∷ tables_on ss) (same ∙ ap (λ (u : Shelf). u.definition) (sym first))
-    ∙ ap (λ (rows : List (List Value)). record { definition = s.definition; rows = rows } ∷ tables_on ss) none
-cleared_step false name s old new ss same none later found = ap (λ (ts : List Table). table_on s ∷ ts) (later found)
+pub dropped : (name : List ℕ) (ss : List Shelf) (at : ℕ) → position (is_named name) ss ≡ Some at → tables_on (remove ss at) ≡ tables_beside name (tables_on ss)
+dropped name ss at e = ap tables_on (removed (is_named name) ss at e) ∙ sym (left_mapped table_on (has_name name) ss)
 
 -- an empty shelf in the place of that of a table clears it
 pub cleared_swap : (name : List ℕ) (old new : Shelf) (ss : List Shelf) → shelf_named name ss ≡ Some old → same_name old new → rows_in new.slots.items ≡ [] → tables_on (swap name new ss) ≡ tables_cleared name (tables_on ss)
-cleared_swap name old new [] found same none = cc
-cleared_swap name old new (s ∷ ss) found same none = cleared_step (is_named name s) name s old new ss same none (λ e. cleared_swap name old new ss e same none) found
+cleared_swap name old new ss found same none =
+    sym (change_mapped table_on (has_name name) (λ table. record table { rows = [] }) (λ s. new) ss old found
+    (ap (λ (d : TableDef). record { definition = d; rows = [] }) (sym same) ∙ ap (λ (rows : List (List Value)). record { definition = new.definition; rows = rows }) (sym none)))
+
+-- where there is no table of a name, nothing is dropped or cleared
+pub none_dropped : (name : List ℕ) (ss : List Shelf) → position (is_named name) ss ≡ None → tables_on ss ≡ tables_beside name (tables_on ss)
+none_dropped name ss e = sym (all_left (has_name name) (tables_on ss) (place_mapped table_on (has_name name) ss ∙ e))
+
+pub none_cleared : (name : List ℕ) (ss : List Shelf) → position (is_named name) ss ≡ None → tables_on ss ≡ tables_cleared name (tables_on ss)
+none_cleared name ss e = sym (unchanged (has_name name) (λ table. record table { rows = [] }) (tables_on ss) (place_mapped table_on (has_name name) ss ∙ e))
 
 -- ---- what holds of all that is stored
 

@@ -7,17 +7,7 @@ ghost use Rattle.val_types.specs.Keys.{agree_on, primary_key};
 ghost use Rattle.val_types.specs.Order.{key_order, value_order};
 
 use std::cmp::Ordering;
-use val_types::{KeyDef, Row, TableDef, Value};
-
-/// The value of a row in a column, another one where the row does not have that column.
-fn value_at<'a>(row: &'a Row, column: u16, missing: &'a Value) -> &'a Value
-    ensures { result.now ≡ slice_index_or row.now column missing.now }
-{
-    match row.get(usize::from(column)) {
-        Some(value) => value,
-        None => missing,
-    }
-}
+use val_types::{KeyDef, Row, TableDef, Value, value_at};
 
 /// How a key stands to the primary key of a row.
 pub(crate) fn key_row_cmp(key: &Row, definition: &TableDef, row: &Row) -> Ordering
@@ -39,20 +29,13 @@ pub(crate) fn key_row_cmp(key: &Row, definition: &TableDef, row: &Row) -> Orderi
     }
 }
 
-/// Whether a value is NULL.
-fn is_null(value: &Value) -> bool
-    ensures { result ≡ is_null value.now }
-{
-    matches!(value, Value::Null)
-}
-
 /// Whether two rows have the same value in a column, other than NULL.
 fn agree_in(a: &Row, b: &Row, column: u16) -> bool
     ensures { result ≡ (not (is_null (slice_index_or a.now column Null))
         && is_eq (value_order (slice_index_or a.now column Null) (slice_index_or b.now column Null))) }
 {
     let a = value_at(a, column, &Value::Null);
-    !is_null(a) && a.cmp(value_at(b, column, &Value::Null)).is_eq()
+    !a.is_null() && a.cmp(value_at(b, column, &Value::Null)).is_eq()
 }
 
 /// Whether two rows agree on a unique key; with a NULL part they do not.

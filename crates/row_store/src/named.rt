@@ -1,19 +1,16 @@
 //! Looking for the shelf of a table.
-ghost use Rattle.std.specs.Prelude.{◌≡◌};
+ghost use Rattle.std.specs.Prelude.{◌≡◌, ◌<◌, length, position, IfSome};
 ghost use Rattle.row_store.specs.Shelves.{is_named};
-ghost use Rattle.row_store.specs.Slots.{place};
 
 use crate::shelf::Shelf;
 use val_types::Bytes;
 
-/// How many shelves stand before that of a table, or all where there is none.
-pub(crate) fn shelf_of(shelves: &[Shelf], table: &Bytes) -> usize
-    ensures { result ≡ place (is_named table.now) shelves.now }
+/// The place of a table's shelf.
+pub(crate) fn shelf_of(shelves: &[Shelf], table: &Bytes) -> Option<usize>
+    ensures place { result ≡ position (is_named table.now) shelves.now }
+    ensures within { IfSome result (λ at. at < length shelves.now) }
 {
-    for (i, shelf) in shelves.iter().enumerate() {
-        if *table == shelf.definition.name {
-            return i;
-        }
-    }
-    shelves.len()
+    shelves
+        .iter()
+        .position(|shelf| *table == shelf.definition.name)
 }

@@ -35,11 +35,9 @@ impl Tables {
     pub fn get(&self, table: &Bytes, key: &Row) -> Option<&Row>
         ensures { option_copied result ≡ row_at table.now key.now (tables_of self.now) }
     {
-        let at = shelf_of(&self.shelves, table);
-        if at < self.shelves.len() {
-            self.shelves[at].get(key)
-        } else {
-            None
+        match shelf_of(&self.shelves, table) {
+            Some(at) => self.shelves[at].get(key),
+            None => None,
         }
     }
 
@@ -47,11 +45,9 @@ impl Tables {
     pub fn keys(&self, table: &Bytes) -> Result<List<Row>, NoMemory>
         ensures { IfOk result (λ keys. keys ≡ keys_at table.now (tables_of self.now)) }
     {
-        let at = shelf_of(&self.shelves, table);
-        if at < self.shelves.len() {
-            self.shelves[at].keys(self.alloc)
-        } else {
-            Ok(List::new(self.alloc))
+        match shelf_of(&self.shelves, table) {
+            Some(at) => self.shelves[at].keys(self.alloc),
+            None => Ok(List::new(self.alloc)),
         }
     }
 
@@ -59,11 +55,9 @@ impl Tables {
     pub fn fits(&self, table: &Bytes, row: &Row) -> bool
         ensures { result ≡ fits_table table.now row.now (tables_of self.now) }
     {
-        let at = shelf_of(&self.shelves, table);
-        if at < self.shelves.len() {
-            row_fits(&self.shelves[at].definition.columns, row)
-        } else {
-            true
+        match shelf_of(&self.shelves, table) {
+            Some(at) => row_fits(&self.shelves[at].definition.columns, row),
+            None => true,
         }
     }
 
@@ -76,11 +70,9 @@ impl Tables {
         ensures kept { OnOk result (keeps self.new table.now row ≡ true) }
         ensures keys { KeepsAll self.old self.new }
     {
-        let at = shelf_of(&self.shelves, table);
-        if at < self.shelves.len() {
-            self.shelves[at].insert(self.alloc, row)
-        } else {
-            Err(RowRefusal::Absent)
+        match shelf_of(&self.shelves, table) {
+            Some(at) => self.shelves[at].insert(self.alloc, row),
+            None => Err(RowRefusal::Absent),
         }
     }
 
@@ -95,11 +87,9 @@ impl Tables {
             → keeps self.new table.now before ≡ true) }
         ensures keys { KeepsAll self.old self.new }
     {
-        let at = shelf_of(&self.shelves, table);
-        if at < self.shelves.len() {
-            self.shelves[at].update(self.alloc, key, row)
-        } else {
-            Err(RowRefusal::Absent)
+        match shelf_of(&self.shelves, table) {
+            Some(at) => self.shelves[at].update(self.alloc, key, row),
+            None => Err(RowRefusal::Absent),
         }
     }
 
@@ -111,14 +101,12 @@ impl Tables {
         ensures kept { IfOk result (λ row. keeps self.new table.now row ≡ true) }
         ensures keys { KeepsAll self.old self.new }
     {
-        let at = shelf_of(&self.shelves, table);
-        if at < self.shelves.len() {
-            match self.shelves[at].take(key) {
+        match shelf_of(&self.shelves, table) {
+            Some(at) => match self.shelves[at].take(key) {
                 Some(row) => Ok(row),
                 None => Err(RowRefusal::Absent),
-            }
-        } else {
-            Err(RowRefusal::Absent)
+            },
+            None => Err(RowRefusal::Absent),
         }
     }
 
@@ -140,8 +128,7 @@ impl Tables {
         ensures tables { tables_of self.new ≡ tables_beside table.now (tables_of self.old) }
         ensures keys { KeepsBeside table.now self.old self.new }
     {
-        let at = shelf_of(&self.shelves, table);
-        if at < self.shelves.len() {
+        if let Some(at) = shelf_of(&self.shelves, table) {
             self.shelves.remove(at);
         }
     }
@@ -151,8 +138,7 @@ impl Tables {
         ensures tables { tables_of self.new ≡ tables_cleared table.now (tables_of self.old) }
         ensures keys { KeepsBeside table.now self.old self.new }
     {
-        let at = shelf_of(&self.shelves, table);
-        if at < self.shelves.len() {
+        if let Some(at) = shelf_of(&self.shelves, table) {
             self.shelves[at].clear();
         }
     }
@@ -164,8 +150,7 @@ impl Tables {
         ensures tables { applied (inverse change) (tables_of self.old) ≡ Some (tables_of self.new) }
         ensures keys { KeepsSame self.old self.new }
     {
-        let at = shelf_of(&self.shelves, change.table());
-        if at < self.shelves.len() {
+        if let Some(at) = shelf_of(&self.shelves, change.table()) {
             self.shelves[at].take_back(change);
         }
     }

@@ -1,6 +1,6 @@
 -- Rows by their keys; what storing a row comes to: a change, or what is in its way.
 use Rattle.std.specs.Prelude.{◌≡◌, ℕ, suc, Bool, true, not, nat_eq, if◌then◌else◌, List, [], ◌∷◌, map, reverse, filter, Option, Some, None, Result, Ok, Err, is_some, is_ok}
-use Rattle.std.specs.List.{list_any}
+use Rattle.std.specs.List.{list_any, find}
 use Rattle.std.specs.Option.{option_map, option_and_then, option_map_or}
 use Rattle.std.specs.Cmp.Lexicographic.{pointwise}
 use Rattle.val_types.specs.declared.value.Value.{Value}
@@ -9,6 +9,7 @@ use Rattle.val_types.specs.declared.change.Change.TheVariants.{Insert, Update, D
 use Rattle.val_types.specs.declared.definitions.KeyDef.{KeyDef}
 use Rattle.val_types.specs.declared.definitions.TableDef.{TableDef}
 use Rattle.val_types.specs.Fitting.{row_fits}
+use Rattle.val_types.specs.Lookup.{change_first, remove_first}
 use Rattle.val_types.specs.Keys.{primary_key, same_values, agree_on, collide}
 use Rattle.table_rules.specs.Tables.{Table}
 use Rattle.table_rules.specs.Changes.{applied, AreKept}
@@ -16,11 +17,13 @@ use Rattle.val_types.specs.Changes.{inverse}
 
 -- ---- rows by their keys
 
+-- whether a table has a name
+abbrev pub has_name : List ℕ → Table → Bool
+has_name name table = pointwise nat_eq name table.definition.name
+
 -- the table of a name
 abbrev pub table_named : List ℕ → List Table → Option Table
-table_named name [] = None
-table_named name (table ∷ tables) =
-    if pointwise nat_eq name table.definition.name then Some table else table_named name tables
+table_named name tables = find (has_name name) tables
 
 -- whether a row has a primary key
 abbrev pub has_key : TableDef → List Value → List Value → Bool
@@ -28,8 +31,7 @@ has_key definition key row = same_values key (primary_key definition row)
 
 -- the row with a primary key
 abbrev pub row_of_key : TableDef → List Value → List (List Value) → Option (List Value)
-row_of_key definition key [] = None
-row_of_key definition key (row ∷ rows) = if has_key definition key row then Some row else row_of_key definition key rows
+row_of_key definition key rows = find (has_key definition key) rows
 
 -- the row with a primary key in the table of a name
 abbrev pub row_at : List ℕ → List Value → List Table → Option (List Value)
@@ -119,16 +121,11 @@ keys_at name tables = option_map_or (λ table. map (primary_key table.definition
 
 -- the tables without that of a name
 abbrev pub tables_beside : List ℕ → List Table → List Table
-tables_beside name [] = []
-tables_beside name (table ∷ tables) =
-    if pointwise nat_eq name table.definition.name then tables else table ∷ tables_beside name tables
+tables_beside name tables = remove_first (has_name name) tables
 
 -- the tables, that of a name without rows
 abbrev pub tables_cleared : List ℕ → List Table → List Table
-tables_cleared name [] = []
-tables_cleared name (table ∷ tables) =
-    if pointwise nat_eq name table.definition.name then record table { rows = [] } ∷ tables
-    else table ∷ tables_cleared name tables
+tables_cleared name tables = change_first (has_name name) (λ table. record table { rows = [] }) tables
 
 -- the row that a change puts, None for one that only takes out
 abbrev pub row_put : Change → Option (List Value)

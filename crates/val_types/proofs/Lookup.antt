@@ -105,6 +105,14 @@ module _ {X : Type 0} (test : X → Bool) where
 -- ---- what is made of each item
 
 module _ {X Y : Type 0} (f : X → Y) (test : Y → Bool) where
+  -- the place is that of the item
+  pub place_mapped : (xs : List X) → position test (map f xs) ≡ position (λ x. test (f x)) xs
+  place_mapped [] = refl
+  place_mapped (x ∷ xs) =
+      place test (f x) (map f xs)
+      ∙ ap (λ (at : Option ℕ). cond (test (f x)) (Some 0) (option_map suc at)) (place_mapped xs)
+      ∙ sym (place (λ z. test (f z)) x xs)
+
   find_step : (here : Bool) (x : X) (o : Option Y) (p : Option X) → o ≡ option_map f p → cond here (Some (f x)) o ≡ option_map f (cond here (Some x) p)
   find_step true x o p e = refl
   find_step false x o p e = e

@@ -1,4 +1,4 @@
-use Rattle.std.proofs.Common.{◌≡◌, ◌≤◌, ℕ, List, length, true, Some, sym, ap, ◌∙◌, arith}
+use Rattle.std.proofs.Common.{◌≡◌, ◌≤◌, List, length, true, Some, sym, ap, ◌∙◌, arith}
 use Rattle.std.specs.Prelude.{is_ok, count_by}
 use Rattle.std.specs.List.{insert}
 use Rattle.row_store.specs.declared.slots.Slot.{Slot}

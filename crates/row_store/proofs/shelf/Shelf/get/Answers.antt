@@ -1,5 +1,4 @@
-use Rattle.std.proofs.Common.{rules, ◌≡◌, Ok, Err, ◌∙◌}
-use Rattle.std.specs.Option.{option_copied}
+use Rattle.std.proofs.Common.{Ok, Err, ◌∙◌}
 use Rattle.row_store.specs.Slots.{Finds}
 use Rattle.row_store.proofs.Writing.{found_row, no_row}
 use Rattle.row_store.proofs.shelf.Shelf.get.Goals as goal

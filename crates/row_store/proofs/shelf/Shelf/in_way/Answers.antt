@@ -1,4 +1,4 @@
-use Rattle.std.proofs.Common.{rules, ◌≡◌, Ok, Err, Some, None, false, sym, ap, subst, ◌∙◌}
+use Rattle.std.proofs.Common.{rules, ◌≡◌, Ok, false, sym, ap, subst, ◌∙◌}
 use Rattle.std.specs.Prelude.{is_some, suc}
 use Rattle.std.specs.Option.{option_map}
 use Rattle.val_types.specs.Keys.{primary_key}

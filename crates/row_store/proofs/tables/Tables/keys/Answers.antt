@@ -1,27 +1,23 @@
-use Rattle.std.proofs.Common.{◌≡◌, ◌<◌, ◌≤◌, List, length, Some, None, sym, ap, subst, ◌∙◌, arith}
-use Rattle.std.specs.Prelude.{IfOk}
+use Rattle.std.proofs.Common.{◌≡◌, List, Some, None, sym, ap, subst, ◌∙◌}
+use Rattle.std.specs.Prelude.{position, IfOk}
 use Rattle.val_types.specs.declared.value.Value.{Value}
-use Rattle.row_store.specs.Slots.{place}
 use Rattle.row_store.specs.Shelves.{is_named}
 use Rattle.row_store.specs.Stores.{tables_of}
-use Rattle.row_store.proofs.Swapping.{shelf_named, named_there, unnamed}
+use Rattle.val_types.proofs.Lookup.{found, missing}
+use Rattle.row_store.proofs.Swapping.{shelf_named}
 use Rattle.row_store.proofs.Storing.{keys_found, no_keys}
 use Rattle.row_store.proofs.tables.Tables.keys.Goals as goal
 
-pub returns-then-at-len : goal.returns-then-at-len
+pub returns-in-Some : goal.returns-in-Some
 unfolding tables_of
-returns-then-at-len c =
-    let at : c.shelf_of-at.result ≡ place (is_named c.args.table.now) c.args.self.now.shelves.items = rw c.deref.ensures.value at c.shelf_of-at.ensures in
-    let long : length c.deref.result.now ≡ length c.args.self.now.shelves.items = ap length c.deref.ensures.value in
-    let less : c.shelf_of-at.result < length c.args.self.now.shelves.items = omega (arith, c.deref.ensures.len, c.len.ensures) in
-    let found : shelf_named c.args.table.now c.args.self.now.shelves.items ≡ Some c.index.result.now = named_there c.args.table.now c.args.self.now.shelves.items c.shelf_of-at.result c.index.result.now at less c.index.ensures in
+returns-in-Some c =
+    let at : position (is_named c.args.table.now) c.args.self.now.shelves.items ≡ Some c.in-Some.at = ap (position (is_named c.args.table.now)) (sym c.deref.ensures.value) ∙ sym c.shelf_of.ensures.place ∙ c.in-Some.is in
+    let found : shelf_named c.args.table.now c.args.self.now.shelves.items ≡ Some c.index.result.now = found (is_named c.args.table.now) c.args.self.now.shelves.items c.in-Some.at c.index.result.now at c.index.ensures in
     subst (λ (wanted : List (List Value)). IfOk c.keys.result (λ keys. keys ≡ wanted)) (sym (keys_found c.args.table.now c.args.self.now.shelves.items c.index.result.now found)) c.keys.ensures
 
-pub returns-else-at-len : goal.returns-else-at-len
+pub returns-in-None : goal.returns-in-None
 unfolding tables_of
-returns-else-at-len c =
-    let at : c.shelf_of-at.result ≡ place (is_named c.args.table.now) c.args.self.now.shelves.items = rw c.deref.ensures.value at c.shelf_of-at.ensures in
-    let long : length c.deref.result.now ≡ length c.args.self.now.shelves.items = ap length c.deref.ensures.value in
-    let past : length c.args.self.now.shelves.items ≤ c.shelf_of-at.result = omega (arith, c.deref.ensures.len, c.len.ensures) in
-    let none : shelf_named c.args.table.now c.args.self.now.shelves.items ≡ None = unnamed c.args.table.now c.args.self.now.shelves.items c.shelf_of-at.result at past in
+returns-in-None c =
+    let at : position (is_named c.args.table.now) c.args.self.now.shelves.items ≡ None = ap (position (is_named c.args.table.now)) (sym c.deref.ensures.value) ∙ sym c.shelf_of.ensures.place ∙ c.in-None.is in
+    let none : shelf_named c.args.table.now c.args.self.now.shelves.items ≡ None = missing (is_named c.args.table.now) c.args.self.now.shelves.items at in
     c.new.ensures ∙ sym (no_keys c.args.table.now c.args.self.now.shelves.items none)
