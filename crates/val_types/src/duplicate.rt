@@ -1,7 +1,7 @@
 //! Copies that are equal to what they copy.
 ghost use Rattle.std.specs.Prelude.{◌≡◌, IfOk};
 
-use crate::list::{List, NoMemory};
+use crate::list::{Bytes, List, NoMemory};
 use crate::value::Value;
 use std::alloc::Global;
 
@@ -14,7 +14,7 @@ pub trait Duplicate: Drop {
     fn duplicate(&self, alloc: Global) -> Result<Self, NoMemory>
         ensures { IfOk result (λ copy. copy ≡ self.now) };
 
-    /// Equal values for those of a slice, in their order.
+    /// Equal values for those of a slice, in their order. Bytes are copied at once.
     fn duplicate_all(alloc: Global, items: &[Self]) -> Result<List<Self>, NoMemory>
         ensures { IfOk result (λ copies. copies ≡ items.now) }
     {
@@ -26,25 +26,51 @@ pub trait Duplicate: Drop {
     }
 }
 
-/// Copies of values that are plain bits: those of a slice are made at once.
-macro_rules! duplicate_plain {
-    ($($plain:ty),*) => {
-        $(
-            impl Duplicate for $plain {
-                fn duplicate(&self, alloc: Global) -> Result<$plain, NoMemory> {
-                    let _ = alloc;
-                    Ok(*self)
-                }
-
-                fn duplicate_all(alloc: Global, items: &[$plain]) -> Result<List<$plain>, NoMemory> {
-                    List::from_slice(alloc, items)
-                }
-            }
-        )*
-    };
+impl Duplicate for bool {
+    fn duplicate(&self, alloc: Global) -> Result<bool, NoMemory> {
+        let _ = alloc;
+        Ok(*self)
+    }
 }
 
-duplicate_plain!(bool, u8, u16, u32, u64, i64);
+impl Duplicate for u8 {
+    fn duplicate(&self, alloc: Global) -> Result<u8, NoMemory> {
+        let _ = alloc;
+        Ok(*self)
+    }
+
+    fn duplicate_all(alloc: Global, items: &[u8]) -> Result<Bytes, NoMemory> {
+        List::from_slice(alloc, items)
+    }
+}
+
+impl Duplicate for u16 {
+    fn duplicate(&self, alloc: Global) -> Result<u16, NoMemory> {
+        let _ = alloc;
+        Ok(*self)
+    }
+}
+
+impl Duplicate for u32 {
+    fn duplicate(&self, alloc: Global) -> Result<u32, NoMemory> {
+        let _ = alloc;
+        Ok(*self)
+    }
+}
+
+impl Duplicate for u64 {
+    fn duplicate(&self, alloc: Global) -> Result<u64, NoMemory> {
+        let _ = alloc;
+        Ok(*self)
+    }
+}
+
+impl Duplicate for i64 {
+    fn duplicate(&self, alloc: Global) -> Result<i64, NoMemory> {
+        let _ = alloc;
+        Ok(*self)
+    }
+}
 
 impl Duplicate for Value {
     fn duplicate(&self, alloc: Global) -> Result<Value, NoMemory> {
