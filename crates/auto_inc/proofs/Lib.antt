@@ -1,2 +1,1 @@
 pub mod Congruent
-pub mod Places

@@ -1,6 +1,6 @@
 //! The counters of tables.
-ghost use Rattle.std.specs.Prelude.{◌≡◌, ◌++◌, ◌∷◌, [], max, unwrap_or, OnErr, OnOk};
-ghost use Rattle.auto_inc.specs.Counting.{behind, changed_for, counters_beside, place_for, value_for};
+ghost use Rattle.std.specs.Prelude.{◌≡◌, ◌++◌, ◌∷◌, ◌<◌, [], length, max, position, unwrap_or, IfSome, OnErr, OnOk};
+ghost use Rattle.auto_inc.specs.Counting.{behind, changed_for, counters_beside, counts_for, value_for};
 
 use std::alloc::Global;
 use std::marker::Model;
@@ -44,11 +44,9 @@ impl Counters {
     pub fn value(&self, table: &Bytes) -> u64
         ensures { result ≡ unwrap_or (value_for table.now self.now) 0 }
     {
-        let at = place(&self.counters, table);
-        if at < self.counters.len() {
-            self.counters[at].value
-        } else {
-            0
+        match counter_of(&self.counters, table) {
+            Some(at) => self.counters[at].value,
+            None => 0,
         }
     }
 
@@ -56,8 +54,7 @@ impl Counters {
     pub fn raise(&mut self, table: &Bytes, value: i64)
         ensures { self.new ≡ changed_for table.now (max (behind value)) self.old }
     {
-        let at = place(&self.counters, table);
-        if at < self.counters.len() {
+        if let Some(at) = counter_of(&self.counters, table) {
             let counter = &mut self.counters[at];
             counter.value = behind(value).max(counter.value);
         }
@@ -67,8 +64,7 @@ impl Counters {
     pub fn reset(&mut self, table: &Bytes)
         ensures { self.new ≡ changed_for table.now (λ _. 1) self.old }
     {
-        let at = place(&self.counters, table);
-        if at < self.counters.len() {
+        if let Some(at) = counter_of(&self.counters, table) {
             self.counters[at].value = 1;
         }
     }
@@ -88,23 +84,18 @@ impl Counters {
     pub fn remove(&mut self, table: &Bytes)
         ensures { self.new ≡ counters_beside table.now self.old }
     {
-        let at = place(&self.counters, table);
-        if at < self.counters.len() {
+        if let Some(at) = counter_of(&self.counters, table) {
             self.counters.remove(at);
         }
     }
 }
 
-/// How many counters stand before that of a table, or all where it has none.
-fn place(counters: &[Counter], table: &Bytes) -> usize
-    ensures { result ≡ place_for table.now counters.now }
+/// The place of a table's counter.
+fn counter_of(counters: &[Counter], table: &Bytes) -> Option<usize>
+    ensures place { result ≡ position (counts_for table.now) counters.now }
+    ensures within { IfSome result (λ at. at < length counters.now) }
 {
-    for (i, counter) in counters.iter().enumerate() {
-        if *table == counter.table {
-            return i;
-        }
-    }
-    counters.len()
+    counters.iter().position(|counter| *table == counter.table)
 }
 
 /// The number behind a value, 0 behind one below 0.

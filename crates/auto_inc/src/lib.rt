@@ -7,6 +7,21 @@
 //! - `counters`: [`Counters`]
 //! - `sequence`: [`StmtSeq`]
 //! - `laws`: what follows from the definitions
+//! - `worked`: values by hand, which the checker computes
+//!
+//! # Proved
+//! - [`Counters::value`], [`Counters::raise`], [`Counters::reset`] and [`Counters::remove`] give and make
+//!   exactly what their definitions say, without memory; a table without a counter has 0, and nothing
+//!   changes there. [`Counters::add`] puts a counter at the end, or wants memory and changes nothing
+//! - [`StmtSeq::next`] gives exactly the value of the definition, None exactly where it is past the
+//!   greatest number, and the sequence then stays; [`StmtSeq::explicit`], [`StmtSeq::forced`] and
+//!   [`StmtSeq::first`] are their definitions
+//! - a law: the value looked for is the least at or above its start with the wanted rest
+//!   ([`least_congruent_is_least`])
+//! - the worked values
+//!
+//! # Only tested
+//! That `add` succeeds with ample memory, and a table of first values at the ends of the types.
 #![tactic(auto)]
 
 mod counters;
@@ -14,7 +29,9 @@ mod laws;
 mod sequence;
 #[cfg(test)]
 mod tests;
+mod worked;
 
 pub use counters::{Counter, Counters};
 pub use laws::least_congruent_is_least;
 pub use sequence::StmtSeq;
+pub use worked::{values_generated, values_looked_for};
