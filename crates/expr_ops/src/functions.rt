@@ -4,7 +4,7 @@ ghost use Rattle.val_types.specs.Answers.{Gives};
 ghost use Rattle.value_rules.specs.Functions.{argument, builtin_value, chosen, first_known, takes};
 
 use crate::arithmetic::absolute;
-use crate::texts::{concat, is_null, length, substring};
+use crate::texts::{concat, length, substring};
 use crate::truths::truth;
 use std::alloc::Global;
 use val_types::{Duplicate, Func, List, NoMemory, SqlRefusal, Value};
@@ -22,7 +22,7 @@ fn first_known(alloc: Global, values: &List<Value>) -> Result<Value, NoMemory>
     ensures { IfOk result (λ value. value ≡ first_known values.now) }
 {
     for value in values.as_slice() {
-        if !is_null(value) {
+        if !value.is_null() {
             return value.duplicate(alloc);
         }
     }

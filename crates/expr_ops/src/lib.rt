@@ -1,6 +1,6 @@
 //! The operators and built-in functions of SQL on values.
 //!
-//! What each gives is defined in val_types, as plain data: a value, or the number of an error. The
+//! What each gives is defined in `value_rules`, as plain data: a value, or the number of an error. The
 //! functions here compute it, on all values. The operands of an expression are evaluated by the crate
 //! that runs statements; what depends on a session, as NOW() or USER(), stands there too.
 //!
@@ -14,6 +14,17 @@
 //! - `moments`: [`time_text`], date and time of a second
 //! - `identifiers`: [`uuid_text`]
 //! - `random`: [`rand_step`] and [`floor_rand`], what RAND() draws
+//!
+//! # Proved
+//! - [`binary`], [`unary`], [`truth`], [`decided`], [`rand_step`] and [`floor_rand`] give exactly the value
+//!   or the error number of their definitions, on all values and without memory
+//! - [`builtin`] the same, or wants memory, for the seven functions of values with just their number of
+//!   arguments
+//! - [`time_text`] and [`uuid_text`] give exactly the text of the definition, for every u32 and u128, or
+//!   want memory
+//!
+//! # Only tested
+//! That calls succeed with ample memory.
 #![tactic(auto)]
 
 mod arithmetic;

@@ -14,7 +14,7 @@ fn null_safe_equal(a: &Value, b: &Value) -> Result<Value, SqlError>
 {
     match compare(a, b)? {
         Some(order) => Ok(truth_value(order.is_eq())),
-        None => Ok(truth_value(matches!(a, Value::Null) && matches!(b, Value::Null))),
+        None => Ok(truth_value(a.is_null() && b.is_null())),
     }
 }
 
@@ -55,7 +55,7 @@ pub fn unary(op: UnOp, a: &Value) -> Result<Value, SqlError>
     match op {
         UnOp::Negate => negated(a),
         UnOp::Not => negation(a),
-        UnOp::IsNull => Ok(truth_value(matches!(a, Value::Null))),
-        UnOp::IsNotNull => Ok(truth_value(!matches!(a, Value::Null))),
+        UnOp::IsNull => Ok(truth_value(a.is_null())),
+        UnOp::IsNotNull => Ok(truth_value(!a.is_null())),
     }
 }

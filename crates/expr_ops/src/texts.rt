@@ -11,18 +11,11 @@ use val_types::{Bytes, KINDS_MIXED, List, NoMemory, SqlError, SqlRefusal, TEXT_T
 /// The greatest length of a text as an expression's value, in bytes.
 const GREATEST_LENGTH: usize = 65_535;
 
-/// Whether a value is NULL.
-pub fn is_null(value: &Value) -> bool
-    ensures { result ≡ is_null value.now }
-{
-    matches!(value, Value::Null)
-}
-
 /// Whether one of some values is NULL.
 fn has_null(values: &[Value]) -> bool
     ensures { result ≡ list_any is_null values.now }
 {
-    values.iter().any(|value| is_null(value))
+    values.iter().any(|value| value.is_null())
 }
 
 /// A text as an expression's value, which has at most 65,535 bytes.

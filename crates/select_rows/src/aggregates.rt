@@ -3,7 +3,6 @@ ghost use Rattle.std.specs.Prelude.{◌≡◌, ◌+ℤ◌, if◌then◌else◌, 
 ghost use Rattle.std.specs.Int.{w128};
 ghost use Rattle.std.specs.List.{list_any};
 ghost use Rattle.val_types.specs.Answers.{Gives};
-ghost use Rattle.val_types.specs.Fitting.{is_null};
 ghost use Rattle.value_rules.specs.Selecting.{addend, aggregate_value, better, comes_first, extreme, extreme_of, is_number, is_text, known_count, sum_of, total};
 ghost use Rattle.val_types.specs.declared.value.Value.TheVariants.{Int, Null};
 
@@ -26,10 +25,7 @@ fn has_number(values: &[Value]) -> bool
 fn known_count(values: &[Value]) -> usize
     ensures { result ≡ known_count values.now }
 {
-    values
-        .iter()
-        .filter(|value| !matches!(value, Value::Null))
-        .count()
+    values.iter().filter(|value| !value.is_null()).count()
 }
 
 /// COUNT. A slice has fewer than 2^63 values.
@@ -88,13 +84,6 @@ fn sum(values: &[Value]) -> Result<Value, SqlError>
     }
 }
 
-/// Whether a value is NULL.
-fn is_null(value: &Value) -> bool
-    ensures { result ≡ is_null value.now }
-{
-    matches!(value, Value::Null)
-}
-
 /// Whether a value comes before another: the lower one for MIN, the higher one for MAX.
 fn comes_first(highest: bool, a: &Value, b: &Value) -> bool
     ensures { result ≡ comes_first highest a.now b.now }
@@ -111,10 +100,10 @@ fn is_better(highest: bool, best: &Value, value: &Value) -> bool
     ensures { better (comes_first highest) best.now value.now
         ≡ (if result then value.now else best.now) }
 {
-    if is_null(value) {
+    if value.is_null() {
         false
     } else {
-        is_null(best) || comes_first(highest, value, best)
+        best.is_null() || comes_first(highest, value, best)
     }
 }
 

@@ -3,7 +3,7 @@
 use val_types::{List, Row, Value};
 
 /// A row that WHERE keeps, with the values of the ORDER BY items in it.
-#[derive(Clone, PartialEq, Eq, Debug, Drop)]
+#[derive(PartialEq, Eq, Debug, Drop)]
 pub struct Keyed {
     pub row: Row,
     /// The value of each ORDER BY item.

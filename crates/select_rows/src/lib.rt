@@ -1,12 +1,20 @@
 //! What SELECT makes of the rows that WHERE keeps: their order, a part of them, and aggregates.
 //!
-//! The definitions stand in val_types. Evaluating WHERE, the ORDER BY items and the arguments of
+//! The definitions stand in `value_rules`. Evaluating WHERE, the ORDER BY items and the arguments of
 //! aggregates is the part of the crate that runs statements.
 //!
 //! - `keyed`: [`Keyed`], a row with what it is ordered by
 //! - `ordering`: [`order`], ORDER BY
 //! - `limiting`: [`limit`], LIMIT and OFFSET
 //! - `aggregates`: [`aggregate`], COUNT, SUM, MIN and MAX
+//!
+//! # Proved
+//! - [`order`] gives exactly the rows in the order of the definition, ties as they came, or wants memory
+//! - [`limit`] gives exactly the part that LIMIT and OFFSET leave, without memory
+//! - [`aggregate`] gives exactly the value or the error number of the definition, or wants memory
+//!
+//! # Only tested
+//! That calls succeed with ample memory.
 #![tactic(auto)]
 
 mod aggregates;

@@ -2,6 +2,15 @@
 //!
 //! A contract sees [`Undo`] as the list of its changes. A mark is a count of changes: what stands
 //! behind it was made since. Taking a change back is the part of the crate that changes rows.
+//!
+//! # Proved
+//! - [`Undo::push`] puts a change at the end, or wants memory and leaves the list
+//! - [`Undo::mark`] is the count; [`Undo::since`] gives equal copies of the changes behind a mark, or wants
+//!   memory
+//! - [`Undo::pop`] takes the last change out, None just for the empty list; [`Undo::clear`] empties it
+//!
+//! # Only tested
+//! That calls succeed with ample memory.
 #![tactic(auto)]
 
 #[cfg(test)]

@@ -52,7 +52,7 @@ impl Undo {
         requires { mark ≤ length self.now }
         ensures { IfOk result (λ changes. changes ≡ drop mark self.now) }
     {
-        copies(self.alloc, &self.changes.as_slice()[mark as usize..])
+        Change::duplicate_all(self.alloc, &self.changes.as_slice()[mark as usize..])
     }
 
     /// Takes the last change out.
@@ -69,15 +69,4 @@ impl Undo {
     {
         self.changes.clear();
     }
-}
-
-/// Equal changes with memory of their own.
-fn copies(alloc: Global, changes: &[Change]) -> Result<List<Change>, NoMemory>
-    ensures { IfOk result (λ copies. copies ≡ changes.now) }
-{
-    let mut copies = List::new(alloc);
-    for change in changes {
-        copies.push(change.duplicate(alloc)?)?;
-    }
-    Ok(copies)
 }
