@@ -1,5 +1,5 @@
 -- Expressions. Each rule has the number of constructs that may still be opened, and the rules for one construct less.
-use Rattle.std.specs.Prelude.{ℕ, zero, suc, pred, Bool, true, false, List, [], ◌∷◌, ◌++◌, Option, Some, None}
+use Rattle.std.specs.Prelude.{ℕ, zero, suc, pred, Bool, true, false, List, [], ◌∷◌, ◌++◌, Option, Some}
 use Rattle.val_types.specs.declared.ops.UnOp.{UnOp}
 use Rattle.val_types.specs.declared.ops.UnOp.TheVariants.{Negate, Not, IsNull, IsNotNull}
 use Rattle.val_types.specs.declared.ops.Func.{Func}

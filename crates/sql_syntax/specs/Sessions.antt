@@ -9,7 +9,7 @@ use Rattle.sql_tree.specs.Tree.{Tree, Trees, literal, no_tree}
 use Rattle.sql_tree.specs.Statement.{Statement, drop_table, drop_function, drop_procedure, drop_trigger, truncate, evaluate, set_all, call_procedure, begin, commit, rollback, savepoint, rollback_to, release_savepoint}
 use Rattle.sql_tree.specs.declared.statements.Target.{Target}
 use Rattle.sql_grammar.specs.Rule.{Rule, both, either, mapped, with_tokens, optional, paired, behind}
-use Rattle.sql_syntax.specs.Tokens.{Tok, keyword_said, kind, code, sign_code, names, keyword, sign}
+use Rattle.sql_syntax.specs.Tokens.{Tok, keyword_said, kind, code, sign_code, keyword, sign}
 use Rattle.sql_syntax.specs.Parts.{a_name, dotted_name, system_name, optional_name, name_but, word_name, list_of, exprs, arguments, in_parentheses}
 use Rattle.sql_syntax.specs.Expressions.{expression}
 
