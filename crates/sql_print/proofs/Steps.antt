@@ -1,5 +1,5 @@
 -- A text that grows at its end, piece by piece.
-use Rattle.std.proofs.Common.{◌≡◌, ℕ, Bool, true, false, IsTrue, ◌↔◌, List, [], ◌∷◌, ◌++◌, codes, append_assoc, ap, sym, ◌∙◌, refl, Result, Ok, Err, OnOk}
+use Rattle.std.proofs.Common.{◌≡◌, ℕ, Bool, true, false, IsTrue, ◌↔◌, List, [], ◌∷◌, ◌++◌, codes, append_assoc, ap, ◌∙◌, refl, Result, Ok, Err, OnOk}
 use Rattle.sql_tree.specs.StatementView.{view_sets}
 use Rattle.sql_tree.specs.declared.statements.ColumnSet.{ColumnSet}
 use Rattle.sql_print.specs.StatementSpelling.{update_text, sets_text}

@@ -4,8 +4,9 @@ use Rattle.val_types.specs.Text.{text_of}
 use Rattle.val_types.specs.declared.value.Value.TheVariants.{Text}
 use Rattle.val_types.specs.declared.ops.UnOp.{UnOp}
 use Rattle.val_types.specs.declared.ops.BinOp.{BinOp}
+use Rattle.val_types.specs.declared.ops.Func.{Func}
 use Rattle.val_types.specs.declared.ops.Agg.{Agg}
-use Rattle.sql_tree.specs.Tree.{Tree, literal, name, column, new_column, old_column, user_variable, system_variable, unary, binary, is_in, choice, subquery, exists, call, values_of, name_const, floor_rand, call_abs, call_coalesce, call_if, call_ifnull, call_concat, call_length, call_substring, call_now, call_unix_timestamp, call_sysdate, call_user, call_uuid, call_connection_id, call_last_insert_id, call_row_count}
+use Rattle.sql_tree.specs.Tree.{Tree, literal, name, column, new_column, old_column, user_variable, system_variable, unary, binary, is_in, choice, subquery, exists, call, built_in, values_of, name_const, floor_rand}
 use Rattle.sql_tree.specs.Tree.{Trees, no_tree, tree, Arms, no_arm, arm, Part, no_part, part, Query, query, Selected, items, all_columns, aggregates}
 use Rattle.sql_tree.specs.Tree.{Aggregates, no_aggregate, count_all, aggregate, Origin, no_origin, from_table, Orders, no_order, order_by}
 use Rattle.sql_print.specs.Names.{quoted_name, bare_name, limit_if}
@@ -53,6 +54,24 @@ aggregate_of Agg.Sum = codes "SUM("
 aggregate_of Agg.Min = codes "MIN("
 aggregate_of Agg.Max = codes "MAX("
 
+-- the name of a built-in function
+abbrev pub function_of : Func → List ℕ
+function_of Func.Abs = codes "ABS"
+function_of Func.Coalesce = codes "COALESCE"
+function_of Func.If = codes "IF"
+function_of Func.IfNull = codes "IFNULL"
+function_of Func.Concat = codes "CONCAT"
+function_of Func.Length = codes "LENGTH"
+function_of Func.Substring = codes "SUBSTRING"
+function_of Func.Now = codes "NOW"
+function_of Func.UnixTimestamp = codes "UNIX_TIMESTAMP"
+function_of Func.SysDate = codes "SYSDATE"
+function_of Func.User = codes "USER"
+function_of Func.Uuid = codes "UUID"
+function_of Func.ConnectionId = codes "CONNECTION_ID"
+function_of Func.LastInsertId = codes "LAST_INSERT_ID"
+function_of Func.RowCount = codes "ROW_COUNT"
+
 -- DESC
 abbrev pub direction_of : Bool → List ℕ
 direction_of true = codes " DESC"
@@ -83,21 +102,7 @@ abbrev mutual
   tree_text (values_of c) = codes "VALUES(" ++ quoted_name c ++ codes ")"
   tree_text (name_const n v) = codes "NAME_CONST(" ++ text_of (Text n) ++ codes ", " ++ text_of v ++ codes ")"
   tree_text (floor_rand a) = codes "FLOOR(RAND() * " ++ (if is_choice a then codes "(" ++ tree_text a ++ codes ")" else tree_text a) ++ codes ")"
-  tree_text (call_abs a) = codes "ABS(" ++ tree_text a ++ codes ")"
-  tree_text (call_coalesce ts) = codes "COALESCE(" ++ trees_text ts ++ codes ")"
-  tree_text (call_if a b c) = codes "IF(" ++ tree_text a ++ codes ", " ++ tree_text b ++ codes ", " ++ tree_text c ++ codes ")"
-  tree_text (call_ifnull a b) = codes "IFNULL(" ++ tree_text a ++ codes ", " ++ tree_text b ++ codes ")"
-  tree_text (call_concat ts) = codes "CONCAT(" ++ trees_text ts ++ codes ")"
-  tree_text (call_length a) = codes "LENGTH(" ++ tree_text a ++ codes ")"
-  tree_text (call_substring a b c) = codes "SUBSTRING(" ++ tree_text a ++ codes ", " ++ tree_text b ++ codes ", " ++ tree_text c ++ codes ")"
-  tree_text call_now = codes "NOW()"
-  tree_text call_unix_timestamp = codes "UNIX_TIMESTAMP()"
-  tree_text call_sysdate = codes "SYSDATE()"
-  tree_text call_user = codes "USER()"
-  tree_text call_uuid = codes "UUID()"
-  tree_text call_connection_id = codes "CONNECTION_ID()"
-  tree_text call_last_insert_id = codes "LAST_INSERT_ID()"
-  tree_text call_row_count = codes "ROW_COUNT()"
+  tree_text (built_in f ts) = function_of f ++ codes "(" ++ trees_text ts ++ codes ")"
 
   -- expressions with a comma and a space between two
   pub trees_text : Trees → List ℕ

@@ -2,8 +2,8 @@
 use Rattle.std.specs.Prelude.{ℕ, Bool, true, false, List, [], ◌∷◌, ◌++◌, map, codes, Option, Some, None}
 use Rattle.val_types.specs.Text.{text_of}
 use Rattle.val_types.specs.declared.value.Value.{Value}
-use Rattle.sql_tree.specs.Tree.{Part, no_part, part}
-use Rattle.sql_tree.specs.Statement.{Rows, no_row, row, Supply, rows, rows_of, Sets, no_set, set_to, Assignments, no_assignment, assign, Declarations, no_declaration, declare}
+use Rattle.sql_tree.specs.Tree.{Tree, Trees, Part, no_part, part}
+use Rattle.sql_tree.specs.Statement.{Supply, rows, rows_of, Declared}
 use Rattle.sql_tree.specs.Statement.{Statement, create_table, create_function, create_procedure, create_trigger, drop_table, drop_function, drop_procedure, drop_trigger, truncate, insert_into, replace_into, update_rows, delete_rows, select, evaluate, set_all, call_procedure, begin, commit, rollback, savepoint, rollback_to, release_savepoint, block, if_steps, while_steps, return_value}
 use Rattle.sql_tree.specs.Statement.{Statements, no_statement, statement, Branches, no_branch, branch, Otherwise, no_else, else_steps, Program, program, Trigger, trigger}
 use Rattle.sql_tree.specs.declared.statements.SqlType.{SqlType}
@@ -62,35 +62,27 @@ abbrev pub columns_text : Option (List (List ℕ)) → List ℕ
 columns_text None = []
 columns_text (Some ns) = codes " (" ++ names_of ns ++ codes ")"
 
--- the rows of VALUES behind the first
-abbrev pub more_rows_text : Rows → List ℕ
-more_rows_text no_row = []
-more_rows_text (row ts rest) = codes ", (" ++ trees_text ts ++ codes ")" ++ more_rows_text rest
-
--- the rows of VALUES, each in parentheses
-abbrev pub rows_text : Rows → List ℕ
-rows_text no_row = []
-rows_text (row ts rest) = codes "(" ++ trees_text ts ++ codes ")" ++ more_rows_text rest
+-- a row of VALUES in parentheses
+abbrev pub row_text : Trees → List ℕ
+row_text ts = codes "(" ++ trees_text ts ++ codes ")"
 
 -- VALUES with its rows, or a SELECT
 abbrev pub supply_text : Supply → List ℕ
-supply_text (rows rs) = codes " VALUES " ++ rows_text rs
+supply_text (rows rs) = codes " VALUES " ++ commas (map row_text rs)
 supply_text (rows_of q) = codes " " ++ query_text q
 
--- the `column = value` items behind the first
-abbrev pub more_sets_text : Sets → List ℕ
-more_sets_text no_set = []
-more_sets_text (set_to c t rest) = codes ", " ++ quoted_name c ++ codes " = " ++ tree_text t ++ more_sets_text rest
+-- `column = value`
+abbrev pub set_text : List ℕ × Tree → List ℕ
+set_text s = quoted_name s.0 ++ codes " = " ++ tree_text s.1
 
 -- `column = value` items
-abbrev pub sets_text : Sets → List ℕ
-sets_text no_set = []
-sets_text (set_to c t rest) = quoted_name c ++ codes " = " ++ tree_text t ++ more_sets_text rest
+abbrev pub sets_text : List (List ℕ × Tree) → List ℕ
+sets_text ss = commas (map set_text ss)
 
 -- ON DUPLICATE KEY UPDATE, nothing without items
-abbrev pub update_text : Sets → List ℕ
-update_text no_set = []
-update_text (set_to c t rest) = codes " ON DUPLICATE KEY UPDATE " ++ sets_text (set_to c t rest)
+abbrev pub update_text : List (List ℕ × Tree) → List ℕ
+update_text [] = []
+update_text (s ∷ ss) = codes " ON DUPLICATE KEY UPDATE " ++ sets_text (s ∷ ss)
 
 -- INSERT up to the table
 abbrev pub ignore_text : Bool → List ℕ
@@ -106,15 +98,13 @@ target_text (Target.Plain n) = quoted_name n
 target_text (Target.System n) = codes "@@" ++ bare_name n
 target_text (Target.New n) = codes "NEW." ++ quoted_name n
 
--- the assignments behind the first
-abbrev pub more_assignments_text : Assignments → List ℕ
-more_assignments_text no_assignment = []
-more_assignments_text (assign to t rest) = codes ", " ++ target_text to ++ codes " = " ++ tree_text t ++ more_assignments_text rest
+-- an assignment
+abbrev pub assignment_text : Target × Tree → List ℕ
+assignment_text a = target_text a.0 ++ codes " = " ++ tree_text a.1
 
 -- the assignments of SET
-abbrev pub assignments_text : Assignments → List ℕ
-assignments_text no_assignment = []
-assignments_text (assign to t rest) = target_text to ++ codes " = " ++ tree_text t ++ more_assignments_text rest
+abbrev pub assignments_text : List (Target × Tree) → List ℕ
+assignments_text as' = commas (map assignment_text as')
 
 -- stored programs
 
@@ -143,10 +133,14 @@ abbrev pub default_text : Part → List ℕ
 default_text no_part = []
 default_text (part t) = codes " DEFAULT " ++ tree_text t
 
--- the DECLAREs of a block, each closed by a semicolon and a space
-abbrev pub declarations_text : Declarations → List ℕ
-declarations_text no_declaration = []
-declarations_text (declare ns k d rest) = codes "DECLARE " ++ names_of ns ++ codes " " ++ type_of k ++ default_text d ++ codes "; " ++ declarations_text rest
+-- a DECLARE, closed by a semicolon and a space
+abbrev pub declaration_text : Declared → List ℕ
+declaration_text d = codes "DECLARE " ++ names_of d.names ++ codes " " ++ type_of d.kind ++ default_text d.preset ++ codes "; "
+
+-- the DECLAREs of a block
+abbrev pub declarations_text : List Declared → List ℕ
+declarations_text [] = []
+declarations_text (d ∷ ds) = declaration_text d ++ declarations_text ds
 
 abbrev mutual
   -- a statement

@@ -1,15 +1,19 @@
 //! Expressions and SELECTs, at the end of a text.
 ghost use Rattle.std.specs.Prelude.{◌≡◌, ◌++◌, codes, OnOk};
 ghost use Rattle.val_types.specs.Text.{text_of};
+ghost use Rattle.sql_tree.specs.BuiltIns.{on_one, on_two, on_three};
+ghost use Rattle.sql_tree.specs.Tree.{built_in, no_tree};
 ghost use Rattle.sql_tree.specs.View.{view_tree, view_trees, view_arms, view_part, view_query, view_selected, view_aggregates, view_origin, view_orders};
 ghost use Rattle.val_types.specs.declared.value.Value.TheVariants.{Text};
 ghost use Rattle.sql_print.specs.Names.{quoted_name};
-ghost use Rattle.sql_print.specs.Spelling.{operator_of, before_operand, behind_operand, in_of, aggregate_of, direction_of, is_choice, tree_text, factor_text, trees_text, arms_text, else_text, where_text, query_text, selected_text, aggregates_text, origin_text, orders_text};
+ghost use Rattle.sql_print.specs.Spelling.{operator_of, before_operand, behind_operand, in_of, aggregate_of, function_of, direction_of, is_choice, tree_text, factor_text, trees_text, arms_text, else_text, where_text, query_text, selected_text, aggregates_text, origin_text, orders_text};
 
 use crate::names::{write_limit_if, write_name, write_prefixed, write_system_name};
 use sql_tree::{Aggregate, Arm, Expr, FromClause, OrderItem, Select, Selection};
 use std::alloc::Global;
-use val_types::{Agg, BinOp, Boxed, Bytes, Duplicate, List, NoMemory, UnOp, Value, value_text};
+use val_types::{
+    Agg, BinOp, Boxed, Bytes, Duplicate, Func, List, NoMemory, UnOp, Value, value_text,
+};
 
 fn write_operator(out: &mut Bytes, op: BinOp) -> Result<(), NoMemory>
     ensures { OnOk result (out.new ≡ out.old ++ operator_of op) }
@@ -71,6 +75,37 @@ fn write_aggregate_name(out: &mut Bytes, function: Agg) -> Result<(), NoMemory>
         Agg::Min => out.extend_from_slice(b"MIN("),
         Agg::Max => out.extend_from_slice(b"MAX("),
     }
+}
+
+/// The name of a built-in function and the parenthesis behind it.
+fn write_function(out: &mut Bytes, function: Func) -> Result<(), NoMemory>
+    ensures { OnOk result (out.new ≡ out.old ++ (function_of function ++ codes "(")) }
+{
+    match function {
+        Func::Abs => out.extend_from_slice(b"ABS("),
+        Func::Coalesce => out.extend_from_slice(b"COALESCE("),
+        Func::If => out.extend_from_slice(b"IF("),
+        Func::IfNull => out.extend_from_slice(b"IFNULL("),
+        Func::Concat => out.extend_from_slice(b"CONCAT("),
+        Func::Length => out.extend_from_slice(b"LENGTH("),
+        Func::Substring => out.extend_from_slice(b"SUBSTRING("),
+        Func::Now => out.extend_from_slice(b"NOW("),
+        Func::UnixTimestamp => out.extend_from_slice(b"UNIX_TIMESTAMP("),
+        Func::SysDate => out.extend_from_slice(b"SYSDATE("),
+        Func::User => out.extend_from_slice(b"USER("),
+        Func::Uuid => out.extend_from_slice(b"UUID("),
+        Func::ConnectionId => out.extend_from_slice(b"CONNECTION_ID("),
+        Func::LastInsertId => out.extend_from_slice(b"LAST_INSERT_ID("),
+        Func::RowCount => out.extend_from_slice(b"ROW_COUNT("),
+    }
+}
+
+/// A built-in function without arguments.
+fn write_on_none(out: &mut Bytes, function: Func) -> Result<(), NoMemory>
+    ensures { OnOk result (out.new ≡ out.old ++ tree_text (built_in function no_tree)) }
+{
+    write_function(out, function)?;
+    out.extend_from_slice(b")")
 }
 
 fn write_direction(out: &mut Bytes, descending: bool) -> Result<(), NoMemory>
@@ -161,7 +196,7 @@ pub fn write_expr(alloc: Global, out: &mut Bytes, expr: &Expr) -> Result<(), NoM
         Expr::Exists(select) => write_query(alloc, out, b"EXISTS (", select),
         Expr::Call { name, arguments } => {
             write_name(out, name)?;
-            write_call(alloc, out, b"(", arguments)
+            write_arguments(alloc, out, arguments)
         }
         Expr::Values(column) => write_values(out, column),
         Expr::NameConst(name, value) => write_name_const(alloc, out, name, value),
@@ -170,21 +205,21 @@ pub fn write_expr(alloc: Global, out: &mut Bytes, expr: &Expr) -> Result<(), NoM
             write_factor(alloc, out, a)?;
             out.extend_from_slice(b")")
         }
-        Expr::Abs(a) => write_call_of_one(alloc, out, b"ABS(", a),
-        Expr::Length(a) => write_call_of_one(alloc, out, b"LENGTH(", a),
-        Expr::Coalesce(arguments) => write_call(alloc, out, b"COALESCE(", arguments),
-        Expr::Concat(arguments) => write_call(alloc, out, b"CONCAT(", arguments),
-        Expr::If(a, b, c) => write_call_of_three(alloc, out, b"IF(", a, b, c),
-        Expr::IfNull(a, b) => write_call_of_two(alloc, out, b"IFNULL(", a, b),
-        Expr::Substring(a, b, c) => write_call_of_three(alloc, out, b"SUBSTRING(", a, b, c),
-        Expr::Now => out.extend_from_slice(b"NOW()"),
-        Expr::UnixTimestamp => out.extend_from_slice(b"UNIX_TIMESTAMP()"),
-        Expr::SysDate => out.extend_from_slice(b"SYSDATE()"),
-        Expr::User => out.extend_from_slice(b"USER()"),
-        Expr::Uuid => out.extend_from_slice(b"UUID()"),
-        Expr::ConnectionId => out.extend_from_slice(b"CONNECTION_ID()"),
-        Expr::LastInsertId => out.extend_from_slice(b"LAST_INSERT_ID()"),
-        Expr::RowCount => out.extend_from_slice(b"ROW_COUNT()"),
+        Expr::Abs(a) => write_on_one(alloc, out, Func::Abs, a),
+        Expr::Length(a) => write_on_one(alloc, out, Func::Length, a),
+        Expr::Coalesce(arguments) => write_on_some(alloc, out, Func::Coalesce, arguments),
+        Expr::Concat(arguments) => write_on_some(alloc, out, Func::Concat, arguments),
+        Expr::If(a, b, c) => write_on_three(alloc, out, Func::If, a, b, c),
+        Expr::IfNull(a, b) => write_on_two(alloc, out, Func::IfNull, a, b),
+        Expr::Substring(a, b, c) => write_on_three(alloc, out, Func::Substring, a, b, c),
+        Expr::Now => write_on_none(out, Func::Now),
+        Expr::UnixTimestamp => write_on_none(out, Func::UnixTimestamp),
+        Expr::SysDate => write_on_none(out, Func::SysDate),
+        Expr::User => write_on_none(out, Func::User),
+        Expr::Uuid => write_on_none(out, Func::Uuid),
+        Expr::ConnectionId => write_on_none(out, Func::ConnectionId),
+        Expr::LastInsertId => write_on_none(out, Func::LastInsertId),
+        Expr::RowCount => write_on_none(out, Func::RowCount),
     }
 }
 
@@ -262,67 +297,76 @@ fn write_query(
     out.extend_from_slice(b")")
 }
 
-/// Arguments of a call, from what opens it.
+/// The arguments of a stored function.
 #[cycle(write)]
-fn write_call(
+fn write_arguments(alloc: Global, out: &mut Bytes, arguments: &List<Expr>) -> Result<(), NoMemory>
+    ensures { OnOk result (out.new ≡ out.old ++ (codes "(" ++ trees_text (view_trees arguments.now) ++ codes ")")) }
+{
+    out.extend_from_slice(b"(")?;
+    write_exprs(alloc, out, arguments)?;
+    out.extend_from_slice(b")")
+}
+
+/// A built-in function of one argument or more.
+#[cycle(write)]
+fn write_on_some(
     alloc: Global,
     out: &mut Bytes,
-    opening: &[u8],
+    function: Func,
     arguments: &List<Expr>,
 ) -> Result<(), NoMemory>
-    ensures { OnOk result (out.new ≡ out.old ++ (opening.now ++ trees_text (view_trees arguments.now) ++ codes ")")) }
+    ensures { OnOk result (out.new ≡ out.old ++ tree_text (built_in function (view_trees arguments.now))) }
 {
-    out.extend_from_slice(opening)?;
+    write_function(out, function)?;
     write_exprs(alloc, out, arguments)?;
     out.extend_from_slice(b")")
 }
 
 #[cycle(write)]
-fn write_call_of_two(
+fn write_on_one(
     alloc: Global,
     out: &mut Bytes,
-    opening: &[u8],
+    function: Func,
+    a: &Boxed<Expr>,
+) -> Result<(), NoMemory>
+    ensures { OnOk result (out.new ≡ out.old ++ tree_text (on_one function (view_tree a.now))) }
+{
+    write_function(out, function)?;
+    write_expr(alloc, out, a.get())?;
+    out.extend_from_slice(b")")
+}
+
+#[cycle(write)]
+fn write_on_two(
+    alloc: Global,
+    out: &mut Bytes,
+    function: Func,
     a: &Boxed<Expr>,
     b: &Boxed<Expr>,
 ) -> Result<(), NoMemory>
-    ensures { OnOk result (out.new ≡ out.old ++ (opening.now ++ tree_text (view_tree a.now) ++ codes ", " ++ tree_text (view_tree b.now) ++ codes ")")) }
+    ensures { OnOk result (out.new ≡ out.old ++ tree_text (on_two function (view_tree a.now) (view_tree b.now))) }
 {
-    out.extend_from_slice(opening)?;
+    write_function(out, function)?;
     write_expr(alloc, out, a.get())?;
     write_next(alloc, out, b)?;
     out.extend_from_slice(b")")
 }
 
 #[cycle(write)]
-fn write_call_of_three(
+fn write_on_three(
     alloc: Global,
     out: &mut Bytes,
-    opening: &[u8],
+    function: Func,
     a: &Boxed<Expr>,
     b: &Boxed<Expr>,
     c: &Boxed<Expr>,
 ) -> Result<(), NoMemory>
-    ensures { OnOk result (out.new ≡ out.old ++ (opening.now ++ tree_text (view_tree a.now) ++ codes ", " ++ tree_text (view_tree b.now) ++ codes ", " ++ tree_text (view_tree c.now) ++ codes ")")) }
+    ensures { OnOk result (out.new ≡ out.old ++ tree_text (on_three function (view_tree a.now) (view_tree b.now) (view_tree c.now))) }
 {
-    out.extend_from_slice(opening)?;
+    write_function(out, function)?;
     write_expr(alloc, out, a.get())?;
     write_next(alloc, out, b)?;
     write_next(alloc, out, c)?;
-    out.extend_from_slice(b")")
-}
-
-/// A call of a built-in function, from what opens it.
-#[cycle(write)]
-fn write_call_of_one(
-    alloc: Global,
-    out: &mut Bytes,
-    opening: &[u8],
-    a: &Boxed<Expr>,
-) -> Result<(), NoMemory>
-    ensures { OnOk result (out.new ≡ out.old ++ (opening.now ++ tree_text (view_tree a.now) ++ codes ")")) }
-{
-    out.extend_from_slice(opening)?;
-    write_expr(alloc, out, a.get())?;
     out.extend_from_slice(b")")
 }
 

@@ -9,6 +9,13 @@
 //! - `statements`, `tables`: the parts of statements that hold no statement
 //! - `printing`: [`print`], for all statements
 //! - `worked`: worked examples of trees and their texts
+//!
+//! # Proved
+//! - [`print`] gives the text that `spelling` says, of every statement, or answers want of memory. It
+//!   asks nothing of the statement.
+//! - The worked trees have the texts that stand beside them.
+//!
+//! That the text is read back stands in `sql_text`.
 #![tactic(auto)]
 
 mod expressions;

@@ -1,10 +1,10 @@
 //! The parts of statements that hold no statement, at the end of a text.
 ghost use Rattle.std.specs.Prelude.{◌≡◌, ◌++◌, map, codes, OnOk};
-ghost use Rattle.sql_tree.specs.View.{view_part, view_tree};
-ghost use Rattle.sql_tree.specs.StatementView.{view_rows, view_supply, view_sets, view_assignments, view_declarations, view_insert, view_replace, view_update, view_delete};
-ghost use Rattle.sql_print.specs.Names.{commas, quoted_name};
-ghost use Rattle.sql_print.specs.Spelling.{where_text, tree_text};
-ghost use Rattle.sql_print.specs.StatementSpelling.{columns_text, rows_text, supply_text, sets_text, update_text, ignore_text, target_text, assignments_text, parameter_text, returns_text, time_text, cause_text, default_text, declarations_text, spelling};
+ghost use Rattle.sql_tree.specs.View.{view_part, view_trees};
+ghost use Rattle.sql_tree.specs.StatementView.{view_rows, view_supply, view_set, view_sets, view_assignment, view_assignments, view_declaration, view_declarations, view_insert, view_replace, view_update, view_delete};
+ghost use Rattle.sql_print.specs.Names.{commas};
+ghost use Rattle.sql_print.specs.Spelling.{where_text};
+ghost use Rattle.sql_print.specs.StatementSpelling.{columns_text, row_text, supply_text, set_text, sets_text, update_text, ignore_text, target_text, assignment_text, assignments_text, parameter_text, returns_text, time_text, cause_text, default_text, declaration_text, declarations_text, spelling};
 
 use crate::expressions::{write_expr, write_exprs, write_order, write_select};
 use crate::names::{
@@ -42,18 +42,24 @@ fn write_columns(out: &mut Bytes, columns: &Option<List<Bytes>>) -> Result<(), N
     }
 }
 
+/// A row of VALUES in parentheses.
+fn write_row(alloc: Global, out: &mut Bytes, row: &List<Expr>) -> Result<(), NoMemory>
+    ensures { OnOk result (out.new ≡ out.old ++ row_text (view_trees row.now)) }
+{
+    out.extend_from_slice(b"(")?;
+    write_exprs(alloc, out, row)?;
+    out.extend_from_slice(b")")
+}
+
 fn write_rows(alloc: Global, out: &mut Bytes, rows: &List<List<Expr>>) -> Result<(), NoMemory>
-    ensures { OnOk result (out.new ≡ out.old ++ rows_text (view_rows rows.now)) }
+    ensures { OnOk result (out.new ≡ out.old ++ commas (map row_text (view_rows rows.now))) }
 {
     let mut first = true;
     for row in rows.as_slice() {
-        if first {
-            out.extend_from_slice(b"(")?;
-        } else {
-            out.extend_from_slice(b", (")?;
+        if !first {
+            out.extend_from_slice(b", ")?;
         }
-        write_exprs(alloc, out, row)?;
-        out.extend_from_slice(b")")?;
+        write_row(alloc, out, row)?;
         first = false;
     }
     Ok(())
@@ -74,11 +80,11 @@ fn write_source(alloc: Global, out: &mut Bytes, source: &Source) -> Result<(), N
     }
 }
 
-/// `column = value` behind other bytes.
-fn write_set(alloc: Global, out: &mut Bytes, prefix: &[u8], set: &ColumnSet) -> Result<(), NoMemory>
-    ensures { OnOk result (out.new ≡ out.old ++ (prefix.now ++ quoted_name set.now.column ++ codes " = " ++ tree_text (view_tree set.now.value))) }
+/// `column = value`
+fn write_set(alloc: Global, out: &mut Bytes, set: &ColumnSet) -> Result<(), NoMemory>
+    ensures { OnOk result (out.new ≡ out.old ++ set_text (view_set set.now)) }
 {
-    write_prefixed(out, prefix, &set.column)?;
+    write_name(out, &set.column)?;
     out.extend_from_slice(b" = ")?;
     write_expr(alloc, out, &set.value)
 }
@@ -88,11 +94,10 @@ fn write_sets(alloc: Global, out: &mut Bytes, sets: &List<ColumnSet>) -> Result<
 {
     let mut first = true;
     for set in sets.as_slice() {
-        if first {
-            write_set(alloc, out, b"", set)?;
-        } else {
-            write_set(alloc, out, b", ", set)?;
+        if !first {
+            out.extend_from_slice(b", ")?;
         }
+        write_set(alloc, out, set)?;
         first = false;
     }
     Ok(())
@@ -121,6 +126,14 @@ fn write_target(out: &mut Bytes, target: &Target) -> Result<(), NoMemory>
     }
 }
 
+fn write_assignment(alloc: Global, out: &mut Bytes, assignment: &Assignment) -> Result<(), NoMemory>
+    ensures { OnOk result (out.new ≡ out.old ++ assignment_text (view_assignment assignment.now)) }
+{
+    write_target(out, &assignment.target)?;
+    out.extend_from_slice(b" = ")?;
+    write_expr(alloc, out, &assignment.value)
+}
+
 /// The assignments of SET.
 pub fn write_assignments(
     alloc: Global,
@@ -134,9 +147,7 @@ pub fn write_assignments(
         if !first {
             out.extend_from_slice(b", ")?;
         }
-        write_target(out, &assignment.target)?;
-        out.extend_from_slice(b" = ")?;
-        write_expr(alloc, out, &assignment.value)?;
+        write_assignment(alloc, out, assignment)?;
         first = false;
     }
     Ok(())
@@ -219,6 +230,22 @@ fn write_default(alloc: Global, out: &mut Bytes, preset: &Option<Expr>) -> Resul
     }
 }
 
+/// A DECLARE, closed by a semicolon and a space.
+fn write_declaration(
+    alloc: Global,
+    out: &mut Bytes,
+    declaration: &Declaration,
+) -> Result<(), NoMemory>
+    ensures { OnOk result (out.new ≡ out.old ++ declaration_text (view_declaration declaration.now)) }
+{
+    out.extend_from_slice(b"DECLARE ")?;
+    write_names(out, &declaration.names)?;
+    out.extend_from_slice(b" ")?;
+    write_type(alloc, out, declaration.kind)?;
+    write_default(alloc, out, &declaration.preset)?;
+    out.extend_from_slice(b"; ")
+}
+
 /// The DECLAREs of a block.
 pub fn write_declarations(
     alloc: Global,
@@ -228,12 +255,7 @@ pub fn write_declarations(
     ensures { OnOk result (out.new ≡ out.old ++ declarations_text (view_declarations declarations.now)) }
 {
     for declaration in declarations.as_slice() {
-        out.extend_from_slice(b"DECLARE ")?;
-        write_names(out, &declaration.names)?;
-        out.extend_from_slice(b" ")?;
-        write_type(alloc, out, declaration.kind)?;
-        write_default(alloc, out, &declaration.preset)?;
-        out.extend_from_slice(b"; ")?;
+        write_declaration(alloc, out, declaration)?;
     }
     Ok(())
 }

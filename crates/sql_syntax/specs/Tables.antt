@@ -13,7 +13,7 @@ use Rattle.sql_syntax.specs.declared.table_parts.Marks.{Marks}
 use Rattle.sql_syntax.specs.declared.table_parts.TablePart.{TablePart}
 use Rattle.sql_syntax.specs.declared.table_parts.TablePart.TheVariants.{Column, Primary, Unique}
 use Rattle.sql_grammar.specs.Rule.{Rule, both, either, pure, only_if, mapped, optional, chain_by, paired, behind, before, alone, then_one}
-use Rattle.sql_syntax.specs.Tokens.{Tok, kind, code, sign_code, names, keyword, sign}
+use Rattle.sql_syntax.specs.Tokens.{Tok, kind, code, sign_code, keyword, sign}
 use Rattle.sql_syntax.specs.Parts.{a_name, optional_name, name_but, word_name, a_number, a_value, closed, in_parentheses, names_in}
 
 -- ---- types

@@ -1,20 +1,20 @@
 -- INSERT, REPLACE, UPDATE and DELETE are read as they are written.
-use Rattle.std.proofs.Common.{◌≡◌, ◌<◌, ◌≤◌, ℕ, pred, ◌*◌, Bool, true, false, ◌&&◌, List, [], ◌∷◌, ◌++◌, Option, Some, None, refl, sym, ap, arith, append_assoc, length, map, inl, inr, codes}
+use Rattle.std.proofs.Common.{◌≡◌, ◌<◌, ◌≤◌, ℕ, pred, ◌*◌, Bool, true, false, List, [], ◌∷◌, ◌++◌, Option, Some, None, refl, arith, append_assoc, length, map, inl, inr, codes}
 use Rattle.std.proofs.lemmas.Bool.{and_parts}
 use Rattle.std.specs.Prelude.{nat_le}
 use Rattle.std.specs.List.{list_all}
 use Rattle.sql_grammar.specs.Rule.{mapped, paired}
 use Rattle.sql_tree.specs.Tree.{Tree, Trees, Part, Orders}
-use Rattle.sql_tree.specs.Statement.{insert_into, replace_into, update_rows, delete_rows, Rows, no_row, row, Supply, rows, rows_of, Sets, no_set, set_to}
-use Rattle.sql_tree.specs.Depth.{depth_of_trees, depth_of_part, depth_of_orders, depth_of_rows, depth_of_supply, depth_of_sets}
-use Rattle.sql_tree.specs.Well.{is_name, are_names, are_names_if, is_count_if, has_tree, are_well_trees, are_well_rows, is_well_supply, has_set, is_well_tree, are_well_sets, is_well_part, are_well_orders}
+use Rattle.sql_tree.specs.Statement.{insert_into, replace_into, update_rows, delete_rows, Supply, rows, rows_of}
+use Rattle.sql_tree.specs.Depth.{depth_of_tree, depth_of_trees, depth_of_part, depth_of_orders, depth_of_rows, depth_of_supply, depth_of_sets}
+use Rattle.sql_tree.specs.Well.{is_name, are_names, are_names_if, is_count_if, has_tree, are_well_trees, has_item, is_well_row, is_well_supply, is_well_tree, is_well_set, is_well_part, are_well_orders}
 use Rattle.sql_tree.specs.declared.expressions.Count.{Count}
-use Rattle.sql_print.specs.Names.{quoted_name as name_text, names_of, more_of, count_if}
-use Rattle.sql_print.specs.Spelling.{tree_text, trees_text, where_text, orders_text}
-use Rattle.sql_print.specs.StatementSpelling.{columns_text, more_rows_text, rows_text, supply_text, more_sets_text, sets_text, update_text, ignore_text}
+use Rattle.sql_print.specs.Names.{quoted_name as name_text, names_of, commas, more_of, count_if}
+use Rattle.sql_print.specs.Spelling.{tree_text, where_text, orders_text}
+use Rattle.sql_print.specs.StatementSpelling.{columns_text, row_text, supply_text, set_text, sets_text, update_text, ignore_text}
 use Rattle.sql_syntax.specs.Parts.{a_name, list_of, exprs, closed, names_in}
 use Rattle.sql_syntax.specs.Expressions.{expression}
-use Rattle.sql_syntax.specs.Changes.{sets_of, row_list, set_item, sets, into, columns, a_row, source, on_duplicate, inserted, insert, replaced, replace, chosen, updated, update, deleted, delete}
+use Rattle.sql_syntax.specs.Changes.{set_item, sets, into, columns, a_row, source, on_duplicate, inserted, insert, replaced, replace, chosen, updated, update, deleted, delete}
 use Rattle.sql_text.proofs.Saying.{soft, soft_on}
 use Rattle.sql_text.proofs.Lines.{group4, group5, group7}
 use Rattle.sql_text.proofs.Reading.{Reading, via, written, spaced, nothing, then', More, no_more, more}
@@ -50,33 +50,23 @@ columns_soft : (cs : Option (List (List ℕ))) → soft (columns_text cs) ≡ tr
 columns_soft None = refl
 columns_soft (Some ns) = refl
 
-row_read : (ts : Trees) (n : ℕ) → 0 < n → has_tree ts ≡ true → 2 * depth_of_trees ts ≤ pred n → are_well_trees ts ≡ true → Reading (a_row n).texts ts (40 ∷ (trees_text ts ++ 41 ∷ []))
-row_read ts n some h l w = in_parens (closed (exprs (expression (pred n)))) n some (closing (trees_read ts (pred n) h l w))
+row_read : (ts : Trees) (n : ℕ) → 0 < n → 2 * depth_of_trees ts ≤ pred n → is_well_row ts ≡ true → Reading (a_row n).texts ts (row_text ts)
+row_read ts n some l w =
+    let p = and_parts (has_tree ts) (are_well_trees ts) w in
+    in_parens (closed (exprs (expression (pred n)))) n some (closing (trees_read ts (pred n) p.0 l p.1))
 
-abbrev rows_listed : Rows → List Trees
-rows_listed no_row = []
-rows_listed (row ts rest) = ts ∷ rows_listed rest
-
-rows_same : (rs : Rows) → row_list (rows_listed rs) ≡ rs
-rows_same no_row = refl
-rows_same (row ts rest) = ap (row ts) (rows_same rest)
-
-more_rows : (rs : Rows) (n : ℕ) → 0 < n → 2 * depth_of_rows rs ≤ pred n → are_well_rows rs ≡ true → More (a_row n).texts (rows_listed rs) (more_rows_text rs)
-more_rows no_row n some l w = no_more
-more_rows (row ts rest) n some l w =
-    let p = and_parts (has_tree ts && are_well_trees ts) (are_well_rows rest) w in
-    let q = and_parts (has_tree ts) (are_well_trees ts) p.0 in
-    more (row_read ts n some q.0 (omega (arith, l)) q.1) (more_rows rest n some (omega (arith, l)) p.1)
+more_rows : (rs : List Trees) (n : ℕ) → 0 < n → 2 * depth_of_rows rs ≤ pred n → list_all is_well_row rs ≡ true → More (a_row n).texts rs (more_of (map row_text rs))
+more_rows [] n some l w = no_more
+more_rows (r ∷ rs) n some l w =
+    let p = and_parts (is_well_row r) (list_all is_well_row rs) w in
+    more (row_read r n some (omega (arith, l)) p.0) (more_rows rs n some (omega (arith, l)) p.1)
 
 supply_read : (from : Supply) (n : ℕ) → 0 < n → 2 * depth_of_supply from ≤ pred n → is_well_supply from ≡ true → Reading (source n).texts from (supply_text from)
-supply_read (rows no_row) n some l w = cc
-supply_read (rows (row ts rest)) n some l w =
-    let k = and_parts true (are_well_rows (row ts rest)) w in
-    let p = and_parts (has_tree ts && are_well_trees ts) (are_well_rows rest) k.1 in
-    let q = and_parts (has_tree ts) (are_well_trees ts) p.0 in
-    let listed : Reading (mapped (λ rs. rows (row_list rs)) (list_of (a_row n))).texts (rows (row ts rest)) (rows_text (row ts rest)) =
-    via (λ us end g. (ts ∷ rows_listed rest, sym (ap (λ z. rows (row ts z)) (rows_same rest)), g))
-    (list_read (a_row n) (row_read ts n some q.0 (omega (arith, l)) q.1) (more_rows rest n some (omega (arith, l)) p.1)) in
+supply_read (rows []) n some l w = cc
+supply_read (rows (r ∷ rs)) n some l w =
+    let p = and_parts (is_well_row r) (list_all is_well_row rs) w in
+    let listed : Reading (mapped rows (list_of (a_row n))).texts (rows (r ∷ rs)) (commas (map row_text (r ∷ rs))) =
+    via (λ us end g. (r ∷ rs, refl, g)) (list_read (a_row n) (row_read r n some (omega (arith, l)) p.0) (more_rows rs n some (omega (arith, l)) p.1)) in
     spaced (via (λ us end g. inr (g.0, g.1, g.2, g.3, inl g.4, g.5)) (key_then say_values listed))
 supply_read (rows_of q) n some l w = spaced (via (λ us end g. inl (q, refl, g)) (select_read q n (omega (arith, l)) w))
 
@@ -84,40 +74,30 @@ supply_soft : (from : Supply) → soft (supply_text from) ≡ true
 supply_soft (rows rs) = refl
 supply_soft (rows_of q) = refl
 
-set_item_read : (c : List ℕ) (t : Tree) (n : ℕ) → is_name c ≡ true → Reading (expression n).texts t (tree_text t) → Reading (set_item (expression n)).texts (c, t) (name_text c ++ codes " = " ++ tree_text t)
-set_item_read c t n good r = written (then' paired (name_read c good) (spaced (sign_then say_equal r)) refl) (append_assoc (name_text c) (codes " = ") (tree_text t))
+set_item_read : (s : List ℕ × Tree) (n : ℕ) → 2 * depth_of_tree s.1 ≤ n → is_well_set s ≡ true → Reading (set_item (expression n)).texts s (set_text s)
+set_item_read s n l w =
+    let p = and_parts (is_name s.0) (is_well_tree s.1) w in
+    written (then' paired (name_read s.0 p.0) (spaced (sign_then say_equal (whole_of n (tree_read s.1 n l p.1)))) refl) (append_assoc (name_text s.0) (codes " = ") (tree_text s.1))
 
-abbrev set_list : Sets → List (List ℕ × Tree)
-set_list no_set = []
-set_list (set_to c t rest) = (c, t) ∷ set_list rest
+more_sets : (ss : List (List ℕ × Tree)) (n : ℕ) → 2 * depth_of_sets ss ≤ n → list_all is_well_set ss ≡ true → More (set_item (expression n)).texts ss (more_of (map set_text ss))
+more_sets [] n l w = no_more
+more_sets (s ∷ ss) n l w =
+    let p = and_parts (is_well_set s) (list_all is_well_set ss) w in
+    more (set_item_read s n (omega (arith, l)) p.0) (more_sets ss n (omega (arith, l)) p.1)
 
-sets_same : (ss : Sets) → sets_of (set_list ss) ≡ ss
-sets_same no_set = refl
-sets_same (set_to c t rest) = ap (set_to c t) (sets_same rest)
+sets_read : (ss : List (List ℕ × Tree)) (n : ℕ) → has_item ss ≡ true → 2 * depth_of_sets ss ≤ n → list_all is_well_set ss ≡ true → Reading (sets (expression n)).texts ss (sets_text ss)
+sets_read [] n h l w = cc
+sets_read (s ∷ ss) n h l w =
+    let p = and_parts (is_well_set s) (list_all is_well_set ss) w in
+    list_read (set_item (expression n)) (set_item_read s n (omega (arith, l)) p.0) (more_sets ss n (omega (arith, l)) p.1)
 
-more_sets : (ss : Sets) (n : ℕ) → 2 * depth_of_sets ss ≤ n → are_well_sets ss ≡ true → More (set_item (expression n)).texts (set_list ss) (more_sets_text ss)
-more_sets no_set n l w = no_more
-more_sets (set_to c t rest) n l w =
-    let p = and_parts (is_name c && is_well_tree t) (are_well_sets rest) w in
-    let q = and_parts (is_name c) (is_well_tree t) p.0 in
-    more (set_item_read c t n q.0 (whole_of n (tree_read t n (omega (arith, l)) q.1))) (more_sets rest n (omega (arith, l)) p.1)
+on_duplicate_read : (ss : List (List ℕ × Tree)) (n : ℕ) → 2 * depth_of_sets ss ≤ n → list_all is_well_set ss ≡ true → Reading (on_duplicate n).texts ss (update_text ss)
+on_duplicate_read [] n l w = via (λ us end g. inr g) (nothing [])
+on_duplicate_read (s ∷ ss) n l w = spaced (via (λ us end g. inl g) (key_then say_on (key_then say_duplicate (key_then say_key (key_then say_update (sets_read (s ∷ ss) n refl l w))))))
 
-sets_read : (ss : Sets) (n : ℕ) → has_set ss ≡ true → 2 * depth_of_sets ss ≤ n → are_well_sets ss ≡ true → Reading (sets (expression n)).texts ss (sets_text ss)
-sets_read no_set n h l w = cc
-sets_read (set_to c t rest) n h l w =
-    let p = and_parts (is_name c && is_well_tree t) (are_well_sets rest) w in
-    let q = and_parts (is_name c) (is_well_tree t) p.0 in
-    via (λ us end g. ((c, t) ∷ set_list rest, sym (ap (set_to c t) (sets_same rest)), g))
-    (list_read (set_item (expression n)) (set_item_read c t n q.0 (whole_of n (tree_read t n (omega (arith, l)) q.1))) (more_sets rest n (omega (arith, l)) p.1))
-
-on_duplicate_read : (ss : Sets) (n : ℕ) → 2 * depth_of_sets ss ≤ n → are_well_sets ss ≡ true → Reading (on_duplicate n).texts ss (update_text ss)
-on_duplicate_read no_set n l w = via (λ us end g. inr g) (nothing no_set)
-on_duplicate_read (set_to c t rest) n l w =
-    spaced (via (λ us end g. inl g) (key_then say_on (key_then say_duplicate (key_then say_key (key_then say_update (sets_read (set_to c t rest) n refl l w))))))
-
-update_soft : (ss : Sets) → soft (update_text ss) ≡ true
-update_soft no_set = refl
-update_soft (set_to c t rest) = refl
+update_soft : (ss : List (List ℕ × Tree)) → soft (update_text ss) ≡ true
+update_soft [] = refl
+update_soft (s ∷ ss) = refl
 
 into_read : (t : List ℕ) → is_name t ≡ true → Reading into.texts t (codes "INTO " ++ name_text t)
 into_read t good = via (λ us end g. (g.0, g.1, g.2, g.3, inl g.4, g.5)) (key_then say_into (name_read t good))
@@ -128,7 +108,7 @@ module _ (n : ℕ) (t : List ℕ) (cs : Option (List (List ℕ))) (from : Supply
       written (key_then say_replace (then' replaced (into_read t good) (then' paired (columns_read cs wc n some) (supply_read from n some l wf) (supply_soft from)) (soft_on (columns_text cs) (supply_text from) (columns_soft cs) (supply_soft from))))
       (group4 (codes "REPLACE INTO ") (name_text t) (columns_text cs) (supply_text from))
 
-  module _ (us : Sets) (lu : 2 * depth_of_sets us ≤ n) (wu : are_well_sets us ≡ true) where
+  module _ (us : List (List ℕ × Tree)) (lu : 2 * depth_of_sets us ≤ n) (wu : list_all is_well_set us ≡ true) where
     behind_soft : soft (columns_text cs ++ (supply_text from ++ update_text us)) ≡ true
     behind_soft = soft_on (columns_text cs) (supply_text from ++ update_text us) (columns_soft cs) (soft_on (supply_text from) (update_text us) (supply_soft from) (update_soft us))
 
@@ -154,7 +134,7 @@ module _ (n : ℕ) (t : List ℕ) (c : Part) (os : Orders) (o : Option Count) (g
   pub delete_read : Reading (delete n).texts (delete_rows t c os o) (codes "DELETE FROM " ++ name_text t ++ where_text c ++ orders_text os ++ count_if o)
   delete_read = written (key_then say_delete (key_then say_from (then' deleted (name_read t good) chosen_read chosen_soft))) (group5 (codes "DELETE FROM ") (name_text t) (where_text c) (orders_text os) (count_if o))
 
-  pub update_read : (ss : Sets) → has_set ss ≡ true → 2 * depth_of_sets ss ≤ n → are_well_sets ss ≡ true
+  pub update_read : (ss : List (List ℕ × Tree)) → has_item ss ≡ true → 2 * depth_of_sets ss ≤ n → list_all is_well_set ss ≡ true
       → Reading (update n).texts (update_rows t ss c os o) (codes "UPDATE " ++ name_text t ++ codes " SET " ++ sets_text ss ++ where_text c ++ orders_text os ++ count_if o)
   update_read ss h l w =
       written (key_then say_update (then' updated (name_read t good) (spaced (key_then say_set (then' paired (sets_read ss n h l w) chosen_read chosen_soft))) refl))

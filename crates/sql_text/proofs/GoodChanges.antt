@@ -2,20 +2,21 @@
 use Rattle.std.proofs.Common.{◌≡◌, ℕ, pred, Bool, true, false, List, [], ◌∷◌, Option, Some, None, refl}
 use Rattle.std.proofs.lemmas.Bool.{and_from}
 use Rattle.std.specs.Prelude.{◌&&◌, if◌then◌else◌, unwrap_or}
+use Rattle.std.specs.List.{list_all}
 use Rattle.val_types.specs.declared.value.Value.TheVariants.{Text}
 use Rattle.sql_lex.specs.declared.keyword.Keyword.{Keyword}
 use Rattle.sql_lex.specs.declared.keyword.Keyword.TheVariants as words
 use Rattle.sql_lex.specs.declared.token.Symbol.TheVariants as signs
 use Rattle.sql_grammar.specs.Rule.{Rule, mapped, paired}
 use Rattle.sql_tree.specs.Tree.{Tree, Trees, no_tree, Part, Orders}
-use Rattle.sql_tree.specs.Statement.{Statement, Supply, rows, rows_of, Sets, no_set, drop_table, drop_function, drop_procedure, drop_trigger, truncate, evaluate, set_all, call_procedure, commit, rollback, savepoint, rollback_to, release_savepoint}
+use Rattle.sql_tree.specs.Statement.{Statement, Supply, rows, rows_of, drop_table, drop_function, drop_procedure, drop_trigger, truncate, evaluate, set_all, call_procedure, commit, rollback, savepoint, rollback_to, release_savepoint}
 use Rattle.sql_tree.specs.declared.expressions.Count.{Count}
 use Rattle.sql_tree.specs.declared.statements.Target.{Target}
-use Rattle.sql_tree.specs.Well.{is_name, are_names_if, has_tree, is_literal, is_well_tree, are_well_trees, is_well_part, are_well_orders, is_count_if, are_well_rows, is_well_supply, has_set, are_well_sets, is_target, are_well_assignments, stands_alone, is_well_step}
+use Rattle.sql_tree.specs.Well.{is_name, are_names_if, has_tree, is_literal, is_well_tree, are_well_trees, is_well_part, are_well_orders, is_count_if, has_item, is_well_row, is_well_supply, is_well_set, is_target, is_well_assignment, stands_alone, is_well_step}
 use Rattle.sql_syntax.specs.Tokens.{Tok, code}
 use Rattle.sql_syntax.specs.Parts.{a_name, exprs, closed, arguments}
-use Rattle.sql_syntax.specs.Changes.{sets_of, row_list, set_item, sets, ignore, into, columns, a_row, values_word, source, on_duplicate, inserted, replaced, chosen, updated, deleted, change}
-use Rattle.sql_syntax.specs.Sessions.{new_by, target, format_word, format_said, is_format, format_or, assigned, assignment, assignments_of, set, do_exprs, call, drop, truncated, savepoint_name, transaction}
+use Rattle.sql_syntax.specs.Changes.{set_item, sets, ignore, into, columns, a_row, values_word, source, on_duplicate, inserted, replaced, chosen, updated, deleted, change}
+use Rattle.sql_syntax.specs.Sessions.{new_by, target, format_word, format_said, is_format, format_or, assigned, assignment, set, do_exprs, call, drop, truncated, savepoint_name, transaction}
 use Rattle.sql_syntax.specs.Tokens.{keyword_said}
 use Rattle.sql_syntax.specs.Expressions.{expression}
 use Rattle.sql_text.proofs.Good.{Gives, Any, Pair, Each, Some', IfSome, weaker, either_gives, optional_gives, mapped_gives, tokens_give, paired_gives, both_gives, behind_gives, keyword_gives, sign_gives, key_gives, mark_gives}
@@ -28,12 +29,12 @@ abbrev pub Common : Statement → Type 0
 Common s = (stands_alone s ≡ true) × (is_well_step s ≡ true)
 
 -- ---- changes of rows
-abbrev SetsWell : Sets → Type 0
-SetsWell ss = are_well_sets ss ≡ true
+abbrev SetsWell : List (List ℕ × Tree) → Type 0
+SetsWell ss = list_all is_well_set ss ≡ true
 
 -- one item or more
-abbrev SomeSets : Sets → Type 0
-SomeSets ss = (has_set ss ≡ true) × (are_well_sets ss ≡ true)
+abbrev SomeSets : List (List ℕ × Tree) → Type 0
+SomeSets ss = (has_item ss ≡ true) × (list_all is_well_set ss ≡ true)
 
 abbrev Columns : Option (List (List ℕ)) → Type 0
 Columns o = are_names_if o ≡ true
@@ -41,24 +42,24 @@ Columns o = are_names_if o ≡ true
 abbrev WellSupply : Supply → Type 0
 WellSupply s = is_well_supply s ≡ true
 
-each_set : (ss : List (List ℕ × Tree)) → Each (Pair Name Well) ss → SetsWell (sets_of ss)
+each_set : (ss : List (List ℕ × Tree)) → Each (Pair Name Well) ss → SetsWell ss
 each_set [] g = refl
-each_set (s ∷ ss) g = and_from (is_name s.0 && is_well_tree s.1) (are_well_sets (sets_of ss)) (and_from (is_name s.0) (is_well_tree s.1) g.0.0 g.0.1) (each_set ss g.1)
+each_set (s ∷ ss) g = and_from (is_well_set s) (list_all is_well_set ss) (and_from (is_name s.0) (is_well_tree s.1) g.0.0 g.0.1) (each_set ss g.1)
 
-some_sets : (ss : List (List ℕ × Tree)) → Some' (Pair Name Well) ss → SomeSets (sets_of ss)
+some_sets : (ss : List (List ℕ × Tree)) → Some' (Pair Name Well) ss → SomeSets ss
 some_sets [] g = absurd g
 some_sets (s ∷ ss) g = (refl, each_set (s ∷ ss) g)
 
-each_row : (rs : List Trees) → Each Wells rs → are_well_rows (row_list rs) ≡ true
+each_row : (rs : List Trees) → Each Wells rs → list_all is_well_row rs ≡ true
 each_row [] g = refl
-each_row (r ∷ rs) g = and_from (has_tree r && are_well_trees r) (are_well_rows (row_list rs)) (and_from (has_tree r) (are_well_trees r) g.0.0 g.0.1) (each_row rs g.1)
+each_row (r ∷ rs) g = and_from (is_well_row r) (list_all is_well_row rs) (and_from (has_tree r) (are_well_trees r) g.0.0 g.0.1) (each_row rs g.1)
 
-some_rows : (rs : List Trees) → Some' Wells rs → WellSupply (rows (row_list rs))
+some_rows : (rs : List Trees) → Some' Wells rs → WellSupply (rows rs)
 some_rows [] g = absurd g
 some_rows (r ∷ rs) g = each_row (r ∷ rs) g
 
 sets_well : (r : Rule Tok Tree) → Gives Well r.texts → Gives SomeSets (sets r).texts
-sets_well r q = mapped_gives sets_of some_sets (list_well (set_item r) (paired_gives name_well (mark_gives q signs.Equal)))
+sets_well r q = weaker some_sets (list_well (set_item r) (paired_gives name_well (mark_gives q signs.Equal)))
 
 ignore_well : Gives Any ignore.texts
 ignore_well = optional_gives false tt (mapped_gives (λ u. true) (λ u p. tt) (keyword_gives words.Ignore))
@@ -78,17 +79,17 @@ values_well = either_gives (keyword_gives words.Values) (keyword_gives words.Val
 source_well : (n : ℕ) → Gives WellSupply (source n).texts
 source_well n =
     either_gives (mapped_gives rows_of (λ q p. p) (select_well n)) (
-    behind_gives values_well (mapped_gives (λ rs. rows (row_list rs)) some_rows (list_well (a_row n) (row_well n))))
+    behind_gives values_well (mapped_gives rows some_rows (list_well (a_row n) (row_well n))))
 
 duplicate_well : (n : ℕ) → Gives SetsWell (on_duplicate n).texts
 duplicate_well n =
-    optional_gives no_set refl (
+    optional_gives [] refl (
     key_gives (key_gives (key_gives (key_gives (weaker (λ ss p. p.1) (sets_well (expression n) (expression_well n))) words.Update) words.Key) words.Duplicate) words.On)
 
-inserted_good : (i : Bool) (x : List ℕ × (Option (List (List ℕ)) × (Supply × Sets))) → Any i → Pair Name (Pair Columns (Pair WellSupply SetsWell)) x → Common (inserted i x)
+inserted_good : (i : Bool) (x : List ℕ × (Option (List (List ℕ)) × (Supply × List (List ℕ × Tree)))) → Any i → Pair Name (Pair Columns (Pair WellSupply SetsWell)) x → Common (inserted i x)
 inserted_good i x u p = (
   refl,
-  and_from (is_name x.0 && are_names_if x.1.0 && is_well_supply x.1.1.0) (are_well_sets x.1.1.1) (and_from (is_name x.0 && are_names_if x.1.0) (is_well_supply x.1.1.0)
+  and_from (is_name x.0 && are_names_if x.1.0 && is_well_supply x.1.1.0) (list_all is_well_set x.1.1.1) (and_from (is_name x.0 && are_names_if x.1.0) (is_well_supply x.1.1.0)
       (and_from (is_name x.0) (are_names_if x.1.0) p.0 p.1.0) p.1.1.0) p.1.1.1,
 )
 
@@ -101,13 +102,13 @@ Chosen = Pair WellPart (Pair WellOrders WellCount)
 chosen_well : (n : ℕ) → Gives Chosen (chosen n).texts
 chosen_well n = paired_gives (where_well (expression n) (expression_well n)) (paired_gives (order_well (expression n) (expression_well n)) limit_well)
 
-updated_good : (t : List ℕ) (x : Sets × (Part × (Orders × Option Count))) → Name t → Pair SomeSets Chosen x → Common (updated t x)
+updated_good : (t : List ℕ) (x : List (List ℕ × Tree) × (Part × (Orders × Option Count))) → Name t → Pair SomeSets Chosen x → Common (updated t x)
 updated_good t x p q = (
   refl,
-  and_from (is_name t && has_set x.0 && are_well_sets x.0 && is_well_part x.1.0 && are_well_orders x.1.1.0) (is_count_if x.1.1.1)
-      (and_from (is_name t && has_set x.0 && are_well_sets x.0 && is_well_part x.1.0) (are_well_orders x.1.1.0)
-      (and_from (is_name t && has_set x.0 && are_well_sets x.0) (is_well_part x.1.0)
-      (and_from (is_name t && has_set x.0) (are_well_sets x.0) (and_from (is_name t) (has_set x.0) p q.0.0) q.0.1) q.1.0) q.1.1.0) q.1.1.1,
+  and_from (is_name t && has_item x.0 && list_all is_well_set x.0 && is_well_part x.1.0 && are_well_orders x.1.1.0) (is_count_if x.1.1.1)
+      (and_from (is_name t && has_item x.0 && list_all is_well_set x.0 && is_well_part x.1.0) (are_well_orders x.1.1.0)
+      (and_from (is_name t && has_item x.0 && list_all is_well_set x.0) (is_well_part x.1.0)
+      (and_from (is_name t && has_item x.0) (list_all is_well_set x.0) (and_from (is_name t) (has_item x.0) p q.0.0) q.0.1) q.1.0) q.1.1.0) q.1.1.1,
 )
 
 deleted_good : (t : List ℕ) (x : Part × (Orders × Option Count)) → Name t → Chosen x → Common (deleted t x)
@@ -177,16 +178,16 @@ assignment_well n =
     both_gives assigned assigned_good target_well (
     behind_gives (either_gives (sign_gives signs.Equal) (sign_gives signs.Assign)) (tokens_give {Q = Value} paired (λ a front p. p) (expression_well n)))
 
-each_assignment : (as' : List (Target × Tree)) → Each (Pair WellTarget Well) as' → are_well_assignments (assignments_of as') ≡ true
+each_assignment : (as' : List (Target × Tree)) → Each (Pair WellTarget Well) as' → list_all is_well_assignment as' ≡ true
 each_assignment [] g = refl
-each_assignment (a ∷ as') g = and_from (is_target a.0 && is_well_tree a.1) (are_well_assignments (assignments_of as')) (and_from (is_target a.0) (is_well_tree a.1) g.0.0 g.0.1) (each_assignment as' g.1)
+each_assignment (a ∷ as') g = and_from (is_well_assignment a) (list_all is_well_assignment as') (and_from (is_target a.0) (is_well_tree a.1) g.0.0 g.0.1) (each_assignment as' g.1)
 
-some_assignments : (as' : List (Target × Tree)) → Some' (Pair WellTarget Well) as' → Common (set_all (assignments_of as'))
+some_assignments : (as' : List (Target × Tree)) → Some' (Pair WellTarget Well) as' → Common (set_all as')
 some_assignments [] g = absurd g
 some_assignments (a ∷ as') g = (refl, each_assignment (a ∷ as') g)
 
 pub set_well : (n : ℕ) → Gives Common (set n).texts
-set_well n = key_gives (mapped_gives (λ as'. set_all (assignments_of as')) some_assignments (list_well (assignment n) (assignment_well n))) words.Set
+set_well n = key_gives (mapped_gives set_all some_assignments (list_well (assignment n) (assignment_well n))) words.Set
 
 -- ---- others
 pub do_well : (n : ℕ) → Gives Common (do_exprs n).texts

@@ -5,6 +5,7 @@ use Rattle.std.specs.Prelude.{◌&&◌, unwrap_or}
 use Rattle.val_types.specs.declared.value.Value.{Value}
 use Rattle.val_types.specs.declared.value.Value.TheVariants.{Text}
 use Rattle.val_types.specs.declared.ops.UnOp.TheVariants.{Negate, Not, IsNull, IsNotNull}
+use Rattle.val_types.specs.declared.ops.Func.{Func}
 use Rattle.val_types.specs.declared.ops.BinOp.{BinOp}
 use Rattle.val_types.specs.declared.ops.BinOp.TheVariants as ops
 use Rattle.sql_lex.specs.declared.keyword.Keyword.{Keyword}
@@ -12,13 +13,14 @@ use Rattle.sql_lex.specs.declared.keyword.Keyword.TheVariants as words
 use Rattle.sql_lex.specs.declared.token.Symbol.TheVariants as signs
 use Rattle.sql_grammar.specs.Sets.{within}
 use Rattle.sql_grammar.specs.Rule.{Rule, token, mapped, refused}
-use Rattle.sql_tree.specs.Tree.{Tree, literal, user_variable, system_variable, unary, binary, choice, subquery, exists, values_of, name_const, floor_rand, call_if, call_ifnull, call_substring}
+use Rattle.sql_tree.specs.Tree.{Tree, literal, user_variable, system_variable, unary, binary, choice, subquery, exists, values_of, name_const, floor_rand}
 use Rattle.sql_tree.specs.Tree.{Trees, Part, no_part, part}
+use Rattle.sql_tree.specs.BuiltIns.{on_two, on_three}
 use Rattle.sql_tree.specs.View.{arms_of}
 use Rattle.sql_tree.specs.Well.{is_name, is_literal, has_tree, gives_one, is_well_tree, are_well_trees, are_well_arms, is_well_part, is_well_query}
 use Rattle.sql_syntax.specs.Tokens.{Tok, keyword_said, name_said, kind, code, sign_code, names, sign}
 use Rattle.sql_syntax.specs.Parts.{system_name, a_name, exprs, closed, arguments, a_value}
-use Rattle.sql_syntax.specs.Expressions.{Nested, Tail, alone, of_column, called, column_by, named, column_tail, name_tail, own_names, uncalled_names, Following, with_tail, with_arguments, built, built_in, with_none, with_one, with_some, none_of, one_of, many_of, two_arguments, three_arguments, constant, random, built_ins, when_arm, else_part, case_body, grouped, primary, prefix_by, applied, product_ops, is_percent, product, sum_ops, sum_op, sum, comparison_ops, comparison_op, Test, compared, null_test, among, tested, membership, nullness, test, comparison, negation_by, conjunction, disjunction, whole_by, nested_by, nested, expression, select}
+use Rattle.sql_syntax.specs.Expressions.{Nested, Tail, alone, of_column, called, column_by, named, column_tail, name_tail, own_names, uncalled_names, Following, with_tail, with_arguments, built, built_or_named, with_none, with_one, with_some, none_of, one_of, many_of, two_arguments, three_arguments, constant, random, built_ins, when_arm, else_part, case_body, grouped, primary, prefix_by, applied, product_ops, is_percent, product, sum_ops, sum_op, sum, comparison_ops, comparison_op, Test, compared, null_test, among, tested, membership, nullness, test, comparison, negation_by, conjunction, disjunction, whole_by, nested_by, nested, expression, select}
 use Rattle.sql_text.proofs.Good.{Gives, Any, Pair, Each, Some', IfSome, either_gives, pure_gives, optional_gives, mapped_gives, paired_gives, both_gives, behind_gives, before_gives, chain_gives, rows_give, said_gives, keyword_gives, sign_gives, key_gives, mark_gives, opened_gives}
 use Rattle.sql_text.proofs.GoodParts.{Name, Lit, Well, Wells, name_well, but_well, word_name_well, named_within, text_well, plain_well, negative_well, value_well, closed_well, parens_well, exprs_well, arguments_well}
 use Rattle.sql_text.proofs.GoodSelects.{WellPart, WellQuery, OneQuery, select_by_well, single_by_well}
@@ -59,8 +61,8 @@ built_good : {A : Type 0} (P : A → Type 0) (make : Tok → A → Tree) → ((t
 built_good P make h t (with_tail x) p q = named_good t x p q
 built_good P make h t (with_arguments a) p q = h t a q
 
-built_in_well : {A : Type 0} {P : A → Type 0} (set : List ℕ) → within set names ≡ true → (make : Tok → A → Tree) → ((t : Tok) (a : A) → P a → Well (make t a)) → (n : ℕ) (r : Rule Tok A) → Gives P r.texts → Gives Well (built_in set make n r).texts
-built_in_well {P = P} set w make h n r q =
+built_or_named_well : {A : Type 0} {P : A → Type 0} (set : List ℕ) → within set names ≡ true → (make : Tok → A → Tree) → ((t : Tok) (a : A) → P a → Well (make t a)) → (n : ℕ) (r : Rule Tok A) → Gives P r.texts → Gives Well (built_or_named set make n r).texts
+built_or_named_well {P = P} set w make h n r q =
     both_gives {Q = Follows P} (built make) (built_good P make h) (named_token set w) (either_gives (mapped_gives with_arguments (λ a p. p) (parens_well n r q)) (mapped_gives {P = TailWell} with_tail (λ x p. p) column_tail_well))
 
 none_good : (o : Option Keyword) → Well (none_of o)
@@ -74,8 +76,8 @@ none_good (Some words.RowCount) = refl
 none_good o = refl
 
 one_good : (o : Option Keyword) (a : Tree) → Well a → Well (one_of o a)
-one_good (Some words.Length) a p = p
-one_good o a p = p
+one_good (Some words.Length) a p = and_from (is_well_tree a) true p refl
+one_good o a p = and_from (is_well_tree a) true p refl
 
 many_good : (o : Option Keyword) (a : Trees) → Wells a → Well (many_of o a)
 many_good (Some words.Concat) a p = and_from (has_tree a) (are_well_trees a) p.0 p.1
@@ -90,8 +92,13 @@ constant_well = both_gives name_const constant_good text_well (mark_gives (close
 two_good : (a b : Tree) → Well a → Well b → (is_well_tree a && is_well_tree b) ≡ true
 two_good a b p q = and_from (is_well_tree a) (is_well_tree b) p q
 
-three_good : (a : Tree) (x : Tree × Tree) → Well a → Pair Well Well x → (is_well_tree a && is_well_tree x.0 && is_well_tree x.1) ≡ true
-three_good a x p q = and_from (is_well_tree a && is_well_tree x.0) (is_well_tree x.1) (and_from (is_well_tree a) (is_well_tree x.0) p q.0) q.1
+ifnull_good : (a b : Tree) → Well a → Well b → Well (on_two Func.IfNull a b)
+ifnull_good a b p q = and_from (is_well_tree a) (is_well_tree b && true) p (and_from (is_well_tree b) true q refl)
+
+-- three arguments
+three_good : (a : Tree) (x : Tree × Tree) → Well a → Pair Well Well x → (is_well_tree a && (is_well_tree x.0 && (is_well_tree x.1 && true))) ≡ true
+three_good a x p q =
+    and_from (is_well_tree a) (is_well_tree x.0 && (is_well_tree x.1 && true)) p (and_from (is_well_tree x.0) (is_well_tree x.1 && true) q.0 (and_from (is_well_tree x.1) true q.1 refl))
 
 pub name_or : (s : List ℕ) (o : Option (List ℕ)) → Name s → IfSome Name o → Name (unwrap_or o s)
 name_or s None p q = p
@@ -193,13 +200,13 @@ pub record WellRules (x : Nested) : Type 0 where
 module _ (n : ℕ) (x : Nested) (i : WellRules x) where
   built_ins_well : Gives Well (built_ins n x).texts
   built_ins_well =
-      either_gives (built_in_well with_one refl (λ t a. one_of (keyword_said t) a) (λ t a p. one_good (keyword_said t) a p) n (closed x.whole) (closed_well x.whole i.whole)) (
-      either_gives (built_in_well with_some refl (λ t a. many_of (keyword_said t) a) (λ t a p. many_good (keyword_said t) a p) n (closed (exprs x.whole)) (closed_well (exprs x.whole) (exprs_well x.whole i.whole))) (
-      either_gives (built_in_well with_none refl (λ t u. none_of (keyword_said t)) (λ t u p. none_good (keyword_said t)) n (sign signs.Close) (sign_gives signs.Close)) (
-      either_gives (built_in_well (code words.Ifnull ∷ []) refl (λ t a. a) (λ t a p. p) n (two_arguments call_ifnull x.whole) (two_well x.whole i.whole call_ifnull two_good)) (
-      either_gives (built_in_well (code words.Substring ∷ []) refl (λ t a. a) (λ t a p. p) n (three_arguments call_substring x.whole) (three_well x.whole i.whole call_substring three_good)) (
-      either_gives (built_in_well (code words.NameConst ∷ []) refl (λ t a. a) (λ t a p. p) n constant constant_well) (
-      built_in_well (code words.Floor ∷ []) refl (λ t a. a) (λ t a p. p) n (random (pred n) x.prefix) (random_well x.prefix i.prefix (pred n))))))))
+      either_gives (built_or_named_well with_one refl (λ t a. one_of (keyword_said t) a) (λ t a p. one_good (keyword_said t) a p) n (closed x.whole) (closed_well x.whole i.whole)) (
+      either_gives (built_or_named_well with_some refl (λ t a. many_of (keyword_said t) a) (λ t a p. many_good (keyword_said t) a p) n (closed (exprs x.whole)) (closed_well (exprs x.whole) (exprs_well x.whole i.whole))) (
+      either_gives (built_or_named_well with_none refl (λ t u. none_of (keyword_said t)) (λ t u p. none_good (keyword_said t)) n (sign signs.Close) (sign_gives signs.Close)) (
+      either_gives (built_or_named_well (code words.Ifnull ∷ []) refl (λ t a. a) (λ t a p. p) n (two_arguments (on_two Func.IfNull) x.whole) (two_well x.whole i.whole (on_two Func.IfNull) ifnull_good)) (
+      either_gives (built_or_named_well (code words.Substring ∷ []) refl (λ t a. a) (λ t a p. p) n (three_arguments (on_three Func.Substring) x.whole) (three_well x.whole i.whole (on_three Func.Substring) three_good)) (
+      either_gives (built_or_named_well (code words.NameConst ∷ []) refl (λ t a. a) (λ t a p. p) n constant constant_well) (
+      built_or_named_well (code words.Floor ∷ []) refl (λ t a. a) (λ t a p. p) n (random (pred n) x.prefix) (random_well x.prefix i.prefix (pred n))))))))
 
   grouped_well : Gives Well (grouped x).texts
   grouped_well =
@@ -208,7 +215,7 @@ module _ (n : ℕ) (x : Nested) (i : WellRules x) where
   primary_well : Gives Well (primary n x).texts
   primary_well =
       either_gives (parens_well n (grouped x) grouped_well) (
-      either_gives (key_gives (parens_well n (three_arguments call_if x.whole) (three_well x.whole i.whole call_if three_good)) words.If) (
+      either_gives (key_gives (parens_well n (three_arguments (on_three Func.If) x.whole) (three_well x.whole i.whole (on_three Func.If) three_good)) words.If) (
       either_gives (key_gives (parens_well n (mapped values_of (closed a_name)) (mapped_gives values_of (λ c p. p) (closed_well a_name name_well))) words.Values) (
       either_gives (opened_gives n (code words.Case) (λ u a. a) (case_body x.whole) (λ a p. p) (case_well x.whole i.whole)) (
       either_gives (key_gives (parens_well n (mapped exists (closed x.select)) (mapped_gives exists (λ s p. p) (closed_well x.select i.select))) words.Exists) (

@@ -7,17 +7,17 @@ use Rattle.sql_lex.specs.declared.keyword.Keyword.TheVariants as words
 use Rattle.sql_lex.specs.declared.token.Symbol.TheVariants as signs
 use Rattle.sql_grammar.specs.Rule.{Rule, refused}
 use Rattle.sql_tree.specs.Tree.{Tree, Part, no_part, part}
-use Rattle.sql_tree.specs.Statement.{Statement, Statements, create_table, select as select_rows, begin, block, if_steps, while_steps, return_value, Otherwise, no_else, else_steps, Declarations}
+use Rattle.sql_tree.specs.Statement.{Statement, Statements, create_table, select as select_rows, begin, block, if_steps, while_steps, return_value, Otherwise, no_else, else_steps, Declared}
 use Rattle.sql_tree.specs.declared.statements.SqlType.{SqlType}
 use Rattle.sql_tree.specs.declared.statements.Parameter.{Parameter}
 use Rattle.sql_tree.specs.declared.statements.Time.{Time}
 use Rattle.sql_tree.specs.declared.statements.Cause.{Cause}
-use Rattle.sql_tree.specs.Well.{is_name, are_names, is_type, is_parameter, is_well_tree, is_well_part, are_well_declarations, has_statement, is_begin, stands_alone, is_well_step, are_well_steps, are_well_branches, is_well_otherwise, is_whole}
+use Rattle.sql_tree.specs.Well.{is_name, are_names, is_type, is_parameter, is_well_tree, is_well_part, is_well_declaration, has_statement, is_begin, stands_alone, is_well_step, are_well_steps, are_well_branches, is_well_otherwise, is_whole}
 use Rattle.sql_syntax.specs.Tokens.{Tok, code}
 use Rattle.sql_syntax.specs.Parts.{list_of}
 use Rattle.sql_syntax.specs.declared.heads.Head.{Head}
 use Rattle.sql_syntax.specs.declared.heads.Head.TheVariants as heads
-use Rattle.sql_syntax.specs.Programs.{with_body, parameter, in_parameter, parameters, trait', traits, function, procedure, time, event, trigger_of, each_row, triggered, head, create, created_within, common, statements_of, a_step, steps', steps_if, declarations_of, declaration, block_body, branches_of, a_branch, otherwise, if_body, while_body, inner_core, inner_by, inner}
+use Rattle.sql_syntax.specs.Programs.{with_body, parameter, in_parameter, parameters, trait', traits, function, procedure, time, event, trigger_of, each_row, triggered, head, create, created_within, common, statements_of, a_step, steps', steps_if, declared_as, declaration, block_body, branches_of, a_branch, otherwise, if_body, while_body, inner_core, inner_by, inner}
 use Rattle.sql_syntax.specs.Statements.{statement as whole_statement}
 use Rattle.sql_text.proofs.Good.{Gives, Any, Pair, Each, Some', each_all, weaker, either_gives, pure_gives, optional_gives, mapped_gives, paired_gives, both_gives, behind_gives, before_gives, chain_gives, rows_give, repeated_gives, keyword_gives, sign_gives, key_gives, opened_gives}
 use Rattle.sql_text.proofs.GoodParts.{Name, Well, name_well, list_well, closed_well, parens_well, names_well}
@@ -130,8 +130,8 @@ common_step n = weaker (λ s p. p.1) (common_well n)
 abbrev SomeSteps : Statements → Type 0
 SomeSteps ss = (has_statement ss ≡ true) × (are_well_steps ss ≡ true)
 
-abbrev WellDeclarations : Declarations → Type 0
-WellDeclarations ds = are_well_declarations ds ≡ true
+abbrev WellDeclarations : List Declared → Type 0
+WellDeclarations ds = list_all is_well_declaration ds ≡ true
 
 each_step : (ss : List Statement) → Each Step ss → are_well_steps (statements_of ss) ≡ true
 each_step [] g = refl
@@ -141,18 +141,16 @@ some_steps : (ss : List Statement) → Some' Step ss → SomeSteps (statements_o
 some_steps [] g = absurd g
 some_steps (s ∷ ss) g = (refl, each_step (s ∷ ss) g)
 
-abbrev Declared : List (List ℕ) × (SqlType × Part) → Type 0
-Declared = Pair (λ ns. are_names ns ≡ true) (Pair WellType WellPart)
+-- a DECLARE that is well
+abbrev WellDeclared : Declared → Type 0
+WellDeclared d = is_well_declaration d ≡ true
 
-each_declared : (ds : List (List (List ℕ) × (SqlType × Part))) → Each Declared ds → WellDeclarations (declarations_of ds)
-each_declared [] g = refl
-each_declared (d ∷ ds) g =
-    and_from (are_names d.0 && is_type d.1.0 && is_well_part d.1.1) (are_well_declarations (declarations_of ds))
-    (and_from (are_names d.0 && is_type d.1.0) (is_well_part d.1.1) (and_from (are_names d.0) (is_type d.1.0) g.0.0 g.0.1.0) g.0.1.1) (each_declared ds g.1)
+declared_good : (ns : List (List ℕ)) (x : SqlType × Part) → are_names ns ≡ true → Pair WellType WellPart x → WellDeclared (declared_as ns x)
+declared_good ns x p q = and_from (are_names ns && is_type x.0) (is_well_part x.1) (and_from (are_names ns) (is_type x.0) p q.0) q.1
 
-declaration_well : (n : ℕ) → Gives Declared (declaration n).texts
+declaration_well : (n : ℕ) → Gives WellDeclared (declaration n).texts
 declaration_well n =
-    key_gives (before_gives (paired_gives names_well (paired_gives (type_well n) (
+    key_gives (before_gives (both_gives declared_as declared_good names_well (paired_gives (type_well n) (
     optional_gives no_part refl (mapped_gives part (λ t p. p) (key_gives (expression_well n) words.Default))))) (sign_gives signs.Semicolon)) words.Declare
 
 each_branch : (bs : List (Tree × Statements)) → Each (Pair Well SomeSteps) bs → are_well_branches (branches_of bs) ≡ true
@@ -168,8 +166,8 @@ if_good (b ∷ bs) o p q = and_from (are_well_branches (branches_of (b ∷ bs)))
 while_good : (c : Tree) (ss : Statements) → Well c → SomeSteps ss → Step (while_steps c ss)
 while_good c ss p q = and_from (is_well_tree c && has_statement ss) (are_well_steps ss) (and_from (is_well_tree c) (has_statement ss) p q.0) q.1
 
-block_good : (ds : Declarations) (ss : Statements) → WellDeclarations ds → are_well_steps ss ≡ true → Step (block ds ss)
-block_good ds ss p q = and_from (are_well_declarations ds) (are_well_steps ss) p q
+block_good : (ds : List Declared) (ss : Statements) → WellDeclarations ds → are_well_steps ss ≡ true → Step (block ds ss)
+block_good ds ss p q = and_from (list_all is_well_declaration ds) (are_well_steps ss) p q
 
 module _ (r : Rule Tok Statement) (q : Gives Step r.texts) where
   step_well : Gives Step (a_step r).texts
@@ -182,7 +180,7 @@ module _ (r : Rule Tok Statement) (q : Gives Step r.texts) where
   steps_if_well = mapped_gives statements_of each_step (repeated_gives (λ ss. step_well))
 
   block_well : (n : ℕ) → Gives Step (block_body n r).texts
-  block_well n = both_gives block block_good (mapped_gives declarations_of each_declared (repeated_gives (λ ds. declaration_well n))) (before_gives steps_if_well (keyword_gives words.End))
+  block_well n = both_gives block block_good (weaker (each_all is_well_declaration) (repeated_gives (λ ds. declaration_well n))) (before_gives steps_if_well (keyword_gives words.End))
 
   branch_well : (n : ℕ) → Gives (Pair Well SomeSteps) (a_branch n r).texts
   branch_well n = paired_gives (expression_well n) (key_gives steps_well words.Then)

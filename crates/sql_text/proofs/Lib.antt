@@ -6,6 +6,7 @@ mod Written
 mod Words
 mod Parts
 mod Operands
+mod TreeLists
 mod BuiltIns
 mod Levels
 mod Selects

@@ -16,6 +16,12 @@ module _ (a b c d : List ℕ) where
       pub group7 : (g : List ℕ) → a ++ b ++ c ++ d ++ e ++ f ++ g ≡ a ++ (b ++ (c ++ (d ++ (e ++ (f ++ g)))))
       group7 g = simp append_assoc
 
+-- three arguments with commas between, and the closing parenthesis
+pub arguments_line : (a b c : List ℕ) → (a ++ (44 ∷ 32 ∷ (b ++ (44 ∷ 32 ∷ (c ++ []))))) ++ 41 ∷ [] ≡ a ++ (44 ∷ 32 ∷ (b ++ (44 ∷ 32 ∷ (c ++ 41 ∷ []))))
+arguments_line a b c =
+    append_assoc a (44 ∷ 32 ∷ (b ++ (44 ∷ 32 ∷ (c ++ [])))) (41 ∷ [])
+    ∙ ap (λ z. a ++ (44 ∷ 32 ∷ z)) (append_assoc b (44 ∷ 32 ∷ (c ++ [])) (41 ∷ []) ∙ ap (λ z. b ++ (44 ∷ 32 ∷ z)) (append_assoc c [] (41 ∷ [])))
+
 -- a stored function from its name on: name, parameters, type, body
 pub function_line : (n p t w : List ℕ) → n ++ codes "(" ++ p ++ codes ")" ++ (codes " RETURNS " ++ t) ++ codes " " ++ w ≡ (n ++ (40 ∷ ((p ++ 41 ∷ []) ++ (codes " RETURNS " ++ t)))) ++ 32 ∷ w
 function_line n p t w = simp append_assoc

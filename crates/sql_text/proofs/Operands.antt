@@ -12,7 +12,7 @@ use Rattle.sql_lex.specs.declared.token.Symbol.TheVariants as signs
 use Rattle.sql_grammar.specs.Grammar.{Grammar, Mapped, Chain, first}
 use Rattle.sql_grammar.specs.Rule.{any_of, of_kinds, only_then, paired, mapped, then_one}
 use Rattle.sql_grammar.specs.Sets.{member}
-use Rattle.sql_tree.specs.Tree.{Tree, literal, name, column, new_column, old_column, user_variable, system_variable, unary, binary, is_in, choice, subquery, exists, call, values_of, call_if}
+use Rattle.sql_tree.specs.Tree.{Tree, literal, name, column, new_column, old_column, user_variable, system_variable, unary, binary, is_in, choice, subquery, exists, call, values_of}
 use Rattle.sql_tree.specs.Tree.{Trees, Part, Query}
 use Rattle.sql_tree.specs.View.{arms_of}
 use Rattle.sql_tree.specs.Well.{is_name, is_literal}
@@ -20,12 +20,12 @@ use Rattle.sql_print.specs.Names.{quoted_name as name_text, bare_name, is_bare}
 use Rattle.sql_print.specs.Spelling.{operator_of, in_of}
 use Rattle.sql_syntax.specs.Tokens.{Tok, mark, kind, code, names, but, name_said}
 use Rattle.sql_syntax.specs.Parts.{system_name, a_name, exprs, arguments, closed}
-use Rattle.sql_syntax.specs.Expressions.{Nested, Tail, alone as no_tail, of_column, named, name_tail, own_names, three_arguments, when_arm, else_part, case_body, grouped, primary, prefix_by, product, sum, comparison, comparison_ops, comparison_op, compared, among, membership, negation_by, conjunction, whole_by}
+use Rattle.sql_syntax.specs.Expressions.{Nested, Tail, alone as no_tail, of_column, named, name_tail, own_names, when_arm, else_part, case_body, grouped, primary, prefix_by, product, sum, comparison, comparison_ops, comparison_op, compared, among, membership, negation_by, conjunction, whole_by}
 use Rattle.sql_text.proofs.Saying.{soft, soft_on}
 use Rattle.sql_text.proofs.Reading.{Said, Firm, Reading, via, written, valued, spaced, one, nothing, then', then_nothing, token_then, last_step, chained}
 use Rattle.sql_text.proofs.Written.{name_written, Bare, bare_written, kw, say_dot, say_at_at, say_equal, say_same, say_other, say_less, say_less_equal, say_greater, say_greater_equal, say_plus, say_times, say_minus}
-use Rattle.sql_text.proofs.Words.{say_or, say_and, say_div, say_mod, say_not, say_null, say_is, say_in, say_case, say_end, say_exists, say_new, say_old, say_values, say_if}
-use Rattle.sql_text.proofs.Parts.{sign_token, key_token, key_then, key_before, sign_then, comma_then, closing, opened_said, in_parens, name_read, at_name, literal_read}
+use Rattle.sql_text.proofs.Words.{say_or, say_and, say_div, say_mod, say_not, say_null, say_is, say_in, say_case, say_end, say_exists, say_new, say_old, say_values}
+use Rattle.sql_text.proofs.Parts.{sign_token, key_token, key_then, key_before, sign_then, closing, opened_said, in_parens, name_read, at_name, literal_read}
 
 -- ---- the levels of operators
 module _ (k : ℕ) (inner : Nested) {t : Tree} {w : List ℕ} where
@@ -142,13 +142,6 @@ module _ (m : ℕ) (inner : Nested) where
 
   pub subquery_read : {q : Query} {w : List ℕ} → Reading inner.single.texts q w → Reading (prefix_by (suc m) inner).texts (subquery q) (40 ∷ (w ++ 41 ∷ []))
   subquery_read {q = q} r = as_primary (suc m) inner (λ ts rest g. inl g) (in_parens (grouped inner) (suc m) (omega arith) (via (λ ts rest g. inl (q, refl, g)) (closing r)))
-
-  pub if_read : {a b c : Tree} {w v z : List ℕ} → Reading inner.whole.texts a w → Reading inner.whole.texts b v → Reading inner.whole.texts c z
-      → Reading (prefix_by (suc m) inner).texts (call_if a b c) (codes "IF(" ++ w ++ codes ", " ++ v ++ codes ", " ++ z ++ codes ")")
-  if_read {w = w} {v = v} {z = z} ra rb rc =
-      let r : Reading (three_arguments call_if inner.whole).texts _ (w ++ (44 ∷ 32 ∷ (v ++ (44 ∷ 32 ∷ (z ++ 41 ∷ []))))) =
-      then' (λ x yz. call_if x yz.0 yz.1) ra (comma_then (then' paired rb (comma_then (closing rc)) refl)) refl in
-      written (as_primary (suc m) inner (λ ts rest g. inr (inl g)) (key_before say_if (in_parens (three_arguments call_if inner.whole) (suc m) (omega arith) r) refl)) (simp append_assoc)
 
   pub values_read : (c : List ℕ) → is_name c ≡ true → Reading (prefix_by (suc m) inner).texts (values_of c) (codes "VALUES(" ++ name_text c ++ codes ")")
   values_read c good =

@@ -3,10 +3,10 @@ use Rattle.std.proofs.Common.{◌≡◌, ◌<◌, ◌≤◌, ℕ, zero, suc, pre
 use Rattle.std.proofs.lemmas.Bool.{and_parts}
 use Rattle.std.specs.List.{list_all}
 use Rattle.sql_lex.specs.declared.keyword.Keyword.TheVariants as words
-use Rattle.sql_grammar.specs.Grammar.{Mapped, Pure, Chain, first}
+use Rattle.sql_grammar.specs.Grammar.{Pure, Chain, first}
 use Rattle.sql_grammar.specs.Rule.{Rule, any_of, refused, paired, then_one}
 use Rattle.sql_tree.specs.Tree.{Tree, Part, no_part, part}
-use Rattle.sql_tree.specs.Statement.{Declarations, no_declaration, declare}
+use Rattle.sql_tree.specs.Statement.{Declared}
 use Rattle.sql_tree.specs.Statement.{Statement, create_table, create_function, create_procedure, create_trigger, drop_table, drop_function, drop_procedure, drop_trigger, truncate, insert_into, replace_into, update_rows, delete_rows, select, evaluate, set_all, call_procedure, begin, commit, rollback, savepoint, rollback_to, release_savepoint, block, if_steps, while_steps, return_value}
 use Rattle.sql_tree.specs.Statement.{Statements, no_statement, statement, no_else, else_steps, program, trigger}
 use Rattle.sql_tree.specs.Depth.{depth_of, depth_of_declarations, depth_of_part}
@@ -15,14 +15,14 @@ use Rattle.sql_tree.specs.declared.statements.SqlType.{SqlType}
 use Rattle.sql_tree.specs.declared.statements.Parameter.{Parameter}
 use Rattle.sql_tree.specs.declared.statements.Time.{Time}
 use Rattle.sql_tree.specs.declared.statements.Cause.{Cause}
-use Rattle.sql_tree.specs.Well.{is_name, are_names, are_names_if, is_count_if, is_type, has_tree, are_well_trees, has_set, are_well_sets, is_well_supply, has_assignment, are_well_assignments, is_well_part, are_well_orders, are_well_declarations, is_parameter, is_well_step}
+use Rattle.sql_tree.specs.Well.{is_name, are_names, are_names_if, is_count_if, is_type, has_tree, are_well_trees, has_item, is_well_set, is_well_supply, is_well_assignment, is_well_part, are_well_orders, is_well_declaration, is_parameter, is_well_step}
 use Rattle.sql_print.specs.Names.{quoted_name as name_text, names_of, more_of, commas, type_of}
 use Rattle.sql_print.specs.Spelling.{tree_text}
-use Rattle.sql_print.specs.StatementSpelling.{parameter_text, time_text, cause_text, default_text, declarations_text, spelling}
+use Rattle.sql_print.specs.StatementSpelling.{parameter_text, time_text, cause_text, default_text, declaration_text, declarations_text, spelling}
 use Rattle.sql_syntax.specs.Tokens.{Tok, kind, code}
 use Rattle.sql_syntax.specs.Expressions.{expression}
 use Rattle.sql_syntax.specs.declared.heads.Head.TheVariants as heads
-use Rattle.sql_syntax.specs.Programs.{with_body, parameter, in_parameter, parameters, traits, function, procedure, time, event, trigger_of, each_row, triggered, create, created_within, common, statements_of, a_step, steps', steps_if, declarations_of, declaration, block_body, a_branch, otherwise, if_body, while_body, inner_core, inner}
+use Rattle.sql_syntax.specs.Programs.{with_body, parameter, in_parameter, parameters, traits, function, procedure, time, event, trigger_of, each_row, triggered, create, created_within, common, statements_of, a_step, steps', steps_if, declared_as, declaration, block_body, a_branch, otherwise, if_body, while_body, inner_core, inner}
 use Rattle.sql_text.proofs.Lines.{declaration_line, function_line, procedure_line, trigger_line}
 use Rattle.sql_text.proofs.Reading.{Reading, via, written, spaced, nothing, then', then_nothing, More, no_more, more}
 use Rattle.sql_text.proofs.Sure.{Sure, sure_via, sure_written, sure_nothing, sure_then, then_sure, sure_spaced, key_sure, ended_sure, SureRows, no_sure, sure_row, sure_repeated, sure_chain}
@@ -149,7 +149,7 @@ common_read (drop_procedure x) n c l w = via (λ ts rest g. inl g) (drop_procedu
 common_read (drop_trigger x) n c l w = via (λ ts rest g. inl g) (drop_trigger_read x w)
 common_read (truncate x) n c l w = via (λ ts rest g. inr (inl g)) (truncate_read x w)
 common_read (insert_into ignored t cs from us) n c l w =
-    let p = and_parts (is_name t && are_names_if cs && is_well_supply from) (are_well_sets us) w in
+    let p = and_parts (is_name t && are_names_if cs && is_well_supply from) (list_all is_well_set us) w in
     let q = and_parts (is_name t && are_names_if cs) (is_well_supply from) p.0 in
     let r = and_parts (is_name t) (are_names_if cs) q.0 in
     via (λ ts rest g. inr (inr (inl (inl g)))) (insert_read n t cs from (omega (arith, l)) r.0 r.1 (omega (arith, l)) q.1 us (omega (arith, l)) p.1 ignored)
@@ -158,11 +158,11 @@ common_read (replace_into t cs from) n c l w =
     let r = and_parts (is_name t) (are_names_if cs) q.0 in
     via (λ ts rest g. inr (inr (inl (inr (inl g))))) (replace_read n t cs from (omega (arith, l)) r.0 r.1 (omega (arith, l)) q.1)
 common_read (update_rows t ss e os o) n c l w =
-    let p = and_parts (is_name t && has_set ss && are_well_sets ss && is_well_part e && are_well_orders os) (is_count_if o) w in
-    let q = and_parts (is_name t && has_set ss && are_well_sets ss && is_well_part e) (are_well_orders os) p.0 in
-    let r = and_parts (is_name t && has_set ss && are_well_sets ss) (is_well_part e) q.0 in
-    let k = and_parts (is_name t && has_set ss) (are_well_sets ss) r.0 in
-    let j = and_parts (is_name t) (has_set ss) k.0 in
+    let p = and_parts (is_name t && has_item ss && list_all is_well_set ss && is_well_part e && are_well_orders os) (is_count_if o) w in
+    let q = and_parts (is_name t && has_item ss && list_all is_well_set ss && is_well_part e) (are_well_orders os) p.0 in
+    let r = and_parts (is_name t && has_item ss && list_all is_well_set ss) (is_well_part e) q.0 in
+    let k = and_parts (is_name t && has_item ss) (list_all is_well_set ss) r.0 in
+    let j = and_parts (is_name t) (has_item ss) k.0 in
     via (λ ts rest g. inr (inr (inl (inr (inr (inl g)))))) (update_read n t e os o j.0 (omega (arith, l)) r.1 (omega (arith, l)) q.1 p.1 ss j.1 (omega (arith, l)) k.1)
 common_read (delete_rows t e os o) n c l w =
     let p = and_parts (is_name t && is_well_part e && are_well_orders os) (is_count_if o) w in
@@ -174,7 +174,7 @@ common_read (evaluate ts) n c l w =
     let p = and_parts (has_tree ts) (are_well_trees ts) w in
     via (λ us rest g. inr (inr (inr (inr (inl g))))) (do_read ts n p.0 (omega (arith, l)) p.1)
 common_read (set_all as') n c l w =
-    let p = and_parts (has_assignment as') (are_well_assignments as') w in
+    let p = and_parts (has_item as') (list_all is_well_assignment as') w in
     via (λ us rest g. inr (inr (inr (inr (inr (inl g)))))) (set_read as' n p.0 (omega (arith, l)) p.1)
 common_read (call_procedure x ts) n c l w =
     let p = and_parts (is_name x) (are_well_trees ts) w in
@@ -219,29 +219,25 @@ created_inner zero s ts rest g = as_created zero (inner_core zero refused) (inne
 created_inner (suc n) s ts rest g = as_created (suc n) (inner_core (suc n) (inner n)) (inner (suc n)) (λ u vs end h. h) s ts rest g
 
 -- ---- blocks, IF, WHILE and RETURN, for any rule inside
-abbrev pub declaration_list : Declarations → List (List (List ℕ) × (SqlType × Part))
-declaration_list no_declaration = []
-declaration_list (declare ns k d rest) = (ns, (k, d)) ∷ declaration_list rest
-
-declarations_same : (ds : Declarations) → declarations_of (declaration_list ds) ≡ ds
-declarations_same no_declaration = refl
-declarations_same (declare ns k d rest) = ap (declare ns k d) (declarations_same rest)
-
-declaration_read : (ns : List (List ℕ)) (k : SqlType) (d : Part) (n : ℕ) → 0 < n → are_names ns ≡ true → is_type k ≡ true → 2 * depth_of_part d ≤ n → is_well_part d ≡ true
-    → Sure (declaration n).texts (ns, (k, d)) (codes "DECLARE " ++ names_of ns ++ codes " " ++ type_of k ++ default_text d ++ codes "; ")
-declaration_read ns k no_part n l wn wk ld wd =
-    sure_written (key_sure say_declare (ended_sure (then' paired (names_read ns wn) (spaced (then' paired (type_read k n l wk) (via (λ ts rest g. inr g) (nothing no_part)) refl)) refl))) (declaration_line (names_of ns) (type_of k) [])
-declaration_read ns k (part t) n l wn wk ld wd =
-    sure_written (key_sure say_declare (ended_sure (then' paired (names_read ns wn) (spaced (then' paired (type_read k n l wk)
+declared_read : (ns : List (List ℕ)) (k : SqlType) (d : Part) (n : ℕ) → 0 < n → are_names ns ≡ true → is_type k ≡ true → 2 * depth_of_part d ≤ n → is_well_part d ≡ true
+    → Sure (declaration n).texts (declared_as ns (k, d)) (codes "DECLARE " ++ names_of ns ++ codes " " ++ type_of k ++ default_text d ++ codes "; ")
+declared_read ns k no_part n l wn wk ld wd =
+    sure_written (key_sure say_declare (ended_sure (then' declared_as (names_read ns wn) (spaced (then' paired (type_read k n l wk) (via (λ ts rest g. inr g) (nothing no_part)) refl)) refl))) (declaration_line (names_of ns) (type_of k) [])
+declared_read ns k (part t) n l wn wk ld wd =
+    sure_written (key_sure say_declare (ended_sure (then' declared_as (names_read ns wn) (spaced (then' paired (type_read k n l wk)
     (spaced (via (λ ts rest g. inl (t, refl, g)) (key_then say_default (whole_of n (tree_read t n ld wd))))) refl)) refl))) (declaration_line (names_of ns) (type_of k) (codes " DEFAULT " ++ tree_text t))
 
-declaration_rows : (ds : Declarations) (n : ℕ) → 0 < n → 2 * depth_of_declarations ds ≤ n → are_well_declarations ds ≡ true → SureRows (declaration n).texts (declaration_list ds) (declarations_text ds)
-declaration_rows no_declaration n l ld w = no_sure
-declaration_rows (declare ns k d rest) n l ld w =
-    let p = and_parts (are_names ns && is_type k && is_well_part d) (are_well_declarations rest) w in
-    let q = and_parts (are_names ns && is_type k) (is_well_part d) p.0 in
-    let r = and_parts (are_names ns) (is_type k) q.0 in
-    sure_row (declaration_read ns k d n l r.0 r.1 (omega (arith, ld)) q.1) (declaration_rows rest n l (omega (arith, ld)) p.1)
+declaration_read : (d : Declared) (n : ℕ) → 0 < n → 2 * depth_of_part d.preset ≤ n → is_well_declaration d ≡ true → Sure (declaration n).texts d (declaration_text d)
+declaration_read d n l ld w =
+    let p = and_parts (are_names d.names && is_type d.kind) (is_well_part d.preset) w in
+    let q = and_parts (are_names d.names) (is_type d.kind) p.0 in
+    declared_read d.names d.kind d.preset n l q.0 q.1 ld p.1
+
+declaration_rows : (ds : List Declared) (n : ℕ) → 0 < n → 2 * depth_of_declarations ds ≤ n → list_all is_well_declaration ds ≡ true → SureRows (declaration n).texts ds (declarations_text ds)
+declaration_rows [] n l ld w = no_sure
+declaration_rows (d ∷ ds) n l ld w =
+    let p = and_parts (is_well_declaration d) (list_all is_well_declaration ds) w in
+    sure_row (declaration_read d n l (omega (arith, ld)) p.0) (declaration_rows ds n l (omega (arith, ld)) p.1)
 
 abbrev pub statement_list : Statements → List Statement
 statement_list no_statement = []
@@ -258,10 +254,10 @@ module _ (r : Rule Tok Statement) where
   pub steps_read : {s : Statement} {ss : Statements} {w v : List ℕ} → Sure (a_step r).texts s w → SureRows (a_step r).texts (statement_list ss) v → Sure (steps' r).texts (statement s ss) (w ++ v)
   steps_read {s = s} {ss = ss} rs m = sure_via (λ ts rest g. (s ∷ statement_list ss, sym (ap (statement s) (statements_same ss)), g)) (sure_chain (sure_via (λ ts rest g. (s, refl, g)) rs) m)
 
-  pub block_read : (n : ℕ) (ds : Declarations) (ss : Statements) {v : List ℕ} → 0 < n → 2 * depth_of_declarations ds ≤ n → are_well_declarations ds ≡ true → SureRows (a_step r).texts (statement_list ss) v
+  pub block_read : (n : ℕ) (ds : List Declared) (ss : Statements) {v : List ℕ} → 0 < n → 2 * depth_of_declarations ds ≤ n → list_all is_well_declaration ds ≡ true → SureRows (a_step r).texts (statement_list ss) v
       → Reading (block_body n r).texts (block ds ss) (declarations_text ds ++ v ++ codes "END")
   block_read n ds ss {v = v} l ld wd m =
-      let declared : Sure (Mapped declarations_of (Chain then_one (Pure []) (λ a. (declaration n).texts))) ds (declarations_text ds) = sure_via (λ ts rest g. (declaration_list ds, sym (declarations_same ds), g)) (sure_repeated (declaration_rows ds n l ld wd)) in
+      let declared : Sure (Chain then_one (Pure []) (λ a. (declaration n).texts)) ds (declarations_text ds) = sure_repeated (declaration_rows ds n l ld wd) in
       let steps : Sure (steps_if r).texts ss v = sure_via (λ ts rest g. (statement_list ss, sym (statements_same ss), g)) (sure_repeated m) in
       written (sure_then block declared (sure_then (λ a u. a) steps (kw say_end))) (simp append_assoc)
 

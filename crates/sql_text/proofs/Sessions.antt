@@ -1,23 +1,24 @@
 -- SET, CALL, DO, DROP, TRUNCATE and the statements of transactions are read as they are written.
-use Rattle.std.proofs.Common.{◌≡◌, ◌<◌, ◌≤◌, ℕ, zero, suc, pred, ◌*◌, Bool, true, false, ◌&&◌, List, [], ◌∷◌, ◌++◌, Some, None, refl, sym, ◌∙◌, ap, arith, append_assoc, inl, inr, codes}
+use Rattle.std.proofs.Common.{◌≡◌, ◌<◌, ◌≤◌, ℕ, zero, suc, pred, ◌*◌, Bool, true, false, List, [], ◌∷◌, ◌++◌, map, Some, None, refl, ◌∙◌, ap, arith, append_assoc, inl, inr, codes}
 use Rattle.std.proofs.lemmas.Bool.{and_parts}
 use Rattle.std.specs.Prelude.{if◌then◌else◌}
+use Rattle.std.specs.List.{list_all}
 use Rattle.sql_lex.specs.declared.keyword.Keyword.{Keyword}
 use Rattle.sql_lex.specs.declared.keyword.Keyword.TheVariants as words
 use Rattle.sql_grammar.specs.Grammar.{Grammar, Both, first}
 use Rattle.sql_grammar.specs.Rule.{of_kinds, paired}
 use Rattle.sql_tree.specs.Tree.{Tree, name, Trees}
-use Rattle.sql_tree.specs.Statement.{drop_table, drop_function, drop_procedure, drop_trigger, truncate, evaluate, set_all, call_procedure, begin, commit, rollback, savepoint, rollback_to, release_savepoint, Assignments, no_assignment, assign}
+use Rattle.sql_tree.specs.Statement.{drop_table, drop_function, drop_procedure, drop_trigger, truncate, evaluate, set_all, call_procedure, begin, commit, rollback, savepoint, rollback_to, release_savepoint}
 use Rattle.sql_tree.specs.Depth.{depth_of_tree, depth_of_trees, depth_of_assignments}
-use Rattle.sql_tree.specs.Well.{is_name, is_target, has_tree, is_well_tree, are_well_trees, has_assignment, are_well_assignments}
+use Rattle.sql_tree.specs.Well.{is_name, is_target, has_tree, is_well_tree, are_well_trees, has_item, is_well_assignment}
 use Rattle.sql_tree.specs.declared.statements.Target.{Target}
-use Rattle.sql_print.specs.Names.{quoted_name as name_text}
+use Rattle.sql_print.specs.Names.{quoted_name as name_text, more_of}
 use Rattle.sql_print.specs.Spelling.{tree_text, trees_text}
-use Rattle.sql_print.specs.StatementSpelling.{target_text, assignments_text, more_assignments_text}
+use Rattle.sql_print.specs.StatementSpelling.{target_text, assignment_text, assignments_text}
 use Rattle.sql_syntax.specs.Tokens.{Tok, key, quoted_name, kind, name_said, keyword_said}
 use Rattle.sql_syntax.specs.Parts.{arguments}
 use Rattle.sql_syntax.specs.Expressions.{Nested, prefix_by, whole_by, own_names, alone as no_tail, nested, expression}
-use Rattle.sql_syntax.specs.Sessions.{new_by, target, format_said, format_word, format_or, is_format, assigned, assigning, assignment, assignments_of, set, do_exprs, call, drop, truncated, transaction, begun}
+use Rattle.sql_syntax.specs.Sessions.{new_by, target, format_said, format_word, format_or, is_format, assigned, assigning, assignment, set, do_exprs, call, drop, truncated, transaction, begun}
 use Rattle.sql_syntax.proofs.ExpressionLaws.{expression_lawful, expression_exact}
 use Rattle.sql_text.proofs.Lines.{group5}
 use Rattle.sql_text.proofs.Reading.{Reading, via, written, spaced, one, nothing, then', then_nothing, More, no_more, more}
@@ -112,33 +113,23 @@ assigns n x ts rest h =
     let same : x ≡ assigned h.0 (v.1, g.0) = h.3 ∙ (ap (λ z. (h.0, z)) v.3 ∙ assigned_same h.0 v.1 g.0 g.2) in
     (h.0, (v.1, g.0), h.2, same, h.4, (v.0, (v.1, g.0), v.2, refl, v.4, (v.1, g.0, g.1, refl, g.3)))
 
-assignment_read : (to : Target) (t : Tree) (n : ℕ) → is_target to ≡ true → 2 * depth_of_tree t ≤ n → is_well_tree t ≡ true → Reading (assignment n).texts (to, t) (target_text to ++ codes " = " ++ tree_text t)
-assignment_read to t n good l w =
-    let value : Reading (Both (λ u b. b) assigning.texts (Unnamed n)) t (61 ∷ 32 ∷ tree_text t) = via (λ ts rest g. (g.0, g.1, g.2, g.3, inl g.4, g.5)) (sign_then say_equal (unnamed_read t n l w)) in
-    via (assigns n (to, t)) (written (then' paired (target_read to good) (spaced value) refl) (append_assoc (target_text to) (codes " = ") (tree_text t)))
+assignment_read : (a : Target × Tree) (n : ℕ) → 2 * depth_of_tree a.1 ≤ n → is_well_assignment a ≡ true → Reading (assignment n).texts a (assignment_text a)
+assignment_read a n l w =
+    let p = and_parts (is_target a.0) (is_well_tree a.1) w in
+    let value : Reading (Both (λ u b. b) assigning.texts (Unnamed n)) a.1 (61 ∷ 32 ∷ tree_text a.1) = via (λ ts rest g. (g.0, g.1, g.2, g.3, inl g.4, g.5)) (sign_then say_equal (unnamed_read a.1 n l p.1)) in
+    via (assigns n a) (written (then' paired (target_read a.0 p.0) (spaced value) refl) (append_assoc (target_text a.0) (codes " = ") (tree_text a.1)))
 
-abbrev assignment_list : Assignments → List (Target × Tree)
-assignment_list no_assignment = []
-assignment_list (assign to t rest) = (to, t) ∷ assignment_list rest
+more_assignments : (as' : List (Target × Tree)) (n : ℕ) → 2 * depth_of_assignments as' ≤ n → list_all is_well_assignment as' ≡ true → More (assignment n).texts as' (more_of (map assignment_text as'))
+more_assignments [] n l w = no_more
+more_assignments (a ∷ as') n l w =
+    let p = and_parts (is_well_assignment a) (list_all is_well_assignment as') w in
+    more (assignment_read a n (omega (arith, l)) p.0) (more_assignments as' n (omega (arith, l)) p.1)
 
-assignments_same : (as' : Assignments) → assignments_of (assignment_list as') ≡ as'
-assignments_same no_assignment = refl
-assignments_same (assign to t rest) = ap (assign to t) (assignments_same rest)
-
-more_assignments : (as' : Assignments) (n : ℕ) → 2 * depth_of_assignments as' ≤ n → are_well_assignments as' ≡ true → More (assignment n).texts (assignment_list as') (more_assignments_text as')
-more_assignments no_assignment n l w = no_more
-more_assignments (assign to t rest) n l w =
-    let p = and_parts (is_target to && is_well_tree t) (are_well_assignments rest) w in
-    let q = and_parts (is_target to) (is_well_tree t) p.0 in
-    more (assignment_read to t n q.0 (omega (arith, l)) q.1) (more_assignments rest n (omega (arith, l)) p.1)
-
-pub set_read : (as' : Assignments) (n : ℕ) → has_assignment as' ≡ true → 2 * depth_of_assignments as' ≤ n → are_well_assignments as' ≡ true → Reading (set n).texts (set_all as') (codes "SET " ++ assignments_text as')
-set_read no_assignment n h l w = cc
-set_read (assign to t rest) n h l w =
-    let p = and_parts (is_target to && is_well_tree t) (are_well_assignments rest) w in
-    let q = and_parts (is_target to) (is_well_tree t) p.0 in
-    key_then say_set (via (λ ts us g. ((to, t) ∷ assignment_list rest, sym (ap (λ z. set_all (assign to t z)) (assignments_same rest)), g))
-    (list_read (assignment n) (assignment_read to t n q.0 (omega (arith, l)) q.1) (more_assignments rest n (omega (arith, l)) p.1)))
+pub set_read : (as' : List (Target × Tree)) (n : ℕ) → has_item as' ≡ true → 2 * depth_of_assignments as' ≤ n → list_all is_well_assignment as' ≡ true → Reading (set n).texts (set_all as') (codes "SET " ++ assignments_text as')
+set_read [] n h l w = cc
+set_read (a ∷ as') n h l w =
+    let p = and_parts (is_well_assignment a) (list_all is_well_assignment as') w in
+    key_then say_set (via (λ ts us g. (a ∷ as', refl, g)) (list_read (assignment n) (assignment_read a n (omega (arith, l)) p.0) (more_assignments as' n (omega (arith, l)) p.1)))
 
 -- ---- others
 pub do_read : (ts : Trees) (n : ℕ) → has_tree ts ≡ true → 2 * depth_of_trees ts ≤ n → are_well_trees ts ≡ true → Reading (do_exprs n).texts (evaluate ts) (codes "DO " ++ trees_text ts)

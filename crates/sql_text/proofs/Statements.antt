@@ -9,7 +9,7 @@ use Rattle.sql_tree.specs.Tree.{Tree}
 use Rattle.sql_tree.specs.Statement.{Statement, create_table, create_function, create_procedure, create_trigger, begin, block, if_steps, while_steps, return_value}
 use Rattle.sql_tree.specs.Statement.{Statements, no_statement, statement, Branches, no_branch, branch, Otherwise, no_else, else_steps, Program, program, Trigger, trigger}
 use Rattle.sql_tree.specs.Depth.{depth_of, depth_of_statements, depth_of_branches, depth_of_otherwise, depth_of_program, depth_of_trigger}
-use Rattle.sql_tree.specs.Well.{is_name, is_type_if, is_parameter, is_well_tree, are_well_declarations, has_statement, has_result, is_well_step, are_well_steps, are_well_branches, is_well_otherwise, is_well_program, is_well_trigger, is_whole, IsWell}
+use Rattle.sql_tree.specs.Well.{is_name, is_type_if, is_parameter, is_well_tree, is_well_declaration, has_statement, has_result, is_well_step, are_well_steps, are_well_branches, is_well_otherwise, is_well_program, is_well_trigger, is_whole, IsWell}
 use Rattle.sql_print.specs.StatementSpelling.{spelling, steps_text, more_branches_text, otherwise_text}
 use Rattle.sql_syntax.specs.Tokens.{Tok, keyword}
 use Rattle.sql_syntax.specs.Programs.{create, a_step, steps', branches_of, a_branch, otherwise, if_body, inner}
@@ -56,7 +56,7 @@ mutual
   step_read (create_trigger t) n l w = via (created_inner n (create_trigger t)) (created_trigger t n (omega (arith, l)) w)
   step_read begin n l w = cc
   step_read (block ds ss) n l w =
-      let p = and_parts (are_well_declarations ds) (are_well_steps ss) w in
+      let p = and_parts (list_all is_well_declaration ds) (are_well_steps ss) w in
       inner_opened n (omega (arith, l)) (λ m e. written (begin_opened m (inner m) (block_read (inner m) m ds ss (omega (arith, l, e)) (omega (arith, l, e)) p.0 (rows_of_steps ss m (omega (arith, l, e)) p.1))) (simp append_assoc))
   step_read (if_steps no_branch o) n l w = cc
   step_read (if_steps (branch c ss bs) o) n l w =

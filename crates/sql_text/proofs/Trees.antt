@@ -7,14 +7,15 @@ use Rattle.val_types.specs.declared.ops.UnOp.TheVariants.{Negate, Not, IsNull, I
 use Rattle.val_types.specs.declared.ops.Agg.{Agg}
 use Rattle.sql_grammar.specs.Grammar.{Mapped, Chain}
 use Rattle.sql_grammar.specs.Rule.{Rule, both, paired, alone, then_one}
-use Rattle.sql_tree.specs.Tree.{Tree, literal, name, column, new_column, old_column, user_variable, system_variable, unary, binary, is_in, choice, subquery, exists, call, values_of, name_const, floor_rand, call_abs, call_coalesce, call_if, call_ifnull, call_concat, call_length, call_substring, call_now, call_unix_timestamp, call_sysdate, call_user, call_uuid, call_connection_id, call_last_insert_id, call_row_count}
+use Rattle.sql_tree.specs.Tree.{Tree, literal, name, column, new_column, old_column, user_variable, system_variable, unary, binary, is_in, choice, subquery, exists, call, built_in, values_of, name_const, floor_rand}
 use Rattle.sql_tree.specs.Tree.{Trees, no_tree, tree, Arms, no_arm, arm, Part, no_part, part, Query, query, items, all_columns, aggregates}
 use Rattle.sql_tree.specs.Tree.{Aggregates, no_aggregate, count_all, aggregate, Origin, no_origin, from_table, Orders, no_order, order_by}
+use Rattle.sql_tree.specs.BuiltIns.{arity}
 use Rattle.sql_tree.specs.Depth.{depth_of_tree, depth_of_trees, depth_of_arms, depth_of_part, depth_of_query, depth_of_origin, depth_of_orders, depth_of_aggregates}
-use Rattle.sql_tree.specs.View.{trees_of, arms_of, orders_of, aggregates_of}
-use Rattle.sql_tree.specs.Well.{is_name, is_literal, is_limit_if, has_tree, has_arm, has_aggregate, has_origin, is_unordered, gives_one, goes_with_origin, is_well_tree, are_well_trees, are_well_arms, is_well_part, is_well_query, is_well_selected, are_well_aggregates, is_well_origin, are_well_orders}
+use Rattle.sql_tree.specs.View.{arms_of, orders_of, aggregates_of}
+use Rattle.sql_tree.specs.Well.{is_name, is_literal, is_limit_if, has_tree, are_as_many, has_arm, has_aggregate, has_origin, is_unordered, gives_one, goes_with_origin, is_well_tree, are_well_trees, are_well_arms, is_well_part, is_well_query, is_well_selected, are_well_aggregates, is_well_origin, are_well_orders}
 use Rattle.sql_print.specs.Names.{quoted_name as name_text}
-use Rattle.sql_print.specs.Spelling.{is_choice, tree_text, trees_text, more_trees_text, arms_text, else_text, where_text, query_text, aggregates_text, more_aggregates_text, origin_text, orders_text, more_orders_text, aggregate_of}
+use Rattle.sql_print.specs.Spelling.{is_choice, tree_text, trees_text, arms_text, else_text, where_text, query_text, aggregates_text, more_aggregates_text, origin_text, orders_text, more_orders_text, aggregate_of}
 use Rattle.sql_syntax.specs.Tokens.{Tok}
 use Rattle.sql_syntax.specs.Parts.{list_of, exprs, arguments}
 use Rattle.sql_syntax.specs.Selects.{where_part, direction, order, from_part, plain_from, agg}
@@ -25,20 +26,13 @@ use Rattle.sql_text.proofs.Reading.{Reading, via, written, valued, spaced, nothi
 use Rattle.sql_text.proofs.Written.{say_close}
 use Rattle.sql_text.proofs.Words.{say_when, say_then, say_else}
 use Rattle.sql_text.proofs.Parts.{signed, key_then, closing, list_read, rows_read}
-use Rattle.sql_text.proofs.Operands.{group_read, subquery_read, if_read, values_read, choice_read, exists_read, plain_read, column_read, new_read, old_read, call_read, user_read, system_read, literal_operand}
-use Rattle.sql_text.proofs.BuiltIns.{abs_read, length_read, ifnull_read, substring_read, coalesce_read, concat_read, now_read, unix_timestamp_read, sysdate_read, user_call_read, uuid_read, connection_id_read, last_insert_id_read, row_count_read, constant_read, random_read}
+use Rattle.sql_text.proofs.Operands.{group_read, subquery_read, values_read, choice_read, exists_read, plain_read, column_read, new_read, old_read, call_read, user_read, system_read, literal_operand}
+use Rattle.sql_text.proofs.BuiltIns.{function_read, constant_read, random_read}
+use Rattle.sql_text.proofs.TreeLists.{AreRead, exprs_read}
 use Rattle.sql_text.proofs.Levels.{inner_of, prefix_at, prefix_opened, whole_of, operated_at, null_at, not_null_at, in_at, negated_at, not_at, select_at, single_at, select_opened, single_opened}
 use Rattle.sql_text.proofs.Selects.{where_read, no_where_read, order_item, order_read, no_order_read, from_read, plain_from_read, count_all_read, aggregate_read, from_if, items_read, item_read, all_read, aggregates_read, aggregate_one_read}
 
 -- ---- lists inside trees
-abbrev pub tree_list : Trees → List Tree
-tree_list no_tree = []
-tree_list (tree t ts) = t ∷ tree_list ts
-
-trees_same : (ts : Trees) → trees_of (tree_list ts) ≡ ts
-trees_same no_tree = refl
-trees_same (tree t ts) = ap (tree t) (trees_same ts)
-
 abbrev arm_list : Arms → List (Tree × Tree)
 arm_list no_arm = []
 arm_list (arm c v arms) = (c, v) ∷ arm_list arms
@@ -142,7 +136,7 @@ mutual
   tree_read (is_in negated a ts) n l w =
       let p = and_parts (is_well_tree a && has_tree ts) (are_well_trees ts) w in
       let q = and_parts (is_well_tree a) (has_tree ts) p.0 in
-      written (prefix_opened n (omega (arith, l)) (λ m e. group_read m (nested m) (in_at m negated (omega (arith, l, e)) (tree_read a m (omega (arith, l, e)) q.0) (trees_read ts (pred m) q.1 (omega (arith, l, e)) p.1))))
+      written (prefix_opened n (omega (arith, l)) (λ m e. group_read m (nested m) (in_at m negated (omega (arith, l, e)) (tree_read a m (omega (arith, l, e)) q.0) (exprs_read (nested (pred m)).whole ts q.1 (each_read ts (pred m) (omega (arith, l, e)) p.1)))))
       (simp append_assoc)
   tree_read (choice arms o) n l w =
       let p = and_parts (has_arm arms && are_well_arms arms) (is_well_part o) w in
@@ -156,7 +150,7 @@ mutual
   tree_read (exists q) n l w = prefix_opened n (omega (arith, l)) (λ m e. exists_read m (nested m) (select_read q m (omega (arith, l, e)) w))
   tree_read (call x ts) n l w =
       let p = and_parts (is_name x) (are_well_trees ts) w in
-      written (prefix_opened n (omega (arith, l)) (λ m e. call_read (suc m) (nested m) x ts p.0 (omega arith) (arguments_of (nested m).whole ts (λ h. trees_read ts m h (omega (arith, l, e)) p.1))))
+      written (prefix_opened n (omega (arith, l)) (λ m e. call_read (suc m) (nested m) x ts p.0 (omega arith) (arguments_of (nested m).whole ts (λ h. exprs_read (nested m).whole ts h (each_read ts m (omega (arith, l, e)) p.1)))))
       (group4 (name_text x) (codes "(") (trees_text ts) (codes ")"))
   tree_read (values_of c) n l w = prefix_opened n (omega (arith, l)) (λ m e. values_read m (nested m) c w)
   tree_read (name_const x v) n l w =
@@ -164,45 +158,15 @@ mutual
       prefix_opened n (omega (arith, l)) (λ m e. constant_read (suc m) (nested m) (omega arith) x v p.0 p.1)
   tree_read (floor_rand a) n l w =
       prefix_opened n (omega (arith, l)) (λ m e. random_read (suc m) (nested m) (omega arith) (omega (arith, l, e)) (factor_read (is_choice a) a (tree_text a) m (omega (arith, l, e)) (λ k h. tree_read a k (omega (arith, l, e, h)) w)))
-  tree_read (call_abs a) n l w = prefix_opened n (omega (arith, l)) (λ m e. abs_read (suc m) (nested m) (omega arith) (whole_of m (tree_read a m (omega (arith, l, e)) w)))
-  tree_read (call_coalesce ts) n l w =
-      let p = and_parts (has_tree ts) (are_well_trees ts) w in
-      prefix_opened n (omega (arith, l)) (λ m e. coalesce_read (suc m) (nested m) (omega arith) (trees_read ts m p.0 (omega (arith, l, e)) p.1))
-  tree_read (call_if a b c) n l w =
-      let p = and_parts (is_well_tree a && is_well_tree b) (is_well_tree c) w in
-      let q = and_parts (is_well_tree a) (is_well_tree b) p.0 in
-      prefix_opened n (omega (arith, l)) (λ m e. if_read m (nested m) (whole_of m (tree_read a m (omega (arith, l, e)) q.0)) (whole_of m (tree_read b m (omega (arith, l, e)) q.1)) (whole_of m (tree_read c m (omega (arith, l, e)) p.1)))
-  tree_read (call_ifnull a b) n l w =
-      let p = and_parts (is_well_tree a) (is_well_tree b) w in
-      prefix_opened n (omega (arith, l)) (λ m e. ifnull_read (suc m) (nested m) (omega arith) (whole_of m (tree_read a m (omega (arith, l, e)) p.0)) (whole_of m (tree_read b m (omega (arith, l, e)) p.1)))
-  tree_read (call_concat ts) n l w =
-      let p = and_parts (has_tree ts) (are_well_trees ts) w in
-      prefix_opened n (omega (arith, l)) (λ m e. concat_read (suc m) (nested m) (omega arith) (trees_read ts m p.0 (omega (arith, l, e)) p.1))
-  tree_read (call_length a) n l w = prefix_opened n (omega (arith, l)) (λ m e. length_read (suc m) (nested m) (omega arith) (whole_of m (tree_read a m (omega (arith, l, e)) w)))
-  tree_read (call_substring a b c) n l w =
-      let p = and_parts (is_well_tree a && is_well_tree b) (is_well_tree c) w in
-      let q = and_parts (is_well_tree a) (is_well_tree b) p.0 in
-      prefix_opened n (omega (arith, l)) (λ m e. substring_read (suc m) (nested m) (omega arith) (whole_of m (tree_read a m (omega (arith, l, e)) q.0)) (whole_of m (tree_read b m (omega (arith, l, e)) q.1)) (whole_of m (tree_read c m (omega (arith, l, e)) p.1)))
-  tree_read call_now n l w = prefix_opened n (omega (arith, l)) (λ m e. now_read (suc m) (nested m) (omega arith))
-  tree_read call_unix_timestamp n l w = prefix_opened n (omega (arith, l)) (λ m e. unix_timestamp_read (suc m) (nested m) (omega arith))
-  tree_read call_sysdate n l w = prefix_opened n (omega (arith, l)) (λ m e. sysdate_read (suc m) (nested m) (omega arith))
-  tree_read call_user n l w = prefix_opened n (omega (arith, l)) (λ m e. user_call_read (suc m) (nested m) (omega arith))
-  tree_read call_uuid n l w = prefix_opened n (omega (arith, l)) (λ m e. uuid_read (suc m) (nested m) (omega arith))
-  tree_read call_connection_id n l w = prefix_opened n (omega (arith, l)) (λ m e. connection_id_read (suc m) (nested m) (omega arith))
-  tree_read call_last_insert_id n l w = prefix_opened n (omega (arith, l)) (λ m e. last_insert_id_read (suc m) (nested m) (omega arith))
-  tree_read call_row_count n l w = prefix_opened n (omega (arith, l)) (λ m e. row_count_read (suc m) (nested m) (omega arith))
+  tree_read (built_in f ts) n l w =
+      let p = and_parts (are_as_many (arity f) ts) (are_well_trees ts) w in
+      prefix_opened n (omega (arith, l)) (λ m e. function_read (suc m) (nested m) (omega arith) f ts p.0 (each_read ts m (omega (arith, l, e)) p.1))
 
-  pub trees_read : (ts : Trees) (n : ℕ) → has_tree ts ≡ true → 2 * depth_of_trees ts ≤ n → are_well_trees ts ≡ true → Reading (exprs (nested n).whole).texts ts (trees_text ts)
-  trees_read no_tree n h l w = cc
-  trees_read (tree t ts) n h l w =
+  each_read : (ts : Trees) (n : ℕ) → 2 * depth_of_trees ts ≤ n → are_well_trees ts ≡ true → AreRead (nested n).whole ts
+  each_read no_tree n l w = tt
+  each_read (tree t ts) n l w =
       let p = and_parts (is_well_tree t) (are_well_trees ts) w in
-      via (λ us rest g. (t ∷ tree_list ts, sym (ap (tree t) (trees_same ts)), g)) (list_read (nested n).whole (whole_of n (tree_read t n (omega (arith, l)) p.0)) (more_read ts n (omega (arith, l)) p.1))
-
-  more_read : (ts : Trees) (n : ℕ) → 2 * depth_of_trees ts ≤ n → are_well_trees ts ≡ true → More (nested n).whole.texts (tree_list ts) (more_trees_text ts)
-  more_read no_tree n l w = no_more
-  more_read (tree t ts) n l w =
-      let p = and_parts (is_well_tree t) (are_well_trees ts) w in
-      more (whole_of n (tree_read t n (omega (arith, l)) p.0)) (more_read ts n (omega (arith, l)) p.1)
+      (whole_of n (tree_read t n (omega (arith, l)) p.0), each_read ts n (omega (arith, l)) p.1)
 
   arms_read : (arms : Arms) (n : ℕ) → has_arm arms ≡ true → 2 * depth_of_arms arms ≤ n → are_well_arms arms ≡ true
       → Reading (Chain then_one (Mapped alone (when_arm (nested n).whole).texts) (λ x. (when_arm (nested n).whole).texts)) (arm_list arms) (arms_text arms)
@@ -278,7 +242,7 @@ mutual
   select_read (query (items ts) o) n l w =
       let p = and_parts (goes_with_origin (query (items ts) o) && is_well_selected (items ts)) (is_well_origin o) w in
       let q = and_parts (has_tree ts) (are_well_trees ts) p.0 in
-      select_at n (items_read n (nested n).whole (inner_of n).whole (trees_read ts n q.0 (omega (arith, l)) q.1) (from_if_of (nested n).whole o (λ h. from_at o n h (omega (arith, l)) p.1)) (origin_soft o))
+      select_at n (items_read n (nested n).whole (inner_of n).whole (exprs_read (nested n).whole ts q.0 (each_read ts n (omega (arith, l)) q.1)) (from_if_of (nested n).whole o (λ h. from_at o n h (omega (arith, l)) p.1)) (origin_soft o))
   select_read (query all_columns o) n l w =
       let p = and_parts (goes_with_origin (query all_columns o) && true) (is_well_origin o) w in
       let q = and_parts (has_origin o) true p.0 in
@@ -315,3 +279,6 @@ mutual
       (ap (λ z. codes "SELECT " ++ z ++ origin_text o) (append-nil (aggregate_of f ++ tree_text a ++ codes ")")))
   single_read (query (aggregates (aggregate f a (count_all rest))) o) n g l w = cc
   single_read (query (aggregates (aggregate f a (aggregate h b rest))) o) n g l w = cc
+
+pub trees_read : (ts : Trees) (n : ℕ) → has_tree ts ≡ true → 2 * depth_of_trees ts ≤ n → are_well_trees ts ≡ true → Reading (exprs (nested n).whole).texts ts (trees_text ts)
+trees_read ts n h l w = exprs_read (nested n).whole ts h (each_read ts n l w)

@@ -15,6 +15,12 @@
 //!
 //! - [`laws`]: the text is read, and as nothing else; and whatever is read is well
 //! - [`worked`]: statements that these laws speak of
+//!
+//! # Proved
+//! - The canonical text of each statement that the parser can give is read as that statement, and as no
+//!   other; two such statements have two texts.
+//! - A text of bytes is read as such a statement alone.
+//! - The worked statements are such, with the texts beside them.
 #![tactic(auto)]
 
 mod laws;

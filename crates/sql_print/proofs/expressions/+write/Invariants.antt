@@ -23,8 +23,11 @@ decreases-write_from l = 10 * goal.size-write_from l + 7
 abbrev pub decreases-write_aggregates : goal.decreases-write_aggregates
 decreases-write_aggregates l = 10 * goal.size-write_aggregates l + 6
 
-abbrev pub decreases-write_call : goal.decreases-write_call
-decreases-write_call l = 10 * goal.size-write_call l + 5
+abbrev pub decreases-write_arguments : goal.decreases-write_arguments
+decreases-write_arguments l = 10 * goal.size-write_arguments l + 5
+
+abbrev pub decreases-write_on_some : goal.decreases-write_on_some
+decreases-write_on_some l = 10 * goal.size-write_on_some l + 5
 
 abbrev pub decreases-write_exprs : goal.decreases-write_exprs
 decreases-write_exprs l = 10 * goal.size-write_exprs l + 4
@@ -44,8 +47,8 @@ decreases-write_where l = 10 * goal.size-write_where l + 4
 abbrev pub decreases-write_unary : goal.decreases-write_unary
 decreases-write_unary l = 10 * goal.size-write_unary l + 4
 
-abbrev pub decreases-write_call_of_one : goal.decreases-write_call_of_one
-decreases-write_call_of_one l = 10 * goal.size-write_call_of_one l + 4
+abbrev pub decreases-write_on_one : goal.decreases-write_on_one
+decreases-write_on_one l = 10 * goal.size-write_on_one l + 4
 
 abbrev pub decreases-write_next : goal.decreases-write_next
 decreases-write_next l = 10 * goal.size-write_next l + 4
@@ -65,11 +68,11 @@ decreases-write_membership l = 10 * the_size (In l.negated l.left.now l.items.no
 abbrev pub decreases-write_case : goal.decreases-write_case
 decreases-write_case l = 10 * the_size (Case l.arms.now l.otherwise.now)
 
-abbrev pub decreases-write_call_of_two : goal.decreases-write_call_of_two
-decreases-write_call_of_two l = 10 * the_size (IfNull l.a.now l.b.now)
+abbrev pub decreases-write_on_two : goal.decreases-write_on_two
+decreases-write_on_two l = 10 * the_size (IfNull l.a.now l.b.now)
 
-abbrev pub decreases-write_call_of_three : goal.decreases-write_call_of_three
-decreases-write_call_of_three l = 10 * the_size (If l.a.now l.b.now l.c.now)
+abbrev pub decreases-write_on_three : goal.decreases-write_on_three
+decreases-write_on_three l = 10 * the_size (If l.a.now l.b.now l.c.now)
 
 abbrev pub invariant-write_exprs-loop-expr : goal.invariant-write_exprs-loop-expr
 invariant-write_exprs-loop-expr l =
