@@ -5,10 +5,13 @@ use Rattle.val_types.specs.declared.value.Value.TheVariants.{Null, Int, Text}
 use Rattle.val_types.specs.declared.definitions.TableDef.{TableDef}
 use Rattle.auto_inc.specs.declared.counters.Counter.{Counter}
 use Rattle.table_rules.specs.Tables.{Table}
-use Rattle.sql_tree.specs.Tree.{Tree, Trees, literal, name, no_tree, no_part, no_order, no_origin, from_table, query, items, all_columns}
-use Rattle.sql_tree.specs.Statement.{Statement, Program, program, Trigger, trigger, rows, insert_into, replace_into, select}
+use Rattle.val_types.specs.declared.ops.BinOp.TheVariants as ops
+use Rattle.sql_tree.specs.Tree.{Tree, literal, name, binary, no_origin, part, query, items}
+use Rattle.sql_tree.specs.Statement.{Statement, Program, program, rows, insert_into, select, set_all, block, while_steps, return_value}
 use Rattle.sql_tree.specs.View.{trees_of}
-use Rattle.sql_tree.specs.Worked.{parameter_of, column_of}
+use Rattle.sql_tree.specs.StatementView.{statements_of}
+use Rattle.sql_tree.specs.Worked.{parameter_of, column_of, declared_as}
+use Rattle.sql_tree.specs.declared.statements.Target.{Target}
 use Rattle.sql_tree.specs.declared.statements.SqlType.{SqlType}
 use Rattle.sql_tree.specs.declared.statements.CreateTable.{CreateTable}
 use Rattle.catalog_rules.specs.Objects.{Object, table}
@@ -126,3 +129,39 @@ shown (failed code scene) = None
 -- a function of no parameters that gives an INT
 abbrev pub giving : List ℕ → Statement → Program
 giving f body = program f [] (Some SqlType.Int) body
+
+-- ---- programs
+
+-- FUNCTION f() BEGIN INSERT INTO t VALUES (9, 9); RETURN 1; END
+abbrev pub adding_nine : Program
+adding_nine = giving (codes "f") (block [] (statements_of (inserting (codes "t") None ((n 9 ∷ n 9 ∷ []) ∷ []) ∷ return_value (n 1) ∷ [])))
+
+-- FUNCTION c() BEGIN DECLARE i INT DEFAULT 0; WHILE i < k DO SET i = i + 1; END WHILE; RETURN i; END
+abbrev pub counting_to : ℕ → Program
+counting_to k =
+    giving (codes "c") (block (declared_as (codes "i" ∷ []) SqlType.Int (part (n 0)) ∷ []) (statements_of (
+      while_steps (binary ops.Less (name (codes "i")) (n k)) (statements_of (set_all ((Target.Plain (codes "i"), binary ops.Add (name (codes "i")) (n 1)) ∷ []) ∷ []))
+      ∷ return_value (name (codes "i")) ∷ [])))
+
+-- FUNCTION h(x INT) RETURNS BIGINT RETURN 9223372036854775805 + x
+abbrev pub h : Program
+h = program (codes "h") (parameter_of (codes "x") SqlType.Int ∷ []) (Some SqlType.BigInt)
+    (return_value (binary ops.Add (n 9223372036854775805) (name (codes "x"))))
+
+-- l(id INT AUTO_INCREMENT, w INT NOT NULL)
+abbrev pub l_def : TableDef
+l_def = definition_of (record create_t {
+  name = codes "l";
+  columns = counted (column_of (codes "id") SqlType.Int false) ∷ column_of (codes "w") SqlType.Int false ∷ [];
+})
+
+-- u(id INT, v BIGINT)
+abbrev pub u_def : TableDef
+u_def = definition_of (record create_t {
+  name = codes "u";
+  columns = column_of (codes "id") SqlType.Int false ∷ column_of (codes "v") SqlType.BigInt true ∷ [];
+})
+
+-- t with some rows, and u without
+abbrev pub two_tables : List (List Value) → Scene
+two_tables rs = scene_of (holding t_def rs ∷ holding u_def [] ∷ []) (counter_of (codes "t") 1 ∷ counter_of (codes "u") 1 ∷ [])
