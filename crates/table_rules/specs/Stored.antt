@@ -1,7 +1,7 @@
 -- Rows by their keys; what storing a row comes to: a change, or what is in its way.
 use Rattle.std.specs.Prelude.{◌≡◌, ℕ, suc, Bool, true, not, nat_eq, if◌then◌else◌, List, [], ◌∷◌, map, reverse, filter, Option, Some, None, Result, Ok, Err, is_some, is_ok}
 use Rattle.std.specs.List.{list_any, find}
-use Rattle.std.specs.Option.{option_map, option_and_then, option_map_or}
+use Rattle.std.specs.Option.{option_map, option_or, option_and_then, option_map_or}
 use Rattle.std.specs.Cmp.Lexicographic.{pointwise}
 use Rattle.val_types.specs.declared.value.Value.{Value}
 use Rattle.val_types.specs.declared.change.Change.{Change}
@@ -53,6 +53,18 @@ abbrev pub key_in_way : TableDef → List Value → List (List Value) → Option
 key_in_way definition row rows =
     if list_any (has_key definition (primary_key definition row)) rows then Some 0
     else option_map suc (first_agreed definition.uniques row rows)
+
+-- whether a row has a key of another one, key by key: the primary one first, then the unique ones in order of definition
+abbrev pub key_tests : TableDef → List Value → List (List Value → Bool)
+key_tests definition row = has_key definition (primary_key definition row) ∷ map (λ key other. agree_on row other key) definition.uniques
+
+-- the row that has the first key in the way
+abbrev pub row_by_tests : List (List Value → Bool) → List (List Value) → Option (List Value)
+row_by_tests [] rows = None
+row_by_tests (test ∷ tests) rows = option_or (find test rows) (row_by_tests tests rows)
+
+abbrev pub row_in_way : TableDef → List Value → List (List Value) → Option (List Value)
+row_in_way definition row rows = row_by_tests (key_tests definition row) rows
 
 -- ---- storing a row
 

@@ -8,6 +8,7 @@ ghost use Rattle.std.specs.Slice.Iter.{iter_rest, iter_steps};
 
 use std::alloc::{AllocError, Global};
 use std::cmp::Ordering;
+use std::hash::{Hash, Hasher};
 use std::marker::Model;
 use std::ops::Index;
 use std::slice;
@@ -260,5 +261,18 @@ impl<T: Ord> Ord for List<T> {
 
     fn cmp(&self, other: &Self) -> Ordering {
         self.items.as_slice().cmp(&other.items.as_slice())
+    }
+}
+
+impl<T: Hash> Hash for List<T> {
+    ghost use Rattle.std.specs.Hash as fed;
+    ghost use Rattle.std.specs.Hash.{items_Alike};
+
+    ghost hash_input = { fed.slice T.hash_input };
+
+    ghost respects_eq = { (items_Alike (record { fed = T.respects_eq })).fed };
+
+    fn hash<H: Hasher>(&self, state: &mut H) {
+        self.items.as_slice().hash(state);
     }
 }

@@ -1,0 +1,6 @@
+pub mod Changing
+pub mod Frames
+pub mod Running
+pub mod Scenes
+pub mod Values
+pub mod Worked

@@ -1,0 +1,17 @@
+//! What statements mean: definitions with worked examples, and no code.
+//!
+//! The definitions stand in specs/: `Scenes` (what can change, and actions on it), `Frames` (what an expression sees and
+//! does not change), `Values` (expressions and the rows of a SELECT), `Changing` (INSERT, REPLACE, UPDATE and DELETE, row by
+//! row), `Running` (bodies of functions and triggers, and what a statement comes to).
+//!
+//! - `worked`, `worked_programs`: statements by hand, which the checker computes
+//!
+//! # Proved
+//! The worked examples: what each statement shows, changes and counts, or its error and what it leaves.
+#![tactic(auto)]
+
+mod worked;
+mod worked_programs;
+
+pub use worked::{expressions, keys_in_way, rows_changed, selected_rows, values_generated};
+pub use worked_programs::{functions_called, nesting_and_turns, triggers_fired};
