@@ -3,7 +3,7 @@
 //! The definitions stand in specs/: `Names` (lists of names), `Objects` (a catalog and looking up in it), `Defined` (the
 //! definition that CREATE TABLE makes, and back), `Bodies` (what may stand in a stored program), `Creating` (CREATE, DROP
 //! and TRUNCATE: their checks in order, and the catalog after them), `Nodes` (all that a statement names, as one list),
-//! `Checks` (the catalog checks of a statement, in their order).
+//! `Checks` (the catalog checks of a statement, in their order), `Bases` (a catalog with the rows of its tables).
 //!
 //! - `worked`: statements by hand, which the checker computes
 //!

@@ -2,7 +2,7 @@
 //!
 //! The catalog has the tables `t` (id, v) and `a` (id AUTO_INCREMENT, k), the function `f` of one
 //! parameter, the procedure `p` and the trigger `r` before INSERT on `t`.
-ghost use Rattle.std.specs.Prelude.{◌≡◌, [], ◌∷◌, codes, false, map, pos, true, None, Some};
+ghost use Rattle.std.specs.Prelude.{◌≡◌, [], ◌∷◌, codes, false, map, option_and_then, option_map, pos, true, None, Some};
 ghost use Rattle.val_types.specs.declared.value.Value.TheVariants.{Int, Null, Text};
 ghost use Rattle.val_types.specs.declared.ops.Agg.TheVariants as aggs;
 ghost use Rattle.sql_tree.specs.Tree.{aggregates, all_columns, call, column, count_all, from_table, items, literal, name, new_column, no_aggregate, no_order, no_origin, no_part, no_tree, part, query, subquery, system_variable, values_of};
@@ -15,6 +15,7 @@ ghost use Rattle.sql_tree.specs.declared.statements.Cause.TheVariants as causes;
 ghost use Rattle.sql_tree.specs.declared.statements.SqlType.{SqlType};
 ghost use Rattle.sql_tree.specs.declared.statements.Target.{Target};
 ghost use Rattle.sql_tree.specs.declared.statements.Time.TheVariants as times;
+ghost use Rattle.catalog_rules.specs.Bases.{CanBeMade, defined, empty_base, table_without_rows};
 ghost use Rattle.catalog_rules.specs.Checks.{session_scope, statement_refusal};
 ghost use Rattle.catalog_rules.specs.Creating.{catalog_after, ddl_refusal};
 ghost use Rattle.catalog_rules.specs.Defined.{definition_of, written_table};
@@ -101,4 +102,13 @@ pub fn names_checked()
     ensures own_table { map (λ s. statement_refusal catalog session_scope s) (update_rows (codes "t") ((v, subquery (query (aggregates (count_all no_aggregate)) (from_table (codes "t") no_part no_order None))) ∷ []) no_part no_order None ∷ insert_into false (codes "t") None (rows_of (query all_columns (from_table (codes "t") no_part no_order None))) [] ∷ []) ≡ Some 1093 ∷ None ∷ [] }
     ensures left_out { map (λ s. statement_refusal catalog session_scope s) (insert_into true (codes "a") (Some (id ∷ [])) (rows (row_of (one ∷ []))) [] ∷ insert_into false (codes "a") (Some (codes "k" ∷ [])) (rows (row_of (one ∷ []))) [] ∷ insert_into false (codes "t") (Some (id ∷ [])) (rows (row_of (one ∷ []))) [] ∷ []) ≡ Some 1364 ∷ None ∷ None ∷ [] }
     ensures together { statement_refusal catalog session_scope (select (query (items (trees_of (name (codes "x") ∷ []))) (from_table (codes "n") (part (call (codes "g") no_tree)) no_order None))) ≡ Some 1146 }
+{}
+
+/// A base: what its statements make, what DROP TABLE leaves, and what a statement that is refused does not make.
+pub fn bases_made()
+    ensures made { option_and_then (defined (create_table create_a)) (defined (create_table create_t) empty_base) ≡ Some (record { catalog = table (definition_of create_t) ∷ table (definition_of create_a) ∷ []; tables = table_without_rows (definition_of create_t) ∷ table_without_rows (definition_of create_a) ∷ [] }) }
+    ensures dropped { option_and_then (defined (drop_table (codes "t"))) (defined (create_table create_t) empty_base) ≡ Some empty_base }
+    ensures refused { option_and_then (defined (create_table create_t)) (defined (create_table create_t) empty_base) ≡ None }
+    ensures cleared { option_map (λ base. base.tables) (defined (truncate (codes "t")) (record { catalog = table (definition_of create_t) ∷ []; tables = record { definition = definition_of create_t; rows = (Int (pos 1) ∷ Null ∷ []) ∷ [] } ∷ [] })) ≡ Some (table_without_rows (definition_of create_t) ∷ []) }
+    ensures in_order { CanBeMade [] catalog }
 {}

@@ -103,10 +103,6 @@ named_value frame n = elim (find_local frame.locals n) [ None ↦ column_in_view
 abbrev pub qualified_value : Frame → List ℕ → List ℕ → Option Value
 qualified_value frame t c = column_if c (find (λ (view : View). same_name t view.definition.name) frame.views)
 
--- the user variable of a name, NULL where it was never set
-abbrev pub variable_value : List (List ℕ × Value) → List ℕ → Value
-variable_value variables n = option_map_or (λ (p : List ℕ × Value). p.1) (find (λ (p : List ℕ × Value). same_name n p.0) variables) Null
-
 -- ---- LIMIT
 
 -- the number of a LIMIT; that of a local was seen to be one

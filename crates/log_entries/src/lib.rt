@@ -1,0 +1,30 @@
+//! What a source commits and a log carries: items with what they carry, entries, and the tables after them.
+//!
+//! The types are generic in what an item is: the log and a node have of it its text, what it carries and its changes
+//! ([`Item`]); definitions of what sessions do have all that it began with, too.
+//!
+//! - `variables`: [`Vars`], user variables by name
+//! - `carried`: [`Carried`], the parts of a session's context that an item carries
+//! - `entries`: [`Item`] and [`Entry`]
+//! - `laws`: what follows from the definitions
+//!
+//! The definitions in specs/ say what a variable of a name is (`Variables`) and what entries make of a base (`Entries`).
+//!
+//! # Proved
+//! - [`Vars::get`] and [`Vars::set`] are the variable of a name and the variables with one set; want of memory leaves them as
+//!   they were; no name stands twice
+//! - entries behind others are applied to what those leave (`entries_go_on`)
+//!
+//! # Only tested
+//! Nothing yet: that variables are set with ample memory is shown where sessions are.
+#![tactic(auto)]
+
+mod carried;
+mod entries;
+mod laws;
+mod variables;
+
+pub use carried::Carried;
+pub use entries::{Entry, Item};
+pub use laws::entries_go_on;
+pub use variables::Vars;

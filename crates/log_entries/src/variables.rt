@@ -1,0 +1,56 @@
+//! User variables.
+ghost use Rattle.std.specs.Prelude.{◌≡◌, [], nat_eq, OnErr, OnOk, option_copied};
+ghost use Rattle.std.specs.Cmp.Lexicographic.{pointwise};
+ghost use Rattle.std.specs.Map.{lookup};
+ghost use Rattle.log_entries.specs.Variables.{variable_set};
+
+use indexmap::IndexMap;
+use std::alloc::Global;
+use std::marker::Model;
+use val_types::{Bytes, Duplicate, NoMemory, Value};
+
+/// The user variables of a session by their names, in the order in which they were first set. Contracts see them as the
+/// list of names with their values.
+#[derive(Drop)]
+pub struct Vars {
+    alloc: Global,
+    map: IndexMap<Bytes, Value>,
+}
+
+impl Model for Vars {
+    ghost use Rattle.std.specs.Prelude.{List, ℕ};
+    ghost use Rattle.val_types.specs.declared.value.Value.{Value as SqlValue};
+
+    ghost Value = { List (List ℕ × SqlValue) };
+
+    ghost view = { λ v. v.map.entries };
+}
+
+impl Vars {
+    /// No variable.
+    pub fn new(alloc: Global) -> Vars
+        ensures { result ≡ [] }
+    {
+        Vars {
+            alloc,
+            map: IndexMap::new(alloc),
+        }
+    }
+
+    /// The value of a variable, None where it was never set.
+    pub fn get(&self, name: &Bytes) -> Option<&Value>
+        ensures { option_copied result ≡ lookup (pointwise nat_eq name.now) self.now }
+    {
+        self.map.get(name)
+    }
+
+    /// Sets a variable; one that is there keeps its place.
+    pub fn set(&mut self, name: &Bytes, value: Value) -> Result<(), NoMemory>
+        ensures ok { OnOk result (self.new ≡ variable_set self.old name.now value) }
+        ensures err { OnErr result (self.new ≡ self.old) }
+    {
+        let name = name.duplicate(self.alloc)?;
+        self.map.insert(name, value)?;
+        Ok(())
+    }
+}
