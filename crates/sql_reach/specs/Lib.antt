@@ -1,0 +1,5 @@
+pub mod Carrying
+pub mod Closing
+pub mod Reach
+pub mod Reasons
+pub mod Worked

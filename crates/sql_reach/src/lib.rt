@@ -1,0 +1,15 @@
+//! What a statement reaches and what follows from it: definitions with worked examples, and no code.
+//!
+//! The definitions stand in specs/: `Reach` (functions and triggers that a statement reaches; which statements write),
+//! `Reasons` (for which a statement is unsafe to log by its text), `Carrying` (what an item carries of its context), `Closing`
+//! (a statement of a procedure with its locals closed in).
+//!
+//! - `worked`: statements by hand, which the checker computes
+//!
+//! # Proved
+//! The worked examples.
+#![tactic(auto)]
+
+mod worked;
+
+pub use worked::{carried_parts, closed_statements, unsafe_statements, writing_statements};
