@@ -33,8 +33,9 @@ tables_after s tables = tables
 -- catalog and tables after a statement, None where it is refused
 abbrev pub defined : Statement → Base → Option Base
 defined s base = elim (ddl_refusal base.catalog s) [
-    None ↦ Some (record { catalog = catalog_after s base.catalog; tables = tables_after s base.tables })
-  | Some code ↦ None ]
+  | None ↦ Some (record { catalog = catalog_after s base.catalog; tables = tables_after s base.tables })
+  | Some code ↦ None
+]
 
 -- ---- what holds of every base
 

@@ -31,5 +31,8 @@ pub enum Entry<I> {
         item: I,
     },
     /// A log begins.
-    LogStart { stamp: u32, server_id: u32 },
+    LogStart {
+        stamp: u32,
+        server_id: u32,
+    },
 }

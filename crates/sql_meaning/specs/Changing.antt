@@ -103,9 +103,9 @@ abbrev pub store_update : TableDef → List Value → List Value → Action ℕ
 store_update definition old new =
     if same_values new old then pure 0
     else
-        table_now definition.name >>= λ table.
-        require 1062 (is_none (key_in_way definition new (rows_beside definition (primary_key definition old) table.rows))) >>= λ _.
-        make 1032 (changes.Update definition.name old new) >>= λ _. pure 1
+    table_now definition.name >>= λ table.
+    require 1062 (is_none (key_in_way definition new (rows_beside definition (primary_key definition old) table.rows))) >>= λ _.
+    make 1032 (changes.Update definition.name old new) >>= λ _. pure 1
 
 -- the assignments left to right, BEFORE UPDATE, NOT NULL, the duplicate test, the row, AFTER UPDATE; 1 where it is a change
 abbrev pub update_row : World → Frame → TableDef → List (List ℕ × Tree) → List Value → Action ℕ
@@ -176,10 +176,11 @@ given_value definition row sequence v = pure (record { row = row; sequence = seq
 abbrev pub count_row : World → Option ℤ → TableDef → List Value → Sequence → Action Counted
 count_row world forced definition row sequence =
     elim (definition.auto) [
-      None ↦ pure (record { row = row; sequence = sequence; generated = None })
-    | Some place ↦
-        if asks (slice_index_or row place Null) then generate_at world forced definition row sequence place
-        else given_value definition row sequence (slice_index_or row place Null) ]
+      | None ↦ pure (record { row = row; sequence = sequence; generated = None })
+      | Some place ↦
+          if asks (slice_index_or row place Null) then generate_at world forced definition row sequence place
+          else given_value definition row sequence (slice_index_or row place Null)
+    ]
 
 -- the row put in, and its AFTER trigger
 abbrev pub put_row : World → TableDef → Counted → Inserting → Action Inserting
@@ -198,8 +199,9 @@ clear_way world definition [] = pure 0
 clear_way world definition (test ∷ tests) =
     table_now definition.name >>= λ table.
     elim (find test table.rows) [
-      None ↦ clear_way world definition tests
-    | Some row ↦ delete_row world definition row >>= λ _. clear_way world definition tests >>= λ n. pure (n + 1) ]
+      | None ↦ clear_way world definition tests
+      | Some row ↦ delete_row world definition row >>= λ _. clear_way world definition tests >>= λ n. pure (n + 1)
+    ]
 
 -- what a row in the way leaves of the statement: passed over, or so many rows affected
 abbrev pub passed_by : Counted → ℕ → Inserting → Inserting
@@ -224,8 +226,9 @@ abbrev pub place_row : World → Frame → TableDef → Manner → Counted → I
 place_row world frame definition manner counted so_far =
     table_now definition.name >>= λ table.
     elim (row_in_way definition counted.row table.rows) [
-      None ↦ put_row world definition counted so_far
-    | Some other ↦ settle world frame definition manner counted other so_far ]
+      | None ↦ put_row world definition counted so_far
+      | Some other ↦ settle world frame definition manner counted other so_far
+    ]
 
 -- One row of INSERT or REPLACE: its values fitted in the order of the columns named, BEFORE INSERT, NOT NULL, the generated
 -- value, the duplicate test, the row, AFTER INSERT.
@@ -269,7 +272,7 @@ abbrev pub insert_into_table : World → Frame → Option ℤ → List ℕ → O
 insert_into_table world frame forced t names supply manner =
     table_now t >>= λ table.
     insert_supply world frame
-      (insert_row world frame forced table.definition (places_of (columns_of table.definition) (given_columns table.definition names)) manner) supply
+    (insert_row world frame forced table.definition (places_of (columns_of table.definition) (given_columns table.definition names)) manner) supply
     >>= λ so_far. pure (did_insert so_far)
 
 -- the rows that UPDATE and DELETE change: those that WHERE keeps, by ORDER BY, up to LIMIT, all before the first is changed

@@ -271,15 +271,16 @@ row_left ended = option_map (λ (view : View). view.row) ended.body.new_row
 abbrev pub run_trigger : Setting → Running → TableDef → Option (List Value) → Option (List Value) → Trigger → Below → Action (Option (List Value))
 run_trigger setting running definition new old t below =
     step (record { setting = setting; below = below; running = running })
-      (record { locals = []; new_row = seen_as definition new; old_row = seen_as definition old }) (trigger_body t) >>= λ ended.
+    (record { locals = []; new_row = seen_as definition new; old_row = seen_as definition old }) (trigger_body t) >>= λ ended.
     pure (row_left ended)
 
 -- an event of a row: nothing happens where the table has no trigger for it
 abbrev pub fire_trigger : Setting → Option Below → Running → Time → Cause → TableDef → Option (List Value) → Option (List Value) → Action (Option (List Value))
 fire_trigger setting below running time event definition new old =
     elim (trigger_for setting.catalog definition.name time event) [
-      None ↦ pure new
-    | Some t ↦ elim below [ None ↦ fail 30003 | Some lower ↦ run_trigger setting running definition new old t lower ] ]
+      | None ↦ pure new
+      | Some t ↦ elim below [ None ↦ fail 30003 | Some lower ↦ run_trigger setting running definition new old t lower ]
+    ]
 
 -- what bodies do where so many levels of nesting are left
 unfoldable pub level_of : Setting → ℕ → Below

@@ -140,8 +140,8 @@ adding_nine = giving (codes "f") (block [] (statements_of (inserting (codes "t")
 abbrev pub counting_to : ℕ → Program
 counting_to k =
     giving (codes "c") (block (declared_as (codes "i" ∷ []) SqlType.Int (part (n 0)) ∷ []) (statements_of (
-      while_steps (binary ops.Less (name (codes "i")) (n k)) (statements_of (set_all ((Target.Plain (codes "i"), binary ops.Add (name (codes "i")) (n 1)) ∷ []) ∷ []))
-      ∷ return_value (name (codes "i")) ∷ [])))
+    while_steps (binary ops.Less (name (codes "i")) (n k)) (statements_of (set_all ((Target.Plain (codes "i"), binary ops.Add (name (codes "i")) (n 1)) ∷ []) ∷ []))
+    ∷ return_value (name (codes "i")) ∷ [])))
 
 -- FUNCTION h(x INT) RETURNS BIGINT RETURN 9223372036854775805 + x
 abbrev pub h : Program
