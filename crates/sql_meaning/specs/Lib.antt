@@ -1,5 +1,6 @@
 pub mod Changing
 pub mod Frames
+pub mod Leading
 pub mod Running
 pub mod Scenes
 pub mod Values

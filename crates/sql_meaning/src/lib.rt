@@ -10,8 +10,10 @@
 //! The worked examples: what each statement shows, changes and counts, or its error and what it leaves.
 #![tactic(auto)]
 
+mod laws;
 mod worked;
 mod worked_programs;
 
+pub use laws::statements_end_well;
 pub use worked::{expressions, keys_in_way, rows_changed, selected_rows, values_generated};
 pub use worked_programs::{functions_called, nesting_and_turns, triggers_fired};
