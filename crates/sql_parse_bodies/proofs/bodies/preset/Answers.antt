@@ -1,0 +1,12 @@
+use Rattle.std.proofs.Common.{refl}
+use Rattle.sql_tree.specs.Tree.{no_part, part}
+use Rattle.sql_parse_bodies.proofs.ProgramNodes.{preset_kept}
+use Rattle.sql_parse_bodies.proofs.bodies.preset.Goals as goal
+
+pub returns-then-not-is_key : goal.returns-then-not-is_key
+returns-then-not-is_key c = (no_part, rw (← c.if-not-is_key.ensures) refl, refl)
+
+pub returns : goal.returns
+returns c =
+    let e = c.in_ok-value.ensures in
+    (part e.0, rw (← c.if-not-is_key.ensures, c.in_ok-rest.ensures, e.1) refl, rw c.some_preset.ensures (preset_kept e.0 c.in_ok-value.value e.2))
