@@ -2,7 +2,7 @@
 use Rattle.std.proofs.Common.{ℕ, true, false, List, [], ◌∷◌, Some, None, refl}
 use Rattle.sql_lex.specs.declared.keyword.Keyword.TheVariants as words
 use Rattle.sql_lex.specs.declared.token.Symbol.TheVariants as signs
-use Rattle.sql_tree.specs.Statement.{rows, rows_of, no_set}
+use Rattle.sql_tree.specs.Statement.{rows, rows_of}
 use Rattle.sql_grammar.specs.Rule.{paired}
 use Rattle.sql_grammar.proofs.Lawful.{shape, Lawful}
 use Rattle.sql_grammar.proofs.Single.{pure_lawful, mapped_lawful, widened}
@@ -11,7 +11,7 @@ use Rattle.sql_grammar.proofs.Choice.{either_lawful}
 use Rattle.sql_syntax.specs.Tokens.{kind, code, sign_code, names}
 use Rattle.sql_syntax.specs.Parts.{closed, exprs}
 use Rattle.sql_syntax.specs.Expressions.{expression}
-use Rattle.sql_syntax.specs.Changes.{sets_of, row_list, sets, ignore, into, columns, a_row, source, on_duplicate, inserted, insert, replaced, replace, chosen, updated, update, deleted, delete, change}
+use Rattle.sql_syntax.specs.Changes.{sets, ignore, into, columns, a_row, source, on_duplicate, inserted, insert, replaced, replace, chosen, updated, update, deleted, delete, change}
 use Rattle.sql_syntax.proofs.Words.{keyword_lawful}
 use Rattle.sql_syntax.proofs.Shapes.{behind_lists, behind_order, behind_selects, statements_from}
 use Rattle.sql_syntax.proofs.PartLaws.{name_lawful, keyword_then, sign_then, list_lawful, exprs_closed_lawful, exprs_closed_alive, in_parentheses_lawful, names_in_lawful}
@@ -21,7 +21,7 @@ use Rattle.sql_syntax.proofs.ExpressionLaws.{expression_lawful, expression_alive
 module _ (d : ℕ) where
   sets_lawful : Lawful kind (shape names false behind_lists true) (λ e. sets (expression e)) d
   sets_lawful =
-      widened (mapped_lawful sets_of (list_lawful (both_lawful paired (name_lawful d) (sign_then (expression_lawful d) refl signs.Equal) refl refl) refl refl refl)) (shape names false behind_lists true) refl
+      widened (list_lawful (both_lawful paired (name_lawful d) (sign_then (expression_lawful d) refl signs.Equal) refl refl) refl refl refl) (shape names false behind_lists true) refl
 
   ignore_lawful : Lawful kind (shape (code words.Ignore ∷ []) true (code words.Ignore ∷ []) true) (λ e. ignore) d
   ignore_lawful = either_lawful (code words.Ignore ∷ []) (mapped_lawful (λ u. true) (keyword_lawful words.Ignore d)) (pure_lawful false d) refl refl refl
@@ -41,14 +41,14 @@ module _ (d : ℕ) where
   source_lawful : Lawful kind (shape (code words.Select ∷ code words.Values ∷ code words.Value ∷ []) false behind_selects true) (λ e. source e) d
   source_lawful =
       let word = either_lawful (code words.Values ∷ []) (keyword_lawful words.Values d) (keyword_lawful words.Value d) refl refl refl in
-      let some = both_lawful (λ u a. a) word (mapped_lawful (λ rs. rows (row_list rs)) (list_lawful row_lawful refl refl refl)) refl refl in
+      let some = both_lawful (λ u a. a) word (mapped_lawful rows (list_lawful row_lawful refl refl refl)) refl refl in
       widened (either_lawful (code words.Select ∷ []) (mapped_lawful rows_of (query_lawful d)) some refl refl refl)
       (shape (code words.Select ∷ code words.Values ∷ code words.Value ∷ []) false behind_selects true) refl
 
   on_duplicate_lawful : Lawful kind (shape (code words.On ∷ []) true (code words.On ∷ behind_lists) true) (λ e. on_duplicate e) d
   on_duplicate_lawful =
       let some = keyword_then (keyword_then (keyword_then (keyword_then sets_lawful refl words.Update) refl words.Key) refl words.Duplicate) refl words.On in
-      widened (either_lawful (code words.On ∷ []) some (pure_lawful no_set d) refl refl refl) (shape (code words.On ∷ []) true (code words.On ∷ behind_lists) true) refl
+      widened (either_lawful (code words.On ∷ []) some (pure_lawful [] d) refl refl refl) (shape (code words.On ∷ []) true (code words.On ∷ behind_lists) true) refl
 
   insert_lawful : Lawful kind (statements_from (code words.Insert ∷ [])) (λ e. insert e) d
   insert_lawful =

@@ -2,10 +2,12 @@
 use Rattle.std.proofs.Common.{◌≡◌, ℕ, zero, suc, pred, pos, Bool, true, false, inl, inr, List, [], ◌∷◌, ◌++◌, None, Some, unwrap_or, refl, ap}
 use Rattle.val_types.specs.declared.value.Value.TheVariants.{Int}
 use Rattle.val_types.specs.declared.ops.UnOp.TheVariants.{Negate, Not, IsNull, IsNotNull}
+use Rattle.val_types.specs.declared.ops.Func.{Func}
 use Rattle.val_types.specs.declared.ops.BinOp.TheVariants as ops
 use Rattle.sql_lex.specs.declared.keyword.Keyword.TheVariants as words
 use Rattle.sql_lex.specs.declared.token.Symbol.TheVariants as signs
-use Rattle.sql_tree.specs.Tree.{Tree, literal, name, unary, binary, user_variable, system_variable, values_of, name_const, floor_rand, call_if, call_ifnull, call_substring, subquery, exists, choice, no_part, part}
+use Rattle.sql_tree.specs.Tree.{Tree, literal, name, unary, binary, user_variable, system_variable, values_of, name_const, floor_rand, subquery, exists, choice, no_part, part}
+use Rattle.sql_tree.specs.BuiltIns.{on_two, on_three}
 use Rattle.sql_tree.specs.View.{arms_of}
 use Rattle.sql_grammar.specs.Grammar.{first}
 use Rattle.sql_grammar.specs.Rule.{Rule, token, of_kinds, both, either, pure, mapped, chain, paired, behind, alone as single_one, then_one}
@@ -24,7 +26,7 @@ use Rattle.sql_grammar.proofs.Top.{is_exact}
 use Rattle.sql_syntax.specs.Tokens.{Tok, quoted_name, mark, keyword_said, tight_minus, kind, code, sign_code, number_code, text_code, tight_code, names, name_said, keyword, sign}
 use Rattle.sql_syntax.specs.Parts.{system_name, a_name, exprs, arguments, closed, in_parentheses, a_text, plain_value, negative_value, a_value}
 use Rattle.sql_syntax.specs.Selects.{aggregate_words, select_by, single_by}
-use Rattle.sql_syntax.specs.Expressions.{Nested, alone, of_column, called, named, column_tail, name_tail, own_names, uncalled_names, with_tail, with_arguments, built, built_in, with_none, with_one, with_some, none_of, one_of, many_of, two_arguments, three_arguments, constant, random, built_in_names, built_ins, when_arm, else_part, case_body, grouped, primary, prefix_by, applied, is_percent, product_ops, product, sum_ops, sum_op, sum, comparison_ops, comparison_op, compared, null_test, among, tested, membership, nullness, test_kinds, test, comparison, negation_by, conjunction, disjunction, whole_by, nested_by, nested, expression, select}
+use Rattle.sql_syntax.specs.Expressions.{Nested, alone, of_column, called, named, column_tail, name_tail, own_names, uncalled_names, with_tail, with_arguments, built, built_or_named, with_none, with_one, with_some, none_of, one_of, many_of, two_arguments, three_arguments, constant, random, built_in_names, built_ins, when_arm, else_part, case_body, grouped, primary, prefix_by, applied, is_percent, product_ops, product, sum_ops, sum_op, sum, comparison_ops, comparison_op, compared, null_test, among, tested, membership, nullness, test_kinds, test, comparison, negation_by, conjunction, disjunction, whole_by, nested_by, nested, expression, select}
 use Rattle.sql_syntax.proofs.Words.{spelled, takes_keyword, takes_sign, keyword_lawful, sign_lawful, keyword_alive, sign_alive}
 use Rattle.sql_syntax.proofs.Shapes.{primaries, operands, starts, behind_operands, behind_sums, behind_comparisons, behind_expressions, wholes, negations, prefixes, selects}
 use Rattle.sql_syntax.proofs.PartLaws.{takes_name, name_lawful, but_lawful, word_name_lawful, takes_number, takes_text, text_lawful, plain_value_lawful, negative_value_lawful, value_lawful, keyword_then, sign_then, closed_lawful, one_closed_lawful, exprs_closed_lawful, arguments_lawful, in_parentheses_lawful, closed_alive, keyword_then_alive, sign_then_alive, exprs_closed_alive, arguments_alive}
@@ -115,10 +117,10 @@ module _ {R : ℕ → Rule Tok Tree} {d : ℕ} (l : Lawful kind wholes R d) wher
       widened (both_lawful (λ a u. a) (both_lawful (λ as' o. choice (arms_of as') o) arms other refl refl) (keyword_lawful words.End d) refl refl) (shape (code words.When ∷ []) false [] true) refl
 
 -- a built-in, by the rule for what stands up to its closing parenthesis
-built_in_lawful : {A : Type 0} {set first : List ℕ} (make : Tok → A → Tree) → Takes kind (of_kinds kind set (λ t. Some t)) set → (R : ℕ → Rule Tok A) → GoesOn R [] → (d : ℕ)
+built_lawful : {A : Type 0} {set first : List ℕ} (make : Tok → A → Tree) → Takes kind (of_kinds kind set (λ t. Some t)) set → (R : ℕ → Rule Tok A) → GoesOn R [] → (d : ℕ)
     → ((k : ℕ) → d ≡ suc k → Lawful kind (shape first false [] true) R k)
-    → Lawful kind (both_shape (shape set false [] true) (shape behind_operands true (sign_code signs.Dot ∷ sign_code signs.Open ∷ []) true)) (λ e. built_in set make e (R (pred e))) d
-built_in_lawful make t R alive d l =
+    → Lawful kind (both_shape (shape set false [] true) (shape behind_operands true (sign_code signs.Dot ∷ sign_code signs.Open ∷ []) true)) (λ e. built_or_named set make e (R (pred e))) d
+built_lawful make t R alive d l =
     both_lawful (built make) (expect_lawful t d) (either_lawful (sign_code signs.Open ∷ []) (mapped_lawful with_arguments (in_parentheses_lawful R alive d l refl)) (mapped_lawful with_tail (column_tail_lawful d)) refl refl refl) refl refl
 
 constant_lawful : (d : ℕ) → Lawful kind (shape (text_code ∷ []) false [] true) (λ e. constant) d
@@ -162,13 +164,13 @@ module _ (I : ℕ → Nested) (g : Going I) (d : ℕ) (l : (k : ℕ) → d ≡ s
 
   built_ins_lawful : Lawful kind (shape built_in_names false behind_operands true) (λ e. built_ins e (I (pred e))) d
   built_ins_lawful =
-      let one = built_in_lawful (λ t a. one_of (keyword_said t) a) takes_with_one (λ e. closed ((I e).whole)) (closed_alive (λ e. (I e).whole) g.0) d (λ k e. one_closed_lawful (l k e).0) in
-      let some = built_in_lawful (λ t a. many_of (keyword_said t) a) takes_with_some (λ e. closed (exprs ((I e).whole))) (exprs_closed_alive (λ e. (I e).whole) g.0) d (λ k e. exprs_closed_lawful (l k e).0) in
-      let none = built_in_lawful (λ t u. none_of (keyword_said t)) takes_with_none (λ e. sign signs.Close) (sign_alive signs.Close) d (λ k e. sign_lawful signs.Close k) in
-      let two = built_in_lawful (λ t a. a) takes_ifnull (λ e. two_arguments call_ifnull ((I e).whole)) (two_alive (λ e. (I e).whole) g.0 call_ifnull) d (λ k e. two_lawful (l k e).0 call_ifnull) in
-      let three = built_in_lawful (λ t a. a) takes_substring (λ e. three_arguments call_substring ((I e).whole)) (three_alive (λ e. (I e).whole) g.0 call_substring) d (λ k e. three_lawful (l k e).0 call_substring) in
-      let const = built_in_lawful (λ t a. a) takes_constant (λ e. constant) constant_alive d (λ k e. constant_lawful k) in
-      let floor = built_in_lawful (λ t a. a) takes_floor (λ e. random e ((I e).prefix)) random_alive d random_lawful in
+      let one = built_lawful (λ t a. one_of (keyword_said t) a) takes_with_one (λ e. closed ((I e).whole)) (closed_alive (λ e. (I e).whole) g.0) d (λ k e. one_closed_lawful (l k e).0) in
+      let some = built_lawful (λ t a. many_of (keyword_said t) a) takes_with_some (λ e. closed (exprs ((I e).whole))) (exprs_closed_alive (λ e. (I e).whole) g.0) d (λ k e. exprs_closed_lawful (l k e).0) in
+      let none = built_lawful (λ t u. none_of (keyword_said t)) takes_with_none (λ e. sign signs.Close) (sign_alive signs.Close) d (λ k e. sign_lawful signs.Close k) in
+      let two = built_lawful (λ t a. a) takes_ifnull (λ e. two_arguments (on_two Func.IfNull) ((I e).whole)) (two_alive (λ e. (I e).whole) g.0 (on_two Func.IfNull)) d (λ k e. two_lawful (l k e).0 (on_two Func.IfNull)) in
+      let three = built_lawful (λ t a. a) takes_substring (λ e. three_arguments (on_three Func.Substring) ((I e).whole)) (three_alive (λ e. (I e).whole) g.0 (on_three Func.Substring)) d (λ k e. three_lawful (l k e).0 (on_three Func.Substring)) in
+      let const = built_lawful (λ t a. a) takes_constant (λ e. constant) constant_alive d (λ k e. constant_lawful k) in
+      let floor = built_lawful (λ t a. a) takes_floor (λ e. random e ((I e).prefix)) random_alive d random_lawful in
       let a1 = either_lawful (code words.NameConst ∷ []) const floor refl refl refl in
       let a2 = either_lawful (code words.Substring ∷ []) three a1 refl refl refl in
       let a3 = either_lawful (code words.Ifnull ∷ []) two a2 refl refl refl in
@@ -206,7 +208,7 @@ module _ (I : ℕ → Nested) (g : Going I) (d : ℕ) (l : (k : ℕ) → d ≡ s
       let system = mapped_lawful system_variable (sign_then (system_name_lawful d) refl signs.AtAt) in
       let variable = mapped_lawful user_variable (sign_then (name_lawful d) refl signs.At) in
       let choices = opened_lawful (takes_keyword words.Case) (λ u a. a) (λ e. case_body ((I e).whole)) (case_alive (λ e. (I e).whole) g.0) d (λ k e. case_lawful (l k e).0) refl in
-      let if' = keyword_then (in_parentheses_lawful (λ e. three_arguments call_if ((I e).whole)) (three_alive (λ e. (I e).whole) g.0 call_if) d (λ k e. three_lawful (l k e).0 call_if) refl) refl words.If in
+      let if' = keyword_then (in_parentheses_lawful (λ e. three_arguments (on_three Func.If) ((I e).whole)) (three_alive (λ e. (I e).whole) g.0 (on_three Func.If)) d (λ k e. three_lawful (l k e).0 (on_three Func.If)) refl) refl words.If in
       let group = in_parentheses_lawful (λ e. grouped (I e)) grouped_alive d grouped_lawful refl in
       let a0 = either_lawful (number_code ∷ text_code ∷ code words.Null ∷ []) (mapped_lawful literal (plain_value_lawful d)) own refl refl refl in
       let a1 = either_lawful uncalled_names some a0 refl refl refl in
@@ -282,21 +284,21 @@ module _ (I : ℕ → Nested) (g : Going I) (d : ℕ) (l : (k : ℕ) → d ≡ s
 abbrev opening : List ℕ
 opening = sign_code signs.Open ∷ []
 
-never_built_in : {A : Type 0} {set : List ℕ} (make : Tok → A → Tree) → Takes kind (of_kinds kind set (λ t. Some t)) set → (R : ℕ → Rule Tok A) → apart set aggregate_words ≡ true
-    → Never kind aggregate_words opening behind_operands (λ e. built_in set make e (R e))
-never_built_in make t R out =
+never_built : {A : Type 0} {set : List ℕ} (make : Tok → A → Tree) → Takes kind (of_kinds kind set (λ t. Some t)) set → (R : ℕ → Rule Tok A) → apart set aggregate_words ≡ true
+    → Never kind aggregate_words opening behind_operands (λ e. built_or_named set make e (R e))
+never_built make t R out =
     never_first aggregate_words opening behind_operands (starts_both (built make) (λ e. either kind (sign_code signs.Open ∷ []) (mapped with_arguments (in_parentheses e (R e))) (mapped with_tail column_tail)) (starts_one t)) out
 
 module _ (I : ℕ → Nested) where
   built_ins_never : Never kind aggregate_words opening behind_operands (λ e. built_ins e (I (pred e)))
   built_ins_never =
-      never_either (next_in kind with_one) (never_built_in (λ t a. one_of (keyword_said t) a) takes_with_one (λ e. closed ((I (pred e)).whole)) refl) (
-      never_either (next_in kind with_some) (never_built_in (λ t a. many_of (keyword_said t) a) takes_with_some (λ e. closed (exprs ((I (pred e)).whole))) refl) (
-      never_either (next_in kind with_none) (never_built_in (λ t u. none_of (keyword_said t)) takes_with_none (λ e. sign signs.Close) refl) (
-      never_either (next_in kind (code words.Ifnull ∷ [])) (never_built_in (λ t a. a) takes_ifnull (λ e. two_arguments call_ifnull ((I (pred e)).whole)) refl) (
-      never_either (next_in kind (code words.Substring ∷ [])) (never_built_in (λ t a. a) takes_substring (λ e. three_arguments call_substring ((I (pred e)).whole)) refl) (
-      never_either (next_in kind (code words.NameConst ∷ [])) (never_built_in (λ t a. a) takes_constant (λ e. constant) refl) (
-      never_built_in (λ t a. a) takes_floor (λ e. random (pred e) ((I (pred e)).prefix)) refl))))))
+      never_either (next_in kind with_one) (never_built (λ t a. one_of (keyword_said t) a) takes_with_one (λ e. closed ((I (pred e)).whole)) refl) (
+      never_either (next_in kind with_some) (never_built (λ t a. many_of (keyword_said t) a) takes_with_some (λ e. closed (exprs ((I (pred e)).whole))) refl) (
+      never_either (next_in kind with_none) (never_built (λ t u. none_of (keyword_said t)) takes_with_none (λ e. sign signs.Close) refl) (
+      never_either (next_in kind (code words.Ifnull ∷ [])) (never_built (λ t a. a) takes_ifnull (λ e. two_arguments (on_two Func.IfNull) ((I (pred e)).whole)) refl) (
+      never_either (next_in kind (code words.Substring ∷ [])) (never_built (λ t a. a) takes_substring (λ e. three_arguments (on_three Func.Substring) ((I (pred e)).whole)) refl) (
+      never_either (next_in kind (code words.NameConst ∷ [])) (never_built (λ t a. a) takes_constant (λ e. constant) refl) (
+      never_built (λ t a. a) takes_floor (λ e. random (pred e) ((I (pred e)).prefix)) refl))))))
 
   plain_starts : Starts kind (number_code ∷ text_code ∷ code words.Null ∷ []) (λ e. plain_value)
   plain_starts = record { holds = λ e a ts rest h. elim ((plain_value_lawful e).begins a ts rest h) [ inl k ↦ k.0 | inr k ↦ cc ] }
@@ -307,7 +309,7 @@ module _ (I : ℕ → Nested) where
   primary_never : Never kind aggregate_words opening behind_operands (λ e. primary e (I (pred e)))
   primary_never =
       let group = starts_opened (takes_sign signs.Open) (λ u a. a) (λ e. grouped (I (pred e))) in
-      let if' = starts_both (λ u a. a) (λ e. in_parentheses e (three_arguments call_if ((I (pred e)).whole))) (starts_one (takes_keyword words.If)) in
+      let if' = starts_both (λ u a. a) (λ e. in_parentheses e (three_arguments (on_three Func.If) ((I (pred e)).whole))) (starts_one (takes_keyword words.If)) in
       let values' = starts_both (λ u a. a) (λ e. in_parentheses e (mapped values_of (closed a_name))) (starts_one (takes_keyword words.Values)) in
       let choices = starts_opened (takes_keyword words.Case) (λ u a. a) (λ e. case_body ((I (pred e)).whole)) in
       let exists' = starts_both (λ u a. a) (λ e. in_parentheses e (mapped exists (closed ((I (pred e)).select)))) (starts_one (takes_keyword words.Exists)) in

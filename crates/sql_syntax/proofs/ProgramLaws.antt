@@ -21,7 +21,7 @@ use Rattle.sql_syntax.specs.Tokens.{Tok, kind, code, sign_code, names, keyword, 
 use Rattle.sql_syntax.specs.Expressions.{expression}
 use Rattle.sql_syntax.specs.Tables.{table}
 use Rattle.sql_syntax.specs.declared.heads.Head.TheVariants.{Function, Procedure}
-use Rattle.sql_syntax.specs.Programs.{with_body, parameter, in_parameter, parameters, trait_words, traits, function, procedure, trigger_of, triggered, head, create, created_within, or_created, common, common_words, inner_words, statements_of, a_step, steps', steps_if, declarations_of, declaration, block_body, branches_of, a_branch, otherwise, if_body, while_body, inner_core, inner_by, inner}
+use Rattle.sql_syntax.specs.Programs.{with_body, parameter, in_parameter, parameters, trait_words, traits, function, procedure, trigger_of, triggered, head, create, created_within, or_created, common, common_words, inner_words, statements_of, a_step, steps', steps_if, declared_as, declaration, block_body, branches_of, a_branch, otherwise, if_body, while_body, inner_core, inner_by, inner}
 use Rattle.sql_syntax.proofs.Words.{takes_keyword, keyword_lawful, sign_lawful, keyword_alive, sign_alive}
 use Rattle.sql_syntax.proofs.Shapes.{starts, behind_expressions, statements_from}
 use Rattle.sql_syntax.proofs.PartLaws.{name_lawful, keyword_then, closed_lawful, list_lawful, in_parentheses_lawful, keyword_then_alive}
@@ -240,12 +240,12 @@ module _ {R : ℕ → Rule Tok Statement} {d : ℕ} (l : Lawful kind inners R d)
   declaration_lawful =
       let default = widened (either_lawful (code words.Default ∷ []) (mapped_lawful part (keyword_then (expression_lawful d) refl words.Default)) (pure_lawful no_part d) refl refl refl)
       (shape (code words.Default ∷ []) true (code words.Default ∷ behind_expressions) true) refl in
-      let typed = both_lawful paired (list_lawful (name_lawful d) refl refl refl) (both_lawful paired (type_lawful d) default refl refl) refl refl in
+      let typed = both_lawful declared_as (list_lawful (name_lawful d) refl refl refl) (both_lawful paired (type_lawful d) default refl refl) refl refl in
       widened (keyword_then (both_lawful (λ a u. a) typed (sign_lawful signs.Semicolon d) refl refl) refl words.Declare) (shape (code words.Declare ∷ []) false [] true) refl
 
   block_lawful : Lawful kind (shape (code words.Declare ∷ code words.End ∷ inner_words) false [] true) (λ e. block_body e (R e)) d
   block_lawful =
-      let ds = mapped_lawful declarations_of (chain_lawful then_one (code words.Declare ∷ []) (pure_lawful [] d) declaration_lawful refl refl refl refl) in
+      let ds = chain_lawful then_one (code words.Declare ∷ []) (pure_lawful [] d) declaration_lawful refl refl refl refl in
       let ss = both_lawful (λ a u. a) steps_if_lawful (keyword_lawful words.End d) refl refl in
       widened (both_lawful block ds ss refl refl) (shape (code words.Declare ∷ code words.End ∷ inner_words) false [] true) refl
 
@@ -276,9 +276,8 @@ module _ (R : ℕ → Rule Tok Statement) (alive : GoesOn R []) where
 
   block_alive : GoesOn (λ e. block_body e (R e)) []
   block_alive =
-      both_alive block (λ e. mapped declarations_of (repeated kind then_one (code words.Declare ∷ []) [] (declaration e))) (λ e. before (steps_if (R e)) (keyword words.End))
-      (mapped_alive declarations_of (λ e. repeated kind then_one (code words.Declare ∷ []) [] (declaration e))
-      (chain_alive kind then_one (code words.Declare ∷ []) (λ e. pure []) (λ e a. declaration e) (pure_alive [])))
+      both_alive block (λ e. repeated kind then_one (code words.Declare ∷ []) [] (declaration e)) (λ e. before (steps_if (R e)) (keyword words.End))
+      (chain_alive kind then_one (code words.Declare ∷ []) (λ e. pure []) (λ e a. declaration e) (pure_alive []))
       (both_alive (λ a u. a) (λ e. steps_if (R e)) (λ e. keyword words.End)
       (mapped_alive statements_of (λ e. repeated kind then_one inner_words [] (a_step (R e))) (chain_alive kind then_one inner_words (λ e. pure []) (λ e a. a_step (R e)) (pure_alive [])))
       (keyword_alive words.End))

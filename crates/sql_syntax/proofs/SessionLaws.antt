@@ -13,7 +13,7 @@ use Rattle.sql_grammar.proofs.Choice.{either_lawful}
 use Rattle.sql_syntax.specs.Tokens.{kind, code, sign_code, names}
 use Rattle.sql_syntax.specs.Parts.{a_name, arguments}
 use Rattle.sql_syntax.specs.Expressions.{expression}
-use Rattle.sql_syntax.specs.Sessions.{new_by, target, assigned, assignments_of, set, do_exprs, call, drop, truncated, transaction, begun, started}
+use Rattle.sql_syntax.specs.Sessions.{new_by, target, assigned, set, do_exprs, call, drop, truncated, transaction, begun, started}
 use Rattle.sql_syntax.proofs.Words.{keyword_lawful, sign_lawful}
 use Rattle.sql_syntax.proofs.Shapes.{statements_from}
 use Rattle.sql_syntax.proofs.PartLaws.{name_lawful, but_lawful, word_name_lawful, keyword_then, sign_then, list_lawful, exprs_lawful, arguments_lawful, arguments_alive, in_parentheses_lawful}
@@ -44,7 +44,7 @@ module _ (d : ℕ) where
       let equals = either_lawful (sign_code signs.Equal ∷ []) (sign_lawful signs.Equal d) (sign_lawful signs.Assign d) refl refl refl in
       let value = both_lawful (λ u a. a) equals (with_tokens_lawful paired (expression_lawful d)) refl refl in
       let item = both_lawful assigned target_lawful value refl refl in
-      widened (keyword_then (mapped_lawful (λ as'. set_all (assignments_of as')) (list_lawful item refl refl refl)) refl words.Set) (statements_from (code words.Set ∷ [])) refl
+      widened (keyword_then (mapped_lawful set_all (list_lawful item refl refl refl)) refl words.Set) (statements_from (code words.Set ∷ [])) refl
 
   pub do_lawful : Lawful kind (statements_from (code words.Do ∷ [])) (λ e. do_exprs e) d
   do_lawful = widened (keyword_then (mapped_lawful evaluate (exprs_lawful (expression_lawful d))) refl words.Do) (statements_from (code words.Do ∷ [])) refl

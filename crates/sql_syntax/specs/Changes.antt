@@ -3,7 +3,7 @@ use Rattle.std.specs.Prelude.{ℕ, pred, Bool, true, false, List, [], ◌∷◌,
 use Rattle.sql_lex.specs.declared.keyword.Keyword.TheVariants as words
 use Rattle.sql_lex.specs.declared.token.Symbol.TheVariants as signs
 use Rattle.sql_tree.specs.Tree.{Tree, Trees, Part, Orders}
-use Rattle.sql_tree.specs.Statement.{Statement, insert_into, replace_into, update_rows, delete_rows, Rows, no_row, row, Supply, rows, rows_of, Sets, no_set, set_to}
+use Rattle.sql_tree.specs.Statement.{Statement, insert_into, replace_into, update_rows, delete_rows, Supply, rows, rows_of}
 use Rattle.sql_tree.specs.declared.expressions.Count.{Count}
 use Rattle.sql_grammar.specs.Rule.{Rule, both, either, mapped, optional, paired, behind}
 use Rattle.sql_syntax.specs.Tokens.{Tok, kind, code, sign_code, keyword, sign}
@@ -11,23 +11,13 @@ use Rattle.sql_syntax.specs.Parts.{a_name, list_of, exprs, closed, in_parenthese
 use Rattle.sql_syntax.specs.Selects.{where_part, order, limit}
 use Rattle.sql_syntax.specs.Expressions.{expression, select}
 
--- the items as one value
-abbrev pub sets_of : List (List ℕ × Tree) → Sets
-sets_of [] = no_set
-sets_of (s ∷ ss) = set_to s.0 s.1 (sets_of ss)
-
--- the rows as one value
-abbrev pub row_list : List Trees → Rows
-row_list [] = no_row
-row_list (r ∷ rs) = row r (row_list rs)
-
 -- column = value
 abbrev pub set_item : Rule Tok Tree → Rule Tok (List ℕ × Tree)
 set_item r = both paired a_name (behind (sign signs.Equal) r)
 
 -- column = value {, column = value}
-abbrev pub sets : Rule Tok Tree → Rule Tok Sets
-sets r = mapped sets_of (list_of (set_item r))
+abbrev pub sets : Rule Tok Tree → Rule Tok (List (List ℕ × Tree))
+sets r = list_of (set_item r)
 
 -- [IGNORE]
 abbrev pub ignore : Rule Tok Bool
@@ -51,16 +41,16 @@ values_word = either kind (code words.Values ∷ []) (keyword words.Values) (key
 
 -- (VALUES | VALUE) (exprs) {, (exprs)} | select
 abbrev pub source : ℕ → Rule Tok Supply
-source n = either kind (code words.Select ∷ []) (mapped rows_of (select n)) (behind values_word (mapped (λ rs. rows (row_list rs)) (list_of (a_row n))))
+source n = either kind (code words.Select ∷ []) (mapped rows_of (select n)) (behind values_word (mapped rows (list_of (a_row n))))
 
 -- [ON DUPLICATE KEY UPDATE sets]
-abbrev pub on_duplicate : ℕ → Rule Tok Sets
+abbrev pub on_duplicate : ℕ → Rule Tok (List (List ℕ × Tree))
 on_duplicate n =
-    optional kind (code words.On ∷ []) no_set (
+    optional kind (code words.On ∷ []) [] (
     behind (keyword words.On) (behind (keyword words.Duplicate) (behind (keyword words.Key) (behind (keyword words.Update) (sets (expression n))))))
 
 -- the INSERT of these parts
-abbrev pub inserted : Bool → List ℕ × (Option (List (List ℕ)) × (Supply × Sets)) → Statement
+abbrev pub inserted : Bool → List ℕ × (Option (List (List ℕ)) × (Supply × List (List ℕ × Tree))) → Statement
 inserted ignored rest = insert_into ignored rest.0 rest.1.0 rest.1.1.0 rest.1.1.1
 
 -- INSERT [IGNORE] [INTO] name [(names)] source [ON DUPLICATE KEY UPDATE sets]
@@ -80,7 +70,7 @@ abbrev pub chosen : ℕ → Rule Tok (Part × (Orders × Option Count))
 chosen n = both paired (where_part (expression n)) (both paired (order (expression n)) limit)
 
 -- the UPDATE of these parts
-abbrev pub updated : List ℕ → Sets × (Part × (Orders × Option Count)) → Statement
+abbrev pub updated : List ℕ → List (List ℕ × Tree) × (Part × (Orders × Option Count)) → Statement
 updated t rest = update_rows t rest.0 rest.1.0 rest.1.1.0 rest.1.1.1
 
 -- UPDATE name SET sets [WHERE expr] [order] [LIMIT count]

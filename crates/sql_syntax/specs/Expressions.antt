@@ -2,13 +2,15 @@
 use Rattle.std.specs.Prelude.{ℕ, zero, suc, pred, Bool, true, false, List, [], ◌∷◌, ◌++◌, Option, Some, None}
 use Rattle.val_types.specs.declared.ops.UnOp.{UnOp}
 use Rattle.val_types.specs.declared.ops.UnOp.TheVariants.{Negate, Not, IsNull, IsNotNull}
+use Rattle.val_types.specs.declared.ops.Func.{Func}
 use Rattle.val_types.specs.declared.ops.BinOp.{BinOp}
 use Rattle.val_types.specs.declared.ops.BinOp.TheVariants as ops
 use Rattle.sql_lex.specs.declared.keyword.Keyword.{Keyword}
 use Rattle.sql_lex.specs.declared.keyword.Keyword.TheVariants as words
 use Rattle.sql_lex.specs.declared.token.Symbol.TheVariants as signs
-use Rattle.sql_tree.specs.Tree.{Tree, literal, name, column, new_column, old_column, user_variable, system_variable, unary, binary, is_in, choice, subquery, exists, call, values_of, name_const, floor_rand, call_abs, call_coalesce, call_if, call_ifnull, call_concat, call_length, call_substring, call_now, call_unix_timestamp, call_sysdate, call_user, call_uuid, call_connection_id, call_last_insert_id, call_row_count}
-use Rattle.sql_tree.specs.Tree.{Trees, Part, no_part, part, Query}
+use Rattle.sql_tree.specs.Tree.{Tree, literal, name, column, new_column, old_column, user_variable, system_variable, unary, binary, is_in, choice, subquery, exists, call, built_in, values_of, name_const, floor_rand}
+use Rattle.sql_tree.specs.Tree.{Trees, no_tree, Part, no_part, part, Query}
+use Rattle.sql_tree.specs.BuiltIns.{on_one, on_two, on_three}
 use Rattle.sql_tree.specs.View.{arms_of}
 use Rattle.sql_grammar.specs.Rule.{Rule, token, any_of, both, either, pure, refused, mapped, opened, chain, optional, paired, behind, before, alone as single_one, then_one}
 use Rattle.sql_syntax.specs.Tokens.{Tok, mark, keyword_said, kind, code, sign_code, number_code, text_code, tight_code, broken_code, keyword, sign, name_said}
@@ -69,9 +71,9 @@ abbrev pub built : {A : Type 0} → (Tok → A → Tree) → Tok → Following A
 built make t (with_tail tail) = named t tail
 built make t (with_arguments a) = make t a
 
--- a name of a built-in, which is one before a parenthesis
-abbrev pub built_in : {A : Type 0} → List ℕ → (Tok → A → Tree) → ℕ → Rule Tok A → Rule Tok Tree
-built_in set make n r =
+-- the name of a built-in, which is one before a parenthesis and else a name
+abbrev pub built_or_named : {A : Type 0} → List ℕ → (Tok → A → Tree) → ℕ → Rule Tok A → Rule Tok Tree
+built_or_named set make n r =
     both (built make) (token kind set (λ t. Some t)) (
     either kind (sign_code signs.Open ∷ []) (mapped with_arguments (in_parentheses n r)) (mapped with_tail column_tail))
 
@@ -90,24 +92,24 @@ with_some = code words.Coalesce ∷ code words.Concat ∷ []
 
 -- the call of a built-in without arguments
 abbrev pub none_of : Option Keyword → Tree
-none_of (Some words.UnixTimestamp) = call_unix_timestamp
-none_of (Some words.Sysdate) = call_sysdate
-none_of (Some words.User) = call_user
-none_of (Some words.Uuid) = call_uuid
-none_of (Some words.ConnectionId) = call_connection_id
-none_of (Some words.LastInsertId) = call_last_insert_id
-none_of (Some words.RowCount) = call_row_count
-none_of o = call_now
+none_of (Some words.UnixTimestamp) = built_in Func.UnixTimestamp no_tree
+none_of (Some words.Sysdate) = built_in Func.SysDate no_tree
+none_of (Some words.User) = built_in Func.User no_tree
+none_of (Some words.Uuid) = built_in Func.Uuid no_tree
+none_of (Some words.ConnectionId) = built_in Func.ConnectionId no_tree
+none_of (Some words.LastInsertId) = built_in Func.LastInsertId no_tree
+none_of (Some words.RowCount) = built_in Func.RowCount no_tree
+none_of o = built_in Func.Now no_tree
 
 -- the call of a built-in of one argument
 abbrev pub one_of : Option Keyword → Tree → Tree
-one_of (Some words.Length) a = call_length a
-one_of o a = call_abs a
+one_of (Some words.Length) a = on_one Func.Length a
+one_of o a = on_one Func.Abs a
 
 -- the call of a built-in of one argument or more
 abbrev pub many_of : Option Keyword → Trees → Tree
-many_of (Some words.Concat) a = call_concat a
-many_of o a = call_coalesce a
+many_of (Some words.Concat) a = built_in Func.Concat a
+many_of o a = built_in Func.Coalesce a
 
 -- two expressions and the closing parenthesis
 abbrev pub two_arguments : {A : Type 0} → (Tree → Tree → A) → Rule Tok Tree → Rule Tok A
@@ -135,31 +137,31 @@ built_in_names = with_one ++ (with_some ++ (with_none ++ (code words.Ifnull ∷ 
 
 -- ABS and LENGTH
 abbrev pub of_one : ℕ → Rule Tok Tree → Rule Tok Tree
-of_one n r = built_in with_one (λ t a. one_of (keyword_said t) a) n (closed r)
+of_one n r = built_or_named with_one (λ t a. one_of (keyword_said t) a) n (closed r)
 
 -- COALESCE and CONCAT
 abbrev pub of_some : ℕ → Rule Tok Tree → Rule Tok Tree
-of_some n r = built_in with_some (λ t a. many_of (keyword_said t) a) n (closed (exprs r))
+of_some n r = built_or_named with_some (λ t a. many_of (keyword_said t) a) n (closed (exprs r))
 
 -- those without arguments
 abbrev pub of_none : ℕ → Rule Tok Tree
-of_none n = built_in with_none (λ t u. none_of (keyword_said t)) n (sign signs.Close)
+of_none n = built_or_named with_none (λ t u. none_of (keyword_said t)) n (sign signs.Close)
 
 -- IFNULL
 abbrev pub of_ifnull : ℕ → Rule Tok Tree → Rule Tok Tree
-of_ifnull n r = built_in (code words.Ifnull ∷ []) (λ t a. a) n (two_arguments call_ifnull r)
+of_ifnull n r = built_or_named (code words.Ifnull ∷ []) (λ t a. a) n (two_arguments (on_two Func.IfNull) r)
 
 -- SUBSTRING
 abbrev pub of_substring : ℕ → Rule Tok Tree → Rule Tok Tree
-of_substring n r = built_in (code words.Substring ∷ []) (λ t a. a) n (three_arguments call_substring r)
+of_substring n r = built_or_named (code words.Substring ∷ []) (λ t a. a) n (three_arguments (on_three Func.Substring) r)
 
 -- NAME_CONST
 abbrev pub of_name_const : ℕ → Rule Tok Tree
-of_name_const n = built_in (code words.NameConst ∷ []) (λ t a. a) n constant
+of_name_const n = built_or_named (code words.NameConst ∷ []) (λ t a. a) n constant
 
 -- FLOOR, by the operands of a prefix minus in it
 abbrev pub of_floor : ℕ → Rule Tok Tree → Rule Tok Tree
-of_floor n prefix = built_in (code words.Floor ∷ []) (λ t a. a) n (random (pred n) prefix)
+of_floor n prefix = built_or_named (code words.Floor ∷ []) (λ t a. a) n (random (pred n) prefix)
 
 -- a built-in with its arguments, or its name as a column or a table
 abbrev pub built_ins : ℕ → Nested → Rule Tok Tree
@@ -209,7 +211,7 @@ by_name n inner =
 abbrev pub primary : ℕ → Nested → Rule Tok Tree
 primary n inner =
     either kind (sign_code signs.Open ∷ []) (in_parentheses n (grouped inner)) (
-    either kind (code words.If ∷ []) (behind (keyword words.If) (in_parentheses n (three_arguments call_if inner.whole))) (
+    either kind (code words.If ∷ []) (behind (keyword words.If) (in_parentheses n (three_arguments (on_three Func.If) inner.whole))) (
     either kind (code words.Values ∷ []) (behind (keyword words.Values) (in_parentheses n (mapped values_of (closed a_name)))) (
     either kind (code words.Case ∷ []) (opened n (any_of kind (code words.Case)) (λ u a. a) (case_body inner.whole)) (
     either kind (code words.Exists ∷ []) (behind (keyword words.Exists) (in_parentheses n (mapped exists (closed inner.select)))) (

@@ -3,7 +3,7 @@ use Rattle.std.specs.Prelude.{ℕ, zero, suc, pred, Bool, true, false, List, [],
 use Rattle.sql_lex.specs.declared.keyword.Keyword.TheVariants as words
 use Rattle.sql_lex.specs.declared.token.Symbol.TheVariants as signs
 use Rattle.sql_tree.specs.Tree.{Tree, Part, no_part, part}
-use Rattle.sql_tree.specs.Statement.{Statement, Statements, create_table, create_function, create_procedure, create_trigger, program, trigger, select as select_rows, block, if_steps, while_steps, return_value, statement, no_statement, Branches, no_branch, branch, Otherwise, no_else, else_steps, Declarations, no_declaration, declare}
+use Rattle.sql_tree.specs.Statement.{Statement, Statements, create_table, create_function, create_procedure, create_trigger, program, trigger, select as select_rows, block, if_steps, while_steps, return_value, statement, no_statement, Branches, no_branch, branch, Otherwise, no_else, else_steps, Declared}
 use Rattle.sql_tree.specs.declared.statements.SqlType.{SqlType}
 use Rattle.sql_tree.specs.declared.statements.Parameter.{Parameter}
 use Rattle.sql_tree.specs.declared.statements.Time.{Time}
@@ -175,28 +175,23 @@ more_steps r n ss ts = steps then_one (next_in kind inner_words) (λ as'. (a_ste
 abbrev pub steps_if : Rule Tok Statement → Rule Tok Statements
 steps_if r = mapped statements_of (repeated kind then_one inner_words [] (a_step r))
 
--- the declarations as one value
-abbrev pub declarations_of : List (List (List ℕ) × (SqlType × Part)) → Declarations
-declarations_of [] = no_declaration
-declarations_of (d ∷ ds) = declare d.0 d.1.0 d.1.1 (declarations_of ds)
-
 -- [DEFAULT expr]
 abbrev pub preset : Rule Tok Tree → Rule Tok Part
 preset r = optional kind (code words.Default ∷ []) no_part (mapped part (behind (keyword words.Default) r))
 
+-- the DECLARE of these parts
+abbrev pub declared_as : List (List ℕ) → SqlType × Part → Declared
+declared_as ns rest = record { names = ns; kind = rest.0; preset = rest.1 }
+
 -- DECLARE name {, name} type [DEFAULT expr];
-abbrev pub declaration : ℕ → Rule Tok (List (List ℕ) × (SqlType × Part))
+abbrev pub declaration : ℕ → Rule Tok Declared
 declaration n =
     behind (keyword words.Declare) (
-    before (both paired (list_of a_name) (both paired (a_type n) (preset (expression n)))) (sign signs.Semicolon))
+    before (both declared_as (list_of a_name) (both paired (a_type n) (preset (expression n)))) (sign signs.Semicolon))
 
 -- {DECLARE ..}
-abbrev pub declaration_list : ℕ → Rule Tok (List (List (List ℕ) × (SqlType × Part)))
-declaration_list n = repeated kind then_one (code words.Declare ∷ []) [] (declaration n)
-
--- {DECLARE ..}, as one value
-abbrev pub declarations : ℕ → Rule Tok Declarations
-declarations n = mapped declarations_of (declaration_list n)
+abbrev pub declarations : ℕ → Rule Tok (List Declared)
+declarations n = repeated kind then_one (code words.Declare ∷ []) [] (declaration n)
 
 -- what stands behind BEGIN: {DECLARE ..} {inner;} END
 abbrev pub block_body : ℕ → Rule Tok Statement → Rule Tok Statement

@@ -6,7 +6,7 @@ use Rattle.sql_lex.specs.declared.keyword.Keyword.{Keyword}
 use Rattle.sql_lex.specs.declared.keyword.Keyword.TheVariants as words
 use Rattle.sql_lex.specs.declared.token.Symbol.TheVariants as signs
 use Rattle.sql_tree.specs.Tree.{Tree, Trees, literal, no_tree}
-use Rattle.sql_tree.specs.Statement.{Statement, drop_table, drop_function, drop_procedure, drop_trigger, truncate, evaluate, set_all, call_procedure, begin, commit, rollback, savepoint, rollback_to, release_savepoint, Assignments, no_assignment, assign}
+use Rattle.sql_tree.specs.Statement.{Statement, drop_table, drop_function, drop_procedure, drop_trigger, truncate, evaluate, set_all, call_procedure, begin, commit, rollback, savepoint, rollback_to, release_savepoint}
 use Rattle.sql_tree.specs.declared.statements.Target.{Target}
 use Rattle.sql_grammar.specs.Rule.{Rule, both, either, mapped, with_tokens, optional, paired, behind}
 use Rattle.sql_syntax.specs.Tokens.{Tok, keyword_said, kind, code, sign_code, names, keyword, sign}
@@ -77,14 +77,9 @@ assigning = either kind (sign_code signs.Equal ∷ []) (sign signs.Equal) (sign 
 abbrev pub assignment : ℕ → Rule Tok (Target × Tree)
 assignment n = both assigned target (behind assigning (with_tokens paired (expression n)))
 
--- the assignments as one value
-abbrev pub assignments_of : List (Target × Tree) → Assignments
-assignments_of [] = no_assignment
-assignments_of (a ∷ as') = assign a.0 a.1 (assignments_of as')
-
 -- SET assignment {, assignment}
 abbrev pub set : ℕ → Rule Tok Statement
-set n = behind (keyword words.Set) (mapped (λ as'. set_all (assignments_of as')) (list_of (assignment n)))
+set n = behind (keyword words.Set) (mapped set_all (list_of (assignment n)))
 
 -- ---- others
 -- DO exprs

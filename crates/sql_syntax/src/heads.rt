@@ -4,7 +4,7 @@ use sql_tree::{Cause, Parameter, SqlType, Time};
 use val_types::{Bytes, List};
 
 /// A stored program without its body.
-#[derive(Debug, Drop)]
+#[derive(Drop)]
 pub enum Head {
     Function(Bytes, List<Parameter>, SqlType),
     Procedure(Bytes, List<Parameter>),

@@ -6,7 +6,7 @@ use sql_tree::SqlType;
 use val_types::{Bytes, List, Value};
 
 /// The options of a column.
-#[derive(Debug, Drop)]
+#[derive(Drop)]
 pub struct Marks {
     /// Some(true) for NULL, Some(false) for NOT NULL.
     pub null: Option<bool>,
@@ -36,7 +36,7 @@ impl Marks {
 }
 
 /// A part of a table.
-#[derive(Debug, Drop)]
+#[derive(Drop)]
 pub enum TablePart {
     Column(Bytes, SqlType, Marks),
     /// The columns of the primary key.

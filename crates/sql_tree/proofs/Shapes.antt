@@ -1,10 +1,8 @@
 -- How many items a list has, read from the plain tree that it is seen as.
-use Rattle.std.proofs.Common.{◌≡◌, ℕ, suc, Bool, true, false, not, IsTrue, ◌↔◌, List, [], ◌∷◌, length, nat_eq, refl, ap, ◌∙◌, arith, Option, Some, None}
-use Rattle.sql_tree.specs.Well.{has_tree, is_one_tree, has_arm, has_aggregate, is_one_aggregate, has_order, has_row, has_set, has_assignment, has_statement, has_branch}
+use Rattle.std.proofs.Common.{◌≡◌, ℕ, suc, Bool, true, false, not, IsTrue, ◌↔◌, List, [], ◌∷◌, map, length, nat_eq, refl, ap, ◌∙◌, arith, Option, Some, None}
+use Rattle.sql_tree.specs.Well.{has_tree, is_one_tree, has_arm, has_aggregate, is_one_aggregate, has_order, has_item, has_statement, has_branch}
 use Rattle.sql_tree.specs.View.{view_trees, view_arms, view_aggregates, view_orders, aggregate_before, view_aggregate}
-use Rattle.sql_tree.specs.StatementView.{view_rows, view_sets, view_assignments, view_statements, view_branches}
-use Rattle.sql_tree.specs.declared.statements.ColumnSet.{ColumnSet}
-use Rattle.sql_tree.specs.declared.statements.Assignment.{Assignment}
+use Rattle.sql_tree.specs.StatementView.{view_statements, view_branches}
 use Rattle.sql_tree.specs.declared.statements.Stmt.{Stmt}
 use Rattle.sql_tree.specs.declared.statements.Branch.{Branch}
 use Rattle.sql_tree.specs.Tree.{Tree, Aggregates, no_aggregate}
@@ -65,17 +63,9 @@ is_one_aggregate-view (a ∷ (b ∷ as')) =
 
 -- the same for the lists of statements
 
-pub has_row-view : (r : Bool) (rs : List (List Expr)) → (IsTrue r ↔ (rs ≡ [])) → not r ≡ has_row (view_rows rs)
-has_row-view r [] h = empty_is _ r h
-has_row-view r (es ∷ rs) h = first_is _ es rs r h
-
-pub has_set-view : (r : Bool) (ss : List ColumnSet) → (IsTrue r ↔ (ss ≡ [])) → not r ≡ has_set (view_sets ss)
-has_set-view r [] h = empty_is _ r h
-has_set-view r (s ∷ ss) h = first_is _ s ss r h
-
-pub has_assignment-view : (r : Bool) (as' : List Assignment) → (IsTrue r ↔ (as' ≡ [])) → not r ≡ has_assignment (view_assignments as')
-has_assignment-view r [] h = empty_is _ r h
-has_assignment-view r (a ∷ as') h = first_is _ a as' r h
+pub has_item-view : {A B : Type 0} (f : A → B) (r : Bool) (xs : List A) → (IsTrue r ↔ (xs ≡ [])) → not r ≡ has_item (map f xs)
+has_item-view f r [] h = empty_is _ r h
+has_item-view f r (x ∷ xs) h = first_is _ x xs r h
 
 pub has_statement-view : (r : Bool) (ss : List Stmt) → (IsTrue r ↔ (ss ≡ [])) → not r ≡ has_statement (view_statements ss)
 has_statement-view r [] h = empty_is _ r h

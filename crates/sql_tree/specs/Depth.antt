@@ -1,12 +1,13 @@
 -- How deep a statement is: a literal, a name and NAME_CONST have the depth 1, every other node one more than its deepest part.
 --
 -- Parentheses, order items, assignments, WHENs, DECLAREs, rows of VALUES, types, names beside expressions and LIMITs are no nodes.
-use Rattle.std.specs.Prelude.{ℕ, suc, max}
-use Rattle.sql_tree.specs.Tree.{Tree, literal, name, column, new_column, old_column, user_variable, system_variable, unary, binary, is_in, choice, subquery, exists, call, values_of, name_const, floor_rand, call_abs, call_coalesce, call_if, call_ifnull, call_concat, call_length, call_substring, call_now, call_unix_timestamp, call_sysdate, call_user, call_uuid, call_connection_id, call_last_insert_id, call_row_count}
+use Rattle.std.specs.Prelude.{ℕ, suc, max, List, [], ◌∷◌}
+use Rattle.sql_tree.specs.Tree.{Tree, literal, name, column, new_column, old_column, user_variable, system_variable, unary, binary, is_in, choice, subquery, exists, call, values_of, name_const, floor_rand, built_in}
 use Rattle.sql_tree.specs.Tree.{Trees, no_tree, tree, Arms, no_arm, arm, Part, no_part, part, Query, query, Selected, items, all_columns, aggregates}
 use Rattle.sql_tree.specs.Tree.{Aggregates, no_aggregate, count_all, aggregate, Origin, no_origin, from_table, Orders, no_order, order_by}
-use Rattle.sql_tree.specs.Statement.{Rows, no_row, row, Supply, rows, rows_of, Sets, no_set, set_to, Assignments, no_assignment, assign, Declarations, no_declaration, declare}
+use Rattle.sql_tree.specs.Statement.{Supply, rows, rows_of, Declared}
 use Rattle.sql_tree.specs.Statement.{Statement, create_table, create_function, create_procedure, create_trigger, drop_table, drop_function, drop_procedure, drop_trigger, truncate, insert_into, replace_into, update_rows, delete_rows, select, evaluate, set_all, call_procedure, begin, commit, rollback, savepoint, rollback_to, release_savepoint, block, if_steps, while_steps, return_value}
+use Rattle.sql_tree.specs.declared.statements.Target.{Target}
 use Rattle.sql_tree.specs.Statement.{Statements, no_statement, statement, Branches, no_branch, branch, Otherwise, no_else, else_steps, Program, program, Trigger, trigger}
 
 abbrev mutual
@@ -29,21 +30,7 @@ abbrev mutual
   depth_of_tree (values_of c) = 1
   depth_of_tree (name_const n v) = 1
   depth_of_tree (floor_rand a) = suc (depth_of_tree a)
-  depth_of_tree (call_abs a) = suc (depth_of_tree a)
-  depth_of_tree (call_coalesce ts) = suc (depth_of_trees ts)
-  depth_of_tree (call_if a b c) = suc (max (max (depth_of_tree a) (depth_of_tree b)) (depth_of_tree c))
-  depth_of_tree (call_ifnull a b) = suc (max (depth_of_tree a) (depth_of_tree b))
-  depth_of_tree (call_concat ts) = suc (depth_of_trees ts)
-  depth_of_tree (call_length a) = suc (depth_of_tree a)
-  depth_of_tree (call_substring a b c) = suc (max (max (depth_of_tree a) (depth_of_tree b)) (depth_of_tree c))
-  depth_of_tree call_now = 1
-  depth_of_tree call_unix_timestamp = 1
-  depth_of_tree call_sysdate = 1
-  depth_of_tree call_user = 1
-  depth_of_tree call_uuid = 1
-  depth_of_tree call_connection_id = 1
-  depth_of_tree call_last_insert_id = 1
-  depth_of_tree call_row_count = 1
+  depth_of_tree (built_in f ts) = suc (depth_of_trees ts)
 
   -- the deepest of some expressions
   pub depth_of_trees : Trees → ℕ
@@ -86,30 +73,39 @@ abbrev mutual
   depth_of_orders no_order = 0
   depth_of_orders (order_by t descending os) = max (depth_of_tree t) (depth_of_orders os)
 
+-- the greatest depth in a list
+abbrev pub deepest : {A : Type 0} → (A → ℕ) → List A → ℕ
+deepest depth [] = 0
+deepest depth (x ∷ xs) = max (depth x) (deepest depth xs)
+
 -- the deepest expression of VALUES
-abbrev pub depth_of_rows : Rows → ℕ
-depth_of_rows no_row = 0
-depth_of_rows (row ts rest) = max (depth_of_trees ts) (depth_of_rows rest)
+abbrev pub depth_of_rows : List Trees → ℕ
+depth_of_rows rs = deepest depth_of_trees rs
 
 -- the deepest of what INSERT and REPLACE put in
 abbrev pub depth_of_supply : Supply → ℕ
 depth_of_supply (rows rs) = depth_of_rows rs
 depth_of_supply (rows_of q) = depth_of_query q
 
+-- how deep the value is that something gets
+abbrev pub depth_of_value : {A : Type 0} → A × Tree → ℕ
+depth_of_value x = depth_of_tree x.1
+
 -- the deepest value of `column = value` items
-abbrev pub depth_of_sets : Sets → ℕ
-depth_of_sets no_set = 0
-depth_of_sets (set_to c t rest) = max (depth_of_tree t) (depth_of_sets rest)
+abbrev pub depth_of_sets : List (List ℕ × Tree) → ℕ
+depth_of_sets ss = deepest depth_of_value ss
 
 -- the deepest value of SET
-abbrev pub depth_of_assignments : Assignments → ℕ
-depth_of_assignments no_assignment = 0
-depth_of_assignments (assign to t rest) = max (depth_of_tree t) (depth_of_assignments rest)
+abbrev pub depth_of_assignments : List (Target × Tree) → ℕ
+depth_of_assignments as' = deepest depth_of_value as'
+
+-- how deep the DEFAULT of a DECLARE is
+abbrev pub depth_of_declared : Declared → ℕ
+depth_of_declared d = depth_of_part d.preset
 
 -- the deepest DEFAULT of DECLAREs
-abbrev pub depth_of_declarations : Declarations → ℕ
-depth_of_declarations no_declaration = 0
-depth_of_declarations (declare ns k d rest) = max (depth_of_part d) (depth_of_declarations rest)
+abbrev pub depth_of_declarations : List Declared → ℕ
+depth_of_declarations ds = deepest depth_of_declared ds
 
 abbrev mutual
   -- how deep a statement is; the statement SELECT is its SELECT

@@ -1,4 +1,5 @@
 pub mod Tree
+pub mod BuiltIns
 pub mod Statement
 pub mod View
 pub mod StatementView

@@ -9,33 +9,21 @@ use Rattle.sql_tree.specs.declared.statements.Time.{Time}
 use Rattle.sql_tree.specs.declared.statements.Cause.{Cause}
 use Rattle.sql_tree.specs.declared.statements.Target.{Target}
 
--- the rows of VALUES
-pub data Rows : Type 0 where
-  no_row : Rows
-  row : Trees → Rows → Rows
-
 -- where the rows of INSERT and REPLACE come from
 pub data Supply : Type 0 where
-  rows : Rows → Supply
+  rows : List Trees → Supply
   rows_of : Query → Supply
 
--- `column = value` items
-pub data Sets : Type 0 where
-  no_set : Sets
-  set_to : List ℕ → Tree → Sets → Sets
-
--- the assignments of SET
-pub data Assignments : Type 0 where
-  no_assignment : Assignments
-  assign : Target → Tree → Assignments → Assignments
-
--- the DECLAREs of a block: names, a type and DEFAULT
-pub data Declarations : Type 0 where
-  no_declaration : Declarations
-  declare : List (List ℕ) → SqlType → Part → Declarations → Declarations
+-- DECLARE: names, a type and DEFAULT
+pub record Declared : Type 0 where
+  pub names : List (List ℕ)
+  pub kind : SqlType
+  pub preset : Part
 
 mutual
   -- a statement; of INSERT: IGNORE, table, columns, rows, ON DUPLICATE KEY UPDATE
+  --
+  -- `column = value` items and assignments are pairs of what is written and the expression.
   pub data Statement : Type 0 where
     create_table : CreateTable → Statement
     create_function : Program → Statement
@@ -46,13 +34,13 @@ mutual
     drop_procedure : List ℕ → Statement
     drop_trigger : List ℕ → Statement
     truncate : List ℕ → Statement
-    insert_into : Bool → List ℕ → Option (List (List ℕ)) → Supply → Sets → Statement
+    insert_into : Bool → List ℕ → Option (List (List ℕ)) → Supply → List (List ℕ × Tree) → Statement
     replace_into : List ℕ → Option (List (List ℕ)) → Supply → Statement
-    update_rows : List ℕ → Sets → Part → Orders → Option Count → Statement
+    update_rows : List ℕ → List (List ℕ × Tree) → Part → Orders → Option Count → Statement
     delete_rows : List ℕ → Part → Orders → Option Count → Statement
     select : Query → Statement
     evaluate : Trees → Statement
-    set_all : Assignments → Statement
+    set_all : List (Target × Tree) → Statement
     call_procedure : List ℕ → Trees → Statement
     begin : Statement
     commit : Statement
@@ -60,7 +48,7 @@ mutual
     savepoint : List ℕ → Statement
     rollback_to : List ℕ → Statement
     release_savepoint : List ℕ → Statement
-    block : Declarations → Statements → Statement
+    block : List Declared → Statements → Statement
     if_steps : Branches → Otherwise → Statement
     while_steps : Tree → Statements → Statement
     return_value : Tree → Statement

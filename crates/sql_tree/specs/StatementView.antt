@@ -1,13 +1,14 @@
 -- The plain statement that a statement of the code stands for.
-use Rattle.std.specs.Prelude.{List, [], ◌∷◌, Option, Some, None, map}
-use Rattle.sql_tree.specs.Tree.{Tree}
-use Rattle.sql_tree.specs.Statement.{Rows, no_row, row, Supply, rows, rows_of, Sets, no_set, set_to, Assignments, no_assignment, assign, Declarations, no_declaration, declare}
+use Rattle.std.specs.Prelude.{ℕ, List, [], ◌∷◌, Option, Some, None, map}
+use Rattle.sql_tree.specs.Tree.{Tree, Trees}
+use Rattle.sql_tree.specs.Statement.{Supply, rows, rows_of, Declared}
 use Rattle.sql_tree.specs.Statement.{Statement, create_table, create_function, create_procedure, create_trigger, drop_table, drop_function, drop_procedure, drop_trigger, truncate, insert_into, replace_into, update_rows, delete_rows, select, evaluate, set_all, call_procedure, begin, commit, rollback, savepoint, rollback_to, release_savepoint, block, if_steps, while_steps, return_value}
 use Rattle.sql_tree.specs.Statement.{Statements, no_statement, statement, Branches, no_branch, branch, Otherwise, no_else, else_steps, Program, program, Trigger, trigger}
 use Rattle.sql_tree.specs.View.{view_tree, view_trees, view_part, view_query, view_orders}
 use Rattle.sql_tree.specs.declared.expressions.Expr.{Expr}
 use Rattle.sql_tree.specs.declared.statements.Source.{Source}
 use Rattle.sql_tree.specs.declared.statements.ColumnSet.{ColumnSet}
+use Rattle.sql_tree.specs.declared.statements.Target.{Target}
 use Rattle.sql_tree.specs.declared.statements.Assignment.{Assignment}
 use Rattle.sql_tree.specs.declared.statements.Declaration.{Declaration}
 use Rattle.sql_tree.specs.declared.statements.InsertStmt.{InsertStmt}
@@ -22,25 +23,30 @@ use Rattle.sql_tree.specs.declared.statements.TriggerDef.{TriggerDef, fold-Trigg
 
 -- the parts of statements that hold no statement
 
-abbrev pub view_rows : List (List Expr) → Rows
-view_rows [] = no_row
-view_rows (es ∷ rest) = row (view_trees es) (view_rows rest)
+abbrev pub view_rows : List (List Expr) → List Trees
+view_rows rs = map view_trees rs
 
 abbrev pub view_supply : Source → Supply
 view_supply (Source.Rows rs) = rows (view_rows rs)
 view_supply (Source.Select q) = rows_of (view_query q)
 
-abbrev pub view_sets : List ColumnSet → Sets
-view_sets [] = no_set
-view_sets (s ∷ rest) = set_to s.column (view_tree s.value) (view_sets rest)
+abbrev pub view_set : ColumnSet → List ℕ × Tree
+view_set s = (s.column, view_tree s.value)
 
-abbrev pub view_assignments : List Assignment → Assignments
-view_assignments [] = no_assignment
-view_assignments (a ∷ rest) = assign a.target (view_tree a.value) (view_assignments rest)
+abbrev pub view_sets : List ColumnSet → List (List ℕ × Tree)
+view_sets ss = map view_set ss
 
-abbrev pub view_declarations : List Declaration → Declarations
-view_declarations [] = no_declaration
-view_declarations (d ∷ rest) = declare d.names d.kind (view_part d.preset) (view_declarations rest)
+abbrev pub view_assignment : Assignment → Target × Tree
+view_assignment a = (a.target, view_tree a.value)
+
+abbrev pub view_assignments : List Assignment → List (Target × Tree)
+view_assignments as' = map view_assignment as'
+
+abbrev pub view_declaration : Declaration → Declared
+view_declaration d = record { names = d.names; kind = d.kind; preset = view_part d.preset }
+
+abbrev pub view_declarations : List Declaration → List Declared
+view_declarations ds = map view_declaration ds
 
 abbrev pub view_insert : InsertStmt → Statement
 view_insert i = insert_into i.ignore i.table i.columns (view_supply i.source) (view_sets i.update)

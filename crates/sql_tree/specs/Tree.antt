@@ -5,6 +5,7 @@ use Rattle.std.specs.Prelude.{Bool, List, Option, ℕ}
 use Rattle.val_types.specs.declared.value.Value.{Value}
 use Rattle.val_types.specs.declared.ops.UnOp.{UnOp}
 use Rattle.val_types.specs.declared.ops.BinOp.{BinOp}
+use Rattle.val_types.specs.declared.ops.Func.{Func}
 use Rattle.val_types.specs.declared.ops.Agg.{Agg}
 use Rattle.sql_tree.specs.declared.expressions.Limit.{Limit}
 
@@ -28,21 +29,7 @@ mutual
     values_of : List ℕ → Tree
     name_const : List ℕ → Value → Tree
     floor_rand : Tree → Tree
-    call_abs : Tree → Tree
-    call_coalesce : Trees → Tree
-    call_if : Tree → Tree → Tree → Tree
-    call_ifnull : Tree → Tree → Tree
-    call_concat : Trees → Tree
-    call_length : Tree → Tree
-    call_substring : Tree → Tree → Tree → Tree
-    call_now : Tree
-    call_unix_timestamp : Tree
-    call_sysdate : Tree
-    call_user : Tree
-    call_uuid : Tree
-    call_connection_id : Tree
-    call_last_insert_id : Tree
-    call_row_count : Tree
+    built_in : Func → Trees → Tree
 
   -- expressions, one after the other
   pub data Trees : Type 0 where

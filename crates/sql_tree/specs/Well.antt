@@ -1,13 +1,14 @@
 -- Which statements the parser can give.
-use Rattle.std.specs.Prelude.{ℕ, ◌-◌, ◌^◌, Bool, true, false, not, ◌&&◌, ◌||◌, nat_le, nat_eq, pos, negsuc, int_le, length, List, Option, Some, None, is_none, is_some, IsTrue}
+use Rattle.std.specs.Prelude.{ℕ, zero, suc, ◌-◌, ◌^◌, Bool, true, false, not, ◌&&◌, ◌||◌, nat_le, nat_eq, pos, negsuc, int_le, length, List, [], ◌∷◌, Option, Some, None, is_none, is_some, IsTrue}
 use Rattle.std.specs.List.{list_all, list_any}
 use Rattle.std.specs.Cmp.Lexicographic.{pointwise}
 use Rattle.val_types.specs.declared.value.Value.{Value}
 use Rattle.val_types.specs.declared.value.Value.TheVariants.{Null, Int, Text}
-use Rattle.sql_tree.specs.Tree.{Tree, literal, name, column, new_column, old_column, user_variable, system_variable, unary, binary, is_in, choice, subquery, exists, call, values_of, name_const, floor_rand, call_abs, call_coalesce, call_if, call_ifnull, call_concat, call_length, call_substring, call_now, call_unix_timestamp, call_sysdate, call_user, call_uuid, call_connection_id, call_last_insert_id, call_row_count}
+use Rattle.sql_tree.specs.Tree.{Tree, literal, name, column, new_column, old_column, user_variable, system_variable, unary, binary, is_in, choice, subquery, exists, call, values_of, name_const, floor_rand, built_in}
 use Rattle.sql_tree.specs.Tree.{Trees, no_tree, tree, Arms, no_arm, arm, Part, no_part, part, Query, query, Selected, items, all_columns, aggregates}
 use Rattle.sql_tree.specs.Tree.{Aggregates, no_aggregate, count_all, aggregate, Origin, no_origin, from_table, Orders, no_order, order_by}
-use Rattle.sql_tree.specs.Statement.{Rows, no_row, row, Supply, rows, rows_of, Sets, no_set, set_to, Assignments, no_assignment, assign, Declarations, no_declaration, declare}
+use Rattle.sql_tree.specs.BuiltIns.{Arity, exactly, one_or_more, arity}
+use Rattle.sql_tree.specs.Statement.{Supply, rows, rows_of, Declared}
 use Rattle.sql_tree.specs.Statement.{Statement, create_table, create_function, create_procedure, create_trigger, drop_table, drop_function, drop_procedure, drop_trigger, truncate, insert_into, replace_into, update_rows, delete_rows, select, evaluate, set_all, call_procedure, begin, commit, rollback, savepoint, rollback_to, release_savepoint, block, if_steps, while_steps, return_value}
 use Rattle.sql_tree.specs.Statement.{Statements, no_statement, statement, Branches, no_branch, branch, Otherwise, no_else, else_steps, Program, program, Trigger, trigger}
 use Rattle.sql_tree.specs.Depth.{depth_of}
@@ -87,6 +88,17 @@ abbrev pub has_tree : Trees → Bool
 has_tree no_tree = false
 has_tree (tree t ts) = true
 
+-- so many expressions
+abbrev pub are_so_many : ℕ → Trees → Bool
+are_so_many zero ts = not (has_tree ts)
+are_so_many (suc n) no_tree = false
+are_so_many (suc n) (tree t ts) = are_so_many n ts
+
+-- as many expressions as a function takes
+abbrev pub are_as_many : Arity → Trees → Bool
+are_as_many (exactly n) ts = are_so_many n ts
+are_as_many one_or_more ts = has_tree ts
+
 -- one WHEN or more
 abbrev pub has_arm : Arms → Bool
 has_arm no_arm = false
@@ -157,21 +169,7 @@ abbrev mutual
   is_well_tree (values_of c) = is_name c
   is_well_tree (name_const n v) = is_literal (Text n) && is_literal v
   is_well_tree (floor_rand a) = is_well_tree a
-  is_well_tree (call_abs a) = is_well_tree a
-  is_well_tree (call_coalesce ts) = has_tree ts && are_well_trees ts
-  is_well_tree (call_if a b c) = is_well_tree a && is_well_tree b && is_well_tree c
-  is_well_tree (call_ifnull a b) = is_well_tree a && is_well_tree b
-  is_well_tree (call_concat ts) = has_tree ts && are_well_trees ts
-  is_well_tree (call_length a) = is_well_tree a
-  is_well_tree (call_substring a b c) = is_well_tree a && is_well_tree b && is_well_tree c
-  is_well_tree call_now = true
-  is_well_tree call_unix_timestamp = true
-  is_well_tree call_sysdate = true
-  is_well_tree call_user = true
-  is_well_tree call_uuid = true
-  is_well_tree call_connection_id = true
-  is_well_tree call_last_insert_id = true
-  is_well_tree call_row_count = true
+  is_well_tree (built_in f ts) = are_as_many (arity f) ts && are_well_trees ts
 
   -- expressions, none too
   pub are_well_trees : Trees → Bool
@@ -216,30 +214,23 @@ abbrev mutual
 
 -- the parts of statements that hold no statement
 
--- one row or more
-abbrev pub has_row : Rows → Bool
-has_row no_row = false
-has_row (row ts rest) = true
+-- one item or more
+abbrev pub has_item : {A : Type 0} → List A → Bool
+has_item [] = false
+has_item (x ∷ xs) = true
 
--- the rows of VALUES, each of one expression or more
-abbrev pub are_well_rows : Rows → Bool
-are_well_rows no_row = true
-are_well_rows (row ts rest) = has_tree ts && are_well_trees ts && are_well_rows rest
+-- a row of VALUES: one expression or more
+abbrev pub is_well_row : Trees → Bool
+is_well_row ts = has_tree ts && are_well_trees ts
 
 -- what INSERT and REPLACE put in
 abbrev pub is_well_supply : Supply → Bool
-is_well_supply (rows rs) = has_row rs && are_well_rows rs
+is_well_supply (rows rs) = has_item rs && list_all is_well_row rs
 is_well_supply (rows_of q) = is_well_query q
 
--- one `column = value` or more
-abbrev pub has_set : Sets → Bool
-has_set no_set = false
-has_set (set_to c t rest) = true
-
--- `column = value` items, none too
-abbrev pub are_well_sets : Sets → Bool
-are_well_sets no_set = true
-are_well_sets (set_to c t rest) = is_name c && is_well_tree t && are_well_sets rest
+-- `column = value`
+abbrev pub is_well_set : List ℕ × Tree → Bool
+is_well_set s = is_name s.0 && is_well_tree s.1
 
 -- what an assignment writes
 abbrev pub is_target : Target → Bool
@@ -248,20 +239,13 @@ is_target (Target.Plain n) = is_name n
 is_target (Target.System n) = is_name n
 is_target (Target.New n) = is_name n
 
--- one assignment or more
-abbrev pub has_assignment : Assignments → Bool
-has_assignment no_assignment = false
-has_assignment (assign to t rest) = true
+-- an assignment
+abbrev pub is_well_assignment : Target × Tree → Bool
+is_well_assignment a = is_target a.0 && is_well_tree a.1
 
--- assignments, none too
-abbrev pub are_well_assignments : Assignments → Bool
-are_well_assignments no_assignment = true
-are_well_assignments (assign to t rest) = is_target to && is_well_tree t && are_well_assignments rest
-
--- the DECLAREs of a block, none too, each of one name or more
-abbrev pub are_well_declarations : Declarations → Bool
-are_well_declarations no_declaration = true
-are_well_declarations (declare ns k d rest) = are_names ns && is_type k && is_well_part d && are_well_declarations rest
+-- DECLARE, of one name or more
+abbrev pub is_well_declaration : Declared → Bool
+is_well_declaration d = are_names d.names && is_type d.kind && is_well_part d.preset
 
 -- a name stands in the primary key
 abbrev pub is_in_key : Option (List (List ℕ)) → List ℕ → Bool
@@ -316,13 +300,13 @@ abbrev mutual
   is_well_step (drop_procedure n) = is_name n
   is_well_step (drop_trigger n) = is_name n
   is_well_step (truncate n) = is_name n
-  is_well_step (insert_into ignore t cs from us) = is_name t && are_names_if cs && is_well_supply from && are_well_sets us
+  is_well_step (insert_into ignore t cs from us) = is_name t && are_names_if cs && is_well_supply from && list_all is_well_set us
   is_well_step (replace_into t cs from) = is_name t && are_names_if cs && is_well_supply from
-  is_well_step (update_rows t ss w os l) = is_name t && has_set ss && are_well_sets ss && is_well_part w && are_well_orders os && is_count_if l
+  is_well_step (update_rows t ss w os l) = is_name t && has_item ss && list_all is_well_set ss && is_well_part w && are_well_orders os && is_count_if l
   is_well_step (delete_rows t w os l) = is_name t && is_well_part w && are_well_orders os && is_count_if l
   is_well_step (select q) = is_well_query q
   is_well_step (evaluate ts) = has_tree ts && are_well_trees ts
-  is_well_step (set_all as') = has_assignment as' && are_well_assignments as'
+  is_well_step (set_all as') = has_item as' && list_all is_well_assignment as'
   is_well_step (call_procedure n ts) = is_name n && are_well_trees ts
   is_well_step begin = false
   is_well_step commit = true
@@ -330,7 +314,7 @@ abbrev mutual
   is_well_step (savepoint n) = is_name n
   is_well_step (rollback_to n) = is_name n
   is_well_step (release_savepoint n) = is_name n
-  is_well_step (block ds ss) = are_well_declarations ds && are_well_steps ss
+  is_well_step (block ds ss) = list_all is_well_declaration ds && are_well_steps ss
   is_well_step (if_steps bs o) = has_branch bs && are_well_branches bs && is_well_otherwise o
   is_well_step (while_steps c ss) = is_well_tree c && has_statement ss && are_well_steps ss
   is_well_step (return_value t) = is_well_tree t

@@ -3,8 +3,8 @@ use Rattle.std.specs.Prelude.{ℕ, zero, suc, Bool, false, codes, pos, List, [],
 use Rattle.val_types.specs.declared.value.Value.TheVariants.{Int}
 use Rattle.val_types.specs.declared.ops.UnOp.TheVariants.{Negate}
 use Rattle.val_types.specs.declared.ops.BinOp.TheVariants.{Add}
-use Rattle.sql_tree.specs.Tree.{Tree, literal, name, unary, binary, Part, no_part, items, Origin, no_origin, from_table, Orders, no_order, order_by, Query, query}
-use Rattle.sql_tree.specs.Statement.{Rows, no_row, row, Sets, no_set, set_to, Assignments, no_assignment, assign}
+use Rattle.sql_tree.specs.Tree.{Tree, Trees, literal, name, unary, binary, Part, no_part, items, Origin, no_origin, from_table, Orders, no_order, order_by, Query, query}
+use Rattle.sql_tree.specs.Statement.{Declared}
 use Rattle.sql_tree.specs.View.{trees_of}
 use Rattle.sql_tree.specs.declared.expressions.Limit.{Limit}
 use Rattle.sql_tree.specs.declared.expressions.Count.{Count}
@@ -53,16 +53,20 @@ abbrev pub only : Tree → Query
 only t = query (items (trees_of (t ∷ []))) no_origin
 
 -- one row of VALUES
-abbrev pub row_of : List Tree → Rows
-row_of ts = row (trees_of ts) no_row
+abbrev pub row_of : List Tree → List Trees
+row_of ts = trees_of ts ∷ []
 
 -- `a = value`
-abbrev pub set_a : Tree → Sets
-set_a t = set_to (codes "a") t no_set
+abbrev pub set_a : Tree → List (List ℕ × Tree)
+set_a t = (codes "a", t) ∷ []
 
 -- SET of one value
-abbrev pub assigned : Target → Tree → Assignments
-assigned to t = assign to t no_assignment
+abbrev pub assigned : Target → Tree → List (Target × Tree)
+assigned to t = (to, t) ∷ []
+
+-- DECLARE
+abbrev pub declared_as : List (List ℕ) → SqlType → Part → Declared
+declared_as ns k d = record { names = ns; kind = k; preset = d }
 
 -- a column, NULL or NOT NULL
 abbrev pub column_of : List ℕ → SqlType → Bool → Column

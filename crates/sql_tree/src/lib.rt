@@ -12,6 +12,15 @@
 //! - `names`, `expression_rules`, `statement_rules`: [`well`], what the parser can give
 //! - `part_copies`: equal copies of what holds no tree
 //! - `worked`: worked examples of depth and of what the parser can give
+//!
+//! # Proved
+//! - [`depth`], [`expr_depth`], [`select_depth`] give how deep a tree is, or 4294967295 where it is that
+//!   or more.
+//! - [`well`], [`well_step`], [`well_expr`], [`well_select`], [`is_name`] answer just what their
+//!   definitions say: which statements the parser can give, at most 200 deep, which stand inside a
+//!   stored program, and which parts stand in them.
+//! - [`Locals`] finds the last local variable of a name, and leaves what it had where memory is short.
+//! - Copies of tables, LIMITs and numbers of rows are equal to the original, or memory is short.
 #![tactic(auto)]
 
 mod expression_depth;

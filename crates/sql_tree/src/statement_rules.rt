@@ -1,7 +1,7 @@
 //! Statements that the grammar can give.
 ghost use Rattle.std.specs.Prelude.{◌≡◌, ◌↔◌, IsTrue};
 ghost use Rattle.std.specs.List.{list_all};
-ghost use Rattle.sql_tree.specs.Well.{has_row, are_well_rows, is_well_supply, has_set, are_well_sets, is_target, has_assignment, are_well_assignments, are_well_declarations, is_in_key, is_column, is_unique, has_table_part, is_table, is_parameter, is_well_part, has_statement, has_branch, is_well_step, are_well_steps, are_well_branches, is_well_otherwise, is_well_program, is_well_trigger, is_begin, stands_alone, is_whole, IsWell};
+ghost use Rattle.sql_tree.specs.Well.{has_item, is_well_row, is_well_supply, is_well_set, is_target, is_well_assignment, is_well_declaration, is_in_key, is_column, is_unique, has_table_part, is_table, is_parameter, is_well_part, has_statement, has_branch, is_well_step, are_well_steps, are_well_branches, is_well_otherwise, is_well_program, is_well_trigger, is_begin, stands_alone, is_whole, IsWell};
 ghost use Rattle.sql_tree.specs.View.{view_part};
 ghost use Rattle.sql_tree.specs.StatementView.{view, view_rows, view_supply, view_sets, view_assignments, view_declarations, view_insert, view_replace, view_update, view_delete, view_statements, view_branches, view_otherwise, view_program, view_trigger};
 
@@ -27,13 +27,13 @@ fn well_option(expr: &Option<Expr>) -> bool
 }
 
 fn has_row(rows: &List<List<Expr>>) -> bool
-    ensures { result ≡ has_row (view_rows rows.now) }
+    ensures { result ≡ has_item (view_rows rows.now) }
 {
     !rows.is_empty()
 }
 
 fn well_rows(rows: &List<List<Expr>>) -> bool
-    ensures { result ≡ are_well_rows (view_rows rows.now) }
+    ensures { result ≡ list_all is_well_row (view_rows rows.now) }
 {
     for row in rows.as_slice() {
         if !has_expr(row) || !well_exprs(row) {
@@ -53,13 +53,13 @@ fn well_source(source: &Source) -> bool
 }
 
 fn has_set(sets: &List<ColumnSet>) -> bool
-    ensures { result ≡ has_set (view_sets sets.now) }
+    ensures { result ≡ has_item (view_sets sets.now) }
 {
     !sets.is_empty()
 }
 
 fn well_sets(sets: &List<ColumnSet>) -> bool
-    ensures { result ≡ are_well_sets (view_sets sets.now) }
+    ensures { result ≡ list_all is_well_set (view_sets sets.now) }
 {
     for set in sets.as_slice() {
         if !is_name(&set.column) || !well_expr(&set.value) {
@@ -79,13 +79,13 @@ fn is_target(target: &Target) -> bool
 }
 
 fn has_assignment(assignments: &List<Assignment>) -> bool
-    ensures { result ≡ has_assignment (view_assignments assignments.now) }
+    ensures { result ≡ has_item (view_assignments assignments.now) }
 {
     !assignments.is_empty()
 }
 
 fn well_assignments(assignments: &List<Assignment>) -> bool
-    ensures { result ≡ are_well_assignments (view_assignments assignments.now) }
+    ensures { result ≡ list_all is_well_assignment (view_assignments assignments.now) }
 {
     for assignment in assignments.as_slice() {
         if !is_target(&assignment.target) || !well_expr(&assignment.value) {
@@ -96,7 +96,7 @@ fn well_assignments(assignments: &List<Assignment>) -> bool
 }
 
 fn well_declarations(declarations: &List<Declaration>) -> bool
-    ensures { result ≡ are_well_declarations (view_declarations declarations.now) }
+    ensures { result ≡ list_all is_well_declaration (view_declarations declarations.now) }
 {
     for declaration in declarations.as_slice() {
         if !are_names(&declaration.names)

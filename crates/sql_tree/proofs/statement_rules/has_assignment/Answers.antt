@@ -1,5 +1,5 @@
-use Rattle.sql_tree.proofs.Shapes.{has_assignment-view}
+use Rattle.sql_tree.proofs.Shapes.{has_item-view}
 use Rattle.sql_tree.proofs.statement_rules.has_assignment.Goals as goal
 
 pub returns : goal.returns
-returns c = has_assignment-view _ _ c.is_empty.ensures
+returns c = has_item-view _ _ _ c.is_empty.ensures
