@@ -1,8 +1,8 @@
 -- What is kept of the parts of programs.
 use Rattle.std.proofs.Common.{◌≡◌, ◌∙◌, ℕ, suc, max, List, [], ◌∷◌, ◌++◌, map, Option, Some, None, refl, ap, subst, rules}
-use Rattle.sql_tree.specs.Depth.{depth_of, depth_of_branches, depth_of_declarations, depth_of_otherwise, depth_of_part, depth_of_statements, depth_of_tree}
-use Rattle.sql_tree.specs.Statement.{Statement, Statements, Otherwise, Declarations, create_table, block, if_steps, while_steps, return_value, else_steps}
-use Rattle.sql_tree.specs.StatementView.{view, view_branch, view_branches, view_declarations, view_otherwise, view_statements}
+use Rattle.sql_tree.specs.Depth.{depth_of, depth_of_branches, depth_of_declarations, depth_of_otherwise, depth_of_part, depth_of_statements, depth_of_tree, deepest, depth_of_declared}
+use Rattle.sql_tree.specs.Statement.{Statement, Statements, Otherwise, Declared, create_table, block, if_steps, while_steps, return_value, else_steps}
+use Rattle.sql_tree.specs.StatementView.{view, view_branch, view_branches, view_declaration, view_declarations, view_otherwise, view_statements}
 use Rattle.sql_tree.specs.StatementView as views
 use Rattle.sql_tree.specs.Tree.{Tree, Part, part}
 use Rattle.sql_tree.specs.View.{view_part, view_tree}
@@ -16,9 +16,9 @@ use Rattle.sql_tree.specs.declared.statements.Stmt
 use Rattle.sql_tree.specs.declared.statements.Stmt.{the_lemmas}
 use Rattle.sql_syntax.specs.declared.heads.Head.{Head}
 use Rattle.sql_parse_nodes.specs.declared.kept.Levelled.{Levelled}
-use Rattle.sql_parse_nodes.specs.Kept.{IsKept, above, beside, deepest, in_place, view_beside, depth_beside}
-use Rattle.sql_parse_bodies.specs.KeptParts.{view_declaration, depth_of_default, depth_of_branch}
-use Rattle.sql_syntax.specs.Programs.{with_body, with_heads, declarations_of, statements_of, branches_of}
+use Rattle.sql_parse_nodes.specs.Kept.{IsKept, above, beside, in_place, view_beside, depth_beside}
+use Rattle.sql_parse_bodies.specs.KeptParts.{depth_of_branch}
+use Rattle.sql_syntax.specs.Programs.{with_body, with_heads, declared_as, statements_of, branches_of}
 use Rattle.sql_parse_nodes.proofs.KeptLaws.{kept_in_place, kept_above, kept_beside}
 
 -- the last head stands round the body
@@ -27,14 +27,6 @@ heads_last [] h s = refl
 heads_last (g ∷ hs) h s = ap (with_body g) (heads_last hs h s)
 
 -- ---- lists
-pub declarations_seen : (ds : List Declaration) → view_declarations ds ≡ declarations_of (map view_declaration ds)
-declarations_seen [] = refl
-declarations_seen (d ∷ ds) = rw (declarations_seen ds) refl
-
-pub declarations_deep : (ds : List (List (List ℕ) × (SqlType × Part))) → depth_of_declarations (declarations_of ds) ≡ deepest depth_of_default ds
-declarations_deep [] = refl
-declarations_deep (d ∷ ds) = ap (λ n. max (depth_of_part d.1.1) n) (declarations_deep ds)
-
 same_statements : (ss : List Statement) → views.statements_of ss ≡ statements_of ss
 same_statements [] = refl
 same_statements (s ∷ ss) = rw (same_statements ss) refl
@@ -51,9 +43,9 @@ pub preset_kept : (t : Tree) (k : Option (Levelled Expr)) → IsKept view_tree d
 preset_kept t k h = kept_in_place view_tree depth_of_tree view_part depth_of_part part (λ e. Some e) (λ x. refl) t refl k h
 
 pub declaration_kept : (ns : List (List ℕ)) (kind : SqlType) (p : Part) (k : Option (Levelled (Option Expr))) → IsKept view_part depth_of_part p k
-    → IsKept view_declaration depth_of_default (ns, (kind, p)) (in_place (λ p. record { names = ns; kind = kind; preset = p }) k)
+    → IsKept view_declaration depth_of_declared (declared_as ns (kind, p)) (in_place (λ p. record { names = ns; kind = kind; preset = p }) k)
 declaration_kept ns kind p k h =
-    kept_in_place view_part depth_of_part view_declaration depth_of_default (λ p. (ns, (kind, p))) (λ p. record { names = ns; kind = kind; preset = p }) (λ x. refl) p refl k h
+    kept_in_place view_part depth_of_part view_declaration depth_of_declared (λ p. declared_as ns (kind, p)) (λ p. record { names = ns; kind = kind; preset = p }) (λ x. refl) p refl k h
 
 pub steps_kept : (ss : List Statement) (k : Option (Levelled (List Stmt.Stmt))) → IsKept (map view) (deepest depth_of) ss k → IsKept view_statements depth_of_statements (statements_of ss) k
 steps_kept ss k h = subst (λ (m : Option (Levelled (List Stmt.Stmt))). IsKept view_statements depth_of_statements (statements_of ss) m) (itself k)
@@ -81,7 +73,7 @@ pub else_kept : (ss : Statements) (k : Option (Levelled (List Stmt.Stmt))) → I
 else_kept ss k h = kept_in_place view_statements depth_of_statements view_otherwise depth_of_otherwise else_steps (λ ss. Some ss) (λ x. refl) ss refl k h
 
 -- ---- statements
-pub block_kept : (ds : Declarations) (ss : Statements) (k : Option (Levelled (List Declaration))) (l : Option (Levelled (List Stmt.Stmt))) → IsKept view_declarations depth_of_declarations ds k
+pub block_kept : (ds : List Declared) (ss : Statements) (k : Option (Levelled (List Declaration))) (l : Option (Levelled (List Stmt.Stmt))) → IsKept view_declarations depth_of_declarations ds k
     → IsKept view_statements depth_of_statements ss l → IsKept view depth_of (block ds ss) (in_place (λ p. Stmt.Block p.0 p.1) (above (beside k l)))
 block_kept ds ss k l h g =
     kept_above (view_beside view_declarations view_statements) (depth_beside depth_of_declarations depth_of_statements) view depth_of (λ p. block p.0 p.1) (λ p. Stmt.Block p.0 p.1)

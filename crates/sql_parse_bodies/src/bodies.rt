@@ -1,12 +1,11 @@
 //! Programs round their bodies, and the parts of blocks, IF and WHILE.
 ghost use Rattle.std.specs.Prelude.{◌≡◌, IfOk, Some, map};
 ghost use Rattle.sql_syntax.specs.Expressions.{expression};
-ghost use Rattle.sql_parse_nodes.specs.Kept.{IsKept, Keeps, above, beside, deepest, in_place};
-ghost use Rattle.sql_parse_bodies.specs.KeptParts.{depth_of_default, view_declaration};
+ghost use Rattle.sql_parse_nodes.specs.Kept.{IsKept, Keeps, above, beside, in_place};
 ghost use Rattle.sql_syntax.specs.Programs as spec;
-ghost use Rattle.sql_tree.specs.Depth.{depth_of, depth_of_declarations, depth_of_part};
+ghost use Rattle.sql_tree.specs.Depth.{depth_of, depth_of_declarations, depth_of_part, deepest, depth_of_declared};
 ghost use Rattle.sql_tree.specs.Statement.{Statement};
-ghost use Rattle.sql_tree.specs.StatementView.{view, view_declarations};
+ghost use Rattle.sql_tree.specs.StatementView.{view, view_declarations, view_declaration};
 ghost use Rattle.sql_tree.specs.View.{view_part};
 ghost use Rattle.sql_tree.specs.declared.statements.Stmt.{Stmt};
 
@@ -137,7 +136,7 @@ fn declaration<'t>(
     depth: u32,
     rest: Rest<'t>,
 ) -> Result<(Kept<Declaration>, Rest<'t>), Stop<'t>>
-    ensures { Keeps view_declaration depth_of_default result ((spec.declaration depth).read rest.entry) }
+    ensures { Keeps view_declaration depth_of_declared result ((spec.declaration depth).read rest.entry) }
 {
     let ((), rest) = rest.skip_key(Keyword::Declare)?;
     let (names, rest) = name_list(alloc, rest)?;
@@ -148,12 +147,12 @@ fn declaration<'t>(
 }
 
 /// DECLAREs, none too.
-fn declaration_list<'t>(
+pub fn declarations<'t>(
     alloc: Global,
     depth: u32,
     rest: Rest<'t>,
 ) -> Result<(Kept<List<Declaration>>, Rest<'t>), Stop<'t>>
-    ensures { Keeps (map view_declaration) (deepest depth_of_default) result ((spec.declaration_list depth).read rest.entry) }
+    ensures { Keeps view_declarations depth_of_declarations result ((spec.declarations depth).read rest.entry) }
 {
     let part = List::new(alloc);
     let mut items = Some(Levelled { part, levels: 0 });
@@ -167,17 +166,6 @@ fn declaration_list<'t>(
         rest = after;
     }
     Ok((items, rest))
-}
-
-/// DECLAREs, none too, as they stand in a block.
-pub fn declarations<'t>(
-    alloc: Global,
-    depth: u32,
-    rest: Rest<'t>,
-) -> Result<(Kept<List<Declaration>>, Rest<'t>), Stop<'t>>
-    ensures { Keeps view_declarations depth_of_declarations result ((spec.declarations depth).read rest.entry) }
-{
-    declaration_list(alloc, depth, rest)
 }
 
 /// A block of these parts.

@@ -2,12 +2,12 @@
 ghost use Rattle.std.specs.Prelude.{◌≡◌, List as Items, length, map, pred};
 ghost use Rattle.sql_lex.specs.declared.keyword.Keyword.TheVariants as words;
 ghost use Rattle.sql_grammar.specs.Rule.{any_of, before, behind, both, mapped, opened};
-ghost use Rattle.sql_parse_nodes.specs.Kept.{IsKept, Keeps, deepest};
+ghost use Rattle.sql_parse_nodes.specs.Kept.{IsKept, Keeps};
 ghost use Rattle.sql_parse_bodies.specs.KeptParts.{depth_of_branch};
 ghost use Rattle.sql_syntax.specs.Programs as spec;
 ghost use Rattle.sql_syntax.specs.Tables as tables;
 ghost use Rattle.sql_syntax.specs.Tokens.{code, keyword, kind};
-ghost use Rattle.sql_tree.specs.Depth.{depth_of, depth_of_otherwise, depth_of_statements};
+ghost use Rattle.sql_tree.specs.Depth.{depth_of, depth_of_otherwise, depth_of_statements, deepest};
 ghost use Rattle.sql_tree.specs.Statement.{Statement, create_table, if_steps};
 ghost use Rattle.sql_tree.specs.StatementView.{view, view_branch, view_otherwise, view_statements};
 

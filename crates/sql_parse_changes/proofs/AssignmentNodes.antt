@@ -5,9 +5,9 @@ use Rattle.sql_grammar.specs.Rule.{paired}
 use Rattle.sql_parse_tokens.specs.declared.fault.Stop.{Stop}
 use Rattle.sql_parse_tokens.specs.Gives.{Fails}
 use Rattle.sql_parse_tokens.proofs.Reading.{again, fails_made, fails_on}
-use Rattle.sql_tree.specs.Depth.{depth_of, depth_of_assignments, depth_of_tree, depth_of_trees}
+use Rattle.sql_tree.specs.Depth.{depth_of, depth_of_tree, depth_of_trees, deepest, depth_of_value}
 use Rattle.sql_tree.specs.Statement.{set_all, evaluate, call_procedure}
-use Rattle.sql_tree.specs.StatementView.{view, view_assignments}
+use Rattle.sql_tree.specs.StatementView.{view, view_assignment}
 use Rattle.sql_tree.specs.Tree.{Tree, Trees}
 use Rattle.sql_tree.specs.View.{view_tree, view_trees}
 use Rattle.sql_tree.specs.declared.expressions.Expr.{Expr}
@@ -16,9 +16,8 @@ use Rattle.sql_tree.specs.declared.statements.Stmt
 use Rattle.sql_tree.specs.declared.statements.Stmt.{the_lemmas}
 use Rattle.sql_tree.specs.declared.statements.Target.{Target}
 use Rattle.sql_parse_nodes.specs.declared.kept.Levelled.{Levelled}
-use Rattle.sql_parse_nodes.specs.Kept.{IsKept, Keeps, above, deepest, in_place}
-use Rattle.sql_parse_changes.specs.KeptParts.{view_assignment, depth_of_value}
-use Rattle.sql_syntax.specs.Sessions.{assignments_of, format_said, format_word, format_or, value_assigned}
+use Rattle.sql_parse_nodes.specs.Kept.{IsKept, Keeps, above, in_place}
+use Rattle.sql_syntax.specs.Sessions.{format_said, format_word, format_or, value_assigned}
 use Rattle.sql_syntax.specs.Tokens.{Tok, first_keyword}
 use Rattle.sql_parse_nodes.proofs.KeptLaws.{kept_in_place, kept_above}
 
@@ -48,30 +47,15 @@ format_left ts us a false other = refl
 pub no_format_left : (ts us : List Tok) (a : Tree) (b : Bool) → b ≡ false → value_assigned b (a, front_of ts us) ≡ a
 no_format_left ts us a b e = rw e refl
 
--- ---- lists and parts
-pub assignments_seen : (xs : List Assignment) → view_assignments xs ≡ assignments_of (map view_assignment xs)
-assignments_seen [] = refl
-assignments_seen (x ∷ xs) = rw (assignments_seen xs) refl
-
-pub assignments_deep : (xs : List (Target × Tree)) → depth_of_assignments (assignments_of xs) ≡ deepest depth_of_value xs
-assignments_deep [] = refl
-assignments_deep (x ∷ xs) = ap (λ n. max (depth_of_tree x.1) n) (assignments_deep xs)
-
+-- ---- parts
 pub assignment_kept : (to : Target) (t : Tree) (k : Option (Levelled Expr)) → IsKept view_tree depth_of_tree t k
     → IsKept view_assignment depth_of_value (to, t) (in_place (λ v. record { target = to; value = v }) k)
 assignment_kept to t k h = kept_in_place view_tree depth_of_tree view_assignment depth_of_value (λ t. (to, t)) (λ v. record { target = to; value = v }) (λ x. refl) t refl k h
 
 -- ---- statements
 pub set_kept : (xs : List (Target × Tree)) (k : Option (Levelled (List Assignment))) → IsKept (map view_assignment) (deepest depth_of_value) xs k
-    → IsKept view depth_of (set_all (assignments_of xs)) (in_place (λ xs. Stmt.Set xs) (above k))
-set_kept xs k h =
-    kept_above (map view_assignment) (deepest depth_of_value) view depth_of (λ xs. set_all (assignments_of xs)) (λ xs. Stmt.Set xs) seen xs (ap suc (assignments_deep xs)) k h
-  where
-    plain : (xs : List Assignment) → view (Stmt.Set xs) ≡ set_all (view_assignments xs)
-    plain xs = search (rules, the_lemmas)
-
-    seen : (xs : List Assignment) → view (Stmt.Set xs) ≡ set_all (assignments_of (map view_assignment xs))
-    seen xs = plain xs ∙ ap set_all (assignments_seen xs)
+    → IsKept view depth_of (set_all xs) (in_place (λ xs. Stmt.Set xs) (above k))
+set_kept xs k h = kept_above (map view_assignment) (deepest depth_of_value) view depth_of set_all (λ xs. Stmt.Set xs) (λ x. search (rules, the_lemmas)) xs refl k h
 
 pub do_kept : (ts : Trees) (k : Option (Levelled (List Expr))) → IsKept view_trees depth_of_trees ts k → IsKept view depth_of (evaluate ts) (in_place (λ es. Stmt.Do es) (above k))
 do_kept ts k h = kept_above view_trees depth_of_trees view depth_of evaluate (λ es. Stmt.Do es) (λ x. search (rules, the_lemmas)) ts refl k h

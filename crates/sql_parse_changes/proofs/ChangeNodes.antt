@@ -1,8 +1,8 @@
 -- What is kept of INSERT, REPLACE, UPDATE and DELETE.
-use Rattle.std.proofs.Common.{◌≡◌, ℕ, max, Bool, List, [], ◌∷◌, map, Option, Some, refl, ap, rules}
-use Rattle.sql_tree.specs.Depth.{depth_of, depth_of_tree, depth_of_trees, depth_of_part, depth_of_orders, depth_of_query, depth_of_rows, depth_of_sets, depth_of_supply}
-use Rattle.sql_tree.specs.Statement.{insert_into, replace_into, update_rows, delete_rows, Supply, rows, rows_of, Sets, select}
-use Rattle.sql_tree.specs.StatementView.{view, view_rows, view_sets, view_supply}
+use Rattle.std.proofs.Common.{◌≡◌, ℕ, Bool, List, map, Option, Some, refl, rules}
+use Rattle.sql_tree.specs.Depth.{depth_of, depth_of_tree, depth_of_trees, depth_of_part, depth_of_orders, depth_of_query, depth_of_sets, depth_of_supply, deepest, depth_of_value}
+use Rattle.sql_tree.specs.Statement.{insert_into, replace_into, update_rows, delete_rows, Supply, rows, rows_of, select}
+use Rattle.sql_tree.specs.StatementView.{view, view_set, view_sets, view_supply}
 use Rattle.sql_tree.specs.Tree.{Tree, Trees, Part, part, Query, Orders}
 use Rattle.sql_tree.specs.View.{view_tree, view_trees, view_part, view_query, view_orders}
 use Rattle.sql_tree.specs.declared.expressions.Count.{Count}
@@ -14,27 +14,8 @@ use Rattle.sql_tree.specs.declared.statements.Source.{Source}
 use Rattle.sql_tree.specs.declared.statements.Stmt
 use Rattle.sql_tree.specs.declared.statements.Stmt.{the_lemmas}
 use Rattle.sql_parse_nodes.specs.declared.kept.Levelled.{Levelled}
-use Rattle.sql_syntax.specs.Changes.{sets_of, row_list}
-use Rattle.sql_parse_nodes.specs.Kept.{IsKept, above, beside, deepest, in_place, view_beside, depth_beside}
-use Rattle.sql_parse_changes.specs.KeptParts.{view_set, depth_of_value}
+use Rattle.sql_parse_nodes.specs.Kept.{IsKept, above, beside, in_place, view_beside, depth_beside}
 use Rattle.sql_parse_nodes.proofs.KeptLaws.{kept_in_place, kept_above, kept_beside}
-
--- ---- lists
-pub sets_seen : (ss : List ColumnSet) → view_sets ss ≡ sets_of (map view_set ss)
-sets_seen [] = refl
-sets_seen (s ∷ ss) = rw (sets_seen ss) refl
-
-pub sets_deep : (ss : List (List ℕ × Tree)) → depth_of_sets (sets_of ss) ≡ deepest depth_of_value ss
-sets_deep [] = refl
-sets_deep (s ∷ ss) = ap (λ n. max (depth_of_tree s.1) n) (sets_deep ss)
-
-pub rows_seen : (rs : List (List Expr)) → view_rows rs ≡ row_list (map view_trees rs)
-rows_seen [] = refl
-rows_seen (r ∷ rs) = rw (rows_seen rs) refl
-
-pub rows_deep : (rs : List Trees) → depth_of_rows (row_list rs) ≡ deepest depth_of_trees rs
-rows_deep [] = refl
-rows_deep (r ∷ rs) = ap (λ n. max (depth_of_trees r) n) (rows_deep rs)
 
 -- ---- parts
 pub set_kept : (c : List ℕ) (t : Tree) (k : Option (Levelled Expr)) → IsKept view_tree depth_of_tree t k → IsKept view_set depth_of_value (c, t) (in_place (λ v. record { column = c; value = v }) k)
@@ -44,14 +25,14 @@ pub query_kept : (q : Query) (k : Option (Levelled Select)) → IsKept view_quer
 query_kept q k h = kept_in_place view_query depth_of_query view_supply depth_of_supply rows_of (λ q. Source.Select q) (λ x. refl) q refl k h
 
 pub rows_kept : (rs : List Trees) (k : Option (Levelled (List (List Expr)))) → IsKept (map view_trees) (deepest depth_of_trees) rs k
-    → IsKept view_supply depth_of_supply (rows (row_list rs)) (in_place (λ rs. Source.Rows rs) k)
-rows_kept rs k h = kept_in_place (map view_trees) (deepest depth_of_trees) view_supply depth_of_supply (λ rs. rows (row_list rs)) (λ rs. Source.Rows rs) (λ x. ap rows (rows_seen x)) rs (rows_deep rs) k h
+    → IsKept view_supply depth_of_supply (rows rs) (in_place (λ rs. Source.Rows rs) k)
+rows_kept rs k h = kept_in_place (map view_trees) (deepest depth_of_trees) view_supply depth_of_supply rows (λ rs. Source.Rows rs) (λ x. refl) rs refl k h
 
 pub filter_kept : (t : Tree) (k : Option (Levelled Expr)) → IsKept view_tree depth_of_tree t k → IsKept view_part depth_of_part (part t) (in_place (λ e. Some e) k)
 filter_kept t k h = kept_in_place view_tree depth_of_tree view_part depth_of_part part (λ e. Some e) (λ x. refl) t refl k h
 
 -- ---- statements
-pub insert_kept : (i : Bool) (t : List ℕ) (cs : Option (List (List ℕ))) (s : Supply) (us : Sets) (k : Option (Levelled Source)) (l : Option (Levelled (List ColumnSet)))
+pub insert_kept : (i : Bool) (t : List ℕ) (cs : Option (List (List ℕ))) (s : Supply) (us : List (List ℕ × Tree)) (k : Option (Levelled Source)) (l : Option (Levelled (List ColumnSet)))
     → IsKept view_supply depth_of_supply s k → IsKept view_sets depth_of_sets us l
     → IsKept view depth_of (insert_into i t cs s us) (in_place (λ p. Stmt.Insert (record { ignore = i; table = t; columns = cs; source = p.0; update = p.1 })) (above (beside k l)))
 insert_kept i t cs s us k l h g =
@@ -64,7 +45,7 @@ pub replace_kept : (t : List ℕ) (cs : Option (List (List ℕ))) (s : Supply) (
 replace_kept t cs s k h =
     kept_above view_supply depth_of_supply view depth_of (λ s. replace_into t cs s) (λ s. Stmt.Replace (record { table = t; columns = cs; source = s })) (λ p. search (rules, the_lemmas)) s refl k h
 
-pub update_kept : (t : List ℕ) (l : Option Count) (ss : Sets) (w : Part) (os : Orders) (k : Option (Levelled (List ColumnSet))) (m : Option (Levelled (Option Expr))) (n : Option (Levelled (List OrderItem)))
+pub update_kept : (t : List ℕ) (l : Option Count) (ss : List (List ℕ × Tree)) (w : Part) (os : Orders) (k : Option (Levelled (List ColumnSet))) (m : Option (Levelled (Option Expr))) (n : Option (Levelled (List OrderItem)))
     → IsKept view_sets depth_of_sets ss k → IsKept view_part depth_of_part w m → IsKept view_orders depth_of_orders os n
     → IsKept view depth_of (update_rows t ss w os l) (in_place (λ p. Stmt.Update (record { table = t; sets = p.0; filter = p.1.0; order = p.1.1; limit = l })) (above (beside k (beside m n))))
 update_kept t l ss w os k m n h g i =

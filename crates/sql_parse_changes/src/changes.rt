@@ -5,13 +5,12 @@ ghost use Rattle.sql_grammar.specs.Rule.{behind};
 ghost use Rattle.sql_syntax.specs.Changes as spec;
 ghost use Rattle.sql_syntax.specs.Expressions.{expression};
 ghost use Rattle.sql_parse_tokens.specs.Gives.{Gives};
-ghost use Rattle.sql_parse_nodes.specs.Kept.{Keeps, above, beside, deepest, in_place};
-ghost use Rattle.sql_parse_changes.specs.KeptParts.{depth_of_value, view_set};
+ghost use Rattle.sql_parse_nodes.specs.Kept.{Keeps, above, beside, in_place};
 ghost use Rattle.sql_syntax.specs.Parts.{closed, exprs, list_of};
 ghost use Rattle.sql_syntax.specs.Selects as selects;
 ghost use Rattle.sql_syntax.specs.Tokens.{sign};
-ghost use Rattle.sql_tree.specs.Depth.{depth_of, depth_of_part, depth_of_sets, depth_of_supply, depth_of_trees};
-ghost use Rattle.sql_tree.specs.StatementView.{view, view_sets, view_supply};
+ghost use Rattle.sql_tree.specs.Depth.{depth_of, depth_of_part, depth_of_sets, depth_of_supply, depth_of_trees, deepest, depth_of_value};
+ghost use Rattle.sql_tree.specs.StatementView.{view, view_sets, view_supply, view_set};
 ghost use Rattle.sql_tree.specs.View.{view_part, view_trees};
 ghost use Rattle.sql_tree.specs.declared.statements.ColumnSet.{ColumnSet};
 ghost use Rattle.sql_tree.specs.declared.statements.DeleteStmt.{DeleteStmt};
@@ -84,12 +83,12 @@ fn next_set_item<'t>(
 }
 
 /// Such items with commas between.
-fn set_list<'t>(
+fn sets<'t>(
     alloc: Global,
     depth: u32,
     rest: Rest<'t>,
 ) -> Result<(Kept<List<ColumnSet>>, Rest<'t>), Stop<'t>>
-    ensures { Keeps (map view_set) (deepest depth_of_value) result ((list_of (spec.set_item (expression depth))).read rest.entry) }
+    ensures { Keeps view_sets depth_of_sets result ((spec.sets (expression depth)).read rest.entry) }
 {
     let (first, mut rest) = set_item(alloc, depth, rest)?;
     let mut items = alone(alloc, first)?;
@@ -102,17 +101,6 @@ fn set_list<'t>(
         rest = after;
     }
     Ok((items, rest))
-}
-
-/// Such items with commas between, as they stand in a statement.
-fn sets<'t>(
-    alloc: Global,
-    depth: u32,
-    rest: Rest<'t>,
-) -> Result<(Kept<List<ColumnSet>>, Rest<'t>), Stop<'t>>
-    ensures { Keeps view_sets depth_of_sets result ((spec.sets (expression depth)).read rest.entry) }
-{
-    set_list(alloc, depth, rest)
 }
 
 /// IGNORE, or nothing.

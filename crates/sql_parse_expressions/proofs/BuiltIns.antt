@@ -11,7 +11,7 @@ use Rattle.sql_tree.specs.declared.expressions.Expr.{Expr}
 use Rattle.sql_syntax.specs.Tokens.{Tok, kind, sign_code}
 use Rattle.sql_syntax.specs.Parts.{opening}
 use Rattle.sql_parse_nodes.specs.Kept.{Keeps}
-use Rattle.sql_syntax.specs.Expressions.{Tail, with_tail, with_arguments, built, built_in, named, column_tail}
+use Rattle.sql_syntax.specs.Expressions.{Tail, with_tail, with_arguments, built, built_or_named, named, column_tail}
 use Rattle.sql_parse_tokens.specs.declared.fault.Stop.{Stop}
 use Rattle.sql_parse_nodes.specs.declared.kept.Levelled.{Levelled}
 use Rattle.sql_parse_nodes.proofs.Openings.{opened_as}
@@ -24,7 +24,7 @@ module _ {A : Type 0} (set : List ℕ) (make : Tok → A → Tree) where
   -- the name of a built-in that no parenthesis follows
   pub keeps_tail : (n : ℕ) (r : Rule Tok A) (result : Result (Option (Levelled Expr) × List Tok) Stop) (ts us : List Tok) (t : Tok)
       → (token kind set (λ t. Some t)).read ts ≡ Ok (t, us) → false ≡ next_in kind (sign_code signs.Open ∷ []) us → Keeps view_tree depth_of_tree result ((mapped (named t) column_tail).read us)
-      → Keeps view_tree depth_of_tree result ((built_in set make n r).read ts)
+      → Keeps view_tree depth_of_tree result ((built_or_named set make n r).read ts)
   keeps_tail n r result ts us t e f h = rw (e, ← f, tail_as t (column_tail.read us)) h
 
   call_as : (t : Tok) (q : Read Tok A)
@@ -35,5 +35,5 @@ module _ {A : Type 0} (set : List ℕ) (make : Tok → A → Tree) where
   -- a built-in with what stands in its parentheses
   pub called_as : (n m : ℕ) (r : ℕ → Rule Tok A) (ts us ws : List Tok) (t : Tok)
       → (token kind set (λ t. Some t)).read ts ≡ Ok (t, us) → true ≡ next_in kind (sign_code signs.Open ∷ []) us → (opening n (sign_code signs.Open)).read us ≡ Ok (m, ws)
-      → (built_in set make n (r (pred n))).read ts ≡ bind ((r m).read ws) (λ z. Ok (make t z.0, z.1))
+      → (built_or_named set make n (r (pred n))).read ts ≡ bind ((r m).read ws) (λ z. Ok (make t z.0, z.1))
   called_as n m r ts us ws t e f o = rw (e, ← f, opened_as n (sign_code signs.Open) (λ a. a) r us, o) (call_as t ((r m).read ws))

@@ -3,11 +3,13 @@ ghost use Rattle.sql_grammar.specs.Rule.{mapped, behind, paired};
 ghost use Rattle.sql_lex.specs.declared.token.Symbol.TheVariants as signs;
 ghost use Rattle.sql_lex.specs.declared.keyword.Keyword.TheVariants as words;
 ghost use Rattle.sql_syntax.specs.Expressions as spec;
-ghost use Rattle.sql_parse_nodes.specs.Kept.{Keeps, view_beside, depth_beside, deepest};
+ghost use Rattle.sql_parse_nodes.specs.Kept.{Keeps, view_beside, depth_beside};
 ghost use Rattle.sql_syntax.specs.Parts as part;
 ghost use Rattle.sql_syntax.specs.Tokens.{keyword, sign};
-ghost use Rattle.sql_tree.specs.Depth.{depth_of_tree, depth_of_part};
+ghost use Rattle.sql_tree.specs.Depth.{depth_of_tree, depth_of_part, deepest};
 ghost use Rattle.sql_tree.specs.Tree as tree;
+ghost use Rattle.sql_tree.specs.BuiltIns.{on_three};
+ghost use Rattle.val_types.specs.declared.ops.Func.TheVariants as functions;
 ghost use Rattle.sql_tree.specs.View.{view_tree, view_arm, view_part};
 ghost use Rattle.std.specs.Prelude.{map, pred};
 
@@ -117,7 +119,7 @@ fn if_call<'t>(
     rest: Rest<'t>,
 ) -> Result<(Kept<Boxed<Expr>>, Rest<'t>), Stop<'t>>
     ensures { Keeps view_tree depth_of_tree result
-        ((behind (keyword words.If) (part.in_parentheses depth (spec.three_arguments tree.call_if (spec.nested (pred depth)).whole))).read rest.entry) }
+        ((behind (keyword words.If) (part.in_parentheses depth (spec.three_arguments (on_three functions.If) (spec.nested (pred depth)).whole))).read rest.entry) }
 {
     let ((), rest) = rest.skip_key(Keyword::If)?;
     let (inside, rest) = open_mark(depth, Symbol::Open, rest)?;

@@ -4,9 +4,10 @@ use Rattle.std.proofs.lemmas.Bool.{leb-true, leb-false, le-leb, lt-leb}
 use Rattle.sql_grammar.specs.Reader.{Read, bind}
 use Rattle.sql_syntax.specs.Tokens.{Tok}
 use Rattle.sql_parse_tokens.specs.declared.fault.Stop.{Stop}
+use Rattle.sql_tree.specs.Depth.{deepest}
 use Rattle.sql_parse_nodes.specs.declared.kept.Levelled.{Levelled}
 use Rattle.sql_parse_tokens.proofs.Reading.{fails_behind}
-use Rattle.sql_parse_nodes.specs.Kept.{kept, kept_as, IsKept, beside, above, in_place, view_beside, depth_beside, deepest, Keeps}
+use Rattle.sql_parse_nodes.specs.Kept.{kept, kept_as, IsKept, beside, above, in_place, view_beside, depth_beside, Keeps}
 
 -- A part is held, or it has too many levels.
 pub data Held {X A : Type 0} (view : X → A) (depth_of : A → ℕ) (a : A) : Option (Levelled X) → Type 0 where

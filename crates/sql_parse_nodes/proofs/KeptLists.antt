@@ -5,9 +5,10 @@ use Rattle.sql_grammar.specs.Reader.{Read, Reader, bind, steps}
 use Rattle.sql_grammar.specs.Rule.{Rule, mapped, alone, then_one, behind, opened, pure}
 use Rattle.sql_grammar.specs.Sets.{next_in}
 use Rattle.sql_parse_tokens.specs.declared.fault.Stop.{Stop}
+use Rattle.sql_tree.specs.Depth.{deepest}
 use Rattle.sql_parse_nodes.specs.declared.kept.Levelled.{Levelled}
 use Rattle.sql_parse_tokens.specs.Gives.{Fails}
-use Rattle.sql_parse_nodes.specs.Kept.{IsKept, Keeps, beside, deepest, in_place}
+use Rattle.sql_parse_nodes.specs.Kept.{IsKept, Keeps, beside, in_place}
 use Rattle.sql_syntax.specs.Parts.{list_of}
 use Rattle.sql_syntax.specs.Tokens.{Tok, kind, sign, sign_code}
 use Rattle.sql_parse_nodes.proofs.KeptLaws.{kept_alone, kept_push}

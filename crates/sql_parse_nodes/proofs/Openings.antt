@@ -5,6 +5,7 @@ use Rattle.sql_grammar.specs.Rule.{Rule, opened, any_of}
 use Rattle.sql_syntax.specs.Tokens.{Tok, kind}
 use Rattle.sql_syntax.specs.Parts.{opening}
 use Rattle.sql_parse_nodes.specs.Kept.{Keeps}
+use Rattle.sql_parse_tokens.proofs.Reading.{again, one_less}
 use Rattle.sql_parse_tokens.specs.declared.fault.Stop.{Stop}
 use Rattle.sql_parse_nodes.specs.declared.kept.Levelled.{Levelled}
 
@@ -24,16 +25,6 @@ opened_as {B} {C} (suc n) k g r (t ∷ ts) = taken (any_of kind k t)
         ≡ bind (bind (take_by (t ∷ ts) ts o) (λ x. Ok (pred (suc n), x.1))) (λ x. bind ((r x.0).read x.1) (λ y. Ok (g y.0, y.1)))
     taken None = refl
     taken (Some a) = refl
-
--- a value again
-pub again : {B : Type 0} (r : Read Tok B) → bind r (λ y. Ok (y.0, y.1)) ≡ r
-again (Ok y) = refl
-again (Err f) = refl
-
--- how many may be opened inside
-one_less : (m n : ℕ) → m + 1 ≡ n → m ≡ pred n
-one_less m zero h = absurd (omega arith)
-one_less m (suc n) h = omega arith
 
 module _ {X B : Type 0} (view : X → B) (depth_of : B → ℕ) (result : Result (Option (Levelled X) × List Tok) Stop) where
   -- what is kept of what is read behind a value

@@ -3,8 +3,8 @@ use Rattle.std.proofs.Common.{◌≡◌, Bool, suc, max, ap, List, [], ◌∷◌
 use Rattle.val_types.specs.declared.ops.Agg.{Agg}
 use Rattle.sql_tree.specs.Tree.{Tree}
 use Rattle.sql_tree.specs.View.{trees_of, arms_of, aggregates_of, orders_of}
-use Rattle.sql_tree.specs.Depth.{depth_of_tree, depth_of_trees, depth_of_arms, depth_of_aggregates, depth_of_orders}
-use Rattle.sql_parse_nodes.specs.Kept.{deepest, depth_beside, depth_of_aggregate}
+use Rattle.sql_tree.specs.Depth.{depth_of_tree, depth_of_trees, depth_of_arms, depth_of_aggregates, depth_of_orders, deepest}
+use Rattle.sql_parse_nodes.specs.Kept.{depth_beside, depth_of_aggregate}
 
 pub deepest_trees : (ts : List Tree) → depth_of_trees (trees_of ts) ≡ deepest depth_of_tree ts
 deepest_trees [] = refl

@@ -59,11 +59,6 @@ view_beside view_a view_b p = (view_a p.0, view_b p.1)
 abbrev pub depth_beside : {A B : Type 0} → (A → ℕ) → (B → ℕ) → A × B → ℕ
 depth_beside depth_a depth_b p = max (depth_a p.0) (depth_b p.1)
 
--- the levels of the deepest of some parts
-abbrev pub deepest : {A : Type 0} → (A → ℕ) → List A → ℕ
-deepest depth_of [] = 0
-deepest depth_of (a ∷ as') = max (depth_of a) (deepest depth_of as')
-
 -- the levels of an aggregate
 abbrev pub depth_of_aggregate : Option (Agg × Tree) → ℕ
 depth_of_aggregate None = 1

@@ -11,13 +11,39 @@ ghost use Rattle.sql_parse_nodes.specs.Kept.{IsKept, view_beside, depth_beside, 
 ghost use Rattle.sql_tree.specs.Depth.{depth_of_tree, depth_of_trees, depth_of_arms, depth_of_part, depth_of_query, depth_of_selected, depth_of_aggregates, depth_of_origin, depth_of_orders};
 ghost use Rattle.sql_tree.specs.Tree.{Tree, Trees, Arms, Part, Query, Selected, Aggregates, Origin, Orders};
 ghost use Rattle.sql_tree.specs.Tree as tree;
+ghost use Rattle.sql_tree.specs.BuiltIns.{on_one, on_two, on_three};
+ghost use Rattle.val_types.specs.declared.ops.Func.TheVariants as functions;
 ghost use Rattle.sql_tree.specs.View.{view_tree, view_trees, view_arm, view_arms, view_part, view_query, view_selected, view_aggregate, view_aggregates, view_origin, view_order, view_orders};
 
-use crate::kept::{Kept, Levelled, above, beside, on_heap};
+use crate::kept::{Kept, Levelled, above, beside};
 use sql_lex::Keyword;
 use sql_tree::{Aggregate, Arm, Expr, FromClause, Limit, OrderItem, Select, Selection};
 use std::alloc::Global;
 use val_types::{Agg, BinOp, Boxed, Bytes, List, NoMemory, UnOp};
+
+/// A node made of kept parts, on the heap, with their levels.
+macro_rules! node {
+    ($alloc:expr, $kept:expr, $parts:pat => $node:expr) => {{
+        let Some(k) = $kept else {
+            return Ok(None);
+        };
+        let $parts = k.part;
+        let part = Boxed::new($alloc, $node)?;
+        let levels = k.levels;
+        Ok(Some(Levelled { part, levels }))
+    }};
+}
+
+/// Another part made of kept parts, with their levels.
+macro_rules! held {
+    ($kept:expr, $parts:pat => $part:expr) => {{
+        let k = $kept?;
+        let $parts = k.part;
+        let levels = k.levels;
+        let part = $part;
+        Some(Levelled { part, levels })
+    }};
+}
 
 /// A node without parts.
 pub fn leaf(alloc: Global, part: Expr) -> Result<Kept<Boxed<Expr>>, NoMemory>
@@ -33,12 +59,7 @@ pub fn unary(alloc: Global, op: UnOp, a: Kept<Boxed<Expr>>) -> Result<Kept<Boxed
     ensures { IfOk result (λ k. (t : Tree) → IsKept view_tree depth_of_tree t a
         → IsKept view_tree depth_of_tree (tree.unary op t) k) }
 {
-    let Some(k) = above(a) else {
-        return Ok(None);
-    };
-    let part = Boxed::new(alloc, Expr::Unary(op, k.part))?;
-    let levels = k.levels;
-    Ok(Some(Levelled { part, levels }))
+    node!(alloc, above(a), a => Expr::Unary(op, a))
 }
 
 /// An operator between two operands.
@@ -52,13 +73,7 @@ pub fn binary(
         → IsKept view_tree depth_of_tree t a → IsKept view_tree depth_of_tree u b
         → IsKept view_tree depth_of_tree (tree.binary op t u) k) }
 {
-    let Some(k) = above(beside(a, b)) else {
-        return Ok(None);
-    };
-    let (a, b) = k.part;
-    let part = Boxed::new(alloc, Expr::Binary(op, a, b))?;
-    let levels = k.levels;
-    Ok(Some(Levelled { part, levels }))
+    node!(alloc, above(beside(a, b)), (a, b) => Expr::Binary(op, a, b))
 }
 
 /// What stands behind the left operand of a comparison.
@@ -77,12 +92,7 @@ pub fn compared(op: BinOp, a: Kept<Boxed<Expr>>) -> Kept<Trial>
     ensures { (t : Tree) → IsKept view_tree depth_of_tree t a
         → IsKept view_trial depth_of_test (spec.compared op t) result }
 {
-    let k = a?;
-    let levels = k.levels;
-    Some(Levelled {
-        part: Trial::Compared(op, k.part),
-        levels,
-    })
+    held!(a, a => Trial::Compared(op, a))
 }
 
 /// IS NULL or IS NOT NULL.
@@ -100,12 +110,7 @@ pub fn among(negated: bool, items: Kept<List<Expr>>) -> Kept<Trial>
     ensures { (ts : Trees) → IsKept view_trees depth_of_trees ts items
         → IsKept view_trial depth_of_test (spec.among negated ts) result }
 {
-    let k = items?;
-    let levels = k.levels;
-    Some(Levelled {
-        part: Trial::Among(negated, k.part),
-        levels,
-    })
+    held!(items, a => Trial::Among(negated, a))
 }
 
 /// The left operand with what stands behind it.
@@ -140,18 +145,7 @@ fn is_in(
         → IsKept view_tree depth_of_tree t a → IsKept view_trees depth_of_trees ts items
         → IsKept view_tree depth_of_tree (tree.is_in negated t ts) k) }
 {
-    let Some(k) = above(beside(a, items)) else {
-        return Ok(None);
-    };
-    let (left, items) = k.part;
-    let test = Expr::In {
-        negated,
-        left,
-        items,
-    };
-    let part = Boxed::new(alloc, test)?;
-    let levels = k.levels;
-    Ok(Some(Levelled { part, levels }))
+    node!(alloc, above(beside(a, items)), (left, items) => Expr::In { negated, left, items })
 }
 
 /// CASE.
@@ -164,13 +158,7 @@ pub fn choice(
         → IsKept view_arms depth_of_arms as' arms → IsKept view_part depth_of_part o otherwise
         → IsKept view_tree depth_of_tree (tree.choice as' o) k) }
 {
-    let Some(k) = above(beside(arms, otherwise)) else {
-        return Ok(None);
-    };
-    let (arms, otherwise) = k.part;
-    let part = Boxed::new(alloc, Expr::Case { arms, otherwise })?;
-    let levels = k.levels;
-    Ok(Some(Levelled { part, levels }))
+    node!(alloc, above(beside(arms, otherwise)), (arms, otherwise) => Expr::Case { arms, otherwise })
 }
 
 /// A SELECT of one value, which stands in parentheses and is no level more.
@@ -178,12 +166,7 @@ pub fn subquery(alloc: Global, query: Kept<Boxed<Select>>) -> Result<Kept<Boxed<
     ensures { IfOk result (λ k. (q : Query) → IsKept view_query depth_of_query q query
         → IsKept view_tree depth_of_tree (tree.subquery q) k) }
 {
-    let Some(k) = query else {
-        return Ok(None);
-    };
-    let part = Boxed::new(alloc, Expr::Subquery(k.part))?;
-    let levels = k.levels;
-    Ok(Some(Levelled { part, levels }))
+    node!(alloc, query, a => Expr::Subquery(a))
 }
 
 /// EXISTS.
@@ -191,12 +174,7 @@ pub fn exists(alloc: Global, query: Kept<Boxed<Select>>) -> Result<Kept<Boxed<Ex
     ensures { IfOk result (λ k. (q : Query) → IsKept view_query depth_of_query q query
         → IsKept view_tree depth_of_tree (tree.exists q) k) }
 {
-    let Some(k) = above(query) else {
-        return Ok(None);
-    };
-    let part = Boxed::new(alloc, Expr::Exists(k.part))?;
-    let levels = k.levels;
-    Ok(Some(Levelled { part, levels }))
+    node!(alloc, above(query), a => Expr::Exists(a))
 }
 
 /// A call of a stored function.
@@ -208,13 +186,7 @@ pub fn call(
     ensures { IfOk result (λ k. (ts : Trees) → IsKept view_trees depth_of_trees ts arguments
         → IsKept view_tree depth_of_tree (tree.call name ts) k) }
 {
-    let Some(k) = above(arguments) else {
-        return Ok(None);
-    };
-    let arguments = k.part;
-    let part = Boxed::new(alloc, Expr::Call { name, arguments })?;
-    let levels = k.levels;
-    Ok(Some(Levelled { part, levels }))
+    node!(alloc, above(arguments), arguments => Expr::Call { name, arguments })
 }
 
 /// `FLOOR(RAND() * a)`
@@ -222,38 +194,7 @@ pub fn floor_rand(alloc: Global, a: Kept<Boxed<Expr>>) -> Result<Kept<Boxed<Expr
     ensures { IfOk result (λ k. (t : Tree) → IsKept view_tree depth_of_tree t a
         → IsKept view_tree depth_of_tree (tree.floor_rand t) k) }
 {
-    let Some(k) = above(a) else {
-        return Ok(None);
-    };
-    let part = Boxed::new(alloc, Expr::FloorRand(k.part))?;
-    let levels = k.levels;
-    Ok(Some(Levelled { part, levels }))
-}
-
-/// ABS.
-fn abs(alloc: Global, a: Kept<Boxed<Expr>>) -> Result<Kept<Boxed<Expr>>, NoMemory>
-    ensures { IfOk result (λ k. (t : Tree) → IsKept view_tree depth_of_tree t a
-        → IsKept view_tree depth_of_tree (tree.call_abs t) k) }
-{
-    let Some(k) = above(a) else {
-        return Ok(None);
-    };
-    let part = Boxed::new(alloc, Expr::Abs(k.part))?;
-    let levels = k.levels;
-    Ok(Some(Levelled { part, levels }))
-}
-
-/// LENGTH.
-fn length(alloc: Global, a: Kept<Boxed<Expr>>) -> Result<Kept<Boxed<Expr>>, NoMemory>
-    ensures { IfOk result (λ k. (t : Tree) → IsKept view_tree depth_of_tree t a
-        → IsKept view_tree depth_of_tree (tree.call_length t) k) }
-{
-    let Some(k) = above(a) else {
-        return Ok(None);
-    };
-    let part = Boxed::new(alloc, Expr::Length(k.part))?;
-    let levels = k.levels;
-    Ok(Some(Levelled { part, levels }))
+    node!(alloc, above(a), a => Expr::FloorRand(a))
 }
 
 /// A call of the built-in of one argument that a word names.
@@ -266,26 +207,12 @@ pub fn one_of(
         → IsKept view_tree depth_of_tree (spec.one_of word t) k) }
 {
     match word {
-        Some(Keyword::Length) => length(alloc, a),
-        _ => abs(alloc, a),
+        Some(Keyword::Length) => node!(alloc, above(a), a => Expr::Length(a)),
+        _ => node!(alloc, above(a), a => Expr::Abs(a)),
     }
 }
 
 /// A call of the built-in of one argument or more that a word names.
-fn many(word: Option<Keyword>, arguments: Kept<List<Expr>>) -> Kept<Expr>
-    ensures { (ts : Trees) → IsKept view_trees depth_of_trees ts arguments
-        → IsKept view_tree depth_of_tree (spec.many_of word ts) result }
-{
-    let k = above(arguments)?;
-    let part = match word {
-        Some(Keyword::Concat) => Expr::Concat(k.part),
-        _ => Expr::Coalesce(k.part),
-    };
-    let levels = k.levels;
-    Some(Levelled { part, levels })
-}
-
-/// The same call, on the heap.
 pub fn many_of(
     alloc: Global,
     word: Option<Keyword>,
@@ -294,8 +221,10 @@ pub fn many_of(
     ensures { IfOk result (λ k. (ts : Trees) → IsKept view_trees depth_of_trees ts arguments
         → IsKept view_tree depth_of_tree (spec.many_of word ts) k) }
 {
-    let call = on_heap(alloc, many(word, arguments))?;
-    Ok(call)
+    match word {
+        Some(Keyword::Concat) => node!(alloc, above(arguments), list => Expr::Concat(list)),
+        _ => node!(alloc, above(arguments), list => Expr::Coalesce(list)),
+    }
 }
 
 /// IFNULL.
@@ -305,15 +234,9 @@ pub fn ifnull(
 ) -> Result<Kept<Boxed<Expr>>, NoMemory>
     ensures { IfOk result (λ k. (ts : Tree × Tree)
         → IsKept (view_beside view_tree view_tree) (depth_beside depth_of_tree depth_of_tree) ts two
-        → IsKept view_tree depth_of_tree (tree.call_ifnull ts.0 ts.1) k) }
+        → IsKept view_tree depth_of_tree (on_two functions.IfNull ts.0 ts.1) k) }
 {
-    let Some(k) = above(two) else {
-        return Ok(None);
-    };
-    let (a, b) = k.part;
-    let part = Boxed::new(alloc, Expr::IfNull(a, b))?;
-    let levels = k.levels;
-    Ok(Some(Levelled { part, levels }))
+    node!(alloc, above(two), (a, b) => Expr::IfNull(a, b))
 }
 
 /// The parts of a call of three arguments.
@@ -324,15 +247,9 @@ pub fn choose(alloc: Global, three: Kept<Three>) -> Result<Kept<Boxed<Expr>>, No
     ensures { IfOk result (λ k. (ts : Tree × (Tree × Tree))
         → IsKept (view_beside view_tree (view_beside view_tree view_tree))
         (depth_beside depth_of_tree (depth_beside depth_of_tree depth_of_tree)) ts three
-        → IsKept view_tree depth_of_tree (tree.call_if ts.0 ts.1.0 ts.1.1) k) }
+        → IsKept view_tree depth_of_tree (on_three functions.If ts.0 ts.1.0 ts.1.1) k) }
 {
-    let Some(k) = above(three) else {
-        return Ok(None);
-    };
-    let (a, (b, c)) = k.part;
-    let part = Boxed::new(alloc, Expr::If(a, b, c))?;
-    let levels = k.levels;
-    Ok(Some(Levelled { part, levels }))
+    node!(alloc, above(three), (a, (b, c)) => Expr::If(a, b, c))
 }
 
 /// SUBSTRING.
@@ -340,15 +257,9 @@ pub fn substring(alloc: Global, three: Kept<Three>) -> Result<Kept<Boxed<Expr>>,
     ensures { IfOk result (λ k. (ts : Tree × (Tree × Tree))
         → IsKept (view_beside view_tree (view_beside view_tree view_tree))
         (depth_beside depth_of_tree (depth_beside depth_of_tree depth_of_tree)) ts three
-        → IsKept view_tree depth_of_tree (tree.call_substring ts.0 ts.1.0 ts.1.1) k) }
+        → IsKept view_tree depth_of_tree (on_three functions.Substring ts.0 ts.1.0 ts.1.1) k) }
 {
-    let Some(k) = above(three) else {
-        return Ok(None);
-    };
-    let (a, (b, c)) = k.part;
-    let part = Boxed::new(alloc, Expr::Substring(a, b, c))?;
-    let levels = k.levels;
-    Ok(Some(Levelled { part, levels }))
+    node!(alloc, above(three), (a, (b, c)) => Expr::Substring(a, b, c))
 }
 
 /// An expression that may be left out, and is.
@@ -366,10 +277,7 @@ pub fn part(a: Kept<Boxed<Expr>>) -> Kept<Option<Boxed<Expr>>>
     ensures { (t : Tree) → IsKept view_tree depth_of_tree t a
         → IsKept view_part depth_of_part (tree.part t) result }
 {
-    let k = a?;
-    let part = Some(k.part);
-    let levels = k.levels;
-    Some(Levelled { part, levels })
+    held!(a, a => Some(a))
 }
 
 /// A WHEN of a CASE.
@@ -382,17 +290,10 @@ pub fn arm(
         → IsKept view_tree depth_of_tree t condition → IsKept view_tree depth_of_tree u value
         → IsKept view_arm (depth_beside depth_of_tree depth_of_tree) (t, u) k) }
 {
-    let Some(k) = beside(condition, value) else {
-        return Ok(None);
-    };
-    let (condition, value) = k.part;
-    let arm = Arm {
+    node!(alloc, beside(condition, value), (condition, value) => Arm {
         condition: condition.into_inner(),
         value: value.into_inner(),
-    };
-    let part = Boxed::new(alloc, arm)?;
-    let levels = k.levels;
-    Ok(Some(Levelled { part, levels }))
+    })
 }
 
 /// ORDER BY's items, and whether they descend.
@@ -404,13 +305,7 @@ pub fn order_item(
     ensures { IfOk result (λ k. (t : Tree) → IsKept view_tree depth_of_tree t by
         → IsKept view_order (λ o. depth_of_tree o.0) (t, descending) k) }
 {
-    let Some(k) = by else {
-        return Ok(None);
-    };
-    let by = k.part.into_inner();
-    let part = Boxed::new(alloc, OrderItem { by, descending })?;
-    let levels = k.levels;
-    Ok(Some(Levelled { part, levels }))
+    node!(alloc, by, by => OrderItem { by: by.into_inner(), descending })
 }
 
 /// An aggregate of an expression.
@@ -418,12 +313,7 @@ pub fn aggregate(function: Agg, a: Kept<Boxed<Expr>>) -> Kept<Aggregate>
     ensures { (t : Tree) → IsKept view_tree depth_of_tree t a
         → IsKept view_aggregate depth_of_aggregate (Some (function, t)) result }
 {
-    let k = above(a)?;
-    let levels = k.levels;
-    Some(Levelled {
-        part: Aggregate::Of(function, k.part),
-        levels,
-    })
+    held!(above(a), a => Aggregate::Of(function, a))
 }
 
 /// `COUNT(*)`
@@ -441,12 +331,7 @@ pub fn items(list: Kept<List<Expr>>) -> Kept<Selection>
     ensures { (ts : Trees) → IsKept view_trees depth_of_trees ts list
         → IsKept view_selected depth_of_selected (tree.items ts) result }
 {
-    let k = list?;
-    let levels = k.levels;
-    Some(Levelled {
-        part: Selection::Items(k.part),
-        levels,
-    })
+    held!(list, a => Selection::Items(a))
 }
 
 /// What a SELECT gives: all columns.
@@ -464,12 +349,7 @@ pub fn aggregates(list: Kept<List<Aggregate>>) -> Kept<Selection>
     ensures { (as' : Aggregates) → IsKept view_aggregates depth_of_aggregates as' list
         → IsKept view_selected depth_of_selected (tree.aggregates as') result }
 {
-    let k = list?;
-    let levels = k.levels;
-    Some(Levelled {
-        part: Selection::Aggregates(k.part),
-        levels,
-    })
+    held!(list, a => Selection::Aggregates(a))
 }
 
 /// ORDER BY and LIMIT.
@@ -480,12 +360,7 @@ pub fn ordering(order: Kept<List<OrderItem>>, limit: Option<Limit>) -> Kept<Orde
     ensures { (os : Orders) → IsKept view_orders depth_of_orders os order
         → IsKept (view_beside view_orders (λ l. l)) (λ o. depth_of_orders o.0) (os, limit) result }
 {
-    let k = order?;
-    let levels = k.levels;
-    Some(Levelled {
-        part: (k.part, limit),
-        levels,
-    })
+    held!(order, a => (a, limit))
 }
 
 /// WHERE, ORDER BY and LIMIT.
@@ -498,19 +373,7 @@ pub fn from_clause(table: Bytes, conditions: Kept<Conditions>) -> Kept<Option<Fr
         (depth_beside depth_of_part (λ o. depth_of_orders o.0)) c conditions
         → IsKept view_origin depth_of_origin (origin_of table c) result }
 {
-    let k = conditions?;
-    let (filter, (order, limit)) = k.part;
-    let levels = k.levels;
-    let from = FromClause {
-        table,
-        filter,
-        order,
-        limit,
-    };
-    Some(Levelled {
-        part: Some(from),
-        levels,
-    })
+    held!(conditions, (filter, (order, limit)) => Some(FromClause { table, filter, order, limit }))
 }
 
 /// The FROM part of a SELECT of aggregates.
@@ -522,19 +385,12 @@ pub fn plain_from(
     ensures { (w : Part) → IsKept view_part depth_of_part w filter
         → IsKept view_origin depth_of_origin (tree.from_table table w tree.no_order None) result }
 {
-    let k = filter?;
-    let filter = k.part;
-    let levels = k.levels;
-    let from = FromClause {
+    held!(filter, filter => Some(FromClause {
         table,
         filter,
         order: List::new(alloc),
         limit: None,
-    };
-    Some(Levelled {
-        part: Some(from),
-        levels,
-    })
+    }))
 }
 
 /// No FROM part.
@@ -557,11 +413,5 @@ pub fn select(
         → IsKept view_selected depth_of_selected s what → IsKept view_origin depth_of_origin o from
         → IsKept view_query depth_of_query (tree.query s o) k) }
 {
-    let Some(k) = above(beside(what, from)) else {
-        return Ok(None);
-    };
-    let (what, from) = k.part;
-    let part = Boxed::new(alloc, Select { what, from })?;
-    let levels = k.levels;
-    Ok(Some(Levelled { part, levels }))
+    node!(alloc, above(beside(what, from)), (what, from) => Select { what, from })
 }

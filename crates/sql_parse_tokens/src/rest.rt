@@ -57,7 +57,7 @@ impl<'t> Rest<'t> {
         ensures { result ≡ split_first self.now }
     {
         let (first, lexemes) = self.lexemes.split_first()?;
-        let word = Word::new(self.text, *first);
+        let word = Word::new(self.text, first);
         Some((first.sort.kind(), word, Rest::new(self.text, lexemes)))
     }
 

@@ -13,7 +13,7 @@ use val_types::{Bytes, List, NoMemory};
 #[derive(Drop)]
 pub struct Word<'t> {
     text: &'t [u8],
-    lexeme: Lexeme,
+    lexeme: &'t Lexeme,
 }
 
 impl<'t> Model for Word<'t> {
@@ -23,13 +23,13 @@ impl<'t> Model for Word<'t> {
 
     ghost use Rattle.sql_parse_tokens.specs.Lexemes.{tok_of};
 
-    ghost view = { λ w. tok_of w.text.now w.lexeme };
+    ghost view = { λ w. tok_of w.text.now w.lexeme.now };
 }
 
 impl<'t> Word<'t> {
     /// A token of this text.
-    pub fn new(text: &'t [u8], lexeme: Lexeme) -> Word<'t>
-        ensures { result ≡ tok_of text.now lexeme }
+    pub fn new(text: &'t [u8], lexeme: &'t Lexeme) -> Word<'t>
+        ensures { result ≡ tok_of text.now lexeme.now }
     {
         Word { text, lexeme }
     }
@@ -38,7 +38,7 @@ impl<'t> Word<'t> {
     pub fn name(&self, alloc: Global) -> Result<Bytes, NoMemory>
         ensures { IfOk result (λ name. name ≡ spec.name_said self.now) }
     {
-        let Lexeme { sort, at, end } = self.lexeme;
+        let Lexeme { sort, at, end } = *self.lexeme;
         match sort {
             Sort::Key(k) => List::from_slice(alloc, k.word()),
             Sort::Name => {
@@ -57,7 +57,7 @@ impl<'t> Word<'t> {
     pub fn text(&self, alloc: Global) -> Result<Bytes, NoMemory>
         ensures { IfOk result (λ bytes. bytes ≡ spec.text_said self.now) }
     {
-        let Lexeme { sort, at, end } = self.lexeme;
+        let Lexeme { sort, at, end } = *self.lexeme;
         let kind = TokenKind::Text;
         match sort {
             Sort::Text => text_of(alloc, self.text, Token { kind, at, end }),

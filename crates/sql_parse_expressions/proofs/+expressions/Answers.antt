@@ -3,21 +3,23 @@ use Rattle.sql_lex.specs.declared.keyword.Keyword.TheVariants as words
 use Rattle.sql_lex.specs.declared.token.Symbol.TheVariants as signs
 use Rattle.val_types.specs.declared.ops.UnOp.TheVariants.{Negate, Not}
 use Rattle.sql_grammar.specs.Rule.{mapped, alone, both, behind, paired}
-use Rattle.sql_tree.specs.Tree.{unary, exists, call, call_if, call_ifnull, call_substring, choice, floor_rand, no_tree, no_part, part, subquery, query, items, tree, all_columns, aggregates, no_order, no_origin, from_table}
+use Rattle.val_types.specs.declared.ops.Func.TheVariants as functions
+use Rattle.sql_tree.specs.BuiltIns.{on_two, on_three}
+use Rattle.sql_tree.specs.Tree.{unary, exists, call, choice, floor_rand, no_tree, no_part, part, subquery, query, items, tree, all_columns, aggregates, no_order, no_origin, from_table}
 use Rattle.sql_tree.specs.View.{view_tree, view_trees, view_arm, view_arms, view_part, view_query, view_order, view_orders, view_aggregate, view_aggregates, trees_of, arms_of, orders_of, aggregates_of}
-use Rattle.sql_tree.specs.Depth.{depth_of_tree, depth_of_trees, depth_of_arms, depth_of_part, depth_of_query, depth_of_orders, depth_of_aggregates}
+use Rattle.sql_tree.specs.Depth.{depth_of_tree, depth_of_trees, depth_of_arms, depth_of_part, depth_of_query, depth_of_orders, depth_of_aggregates, deepest}
 use Rattle.sql_syntax.specs.Tokens.{code, sign_code, keyword, keyword_said, name_said}
 use Rattle.sql_parse_tokens.specs.Gives.{Fails}
-use Rattle.sql_parse_nodes.specs.Kept.{deepest, view_beside, depth_beside, depth_of_aggregate}
+use Rattle.sql_parse_nodes.specs.Kept.{view_beside, depth_beside, depth_of_aggregate}
 use Rattle.sql_syntax.specs.Parts.{list_of, exprs, closed, arguments, in_parentheses}
 use Rattle.sql_syntax.specs.Selects.{selected, single_selected, agg, counted, direction, origin_of}
 use Rattle.sql_syntax.specs.Expressions.{nested, disjunction, conjunction, comparison, sum, product, among, null_test, compared, grouped, case_body, two_arguments, three_arguments, as_three, when_arm, when_arms, random, with_one, with_some, one_of, many_of}
 use Rattle.sql_parse_expressions.proofs.BuiltIns.{keeps_tail, called_as}
 use Rattle.sql_parse_nodes.proofs.KeptLaws.{kept_alone, kept_beside, kept_push, kept_seen, keeps_mapped}
 use Rattle.sql_parse_expressions.proofs.NestedLaws.{whole_is, negation_is, prefix_is, select_is, single_is, two_as, three_as}
-use Rattle.sql_parse_nodes.proofs.Openings.{again, opened_as, keeps_behind, keeps_opened}
+use Rattle.sql_parse_nodes.proofs.Openings.{opened_as, keeps_behind, keeps_opened}
 use Rattle.sql_parse_nodes.proofs.TreeLists.{deepest_trees, deepest_arms, deepest_orders, deepest_aggregates}
-use Rattle.sql_parse_tokens.proofs.Reading.{fails_behind}
+use Rattle.sql_parse_tokens.proofs.Reading.{again, fails_behind}
 use Rattle.sql_parse_nodes.proofs.Turns.{turns_begin, turns_stop, turns_fail, turns_on, turns_end}
 use Rattle.sql_parse_expressions.proofs.+expressions.Goals as goal
 
@@ -283,14 +285,14 @@ primaries::when_arms-returns t c = turns_end _ _ _ _ _ _ _ _ _ _ c.loop-turn.inv
 pub primaries::if_call-returns-in_err-three : goal.primaries::if_call-returns-in_err-three
 primaries::if_call-returns-in_err-three t c =
     let m = c.in_ok-inside.inside in
-    rw (c.in_ok-rest.ensures, opened_as c.args.depth (sign_code signs.Open) (λ a. a) (λ m. three_arguments call_if (nested m).whole) c.in_ok-rest.rest, c.in_ok-inside.ensures.reads, three_as call_if (nested m).whole c.in_ok-inside.rest) (search rules)
+    rw (c.in_ok-rest.ensures, opened_as c.args.depth (sign_code signs.Open) (λ a. a) (λ m. three_arguments (on_three functions.If) (nested m).whole) c.in_ok-rest.rest, c.in_ok-inside.ensures.reads, three_as (on_three functions.If) (nested m).whole c.in_ok-inside.rest) (search rules)
 
 pub primaries::if_call-returns : goal.primaries::if_call-returns
 primaries::if_call-returns t c =
     let r = c.in_ok-three.ensures in
     let m = c.in_ok-inside.inside in (
-      call_if r.0.0 r.0.1.0 r.0.1.1,
-      rw (c.in_ok-rest.ensures, opened_as c.args.depth (sign_code signs.Open) (λ a. a) (λ m. three_arguments call_if (nested m).whole) c.in_ok-rest.rest, c.in_ok-inside.ensures.reads, three_as call_if (nested m).whole c.in_ok-inside.rest, r.1) refl,
+      on_three functions.If r.0.0 r.0.1.0 r.0.1.1,
+      rw (c.in_ok-rest.ensures, opened_as c.args.depth (sign_code signs.Open) (λ a. a) (λ m. three_arguments (on_three functions.If) (nested m).whole) c.in_ok-rest.rest, c.in_ok-inside.ensures.reads, three_as (on_three functions.If) (nested m).whole c.in_ok-inside.rest, r.1) refl,
       c.in_ok-choose.ensures r.0 r.2,
     )
 
@@ -335,30 +337,30 @@ calls::with_some-returns t c =
     )
 
 pub calls::ifnull_call-returns-then-not-is_mark : goal.calls::ifnull_call-returns-then-not-is_mark
-calls::ifnull_call-returns-then-not-is_mark t c = keeps_tail (code words.Ifnull ∷ []) (λ t a. a) c.args.depth (two_arguments call_ifnull (nested (pred c.args.depth)).whole) _ c.args.rest _ _ c.in_ok-word.ensures c.if-not-is_mark.ensures c.column.ensures
+calls::ifnull_call-returns-then-not-is_mark t c = keeps_tail (code words.Ifnull ∷ []) (λ t a. a) c.args.depth (two_arguments (on_two functions.IfNull) (nested (pred c.args.depth)).whole) _ c.args.rest _ _ c.in_ok-word.ensures c.if-not-is_mark.ensures c.column.ensures
 
 pub calls::ifnull_call-returns-in_err-two : goal.calls::ifnull_call-returns-in_err-two
-calls::ifnull_call-returns-in_err-two t c = rw (called_as (code words.Ifnull ∷ []) (λ t a. a) c.args.depth c.in_ok-inside.inside (λ m. two_arguments call_ifnull (nested m).whole) c.args.rest _ _ _ c.in_ok-word.ensures c.if-not-is_mark.ensures c.in_ok-inside.ensures.reads, two_as call_ifnull (nested c.in_ok-inside.inside).whole c.in_ok-inside.rest) (search rules)
+calls::ifnull_call-returns-in_err-two t c = rw (called_as (code words.Ifnull ∷ []) (λ t a. a) c.args.depth c.in_ok-inside.inside (λ m. two_arguments (on_two functions.IfNull) (nested m).whole) c.args.rest _ _ _ c.in_ok-word.ensures c.if-not-is_mark.ensures c.in_ok-inside.ensures.reads, two_as (on_two functions.IfNull) (nested c.in_ok-inside.inside).whole c.in_ok-inside.rest) (search rules)
 
 pub calls::ifnull_call-returns : goal.calls::ifnull_call-returns
 calls::ifnull_call-returns t c =
     let r = c.in_ok-two.ensures in (
-      call_ifnull r.0.0 r.0.1,
-      rw (called_as (code words.Ifnull ∷ []) (λ t a. a) c.args.depth c.in_ok-inside.inside (λ m. two_arguments call_ifnull (nested m).whole) c.args.rest _ _ _ c.in_ok-word.ensures c.if-not-is_mark.ensures c.in_ok-inside.ensures.reads, two_as call_ifnull (nested c.in_ok-inside.inside).whole c.in_ok-inside.rest, r.1) refl,
+      on_two functions.IfNull r.0.0 r.0.1,
+      rw (called_as (code words.Ifnull ∷ []) (λ t a. a) c.args.depth c.in_ok-inside.inside (λ m. two_arguments (on_two functions.IfNull) (nested m).whole) c.args.rest _ _ _ c.in_ok-word.ensures c.if-not-is_mark.ensures c.in_ok-inside.ensures.reads, two_as (on_two functions.IfNull) (nested c.in_ok-inside.inside).whole c.in_ok-inside.rest, r.1) refl,
       c.in_ok-ifnull.ensures r.0 r.2,
     )
 
 pub calls::substring_call-returns-then-not-is_mark : goal.calls::substring_call-returns-then-not-is_mark
-calls::substring_call-returns-then-not-is_mark t c = keeps_tail (code words.Substring ∷ []) (λ t a. a) c.args.depth (three_arguments call_substring (nested (pred c.args.depth)).whole) _ c.args.rest _ _ c.in_ok-word.ensures c.if-not-is_mark.ensures c.column.ensures
+calls::substring_call-returns-then-not-is_mark t c = keeps_tail (code words.Substring ∷ []) (λ t a. a) c.args.depth (three_arguments (on_three functions.Substring) (nested (pred c.args.depth)).whole) _ c.args.rest _ _ c.in_ok-word.ensures c.if-not-is_mark.ensures c.column.ensures
 
 pub calls::substring_call-returns-in_err-three : goal.calls::substring_call-returns-in_err-three
-calls::substring_call-returns-in_err-three t c = rw (called_as (code words.Substring ∷ []) (λ t a. a) c.args.depth c.in_ok-inside.inside (λ m. three_arguments call_substring (nested m).whole) c.args.rest _ _ _ c.in_ok-word.ensures c.if-not-is_mark.ensures c.in_ok-inside.ensures.reads, three_as call_substring (nested c.in_ok-inside.inside).whole c.in_ok-inside.rest) (search rules)
+calls::substring_call-returns-in_err-three t c = rw (called_as (code words.Substring ∷ []) (λ t a. a) c.args.depth c.in_ok-inside.inside (λ m. three_arguments (on_three functions.Substring) (nested m).whole) c.args.rest _ _ _ c.in_ok-word.ensures c.if-not-is_mark.ensures c.in_ok-inside.ensures.reads, three_as (on_three functions.Substring) (nested c.in_ok-inside.inside).whole c.in_ok-inside.rest) (search rules)
 
 pub calls::substring_call-returns : goal.calls::substring_call-returns
 calls::substring_call-returns t c =
     let r = c.in_ok-three.ensures in (
-      call_substring r.0.0 r.0.1.0 r.0.1.1,
-      rw (called_as (code words.Substring ∷ []) (λ t a. a) c.args.depth c.in_ok-inside.inside (λ m. three_arguments call_substring (nested m).whole) c.args.rest _ _ _ c.in_ok-word.ensures c.if-not-is_mark.ensures c.in_ok-inside.ensures.reads, three_as call_substring (nested c.in_ok-inside.inside).whole c.in_ok-inside.rest, r.1) refl,
+      on_three functions.Substring r.0.0 r.0.1.0 r.0.1.1,
+      rw (called_as (code words.Substring ∷ []) (λ t a. a) c.args.depth c.in_ok-inside.inside (λ m. three_arguments (on_three functions.Substring) (nested m).whole) c.args.rest _ _ _ c.in_ok-word.ensures c.if-not-is_mark.ensures c.in_ok-inside.ensures.reads, three_as (on_three functions.Substring) (nested c.in_ok-inside.inside).whole c.in_ok-inside.rest, r.1) refl,
       c.in_ok-substring.ensures r.0 r.2,
     )
 

@@ -6,9 +6,9 @@ use Rattle.sql_grammar.specs.Rule.{behind, both, paired, token, then_one}
 use Rattle.sql_grammar.specs.Sets.{next_in}
 use Rattle.sql_tree.specs.Tree.{binary}
 use Rattle.sql_tree.specs.View.{view_tree, view_arm, view_aggregate, view_order}
-use Rattle.sql_tree.specs.Depth.{depth_of_tree}
+use Rattle.sql_tree.specs.Depth.{depth_of_tree, deepest}
 use Rattle.sql_syntax.specs.Tokens.{kind, code, sign_code, keyword, sign}
-use Rattle.sql_parse_nodes.specs.Kept.{deepest, depth_beside, depth_of_aggregate}
+use Rattle.sql_parse_nodes.specs.Kept.{depth_beside, depth_of_aggregate}
 use Rattle.sql_syntax.specs.Parts.{list_of}
 use Rattle.sql_syntax.specs.Expressions.{nested, conjunction, disjunction, comparison, test, tested, test_kinds, applied, sum, sum_ops, sum_op, product, product_ops, is_percent, when_arm, when_arms}
 use Rattle.sql_syntax.specs.Selects.{agg, direction}

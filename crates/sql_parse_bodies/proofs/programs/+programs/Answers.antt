@@ -4,11 +4,11 @@ use Rattle.sql_lex.specs.declared.token.Symbol.TheVariants as signs
 use Rattle.sql_grammar.specs.Reader.{Read}
 use Rattle.sql_grammar.specs.Rule.{any_of, before, behind, both}
 use Rattle.sql_grammar.specs.Sets.{next_in}
-use Rattle.sql_tree.specs.Depth.{depth_of, depth_of_statements}
+use Rattle.sql_tree.specs.Depth.{depth_of, depth_of_statements, deepest}
 use Rattle.sql_tree.specs.Statement.{Statements, block, if_steps, while_steps, no_else, else_steps}
 use Rattle.sql_tree.specs.StatementView.{view, view_branch, view_statements}
 use Rattle.sql_parse_tokens.specs.Gives.{Fails}
-use Rattle.sql_parse_nodes.specs.Kept.{Keeps, deepest}
+use Rattle.sql_parse_nodes.specs.Kept.{Keeps}
 use Rattle.sql_parse_bodies.specs.KeptParts.{depth_of_branch}
 use Rattle.sql_syntax.specs.Programs.{a_branch, a_step, block_body, branches, branches_of, if_body, inner, inner_words, more_steps, next_branch, otherwise, statements_of, steps', steps_if, while_body, with_heads}
 use Rattle.sql_syntax.specs.Tokens.{Tok, code, keyword, kind, sign}

@@ -1,10 +1,10 @@
 use Rattle.std.proofs.Common.{◌≡◌, ◌+◌, ◌-◌, ◌*◌, [], ◌∷◌, List, length, map}
 use Rattle.sql_lex.specs.declared.keyword.Keyword.TheVariants as words
 use Rattle.sql_grammar.specs.Sets.{next_in}
-use Rattle.sql_tree.specs.Depth.{depth_of}
+use Rattle.sql_tree.specs.Depth.{depth_of, deepest}
 use Rattle.sql_tree.specs.Statement.{Statement}
 use Rattle.sql_tree.specs.StatementView.{view, view_branch}
-use Rattle.sql_parse_nodes.specs.Kept.{IsKept, deepest}
+use Rattle.sql_parse_nodes.specs.Kept.{IsKept}
 use Rattle.sql_parse_bodies.specs.KeptParts.{depth_of_branch}
 use Rattle.sql_syntax.specs.Programs.{a_step, branches, inner, inner_words, more_steps, next_branch}
 use Rattle.sql_syntax.specs.Tokens.{code, kind}

@@ -1,7 +1,8 @@
 use Rattle.std.proofs.Common.{◌-◌, rules, arith}
 use Rattle.sql_syntax.specs.Sessions.{assignment}
 use Rattle.sql_parse_tokens.specs.Gives.{Fails}
-use Rattle.sql_parse_changes.specs.KeptParts.{view_assignment, depth_of_value}
+use Rattle.sql_tree.specs.Depth.{depth_of_value}
+use Rattle.sql_tree.specs.StatementView.{view_assignment}
 use Rattle.sql_syntax.specs.Parts.{list_of}
 use Rattle.sql_parse_nodes.proofs.KeptLists.{listed_begin, listed_on, listed_stop, listed_end, listed_fail}
 use Rattle.sql_parse_changes.proofs.assignments.assignments.Goals as goal

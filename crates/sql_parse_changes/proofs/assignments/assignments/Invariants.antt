@@ -1,6 +1,7 @@
 use Rattle.std.proofs.Common.{◌-◌}
 use Rattle.sql_syntax.specs.Sessions.{assignment}
-use Rattle.sql_parse_changes.specs.KeptParts.{view_assignment, depth_of_value}
+use Rattle.sql_tree.specs.Depth.{depth_of_value}
+use Rattle.sql_tree.specs.StatementView.{view_assignment}
 use Rattle.sql_syntax.specs.Parts.{list_of}
 use Rattle.sql_parse_nodes.proofs.KeptLists.{Listed}
 use Rattle.sql_parse_changes.proofs.assignments.assignments.Given as goal

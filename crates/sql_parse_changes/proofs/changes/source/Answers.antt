@@ -1,6 +1,5 @@
 use Rattle.std.proofs.Common.{refl}
 use Rattle.sql_tree.specs.Statement.{rows, rows_of}
-use Rattle.sql_syntax.specs.Changes.{row_list}
 use Rattle.sql_parse_changes.proofs.ChangeNodes.{query_kept, rows_kept}
 use Rattle.sql_parse_changes.proofs.changes.source.Goals as goal
 
@@ -12,4 +11,4 @@ returns-then-is_key c =
 pub returns : goal.returns
 returns c =
     let r = c.in_ok-rows.ensures in
-    (rows (row_list r.0), rw (← c.if-is_key.ensures, c.in_ok-rest.ensures, r.1) refl, rw c.row_source.ensures (rows_kept r.0 c.in_ok-rows.rows r.2))
+    (rows r.0, rw (← c.if-is_key.ensures, c.in_ok-rest.ensures, r.1) refl, rw c.row_source.ensures (rows_kept r.0 c.in_ok-rows.rows r.2))

@@ -3,7 +3,7 @@ use Rattle.sql_lex.specs.declared.keyword.Keyword.TheVariants as words
 use Rattle.sql_syntax.specs.Tokens.{code}
 use Rattle.sql_syntax.specs.Expressions.{constant}
 use Rattle.sql_parse_expressions.proofs.BuiltIns.{keeps_tail, called_as}
-use Rattle.sql_parse_nodes.proofs.Openings.{again}
+use Rattle.sql_parse_tokens.proofs.Reading.{again}
 use Rattle.sql_parse_expressions.proofs.calls.name_const_call.Goals as goal
 
 pub returns-then-not-is_mark : goal.returns-then-not-is_mark
