@@ -22,6 +22,32 @@ pub struct Levelled<T> {
 /// a statement is read on, and never held.
 pub type Kept<T> = Option<Levelled<T>>;
 
+/// A node made of kept parts, on the heap, with their levels.
+#[macro_export]
+macro_rules! node {
+    ($alloc:expr, $kept:expr, $parts:pat => $node:expr) => {{
+        let Some(k) = $kept else {
+            return Ok(None);
+        };
+        let $parts = k.part;
+        let part = Boxed::new($alloc, $node)?;
+        let levels = k.levels;
+        Ok(Some(Levelled { part, levels }))
+    }};
+}
+
+/// Another part made of kept parts, with their levels.
+#[macro_export]
+macro_rules! held {
+    ($kept:expr, $parts:pat => $part:expr) => {{
+        let k = $kept?;
+        let $parts = k.part;
+        let levels = k.levels;
+        let part = $part;
+        Some(Levelled { part, levels })
+    }};
+}
+
 /// Two parts side by side.
 pub fn beside<A: Drop, B: Drop>(a: Kept<A>, b: Kept<B>) -> Kept<(A, B)>
     ensures { result ≡ spec.beside a b }

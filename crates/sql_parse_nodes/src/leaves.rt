@@ -11,14 +11,14 @@ ghost use Rattle.sql_tree.specs.Tree as tree;
 ghost use Rattle.sql_tree.specs.View.{view_tree};
 ghost use Rattle.std.specs.Prelude.{◌≡◌, IfOk};
 
-use sql_parse_tokens::fault::Stop;
 use crate::kept::Kept;
 use crate::nodes::leaf;
+use sql_lex::{Keyword, Symbol};
+use sql_parse_tokens::fault::Stop;
 use sql_parse_tokens::opening::open_mark;
 use sql_parse_tokens::parts::{a_name, a_text, a_value, negative_value, plain_value, system_name};
 use sql_parse_tokens::rest::Rest;
 use sql_parse_tokens::word::Word;
-use sql_lex::{Keyword, Symbol};
 use sql_tree::Expr;
 use std::alloc::Global;
 use val_types::{Boxed, Bytes, NoMemory};

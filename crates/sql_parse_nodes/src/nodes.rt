@@ -16,34 +16,11 @@ ghost use Rattle.val_types.specs.declared.ops.Func.TheVariants as functions;
 ghost use Rattle.sql_tree.specs.View.{view_tree, view_trees, view_arm, view_arms, view_part, view_query, view_selected, view_aggregate, view_aggregates, view_origin, view_order, view_orders};
 
 use crate::kept::{Kept, Levelled, above, beside};
+use crate::{held, node};
 use sql_lex::Keyword;
 use sql_tree::{Aggregate, Arm, Expr, FromClause, Limit, OrderItem, Select, Selection};
 use std::alloc::Global;
 use val_types::{Agg, BinOp, Boxed, Bytes, List, NoMemory, UnOp};
-
-/// A node made of kept parts, on the heap, with their levels.
-macro_rules! node {
-    ($alloc:expr, $kept:expr, $parts:pat => $node:expr) => {{
-        let Some(k) = $kept else {
-            return Ok(None);
-        };
-        let $parts = k.part;
-        let part = Boxed::new($alloc, $node)?;
-        let levels = k.levels;
-        Ok(Some(Levelled { part, levels }))
-    }};
-}
-
-/// Another part made of kept parts, with their levels.
-macro_rules! held {
-    ($kept:expr, $parts:pat => $part:expr) => {{
-        let k = $kept?;
-        let $parts = k.part;
-        let levels = k.levels;
-        let part = $part;
-        Some(Levelled { part, levels })
-    }};
-}
 
 /// A node without parts.
 pub fn leaf(alloc: Global, part: Expr) -> Result<Kept<Boxed<Expr>>, NoMemory>
@@ -197,6 +174,22 @@ pub fn floor_rand(alloc: Global, a: Kept<Boxed<Expr>>) -> Result<Kept<Boxed<Expr
     node!(alloc, above(a), a => Expr::FloorRand(a))
 }
 
+/// ABS.
+fn abs(alloc: Global, a: Kept<Boxed<Expr>>) -> Result<Kept<Boxed<Expr>>, NoMemory>
+    ensures { IfOk result (λ k. (t : Tree) → IsKept view_tree depth_of_tree t a
+        → IsKept view_tree depth_of_tree (on_one functions.Abs t) k) }
+{
+    node!(alloc, above(a), a => Expr::Abs(a))
+}
+
+/// LENGTH.
+fn length(alloc: Global, a: Kept<Boxed<Expr>>) -> Result<Kept<Boxed<Expr>>, NoMemory>
+    ensures { IfOk result (λ k. (t : Tree) → IsKept view_tree depth_of_tree t a
+        → IsKept view_tree depth_of_tree (on_one functions.Length t) k) }
+{
+    node!(alloc, above(a), a => Expr::Length(a))
+}
+
 /// A call of the built-in of one argument that a word names.
 pub fn one_of(
     alloc: Global,
@@ -207,9 +200,25 @@ pub fn one_of(
         → IsKept view_tree depth_of_tree (spec.one_of word t) k) }
 {
     match word {
-        Some(Keyword::Length) => node!(alloc, above(a), a => Expr::Length(a)),
-        _ => node!(alloc, above(a), a => Expr::Abs(a)),
+        Some(Keyword::Length) => length(alloc, a),
+        _ => abs(alloc, a),
     }
+}
+
+/// COALESCE.
+fn coalesce(alloc: Global, list: Kept<List<Expr>>) -> Result<Kept<Boxed<Expr>>, NoMemory>
+    ensures { IfOk result (λ k. (ts : Trees) → IsKept view_trees depth_of_trees ts list
+        → IsKept view_tree depth_of_tree (tree.built_in functions.Coalesce ts) k) }
+{
+    node!(alloc, above(list), list => Expr::Coalesce(list))
+}
+
+/// CONCAT.
+fn concat(alloc: Global, list: Kept<List<Expr>>) -> Result<Kept<Boxed<Expr>>, NoMemory>
+    ensures { IfOk result (λ k. (ts : Trees) → IsKept view_trees depth_of_trees ts list
+        → IsKept view_tree depth_of_tree (tree.built_in functions.Concat ts) k) }
+{
+    node!(alloc, above(list), list => Expr::Concat(list))
 }
 
 /// A call of the built-in of one argument or more that a word names.
@@ -222,8 +231,8 @@ pub fn many_of(
         → IsKept view_tree depth_of_tree (spec.many_of word ts) k) }
 {
     match word {
-        Some(Keyword::Concat) => node!(alloc, above(arguments), list => Expr::Concat(list)),
-        _ => node!(alloc, above(arguments), list => Expr::Coalesce(list)),
+        Some(Keyword::Concat) => concat(alloc, arguments),
+        _ => coalesce(alloc, arguments),
     }
 }
 

@@ -5,11 +5,11 @@ ghost use Rattle.sql_parse_tokens.specs.Gives.{Gives};
 ghost use Rattle.sql_syntax.specs.Tokens.{kind};
 ghost use Rattle.std.specs.Prelude.{◌≡◌, Some};
 
+use sql_lex::{Keyword, Symbol};
 use sql_parse_tokens::fault::Stop;
 use sql_parse_tokens::parts::{BROKEN_MINUS, TIGHT_MINUS};
 use sql_parse_tokens::rest::Rest;
 use sql_parse_tokens::word::Word;
-use sql_lex::{Keyword, Symbol};
 use val_types::{BinOp, UnOp};
 
 /// The kinds of the operators of the level of products.
