@@ -9,13 +9,13 @@ ghost use Rattle.sql_tree.specs.Depth.{depth_of};
 ghost use Rattle.sql_parse_tokens.specs.Lexemes.{seen};
 ghost use Rattle.sql_syntax.specs.Texts.{IsRefusedAt, IsTooDeep, reads};
 
-use sql_parse_tokens::fault::Stop;
+use crate::statements::statement;
+use sql_lex::lex_front;
 use sql_parse_nodes::kept::{Kept, Levelled};
+use sql_parse_tokens::fault::Stop;
 use sql_parse_tokens::lexeme::Lexeme;
 use sql_parse_tokens::lexing::lexemes;
 use sql_parse_tokens::rest::Rest;
-use crate::statements::statement;
-use sql_lex::lex_front;
 use sql_tree::Stmt;
 use std::alloc::{AllocError, Global};
 use thiserror::Error;

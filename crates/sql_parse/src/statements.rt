@@ -6,16 +6,16 @@ ghost use Rattle.sql_syntax.specs.Statements as spec;
 ghost use Rattle.sql_tree.specs.Depth.{depth_of};
 ghost use Rattle.sql_tree.specs.StatementView.{view};
 
+use sql_lex::Keyword;
 use sql_parse_bodies::bodies::with_kept_body;
-use sql_parse_changes::common::{common, leaf};
-use sql_parse_tokens::fault::Stop;
-use sql_parse_definitions::heads::a_head;
-use sql_parse_nodes::kept::{Kept, unboxed};
 use sql_parse_bodies::programs::inner;
-use sql_parse_tokens::rest::Rest;
+use sql_parse_changes::common::{common, leaf};
+use sql_parse_definitions::heads::a_head;
 use sql_parse_definitions::sessions::{begun, started};
 use sql_parse_definitions::tables::table;
-use sql_lex::Keyword;
+use sql_parse_nodes::kept::{Kept, unboxed};
+use sql_parse_tokens::fault::Stop;
+use sql_parse_tokens::rest::Rest;
 use sql_tree::Stmt;
 use std::alloc::Global;
 

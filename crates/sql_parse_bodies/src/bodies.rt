@@ -9,13 +9,14 @@ ghost use Rattle.sql_tree.specs.StatementView.{view, view_declarations, view_dec
 ghost use Rattle.sql_tree.specs.View.{view_part};
 ghost use Rattle.sql_tree.specs.declared.statements.Stmt.{Stmt};
 
+use sql_lex::{Keyword, Symbol};
+use sql_parse_definitions::types::a_type;
 use sql_parse_expressions::expressions::whole;
-use sql_parse_tokens::fault::Stop;
 use sql_parse_nodes::kept::{Kept, Levelled, above, beside, push};
+use sql_parse_nodes::{held, node};
+use sql_parse_tokens::fault::Stop;
 use sql_parse_tokens::parts::name_list;
 use sql_parse_tokens::rest::Rest;
-use sql_parse_definitions::types::a_type;
-use sql_lex::{Keyword, Symbol};
 use sql_syntax::Head;
 use sql_tree::{Branch, Declaration, Expr, Routine, SqlType, Stmt, TriggerDef};
 use std::alloc::Global;
@@ -95,9 +96,7 @@ pub fn with_heads(
 fn some_preset(value: Kept<Boxed<Expr>>) -> Kept<Option<Expr>>
     ensures { result ≡ in_place (λ e. Some e) value }
 {
-    let Levelled { part, levels } = value?;
-    let part = Some(part.into_inner());
-    Some(Levelled { part, levels })
+    held!(value, a => Some(a.into_inner()))
 }
 
 /// DEFAULT and its value, or nothing.
@@ -121,13 +120,11 @@ fn preset<'t>(
 fn declared(names: List<Bytes>, kind: SqlType, preset: Kept<Option<Expr>>) -> Kept<Declaration>
     ensures { result ≡ in_place (λ p. record { names = names; kind = kind; preset = p }) preset }
 {
-    let Levelled { part, levels } = preset?;
-    let part = Declaration {
+    held!(preset, a => Declaration {
         names,
         kind,
-        preset: part,
-    };
-    Some(Levelled { part, levels })
+        preset: a,
+    })
 }
 
 /// DECLARE and its semicolon.
@@ -176,12 +173,7 @@ pub fn blocked(
 ) -> Result<Kept<Boxed<Stmt>>, NoMemory>
     ensures { IfOk result (λ r. r ≡ in_place (λ p. Stmt.Block p.0 p.1) (above (beside declarations body))) }
 {
-    let Some(Levelled { part, levels }) = above(beside(declarations, body)) else {
-        return Ok(None);
-    };
-    let (declarations, body) = part;
-    let part = Boxed::new(alloc, Stmt::Block { declarations, body })?;
-    Ok(Some(Levelled { part, levels }))
+    node!(alloc, above(beside(declarations, body)), (declarations, body) => Stmt::Block { declarations, body })
 }
 
 /// A branch of an IF of these parts.
@@ -192,22 +184,14 @@ pub fn branched(
 ) -> Result<Kept<Boxed<Branch>>, NoMemory>
     ensures { IfOk result (λ r. r ≡ in_place (λ p. record { condition = p.0; steps = p.1 }) (beside condition steps)) }
 {
-    let Some(Levelled { part, levels }) = beside(condition, steps) else {
-        return Ok(None);
-    };
-    let (condition, steps) = part;
-    let condition = condition.into_inner();
-    let part = Boxed::new(alloc, Branch { condition, steps })?;
-    Ok(Some(Levelled { part, levels }))
+    node!(alloc, beside(condition, steps), (condition, steps) => Branch { condition: condition.into_inner(), steps })
 }
 
 /// Steps behind ELSE.
 pub fn some_steps(steps: Kept<List<Stmt>>) -> Kept<Option<List<Stmt>>>
     ensures { result ≡ in_place (λ ss. Some ss) steps }
 {
-    let Levelled { part, levels } = steps?;
-    let part = Some(part);
-    Some(Levelled { part, levels })
+    held!(steps, a => Some(a))
 }
 
 /// An IF of these parts.
@@ -218,12 +202,7 @@ pub fn chosen(
 ) -> Result<Kept<Boxed<Stmt>>, NoMemory>
     ensures { IfOk result (λ r. r ≡ in_place (λ p. Stmt.If p.0 p.1) (above (beside arms otherwise))) }
 {
-    let Some(Levelled { part, levels }) = above(beside(arms, otherwise)) else {
-        return Ok(None);
-    };
-    let (arms, otherwise) = part;
-    let part = Boxed::new(alloc, Stmt::If { arms, otherwise })?;
-    Ok(Some(Levelled { part, levels }))
+    node!(alloc, above(beside(arms, otherwise)), (arms, otherwise) => Stmt::If { arms, otherwise })
 }
 
 /// A WHILE of these parts.
@@ -234,22 +213,12 @@ pub fn repeated(
 ) -> Result<Kept<Boxed<Stmt>>, NoMemory>
     ensures { IfOk result (λ r. r ≡ in_place (λ p. Stmt.While p.0 p.1) (above (beside condition steps))) }
 {
-    let Some(Levelled { part, levels }) = above(beside(condition, steps)) else {
-        return Ok(None);
-    };
-    let (condition, steps) = part;
-    let condition = condition.into_inner();
-    let part = Boxed::new(alloc, Stmt::While { condition, steps })?;
-    Ok(Some(Levelled { part, levels }))
+    node!(alloc, above(beside(condition, steps)), (condition, steps) => Stmt::While { condition: condition.into_inner(), steps })
 }
 
 /// A RETURN of this value.
 pub fn returned(alloc: Global, value: Kept<Boxed<Expr>>) -> Result<Kept<Boxed<Stmt>>, NoMemory>
     ensures { IfOk result (λ r. r ≡ in_place (λ e. Stmt.Return e) (above value)) }
 {
-    let Some(Levelled { part, levels }) = above(value) else {
-        return Ok(None);
-    };
-    let part = Boxed::new(alloc, Stmt::Return(part.into_inner()))?;
-    Ok(Some(Levelled { part, levels }))
+    node!(alloc, above(value), a => Stmt::Return(a.into_inner()))
 }

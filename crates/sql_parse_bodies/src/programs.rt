@@ -14,17 +14,17 @@ ghost use Rattle.sql_tree.specs.StatementView.{view, view_branch, view_otherwise
 use crate::bodies::{
     blocked, branched, chosen, declarations, repeated, returned, some_steps, with_heads,
 };
-use sql_parse_tokens::closing::{before_end, before_key, before_mark};
+use sql_lex::{Keyword, Symbol};
 use sql_parse_changes::common::{common, leaf};
-use sql_parse_expressions::expressions::whole;
-use sql_parse_tokens::fault::Stop;
 use sql_parse_definitions::heads::a_head;
+use sql_parse_definitions::tables::table;
+use sql_parse_expressions::expressions::whole;
 use sql_parse_nodes::kept::{Kept, Levelled, alone_boxed, on_heap, push_boxed};
+use sql_parse_tokens::closing::{before_end, before_key, before_mark};
+use sql_parse_tokens::fault::Stop;
 use sql_parse_tokens::lexeme::code;
 use sql_parse_tokens::opening::opening;
 use sql_parse_tokens::rest::Rest;
-use sql_parse_definitions::tables::table;
-use sql_lex::{Keyword, Symbol};
 use sql_syntax::Head;
 use sql_tree::{Branch, Stmt};
 use std::alloc::Global;

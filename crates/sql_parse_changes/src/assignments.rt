@@ -14,16 +14,17 @@ ghost use Rattle.sql_tree.specs.Tree.{Tree};
 ghost use Rattle.sql_tree.specs.View.{view_tree, view_trees};
 ghost use Rattle.sql_tree.specs.declared.statements.Stmt.{Stmt};
 
+use sql_lex::{Keyword, Symbol};
+use sql_parse_definitions::sessions::{assigning, target};
 use sql_parse_expressions::calls::arguments;
 use sql_parse_expressions::expressions::{list, whole};
-use sql_parse_tokens::fault::Stop;
+use sql_parse_nodes::held;
 use sql_parse_nodes::kept::{Kept, Levelled, above, alone, push};
+use sql_parse_tokens::fault::Stop;
 use sql_parse_tokens::lexeme::sign_code;
 use sql_parse_tokens::opening::opening;
 use sql_parse_tokens::parts::a_name;
 use sql_parse_tokens::rest::Rest;
-use sql_parse_definitions::sessions::{assigning, target};
-use sql_lex::{Keyword, Symbol};
 use sql_tree::{Assignment, Expr, Stmt, Target};
 use std::alloc::Global;
 use val_types::{Boxed, Bytes, List, NoMemory, Value};
@@ -113,12 +114,10 @@ fn assigned<'t>(
 fn assignment_of(target: Target, value: Kept<Boxed<Expr>>) -> Kept<Assignment>
     ensures { result ≡ in_place (λ v. record { target = target; value = v }) value }
 {
-    let Levelled { part, levels } = value?;
-    let part = Assignment {
+    held!(value, a => Assignment {
         target,
-        value: part.into_inner(),
-    };
-    Some(Levelled { part, levels })
+        value: a.into_inner(),
+    })
 }
 
 /// A target, `=` or `:=`, and its value.
@@ -172,9 +171,7 @@ fn assignments<'t>(
 fn set_all(items: Kept<List<Assignment>>) -> Kept<Stmt>
     ensures { result ≡ in_place (λ items. Stmt.Set items) (above items) }
 {
-    let Levelled { part, levels } = above(items)?;
-    let part = Stmt::Set(part);
-    Some(Levelled { part, levels })
+    held!(above(items), a => Stmt::Set(a))
 }
 
 /// SET.
@@ -194,9 +191,7 @@ pub fn set<'t>(
 fn evaluated(values: Kept<List<Expr>>) -> Kept<Stmt>
     ensures { result ≡ in_place (λ values. Stmt.Do values) (above values) }
 {
-    let Levelled { part, levels } = above(values)?;
-    let part = Stmt::Do(part);
-    Some(Levelled { part, levels })
+    held!(above(values), a => Stmt::Do(a))
 }
 
 /// DO.
@@ -243,12 +238,10 @@ fn optional_arguments<'t>(
 fn called(name: Bytes, values: Kept<List<Expr>>) -> Kept<Stmt>
     ensures { result ≡ in_place (λ values. Stmt.Call name values) (above values) }
 {
-    let Levelled { part, levels } = above(values)?;
-    let part = Stmt::Call {
+    held!(above(values), a => Stmt::Call {
         name,
-        arguments: part,
-    };
-    Some(Levelled { part, levels })
+        arguments: a,
+    })
 }
 
 /// CALL.

@@ -6,7 +6,7 @@ ghost use Rattle.sql_syntax.specs.Changes as spec;
 ghost use Rattle.sql_syntax.specs.Expressions.{expression};
 ghost use Rattle.sql_parse_tokens.specs.Gives.{Gives};
 ghost use Rattle.sql_parse_nodes.specs.Kept.{Keeps, above, beside, in_place};
-ghost use Rattle.sql_syntax.specs.Parts.{closed, exprs, list_of};
+ghost use Rattle.sql_syntax.specs.Parts.{list_of};
 ghost use Rattle.sql_syntax.specs.Selects as selects;
 ghost use Rattle.sql_syntax.specs.Tokens.{sign};
 ghost use Rattle.sql_tree.specs.Depth.{depth_of, depth_of_part, depth_of_sets, depth_of_supply, depth_of_trees, deepest, depth_of_value};
@@ -20,16 +20,17 @@ ghost use Rattle.sql_tree.specs.declared.statements.UpdateStmt.{UpdateStmt};
 ghost use Rattle.sql_tree.specs.declared.statements.Source.{Source};
 ghost use Rattle.sql_tree.specs.declared.statements.Stmt.{Stmt};
 
-use sql_parse_expressions::expressions::{list, whole};
-use sql_parse_tokens::fault::Stop;
+use sql_lex::{Keyword, Symbol};
+use sql_parse_expressions::expressions::{closed_list, whole};
+use sql_parse_expressions::selects::{order, select};
+use sql_parse_nodes::held;
 use sql_parse_nodes::kept::{Kept, Levelled, above, alone, beside, push};
+use sql_parse_tokens::fault::Stop;
 use sql_parse_tokens::lexeme::sign_code;
 use sql_parse_tokens::limits::limit;
 use sql_parse_tokens::opening::opening;
 use sql_parse_tokens::parts::{a_name, names_in};
 use sql_parse_tokens::rest::Rest;
-use sql_parse_expressions::selects::{order, select};
-use sql_lex::{Keyword, Symbol};
 use sql_tree::{
     ColumnSet, Count, DeleteStmt, Expr, InsertStmt, OrderItem, ReplaceStmt, Source, Stmt,
     UpdateStmt,
@@ -48,12 +49,10 @@ fn nothing<T>(part: T) -> Kept<T>
 fn column_set(column: Bytes, value: Kept<Boxed<Expr>>) -> Kept<ColumnSet>
     ensures { result ≡ in_place (λ v. record { column = column; value = v }) value }
 {
-    let Levelled { part, levels } = value?;
-    let part = ColumnSet {
+    held!(value, a => ColumnSet {
         column,
-        value: part.into_inner(),
-    };
-    Some(Levelled { part, levels })
+        value: a.into_inner(),
+    })
 }
 
 /// A column, `=` and its value.
@@ -140,19 +139,6 @@ fn columns<'t>(
     Ok((Some(names), rest))
 }
 
-/// Expressions and the closing parenthesis.
-fn closed_row<'t>(
-    alloc: Global,
-    depth: u32,
-    rest: Rest<'t>,
-) -> Result<(Kept<List<Expr>>, Rest<'t>), Stop<'t>>
-    ensures { Keeps view_trees depth_of_trees result ((closed (exprs (expression depth))).read rest.entry) }
-{
-    let (row, rest) = list(alloc, depth, rest)?;
-    let ((), rest) = rest.skip_mark(Symbol::Close)?;
-    Ok((row, rest))
-}
-
 /// A row of VALUES.
 fn a_row<'t>(
     alloc: Global,
@@ -162,7 +148,7 @@ fn a_row<'t>(
     ensures { Keeps view_trees depth_of_trees result ((spec.a_row depth).read rest.entry) }
 {
     let (depth, rest) = opening(depth, sign_code(Symbol::Open), rest)?;
-    closed_row(alloc, depth, rest)
+    closed_list(alloc, depth, rest)
 }
 
 /// A comma and a row.
@@ -213,18 +199,14 @@ fn values_word<'t>(rest: Rest<'t>) -> Result<((), Rest<'t>), Stop<'t>>
 fn row_source(rows: Kept<List<List<Expr>>>) -> Kept<Source>
     ensures { result ≡ in_place (λ rs. Source.Rows rs) rows }
 {
-    let Levelled { part, levels } = rows?;
-    let part = Source::Rows(part);
-    Some(Levelled { part, levels })
+    held!(rows, a => Source::Rows(a))
 }
 
 /// A SELECT as the source of an INSERT.
 fn select_source(query: Kept<Boxed<sql_tree::Select>>) -> Kept<Source>
     ensures { result ≡ in_place (λ q. Source.Select q) query }
 {
-    let Levelled { part, levels } = query?;
-    let part = Source::Select(part.into_inner());
-    Some(Levelled { part, levels })
+    held!(query, a => Source::Select(a.into_inner()))
 }
 
 /// Where the rows of INSERT and REPLACE come from.
@@ -272,16 +254,13 @@ fn inserted(
 ) -> Kept<Stmt>
     ensures { result ≡ in_place (λ p. Stmt.Insert (record { ignore = ignore; table = table; columns = columns; source = p.0; update = p.1 })) (above (beside source update)) }
 {
-    let Levelled { part, levels } = above(beside(source, update))?;
-    let (source, update) = part;
-    let part = Stmt::Insert(InsertStmt {
+    held!(above(beside(source, update)), (source, update) => Stmt::Insert(InsertStmt {
         ignore,
         table,
         columns,
         source,
         update,
-    });
-    Some(Levelled { part, levels })
+    }))
 }
 
 /// INSERT.
@@ -301,13 +280,11 @@ fn insert<'t>(alloc: Global, depth: u32, rest: Rest<'t>) -> Result<(Kept<Stmt>, 
 fn replaced(table: Bytes, columns: Option<List<Bytes>>, source: Kept<Source>) -> Kept<Stmt>
     ensures { result ≡ in_place (λ s. Stmt.Replace (record { table = table; columns = columns; source = s })) (above source) }
 {
-    let Levelled { part, levels } = above(source)?;
-    let part = Stmt::Replace(ReplaceStmt {
+    held!(above(source), a => Stmt::Replace(ReplaceStmt {
         table,
         columns,
-        source: part,
-    });
-    Some(Levelled { part, levels })
+        source: a,
+    }))
 }
 
 /// REPLACE.
@@ -329,9 +306,7 @@ fn replace<'t>(
 fn some_filter(filter: Kept<Boxed<Expr>>) -> Kept<Option<Expr>>
     ensures { result ≡ in_place (λ e. Some e) filter }
 {
-    let Levelled { part, levels } = filter?;
-    let part = Some(part.into_inner());
-    Some(Levelled { part, levels })
+    held!(filter, a => Some(a.into_inner()))
 }
 
 /// WHERE and its condition, or nothing.
@@ -360,16 +335,13 @@ fn updated(
 ) -> Kept<Stmt>
     ensures { result ≡ in_place (λ p. Stmt.Update (record { table = table; sets = p.0; filter = p.1.0; order = p.1.1; limit = limit })) (above (beside sets (beside filter order))) }
 {
-    let Levelled { part, levels } = above(beside(sets, beside(filter, order)))?;
-    let (sets, (filter, order)) = part;
-    let part = Stmt::Update(UpdateStmt {
+    held!(above(beside(sets, beside(filter, order))), (sets, (filter, order)) => Stmt::Update(UpdateStmt {
         table,
         sets,
         filter,
         order,
         limit,
-    });
-    Some(Levelled { part, levels })
+    }))
 }
 
 /// UPDATE.
@@ -395,15 +367,12 @@ fn deleted(
 ) -> Kept<Stmt>
     ensures { result ≡ in_place (λ p. Stmt.Delete (record { table = table; filter = p.0; order = p.1; limit = limit })) (above (beside filter order)) }
 {
-    let Levelled { part, levels } = above(beside(filter, order))?;
-    let (filter, order) = part;
-    let part = Stmt::Delete(DeleteStmt {
+    held!(above(beside(filter, order)), (filter, order) => Stmt::Delete(DeleteStmt {
         table,
         filter,
         order,
         limit,
-    });
-    Some(Levelled { part, levels })
+    }))
 }
 
 /// DELETE.

@@ -8,12 +8,13 @@ ghost use Rattle.sql_tree.specs.declared.statements.Stmt.{Stmt};
 
 use crate::assignments::{call, do_exprs, set};
 use crate::changes::change;
-use sql_parse_tokens::fault::Stop;
-use sql_parse_nodes::kept::{Kept, Levelled};
-use sql_parse_tokens::rest::Rest;
-use sql_parse_expressions::selects::select;
-use sql_parse_definitions::sessions::{drop_named, transaction, truncated};
 use sql_lex::Keyword;
+use sql_parse_definitions::sessions::{drop_named, transaction, truncated};
+use sql_parse_expressions::selects::select;
+use sql_parse_nodes::held;
+use sql_parse_nodes::kept::{Kept, Levelled};
+use sql_parse_tokens::fault::Stop;
+use sql_parse_tokens::rest::Rest;
 use sql_tree::{Select, Stmt};
 use std::alloc::Global;
 use val_types::Boxed;
@@ -29,9 +30,7 @@ pub fn leaf(part: Stmt) -> Kept<Stmt>
 fn selected(query: Kept<Boxed<Select>>) -> Kept<Stmt>
     ensures { result ≡ in_place (λ q. Stmt.Select q) query }
 {
-    let Levelled { part, levels } = query?;
-    let part = Stmt::Select(part.into_inner());
-    Some(Levelled { part, levels })
+    held!(query, a => Stmt::Select(a.into_inner()))
 }
 
 /// A SELECT.

@@ -11,15 +11,15 @@ ghost use Rattle.sql_tree.specs.View.{view_tree, view_trees};
 ghost use Rattle.std.specs.Prelude.{Some, pred};
 
 use crate::expressions::{closed_list, prefix};
-use sql_parse_tokens::fault::Stop;
+use crate::primaries::{closed_whole, three_arguments, two_arguments};
+use sql_lex::{Keyword, Symbol};
 use sql_parse_nodes::kept::{Kept, empty};
 use sql_parse_nodes::leaves::{call_of, column, constant, plain_literal};
 use sql_parse_nodes::nodes::{call, floor_rand, ifnull, many_of, one_of, substring};
+use sql_parse_tokens::fault::Stop;
 use sql_parse_tokens::opening::open_mark;
 use sql_parse_tokens::parts::{NUMBER, TEXT};
-use crate::primaries::{closed_whole, three_arguments, two_arguments};
 use sql_parse_tokens::rest::Rest;
-use sql_lex::{Keyword, Symbol};
 use sql_tree::Expr;
 use std::alloc::Global;
 use val_types::{Boxed, List};

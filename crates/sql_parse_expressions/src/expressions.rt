@@ -7,18 +7,18 @@ ghost use Rattle.sql_tree.specs.Depth.{depth_of_tree, depth_of_trees};
 ghost use Rattle.sql_tree.specs.View.{view_tree, view_trees};
 ghost use Rattle.std.specs.Prelude.{pred};
 
-use sql_parse_tokens::fault::Stop;
+use crate::primaries::primary;
+use sql_lex::{Keyword, Symbol};
 use sql_parse_nodes::kept::{Kept, alone_boxed, push_boxed};
 use sql_parse_nodes::leaves::negative_literal;
 use sql_parse_nodes::nodes::{Trial, among, binary, compared, null_test, tested, unary};
-use sql_parse_tokens::opening::{open_key, open_mark};
 use sql_parse_nodes::operators::{
     PRODUCT_OPS, SUM_OPS, TEST_KINDS, comparison_op, nullness, product_op, sum_op,
 };
+use sql_parse_tokens::fault::Stop;
+use sql_parse_tokens::opening::{open_key, open_mark};
 use sql_parse_tokens::parts::TIGHT_MINUS;
-use crate::primaries::primary;
 use sql_parse_tokens::rest::Rest;
-use sql_lex::{Keyword, Symbol};
 use sql_tree::Expr;
 use std::alloc::Global;
 use val_types::{BinOp, Boxed, List, UnOp};

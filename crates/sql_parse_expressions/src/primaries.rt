@@ -15,14 +15,14 @@ ghost use Rattle.std.specs.Prelude.{map, pred};
 
 use crate::calls::by_name;
 use crate::expressions::whole;
-use sql_parse_tokens::fault::Stop;
+use crate::selects::{select, single};
+use sql_lex::{Keyword, Symbol};
 use sql_parse_nodes::kept::{Kept, alone_boxed, beside, push_boxed};
 use sql_parse_nodes::leaves::{system_variable, user_variable, values_call};
 use sql_parse_nodes::nodes::{Three, arm, choice, choose, exists, no_part, part, subquery};
+use sql_parse_tokens::fault::Stop;
 use sql_parse_tokens::opening::{open_key, open_mark};
 use sql_parse_tokens::rest::Rest;
-use crate::selects::{select, single};
-use sql_lex::{Keyword, Symbol};
 use sql_tree::{Arm, Expr};
 use std::alloc::Global;
 use val_types::{Boxed, List};

@@ -13,19 +13,19 @@ ghost use Rattle.sql_tree.specs.View.{view_tree, view_part, view_query, view_agg
 ghost use Rattle.std.specs.Prelude.{◌≡◌, ◌∷◌, [], Some, map, pred};
 
 use crate::expressions::{list, whole};
-use sql_parse_tokens::fault::Stop;
+use crate::primaries::closed_whole;
+use sql_lex::{Keyword, Symbol};
 use sql_parse_nodes::kept::{Kept, alone, alone_boxed, beside, empty, push, push_boxed};
-use sql_parse_tokens::limits::limits;
 use sql_parse_nodes::nodes;
 use sql_parse_nodes::nodes::{
     Conditions, Ordering, aggregate, aggregates, all_columns, count_all, from_clause, items,
     no_origin, no_part, order_item, part,
 };
+use sql_parse_tokens::fault::Stop;
+use sql_parse_tokens::limits::limits;
 use sql_parse_tokens::opening::open_mark;
 use sql_parse_tokens::parts::a_name;
-use crate::primaries::closed_whole;
 use sql_parse_tokens::rest::Rest;
-use sql_lex::{Keyword, Symbol};
 use sql_tree::{Aggregate, Expr, FromClause, OrderItem, Select};
 use std::alloc::Global;
 use val_types::{Agg, Boxed, List};

@@ -10,5 +10,5 @@ use Rattle.sql_parse_changes.proofs.changes.a_row.Goals as goal
 
 pub returns : goal.returns
 returns c =
-    opened_keeps view_trees depth_of_trees c.closed_row.result c.args.depth c.in_ok-depth.depth (any_of kind (sign_code signs.Open)) (λ d. closed (exprs (expression d))) c.args.rest c.in_ok-depth.rest
-    (rw c.sign_code.ensures at c.in_ok-depth.ensures.reads) c.in_ok-depth.ensures.one_less c.closed_row.ensures
+    opened_keeps view_trees depth_of_trees c.closed_list.result c.args.depth c.in_ok-depth.depth (any_of kind (sign_code signs.Open)) (λ d. closed (exprs (expression d))) c.args.rest c.in_ok-depth.rest
+    (rw c.sign_code.ensures at c.in_ok-depth.ensures.reads) c.in_ok-depth.ensures.one_less c.closed_list.ensures
