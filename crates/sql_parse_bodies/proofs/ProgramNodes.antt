@@ -39,9 +39,6 @@ statements_deep [] = refl
 statements_deep (s ∷ ss) = ap (λ n. max (depth_of s) n) (statements_deep ss)
 
 -- ---- parts
-pub preset_kept : (t : Tree) (k : Option (Levelled Expr)) → IsKept view_tree depth_of_tree t k → IsKept view_part depth_of_part (part t) (in_place (λ e. Some e) k)
-preset_kept t k h = kept_in_place view_tree depth_of_tree view_part depth_of_part part (λ e. Some e) (λ x. refl) t refl k h
-
 pub declaration_kept : (ns : List (List ℕ)) (kind : SqlType) (p : Part) (k : Option (Levelled (Option Expr))) → IsKept view_part depth_of_part p k
     → IsKept view_declaration depth_of_declared (declared_as ns (kind, p)) (in_place (λ p. record { names = ns; kind = kind; preset = p }) k)
 declaration_kept ns kind p k h =

@@ -1,18 +1,20 @@
 //! Programs round their bodies, and the parts of blocks, IF and WHILE.
-ghost use Rattle.std.specs.Prelude.{◌≡◌, IfOk, Some, map};
+ghost use Rattle.std.specs.Prelude.{◌≡◌, IfOk, Some};
 ghost use Rattle.sql_syntax.specs.Expressions.{expression};
 ghost use Rattle.sql_parse_nodes.specs.Kept.{IsKept, Keeps, above, beside, in_place};
 ghost use Rattle.sql_syntax.specs.Programs as spec;
-ghost use Rattle.sql_tree.specs.Depth.{depth_of, depth_of_declarations, depth_of_part, deepest, depth_of_declared};
+ghost use Rattle.sql_tree.specs.Depth.{depth_of, depth_of_declarations, depth_of_part, depth_of_declared};
 ghost use Rattle.sql_tree.specs.Statement.{Statement};
 ghost use Rattle.sql_tree.specs.StatementView.{view, view_declarations, view_declaration};
 ghost use Rattle.sql_tree.specs.View.{view_part};
 ghost use Rattle.sql_tree.specs.declared.statements.Stmt.{Stmt};
 
 use sql_lex::{Keyword, Symbol};
+use sql_parse_changes::changes::owned;
 use sql_parse_definitions::types::a_type;
 use sql_parse_expressions::expressions::whole;
 use sql_parse_nodes::kept::{Kept, Levelled, above, beside, push};
+use sql_parse_nodes::nodes::{no_part, part};
 use sql_parse_nodes::{held, node};
 use sql_parse_tokens::fault::Stop;
 use sql_parse_tokens::parts::name_list;
@@ -92,38 +94,34 @@ pub fn with_heads(
     Ok(body)
 }
 
-/// A preset, where there is one.
-fn some_preset(value: Kept<Boxed<Expr>>) -> Kept<Option<Expr>>
-    ensures { result ≡ in_place (λ e. Some e) value }
-{
-    held!(value, a => Some(a.into_inner()))
-}
-
 /// DEFAULT and its value, or nothing.
 fn preset<'t>(
     alloc: Global,
     depth: u32,
     rest: Rest<'t>,
-) -> Result<(Kept<Option<Expr>>, Rest<'t>), Stop<'t>>
+) -> Result<(Kept<Option<Boxed<Expr>>>, Rest<'t>), Stop<'t>>
     ensures { Keeps view_part depth_of_part result ((spec.preset (expression depth)).read rest.entry) }
 {
     if !rest.is_key(Keyword::Default) {
-        let part = None;
-        return Ok((Some(Levelled { part, levels: 0 }), rest));
+        return Ok((no_part(), rest));
     }
     let ((), rest) = rest.skip_key(Keyword::Default)?;
     let (value, rest) = whole(alloc, depth, rest)?;
-    Ok((some_preset(value), rest))
+    Ok((part(value), rest))
 }
 
 /// A DECLARE of these parts.
-fn declared(names: List<Bytes>, kind: SqlType, preset: Kept<Option<Expr>>) -> Kept<Declaration>
+fn declared(
+    names: List<Bytes>,
+    kind: SqlType,
+    preset: Kept<Option<Boxed<Expr>>>,
+) -> Kept<Declaration>
     ensures { result ≡ in_place (λ p. record { names = names; kind = kind; preset = p }) preset }
 {
     held!(preset, a => Declaration {
         names,
         kind,
-        preset: a,
+        preset: owned(a),
     })
 }
 

@@ -28,9 +28,6 @@ pub rows_kept : (rs : List Trees) (k : Option (Levelled (List (List Expr)))) →
     → IsKept view_supply depth_of_supply (rows rs) (in_place (λ rs. Source.Rows rs) k)
 rows_kept rs k h = kept_in_place (map view_trees) (deepest depth_of_trees) view_supply depth_of_supply rows (λ rs. Source.Rows rs) (λ x. refl) rs refl k h
 
-pub filter_kept : (t : Tree) (k : Option (Levelled Expr)) → IsKept view_tree depth_of_tree t k → IsKept view_part depth_of_part (part t) (in_place (λ e. Some e) k)
-filter_kept t k h = kept_in_place view_tree depth_of_tree view_part depth_of_part part (λ e. Some e) (λ x. refl) t refl k h
-
 -- ---- statements
 pub insert_kept : (i : Bool) (t : List ℕ) (cs : Option (List (List ℕ))) (s : Supply) (us : List (List ℕ × Tree)) (k : Option (Levelled Source)) (l : Option (Levelled (List ColumnSet)))
     → IsKept view_supply depth_of_supply s k → IsKept view_sets depth_of_sets us l

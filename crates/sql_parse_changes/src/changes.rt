@@ -1,5 +1,5 @@
 //! INSERT, REPLACE, UPDATE and DELETE.
-ghost use Rattle.std.specs.Prelude.{◌≡◌, Some, map};
+ghost use Rattle.std.specs.Prelude.{◌≡◌, IfOk, Some, map};
 ghost use Rattle.sql_lex.specs.declared.token.Symbol.TheVariants as signs;
 ghost use Rattle.sql_grammar.specs.Rule.{behind};
 ghost use Rattle.sql_syntax.specs.Changes as spec;
@@ -7,7 +7,6 @@ ghost use Rattle.sql_syntax.specs.Expressions.{expression};
 ghost use Rattle.sql_parse_tokens.specs.Gives.{Gives};
 ghost use Rattle.sql_parse_nodes.specs.Kept.{Keeps, above, beside, in_place};
 ghost use Rattle.sql_syntax.specs.Parts.{list_of};
-ghost use Rattle.sql_syntax.specs.Selects as selects;
 ghost use Rattle.sql_syntax.specs.Tokens.{sign};
 ghost use Rattle.sql_tree.specs.Depth.{depth_of, depth_of_part, depth_of_sets, depth_of_supply, depth_of_trees, deepest, depth_of_value};
 ghost use Rattle.sql_tree.specs.StatementView.{view, view_sets, view_supply, view_set};
@@ -22,9 +21,9 @@ ghost use Rattle.sql_tree.specs.declared.statements.Stmt.{Stmt};
 
 use sql_lex::{Keyword, Symbol};
 use sql_parse_expressions::expressions::{closed_list, whole};
-use sql_parse_expressions::selects::{order, select};
-use sql_parse_nodes::held;
+use sql_parse_expressions::selects::{order, select, where_part};
 use sql_parse_nodes::kept::{Kept, Levelled, above, alone, beside, push};
+use sql_parse_nodes::{held, node};
 use sql_parse_tokens::fault::Stop;
 use sql_parse_tokens::lexeme::sign_code;
 use sql_parse_tokens::limits::limit;
@@ -36,7 +35,15 @@ use sql_tree::{
     UpdateStmt,
 };
 use std::alloc::Global;
-use val_types::{Boxed, Bytes, List};
+use val_types::{Boxed, Bytes, List, NoMemory};
+
+/// A part that may be left out, as it stands in a statement.
+pub fn owned(part: Option<Boxed<Expr>>) -> Option<Expr>
+    ensures { result ≡ part }
+{
+    let part = part?;
+    Some(part.into_inner())
+}
 
 /// A part that is left out.
 fn nothing<T>(part: T) -> Kept<T>
@@ -196,17 +203,20 @@ fn values_word<'t>(rest: Rest<'t>) -> Result<((), Rest<'t>), Stop<'t>>
 }
 
 /// Rows as the source of an INSERT.
-fn row_source(rows: Kept<List<List<Expr>>>) -> Kept<Source>
-    ensures { result ≡ in_place (λ rs. Source.Rows rs) rows }
+fn row_source(alloc: Global, rows: Kept<List<List<Expr>>>) -> Result<Kept<Boxed<Source>>, NoMemory>
+    ensures { IfOk result (λ r. r ≡ in_place (λ rs. Source.Rows rs) rows) }
 {
-    held!(rows, a => Source::Rows(a))
+    node!(alloc, rows, a => Source::Rows(a))
 }
 
 /// A SELECT as the source of an INSERT.
-fn select_source(query: Kept<Boxed<sql_tree::Select>>) -> Kept<Source>
-    ensures { result ≡ in_place (λ q. Source.Select q) query }
+fn select_source(
+    alloc: Global,
+    query: Kept<Boxed<sql_tree::Select>>,
+) -> Result<Kept<Boxed<Source>>, NoMemory>
+    ensures { IfOk result (λ r. r ≡ in_place (λ q. Source.Select q) query) }
 {
-    held!(query, a => Source::Select(a.into_inner()))
+    node!(alloc, query, a => Source::Select(a.into_inner()))
 }
 
 /// Where the rows of INSERT and REPLACE come from.
@@ -214,16 +224,16 @@ fn source<'t>(
     alloc: Global,
     depth: u32,
     rest: Rest<'t>,
-) -> Result<(Kept<Source>, Rest<'t>), Stop<'t>>
+) -> Result<(Kept<Boxed<Source>>, Rest<'t>), Stop<'t>>
     ensures { Keeps view_supply depth_of_supply result ((spec.source depth).read rest.entry) }
 {
     if rest.is_key(Keyword::Select) {
         let (query, rest) = select(alloc, depth, rest)?;
-        return Ok((select_source(query), rest));
+        return Ok((select_source(alloc, query)?, rest));
     }
     let ((), rest) = values_word(rest)?;
     let (rows, rest) = rows(alloc, depth, rest)?;
-    Ok((row_source(rows), rest))
+    Ok((row_source(alloc, rows)?, rest))
 }
 
 /// ON DUPLICATE KEY UPDATE and its items, or nothing.
@@ -249,7 +259,7 @@ fn inserted(
     ignore: bool,
     table: Bytes,
     columns: Option<List<Bytes>>,
-    source: Kept<Source>,
+    source: Kept<Boxed<Source>>,
     update: Kept<List<ColumnSet>>,
 ) -> Kept<Stmt>
     ensures { result ≡ in_place (λ p. Stmt.Insert (record { ignore = ignore; table = table; columns = columns; source = p.0; update = p.1 })) (above (beside source update)) }
@@ -258,7 +268,7 @@ fn inserted(
         ignore,
         table,
         columns,
-        source,
+        source: source.into_inner(),
         update,
     }))
 }
@@ -277,13 +287,13 @@ fn insert<'t>(alloc: Global, depth: u32, rest: Rest<'t>) -> Result<(Kept<Stmt>, 
 }
 
 /// A REPLACE of these parts.
-fn replaced(table: Bytes, columns: Option<List<Bytes>>, source: Kept<Source>) -> Kept<Stmt>
+fn replaced(table: Bytes, columns: Option<List<Bytes>>, source: Kept<Boxed<Source>>) -> Kept<Stmt>
     ensures { result ≡ in_place (λ s. Stmt.Replace (record { table = table; columns = columns; source = s })) (above source) }
 {
     held!(above(source), a => Stmt::Replace(ReplaceStmt {
         table,
         columns,
-        source: a,
+        source: a.into_inner(),
     }))
 }
 
@@ -302,34 +312,11 @@ fn replace<'t>(
     Ok((replaced(table, columns, source), rest))
 }
 
-/// A condition, where there is one.
-fn some_filter(filter: Kept<Boxed<Expr>>) -> Kept<Option<Expr>>
-    ensures { result ≡ in_place (λ e. Some e) filter }
-{
-    held!(filter, a => Some(a.into_inner()))
-}
-
-/// WHERE and its condition, or nothing.
-fn where_part<'t>(
-    alloc: Global,
-    depth: u32,
-    rest: Rest<'t>,
-) -> Result<(Kept<Option<Expr>>, Rest<'t>), Stop<'t>>
-    ensures { Keeps view_part depth_of_part result ((selects.where_part (expression depth)).read rest.entry) }
-{
-    if !rest.is_key(Keyword::Where) {
-        return Ok((nothing(None), rest));
-    }
-    let ((), rest) = rest.skip_key(Keyword::Where)?;
-    let (filter, rest) = whole(alloc, depth, rest)?;
-    Ok((some_filter(filter), rest))
-}
-
 /// An UPDATE of these parts.
 fn updated(
     table: Bytes,
     sets: Kept<List<ColumnSet>>,
-    filter: Kept<Option<Expr>>,
+    filter: Kept<Option<Boxed<Expr>>>,
     order: Kept<List<OrderItem>>,
     limit: Option<Count>,
 ) -> Kept<Stmt>
@@ -338,7 +325,7 @@ fn updated(
     held!(above(beside(sets, beside(filter, order))), (sets, (filter, order)) => Stmt::Update(UpdateStmt {
         table,
         sets,
-        filter,
+        filter: owned(filter),
         order,
         limit,
     }))
@@ -361,7 +348,7 @@ fn update<'t>(alloc: Global, depth: u32, rest: Rest<'t>) -> Result<(Kept<Stmt>, 
 /// A DELETE of these parts.
 fn deleted(
     table: Bytes,
-    filter: Kept<Option<Expr>>,
+    filter: Kept<Option<Boxed<Expr>>>,
     order: Kept<List<OrderItem>>,
     limit: Option<Count>,
 ) -> Kept<Stmt>
@@ -369,7 +356,7 @@ fn deleted(
 {
     held!(above(beside(filter, order)), (filter, order) => Stmt::Delete(DeleteStmt {
         table,
-        filter,
+        filter: owned(filter),
         order,
         limit,
     }))

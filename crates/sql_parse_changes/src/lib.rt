@@ -2,7 +2,7 @@
 //!
 //! Over `sql_parse_expressions` and `sql_parse_definitions`, below `sql_parse_bodies`.
 //!
-//! - `changes`: INSERT, REPLACE, UPDATE and DELETE
+//! - [`changes`]: INSERT, REPLACE, UPDATE and DELETE
 //! - `assignments`: SET, DO and CALL
 //! - [`common`]: all of them with SELECT, DROP, TRUNCATE and transactions
 //!
@@ -12,5 +12,5 @@
 #![tactic(auto)]
 
 mod assignments;
-mod changes;
+pub mod changes;
 pub mod common;
