@@ -10,22 +10,22 @@ use Rattle.sql_tree.specs.declared.statements.Stmt.{Stmt}
 use Rattle.sql_grammar.specs.Reader.{Fault, Read, Syntax as syntax, Deep as deep}
 use Rattle.sql_grammar.specs.Rule.{Rule}
 use Rattle.sql_grammar.specs.Whole.{whole_of, IsPlaced, IsExact}
-use Rattle.sql_parse.specs.declared.lexeme.Lexeme.{Lexeme}
+use Rattle.sql_parse_tokens.specs.declared.lexeme.Lexeme.{Lexeme}
 use Rattle.sql_parse.specs.declared.parsing.ParseRefusal.{ParseRefusal}
 use Rattle.sql_parse.specs.declared.parsing.ParseRefusal.TheVariants.{Syntax, Deep, NoMemory}
 use Rattle.sql_syntax.specs.Tokens.{Tok}
-use Rattle.sql_parse.specs.Lexing.{bounded, lexeme_place, place}
+use Rattle.sql_parse_tokens.specs.Lexing.{bounded, lexeme_place, place}
 use Rattle.sql_syntax.specs.Statements.{statement}
 use Rattle.sql_syntax.specs.Texts.{toks, limit_open, limit_deep, reads, IsStatement, place_of, Stops, IsRefusedAt, IsTooDeep}
-use Rattle.sql_parse.specs.declared.kept.Levelled.{Levelled}
-use Rattle.sql_parse.specs.declared.fault.Stop.{Stop}
-use Rattle.sql_parse.specs.declared.fault.Stop.TheVariants as stops
-use Rattle.sql_parse.specs.Gives.{Fails}
+use Rattle.sql_parse_nodes.specs.declared.kept.Levelled.{Levelled}
+use Rattle.sql_parse_tokens.specs.declared.fault.Stop.{Stop}
+use Rattle.sql_parse_tokens.specs.declared.fault.Stop.TheVariants as stops
+use Rattle.sql_parse_tokens.specs.Gives.{Fails}
 use Rattle.sql_parse.specs.Answers.{Answers, IsCause, IsRead, IsRefused, IsSunk, IsWhole, first_at, place_left, reading}
-use Rattle.sql_parse.specs.Kept.{IsKept}
-use Rattle.sql_parse.specs.Lexemes.{seen}
-use Rattle.sql_parse.proofs.Bounds.{bounded_front}
-use Rattle.sql_parse.proofs.KeptLaws.{Held, gone, held, held_of}
+use Rattle.sql_parse_nodes.specs.Kept.{IsKept}
+use Rattle.sql_parse_tokens.specs.Lexemes.{seen}
+use Rattle.sql_parse_tokens.proofs.Bounds.{bounded_front}
+use Rattle.sql_parse_nodes.proofs.KeptLaws.{Held, gone, held, held_of}
 use Rattle.sql_syntax.proofs.StatementLaws.{statement_exact}
 use Rattle.sql_syntax.proofs.TextLaws.{rest_of, toks_length, statement_once, place_once, not_refused, not_deep, not_refused_deep}
 

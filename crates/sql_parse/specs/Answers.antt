@@ -5,10 +5,10 @@ use Rattle.sql_tree.specs.Statement.{Statement}
 use Rattle.sql_tree.specs.StatementView.{view}
 use Rattle.sql_tree.specs.declared.statements.Stmt.{Stmt}
 use Rattle.sql_grammar.specs.Reader.{Read, Syntax as syntax, Deep as deep}
-use Rattle.sql_parse.specs.declared.lexeme.Lexeme.{Lexeme}
+use Rattle.sql_parse_tokens.specs.declared.lexeme.Lexeme.{Lexeme}
 use Rattle.sql_parse.specs.declared.parsing.ParseRefusal.{ParseRefusal}
 use Rattle.sql_parse.specs.declared.parsing.ParseRefusal.TheVariants.{Syntax, Deep, NoMemory}
-use Rattle.sql_parse.specs.declared.kept.Levelled.{Levelled}
+use Rattle.sql_parse_nodes.specs.declared.kept.Levelled.{Levelled}
 use Rattle.sql_syntax.specs.Statements.{statement}
 use Rattle.sql_syntax.specs.Texts.{limit_deep, limit_open, IsRefusedAt, IsTooDeep}
 use Rattle.sql_syntax.specs.Tokens.{Tok}

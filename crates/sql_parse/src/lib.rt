@@ -1,50 +1,31 @@
 //! Statements of SQL, read from the bytes of a text, or the place where a text is no statement.
 //!
-//! [`parse`](parsing) is the one public call. What a text is, where it is refused and what is too
-//! deep say the rules of `sql_syntax`; a tree is that of `sql_tree`. Tokens are made once, by
-//! `sql_lex`, and each function reads from a [`Rest`](rest) of them exactly what its rule reads. A
-//! part of a tree is held with its number of levels, and not at all where it has more than a
-//! statement may have, so that no tree is ever deeper than that.
+//! [`parse`](parsing) is the one public call of the parser; its parts are the crates below. What a
+//! text is, where it is refused and what is too deep say the rules of `sql_syntax`; a tree is that
+//! of `sql_tree`. Tokens are made once, by `sql_lex`, and each function reads from a rest of them
+//! exactly what its rule reads. A part of a tree is held with its number of levels, and not at all
+//! where it has more than a statement may have, so that no tree is ever deeper than that.
 //!
-//! - `lexeme`, `word`, `rest`, `lexing`: tokens as the parser looks at them
-//! - `fault`, `kept`, `opening`: why reading stops, parts of trees, tokens that open a construct
-//! - `parts`, `types`, `limits`, `heads`: what holds no expression
-//! - `leaves`, `nodes`, `operators`: leaves of expressions, and nodes put together
-//! - `expressions`, `primaries`, `calls`, `selects`: expressions and SELECTs, which nest in one
-//!   another
-//! - `name_set`, `tables`, `sessions`, `assignments`, `changes`, `common`: statements
-//! - `closing`, `bodies`, `programs`: stored programs and the statements in them
+//! - `sql_parse_tokens`: tokens, names, literals; `sql_parse_nodes`: parts of trees
+//! - `sql_parse_expressions`: expressions and SELECTs
+//! - `sql_parse_definitions`: tables, heads of programs, transactions; `sql_parse_changes`: changes,
+//!   SET, DO and CALL; `sql_parse_bodies`: stored programs
 //! - `statements`, `parsing`: a statement, and the statement that a text is
+//!
+//! # Proved
+//! `parse`, over every text of at most 4294967295 bytes:
+//! - Ok is a statement that the text is, within 400 open constructs and 200 levels (`statement`).
+//! - A syntax error's place is one at which the grammar refuses the text; Deep comes only where the
+//!   text opens the 401st construct or the whole statement has more levels (`cause`).
+//! - A text that is such a statement is answered with it (`read`), one that is refused at a place
+//!   with that place (`refused`), one that is too deep with Deep (`deep`); only want of memory is
+//!   free.
+//!
+//! # Only tested
+//! In `sql_callers`: that parsing succeeds with ample memory, and how a refusal is told.
 #![tactic(auto)]
 
-mod assignments;
-mod bodies;
-mod calls;
-mod changes;
-mod closing;
-mod common;
-mod expressions;
-mod fault;
-mod heads;
-mod kept;
-mod leaves;
-mod lexeme;
-mod lexing;
-mod limits;
-mod name_set;
-mod nodes;
-mod opening;
-mod operators;
 mod parsing;
-mod parts;
-mod primaries;
-mod programs;
-mod rest;
-mod selects;
-mod sessions;
 mod statements;
-mod tables;
-mod types;
-mod word;
 
 pub use parsing::{ParseRefusal, parse};

@@ -3,19 +3,19 @@ ghost use Rattle.std.specs.Prelude.{◌≡◌, ◌≤◌, ℕ, IfErr, IfOk, List
 ghost use Rattle.sql_tree.specs.Statement.{Statement};
 ghost use Rattle.sql_tree.specs.StatementView.{view};
 ghost use Rattle.sql_parse.specs.Answers.{Answers, IsCause, IsRead, IsRefused, IsSunk, IsWhole, place_left, reading};
-ghost use Rattle.sql_parse.specs.Kept.{IsKept};
+ghost use Rattle.sql_parse_nodes.specs.Kept.{IsKept};
 ghost use Rattle.sql_syntax.specs.Tokens.{Tok};
 ghost use Rattle.sql_tree.specs.Depth.{depth_of};
-ghost use Rattle.sql_parse.specs.Lexemes.{seen};
+ghost use Rattle.sql_parse_tokens.specs.Lexemes.{seen};
 ghost use Rattle.sql_syntax.specs.Texts.{IsRefusedAt, IsTooDeep, reads};
 
-use crate::fault::Stop;
-use crate::kept::{Kept, Levelled};
-use crate::lexeme::Lexeme;
-use crate::lexing::lexemes;
-use crate::rest::Rest;
 use crate::statements::statement;
 use sql_lex::lex_front;
+use sql_parse_nodes::kept::{Kept, Levelled};
+use sql_parse_tokens::fault::Stop;
+use sql_parse_tokens::lexeme::Lexeme;
+use sql_parse_tokens::lexing::lexemes;
+use sql_parse_tokens::rest::Rest;
 use sql_tree::Stmt;
 use std::alloc::{AllocError, Global};
 use thiserror::Error;

@@ -1,21 +1,21 @@
 //! Statements.
 ghost use Rattle.std.specs.Prelude.{◌≡◌};
-ghost use Rattle.sql_parse.specs.Kept.{Keeps};
+ghost use Rattle.sql_parse_nodes.specs.Kept.{Keeps};
 ghost use Rattle.sql_syntax.specs.Programs as programs;
 ghost use Rattle.sql_syntax.specs.Statements as spec;
 ghost use Rattle.sql_tree.specs.Depth.{depth_of};
 ghost use Rattle.sql_tree.specs.StatementView.{view};
 
-use crate::bodies::with_kept_body;
-use crate::common::{common, leaf};
-use crate::fault::Stop;
-use crate::heads::a_head;
-use crate::kept::{Kept, unboxed};
-use crate::programs::inner;
-use crate::rest::Rest;
-use crate::sessions::{begun, started};
-use crate::tables::table;
 use sql_lex::Keyword;
+use sql_parse_bodies::bodies::with_kept_body;
+use sql_parse_bodies::programs::inner;
+use sql_parse_changes::common::{common, leaf};
+use sql_parse_definitions::heads::a_head;
+use sql_parse_definitions::sessions::{begun, started};
+use sql_parse_definitions::tables::table;
+use sql_parse_nodes::kept::{Kept, unboxed};
+use sql_parse_tokens::fault::Stop;
+use sql_parse_tokens::rest::Rest;
 use sql_tree::Stmt;
 use std::alloc::Global;
 

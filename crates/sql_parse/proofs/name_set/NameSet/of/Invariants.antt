@@ -1,6 +1,0 @@
-use Rattle.std.proofs.Common.{drop}
-use Rattle.sql_parse.specs.NameSets.{HoldsBut}
-use Rattle.sql_parse.proofs.name_set.NameSet.of.Given as goal
-
-abbrev pub invariant-loop-name : goal.invariant-loop-name
-invariant-loop-name l = HoldsBut l.set (drop l.name-index l.names) l.names

@@ -1,6 +1,0 @@
-use Rattle.std.proofs.Common.{◌∙◌}
-use Rattle.sql_parse.proofs.Lexemes.{member_any}
-use Rattle.sql_parse.proofs.rest.has.Goals as goal
-
-pub returns : goal.returns
-returns c = c.contains.ensures.value ∙ member_any c.args.kind c.args.kinds.now

@@ -1,0 +1,2 @@
+pub mod ChangeNodes
+pub mod AssignmentNodes
