@@ -1,5 +1,5 @@
 -- What INSERT, REPLACE, UPDATE and DELETE make of the rows of a table, row by row, with the triggers of the table.
-use Rattle.std.specs.Prelude.{ℕ, suc, ◌+◌, ◌*◌, ◌-◌, ◌^◌, ◌==◌, Bool, true, false, not, ◌&&◌, ◌||◌, if◌then◌else◌, List, [], ◌∷◌, length, map, find, zip, Option, Some, None, ℤ, pos, unwrap_or, slice_get, slice_index_or, slice_set, int_le, is_none}
+use Rattle.std.specs.Prelude.{ℕ, ◌+◌, ◌*◌, ◌-◌, ◌^◌, ◌==◌, Bool, true, false, not, ◌&&◌, if◌then◌else◌, List, [], ◌∷◌, length, map, find, zip, Option, Some, None, ℤ, pos, unwrap_or, slice_get, slice_index_or, slice_set, int_le, is_none}
 use Rattle.std.specs.List.{list_any, enumerate_from}
 use Rattle.std.specs.Option.{option_map, option_map_or, option_or}
 use Rattle.val_types.specs.declared.value.Value.{Value}
@@ -10,11 +10,11 @@ use Rattle.val_types.specs.declared.definitions.ColType.TheVariants as kinds
 use Rattle.val_types.specs.declared.definitions.ColumnDef.{ColumnDef}
 use Rattle.val_types.specs.declared.definitions.TableDef.{TableDef}
 use Rattle.val_types.specs.Fitting.{fitting, is_null}
-use Rattle.val_types.specs.Keys.{primary_key, same_values, agree_on}
+use Rattle.val_types.specs.Keys.{primary_key, same_values}
 use Rattle.auto_inc.specs.Generating.{Sequence, next_value, after_generated, after_explicit}
 use Rattle.table_rules.specs.Tables.{Table}
-use Rattle.table_rules.specs.Stored.{has_key, rows_beside, key_in_way, key_tests, row_in_way}
-use Rattle.sql_tree.specs.Tree.{Tree, Trees, Part, Orders, Query}
+use Rattle.table_rules.specs.Stored.{rows_beside, key_in_way, key_tests, row_in_way}
+use Rattle.sql_tree.specs.Tree.{Tree, Part, Orders}
 use Rattle.sql_tree.specs.Statement.{Supply, rows, rows_of}
 use Rattle.sql_tree.specs.declared.expressions.Count.{Count}
 use Rattle.sql_tree.specs.declared.statements.Time.TheVariants as times
@@ -25,7 +25,7 @@ use Rattle.catalog_rules.specs.Objects.{columns_of}
 use Rattle.catalog_rules.specs.Defined.{places_of}
 use Rattle.catalog_rules.specs.Checks.{given_columns}
 use Rattle.sql_meaning.specs.Scenes.{Action, ◌>>=◌, pure, fail, answered, needed, require, each, kept_by, counted, carried_on, table_now, make, counter_now, raise_counter}
-use Rattle.sql_meaning.specs.Frames.{World, View, Frame, sees, limited_to}
+use Rattle.sql_meaning.specs.Frames.{World, Frame, sees, limited_to}
 use Rattle.sql_meaning.specs.Values.{value, values, is_kept, order_values, rows_of_query, sorted, directions}
 
 -- ---- rows and their columns

@@ -1,7 +1,6 @@
 -- What an expression sees and does not change: the context of the session, the programs, rows in view and locals.
-use Rattle.std.specs.Prelude.{ℕ, ◌&&◌, Bool, true, false, not, nat_le, if◌then◌else◌, List, [], ◌∷◌, length, find, Option, Some, None, ℤ, pos, negsuc, slice_get, slice_index_or, unwrap_or}
-use Rattle.std.specs.List.{list_any}
-use Rattle.std.specs.Option.{option_map, option_map_or, option_and_then}
+use Rattle.std.specs.Prelude.{ℕ, List, [], ◌∷◌, find, Option, Some, None, ℤ, pos, negsuc, slice_get, unwrap_or}
+use Rattle.std.specs.Option.{option_map_or, option_and_then}
 use Rattle.val_types.specs.declared.value.Value.{Value}
 use Rattle.val_types.specs.declared.value.Value.TheVariants.{Null, Int, Text}
 use Rattle.val_types.specs.declared.definitions.TableDef.{TableDef}

@@ -5,7 +5,7 @@ use Rattle.table_rules.specs.Stored.{all_applied}
 use Rattle.sql_tree.specs.Tree.{Trees}
 use Rattle.sql_tree.specs.Statement.{Statement}
 use Rattle.sql_tree.specs.declared.locals.Local.{Local}
-use Rattle.sql_meaning.specs.Scenes.{Scene, Ending, done, failed, Action}
+use Rattle.sql_meaning.specs.Scenes.{Scene, Ending, done, failed}
 use Rattle.sql_meaning.specs.Frames.{Setting}
 use Rattle.sql_meaning.specs.Running.{effect, evaluation}
 

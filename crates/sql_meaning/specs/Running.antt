@@ -1,9 +1,9 @@
 -- What the bodies of functions and triggers do, and what a statement comes to.
-use Rattle.std.specs.Prelude.{ℕ, zero, suc, ◌==◌, Bool, true, false, not, ◌&&◌, ◌||◌, if◌then◌else◌, List, [], ◌∷◌, ◌++◌, length, map, take, zip, filter_map, Option, Some, None, ℤ, is_some, unwrap_or, slice_set}
+use Rattle.std.specs.Prelude.{ℕ, zero, suc, ◌==◌, Bool, true, false, not, if◌then◌else◌, List, [], ◌∷◌, ◌++◌, length, map, take, zip, filter_map, Option, Some, None, ℤ, is_some, unwrap_or}
 use Rattle.std.specs.List.{list_any}
 use Rattle.std.specs.Option.{option_map, option_map_or, option_and_then}
 use Rattle.val_types.specs.declared.value.Value.{Value}
-use Rattle.val_types.specs.declared.value.Value.TheVariants.{Null, Int, Text}
+use Rattle.val_types.specs.declared.value.Value.TheVariants.{Null}
 use Rattle.val_types.specs.declared.definitions.TableDef.{TableDef}
 use Rattle.sql_tree.specs.Tree.{Tree, Trees, Part, no_part, part}
 use Rattle.sql_tree.specs.Statement.{Declared, Program, Trigger}
@@ -19,11 +19,11 @@ use Rattle.sql_tree.specs.declared.statements.Target.{Target}
 use Rattle.sql_tree.specs.declared.statements.Time.{Time}
 use Rattle.sql_tree.specs.declared.statements.Cause.{Cause}
 use Rattle.catalog_rules.specs.Names.{same_name, is_among, place_among}
-use Rattle.catalog_rules.specs.Objects.{Object, function_in, trigger_for, parameters_of, result_of, body_of, trigger_body, columns_of}
+use Rattle.catalog_rules.specs.Objects.{function_in, trigger_for, parameters_of, result_of, body_of, trigger_body, columns_of}
 use Rattle.catalog_rules.specs.Defined.{column_type}
 use Rattle.catalog_rules.specs.Nodes.{Node, a_limit, no_sight, nodes_of, nodes_of_tree, nodes_of_trees, table_at, table_changed}
 use Rattle.catalog_rules.specs.Checks.{Scope, statement_refusal, expression_refusal}
-use Rattle.sql_meaning.specs.Scenes.{Scene, Ending, Action, ◌>>=◌, pure, fail, needed, require, each, carried_on, spend_turn, undone}
+use Rattle.sql_meaning.specs.Scenes.{Action, ◌>>=◌, pure, fail, needed, require, each, carried_on, spend_turn, undone}
 use Rattle.sql_meaning.specs.Frames.{Context, Setting, Running, Below, World, View, Frame, only_locals, number_or_none}
 use Rattle.sql_meaning.specs.Values.{value, values, holds, rows_of_query}
 use Rattle.sql_meaning.specs.Changing.{fitted, put_at, Manner, refusing, ignoring, replacing, updating, Did, affected_rows, insert_into_table, update_table, delete_from_table}

@@ -4,7 +4,7 @@
 -- used stay used where an error comes.
 use Rattle.std.specs.Prelude.{ℕ, zero, suc, ◌+◌, ◌%◌, ◌^◌, max, Bool, if◌then◌else◌, List, [], ◌∷◌, ◌++◌, Option, Some, None, Result, Ok, Err, ℤ, unwrap_or}
 use Rattle.val_types.specs.declared.value.Value.{Value}
-use Rattle.val_types.specs.declared.value.Value.TheVariants.{Null, Int, Text}
+use Rattle.val_types.specs.declared.value.Value.TheVariants.{Text}
 use Rattle.val_types.specs.declared.change.Change.{Change}
 use Rattle.auto_inc.specs.declared.counters.Counter.{Counter}
 use Rattle.auto_inc.specs.Counting.{value_for, changed_for, behind}

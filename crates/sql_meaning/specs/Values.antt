@@ -1,5 +1,5 @@
 -- The value of an expression, and the rows of a SELECT.
-use Rattle.std.specs.Prelude.{ℕ, zero, suc, Bool, true, false, not, if◌then◌else◌, List, [], ◌∷◌, map, drop, codes, Option, Some, None, ℤ, pos}
+use Rattle.std.specs.Prelude.{ℕ, zero, suc, Bool, true, false, not, if◌then◌else◌, List, [], ◌∷◌, map, drop, codes, Option, Some, None, pos}
 use Rattle.std.specs.declared.cmp.Ordering.{Ordering}
 use Rattle.std.specs.Ordering.{is_eq, is_lt}
 use Rattle.std.specs.Option.{option_map}
@@ -14,10 +14,9 @@ use Rattle.value_rules.specs.Functions.{builtin_value, is_known_true}
 use Rattle.value_rules.specs.Random.{scaled}
 use Rattle.value_rules.specs.Moments.{moment_text}
 use Rattle.value_rules.specs.Selecting.{first_value, by_items, in_order, aggregate_value}
-use Rattle.table_rules.specs.Tables.{Table}
 use Rattle.sql_tree.specs.Tree.{Tree, literal, name, column, new_column, old_column, user_variable, system_variable, unary, binary, is_in, choice, subquery, exists, call, built_in, values_of, name_const, floor_rand}
 use Rattle.sql_tree.specs.Tree.{Trees, no_tree, tree, Arms, no_arm, arm, Part, no_part, part, Query, query, Selected, items, all_columns, aggregates}
-use Rattle.sql_tree.specs.Tree.{Aggregates, no_aggregate, count_all, aggregate, Origin, no_origin, from_table, Orders, no_order, order_by}
+use Rattle.sql_tree.specs.Tree.{Aggregates, no_aggregate, count_all, aggregate, no_origin, from_table, Orders, no_order, order_by}
 use Rattle.catalog_rules.specs.Names.{same_name}
 use Rattle.log_entries.specs.Variables.{variable_value}
 use Rattle.sql_meaning.specs.Scenes.{Action, ◌>>=◌, pure, fail, answered, needed, each, kept_by, table_now, draw, next_uuid}

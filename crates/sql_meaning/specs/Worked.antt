@@ -1,7 +1,7 @@
 -- Small catalogs and scenes, of which worked examples are made.
-use Rattle.std.specs.Prelude.{ℕ, true, false, codes, pos, Bool, List, [], ◌∷◌, ◌++◌, map, Option, Some, None, ℤ, neg_ℤ}
+use Rattle.std.specs.Prelude.{ℕ, true, false, codes, pos, List, [], ◌∷◌, map, Option, Some, None, neg_ℤ}
 use Rattle.val_types.specs.declared.value.Value.{Value}
-use Rattle.val_types.specs.declared.value.Value.TheVariants.{Null, Int, Text}
+use Rattle.val_types.specs.declared.value.Value.TheVariants.{Null, Int}
 use Rattle.val_types.specs.declared.definitions.TableDef.{TableDef}
 use Rattle.auto_inc.specs.declared.counters.Counter.{Counter}
 use Rattle.table_rules.specs.Tables.{Table}
@@ -13,11 +13,10 @@ use Rattle.sql_tree.specs.StatementView.{statements_of}
 use Rattle.sql_tree.specs.Worked.{parameter_of, column_of, declared_as}
 use Rattle.sql_tree.specs.declared.statements.Target.{Target}
 use Rattle.sql_tree.specs.declared.statements.SqlType.{SqlType}
-use Rattle.sql_tree.specs.declared.statements.CreateTable.{CreateTable}
 use Rattle.catalog_rules.specs.Objects.{Object, table}
 use Rattle.catalog_rules.specs.Defined.{definition_of}
 use Rattle.catalog_rules.specs.Worked.{create_t, create_a, counted}
-use Rattle.sql_meaning.specs.Scenes.{Scene, Action, Ending, done, failed}
+use Rattle.sql_meaning.specs.Scenes.{Scene, Ending, done, failed}
 use Rattle.sql_meaning.specs.Frames.{Context, Setting}
 use Rattle.sql_meaning.specs.Changing.{Did}
 use Rattle.sql_meaning.specs.Running.{effect, most_turns}

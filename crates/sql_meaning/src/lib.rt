@@ -4,10 +4,15 @@
 //! does not change), `Values` (expressions and the rows of a SELECT), `Changing` (INSERT, REPLACE, UPDATE and DELETE, row by
 //! row), `Running` (bodies of functions and triggers, and what a statement comes to).
 //!
+//! `Leading` says what holds of every statement.
+//!
+//! - `laws`: what follows from the definitions
 //! - `worked`, `worked_programs`: statements by hand, which the checker computes
 //!
 //! # Proved
-//! The worked examples: what each statement shows, changes and counts, or its error and what it leaves.
+//! - What a statement does to the tables is made by its changes, one after the other, and an error leaves tables and
+//!   changes as they were, with functions and triggers at any depth (`statements_end_well`).
+//! - The worked examples: what each statement shows, changes and counts, or its error and what it leaves.
 #![tactic(auto)]
 
 mod laws;
