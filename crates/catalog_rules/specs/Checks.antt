@@ -1,10 +1,10 @@
 -- The catalog checks of a statement: what its names mean, and which error comes first.
-use Rattle.std.specs.Prelude.{ℕ, Bool, true, false, not, ◌&&◌, ◌||◌, ◌==◌, if◌then◌else◌, List, [], ◌∷◌, ◌++◌, length, map, flat_map, filter_map, find, Option, Some, None, is_some, is_none, unwrap_or}
+use Rattle.std.specs.Prelude.{ℕ, Bool, true, false, not, ◌&&◌, ◌||◌, ◌==◌, List, [], ◌∷◌, ◌++◌, length, flat_map, filter_map, find, Option, Some, None, is_some, is_none, unwrap_or}
 use Rattle.std.specs.List.{list_any, enumerate_from}
 use Rattle.std.specs.Option.{option_map, option_map_or}
 use Rattle.val_types.specs.declared.definitions.ColumnDef.{ColumnDef}
 use Rattle.val_types.specs.declared.definitions.TableDef.{TableDef}
-use Rattle.sql_tree.specs.Tree.{Tree, Trees, Query, query, Selected, items, all_columns, aggregates, Origin, no_origin, from_table, Aggregates, no_aggregate, count_all, aggregate}
+use Rattle.sql_tree.specs.Tree.{Tree, Query, query, items, all_columns, aggregates, Origin, no_origin, from_table, Aggregates, no_aggregate, count_all, aggregate}
 use Rattle.sql_tree.specs.Statement.{Supply, rows, rows_of}
 use Rattle.sql_tree.specs.Statement.{Statement, insert_into, replace_into, update_rows, delete_rows, set_all, call_procedure}
 use Rattle.sql_tree.specs.declared.expressions.Count.{Count}
@@ -13,7 +13,7 @@ use Rattle.sql_tree.specs.declared.statements.Target.{Target}
 use Rattle.catalog_rules.specs.Names.{same_name, is_among, has_twice}
 use Rattle.catalog_rules.specs.Objects.{Object, table_in, function_in, procedure_in, parameters_of, columns_of}
 use Rattle.catalog_rules.specs.Bodies.{session_variables, readable_variables, has_code}
-use Rattle.catalog_rules.specs.Nodes.{Sight, no_sight, Node, a_name, a_column, a_new_column, an_old_column, an_inserted_value, a_user_variable, a_system_variable, a_built_in, a_random_number, a_function_call, a_table_read, a_limit, a_statement, count_of_trees, nodes_of, nodes_of_tree, nodes_of_rows, table_at, table_read_at}
+use Rattle.catalog_rules.specs.Nodes.{Sight, no_sight, Node, a_name, a_column, a_new_column, an_old_column, an_inserted_value, a_user_variable, a_system_variable, a_built_in, a_random_number, a_function_call, a_table_read, a_limit, a_statement, count_of_trees, nodes_of, nodes_of_tree, nodes_of_rows, table_read_at}
 
 -- What a statement sees beside rows: the names of the locals in scope, and in a trigger the tables of NEW and OLD.
 pub record Scope : Type 0 where

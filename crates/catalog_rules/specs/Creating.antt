@@ -1,11 +1,10 @@
 -- CREATE, DROP and TRUNCATE: what refuses them, each check in its turn, and the catalog after them.
-use Rattle.std.specs.Prelude.{ℕ, suc, ◌+◌, ◌/◌, Bool, true, false, not, ◌&&◌, ◌||◌, nat_le, nat_lt, ◌==◌, if◌then◌else◌, List, [], ◌∷◌, ◌++◌, length, map, filter, sum, Option, Some, None, is_some, is_none, is_ok, option_to_list, slice_get}
+use Rattle.std.specs.Prelude.{ℕ, ◌+◌, ◌/◌, Bool, true, false, not, ◌&&◌, ◌||◌, nat_le, nat_lt, ◌==◌, if◌then◌else◌, List, [], ◌∷◌, ◌++◌, length, map, filter, sum, Option, Some, None, is_some, is_none, is_ok, option_to_list, slice_get}
 use Rattle.std.specs.List.{list_any}
-use Rattle.std.specs.Option.{option_map, option_map_or}
+use Rattle.std.specs.Option.{option_map_or}
 use Rattle.val_types.specs.declared.value.Value.{Value}
-use Rattle.val_types.specs.declared.definitions.TableDef.{TableDef}
 use Rattle.val_types.specs.Fitting.{fitting, is_null}
-use Rattle.sql_tree.specs.Statement.{Program, program, Trigger, trigger}
+use Rattle.sql_tree.specs.Statement.{Program, Trigger, trigger}
 use Rattle.sql_tree.specs.Statement.{Statement, create_table, create_function, create_procedure, create_trigger, drop_table, drop_function, drop_procedure, drop_trigger, truncate}
 use Rattle.sql_tree.specs.declared.statements.SqlType.{SqlType}
 use Rattle.sql_tree.specs.declared.statements.SqlType.TheVariants as types

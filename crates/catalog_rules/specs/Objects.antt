@@ -1,5 +1,5 @@
 -- The catalog: tables without their rows, functions, procedures and triggers, in order of creation.
-use Rattle.std.specs.Prelude.{ℕ, Bool, true, false, ◌&&◌, if◌then◌else◌, List, [], ◌∷◌, length, map, filter, Option, Some, None}
+use Rattle.std.specs.Prelude.{ℕ, Bool, true, false, ◌&&◌, if◌then◌else◌, List, length, map, filter, Option, Some, None}
 use Rattle.val_types.specs.declared.definitions.TableDef.{TableDef}
 use Rattle.val_types.specs.declared.definitions.ColumnDef.{ColumnDef}
 use Rattle.sql_tree.specs.Statement.{Statement, Program, program, Trigger, trigger}

@@ -1,12 +1,10 @@
 -- A small catalog, of which worked examples are made: `t` (id, v), `a` (id AUTO_INCREMENT, k), a function `f` of one number, a
 -- procedure `p` without parameters, and a trigger `r` before INSERT on `t`.
-use Rattle.std.specs.Prelude.{ℕ, true, false, codes, pos, Bool, List, [], ◌∷◌, Option, Some, None, replicate, ◌++◌}
+use Rattle.std.specs.Prelude.{ℕ, true, false, codes, List, [], ◌∷◌, Some, None}
 use Rattle.val_types.specs.declared.value.Value.{Value}
-use Rattle.val_types.specs.declared.value.Value.TheVariants as values
-use Rattle.sql_tree.specs.Tree.{Tree, literal, name}
-use Rattle.sql_tree.specs.Statement.{Statement, Program, program, Trigger, trigger, return_value, evaluate, block}
+use Rattle.sql_tree.specs.Tree.{name}
+use Rattle.sql_tree.specs.Statement.{Statement, Program, program, Trigger, trigger, return_value, evaluate}
 use Rattle.sql_tree.specs.View.{trees_of}
-use Rattle.sql_tree.specs.StatementView.{statements_of}
 use Rattle.sql_tree.specs.Worked.{one, column_of, key_of, parameter_of}
 use Rattle.sql_tree.specs.declared.statements.SqlType.{SqlType}
 use Rattle.sql_tree.specs.declared.statements.Column.{Column}

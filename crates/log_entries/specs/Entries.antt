@@ -1,5 +1,5 @@
 -- What entries make of a base.
-use Rattle.std.specs.Prelude.{◌≡◌, List, [], ◌∷◌, ◌++◌, flat_map, Option, Some, None}
+use Rattle.std.specs.Prelude.{◌≡◌, List, [], ◌∷◌, ◌++◌, flat_map, Option, Some}
 use Rattle.std.specs.Option.{option_map, option_and_then}
 use Rattle.val_types.specs.declared.change.Change.{Change}
 use Rattle.table_rules.specs.Tables.{Table}

@@ -1,5 +1,5 @@
 -- What an item carries of the context in which its statement ran.
-use Rattle.std.specs.Prelude.{ℕ, Bool, true, false, ◌||◌, codes, if◌then◌else◌, List, [], ◌∷◌, map, filter_map, Option, Some, None, ℤ}
+use Rattle.std.specs.Prelude.{ℕ, Bool, true, false, codes, List, [], ◌∷◌, map, filter_map, Option, Some, None, ℤ}
 use Rattle.std.specs.List.{list_any}
 use Rattle.std.specs.declared.cmp.Ordering.{Ordering}
 use Rattle.std.specs.declared.cmp.Ordering.TheVariants.{Less, Equal, Greater}

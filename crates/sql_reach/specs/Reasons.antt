@@ -1,5 +1,5 @@
 -- Why a statement may do something else when a replica runs its text: the reasons for which it is unsafe.
-use Rattle.std.specs.Prelude.{ℕ, Bool, true, false, not, ◌&&◌, ◌||◌, codes, List, [], ◌∷◌, ◌++◌, flat_map, filter, is_some}
+use Rattle.std.specs.Prelude.{ℕ, Bool, true, false, ◌&&◌, codes, List, [], ◌∷◌, flat_map, filter, is_some}
 use Rattle.std.specs.List.{list_any}
 use Rattle.std.specs.Option.{option_map_or}
 use Rattle.val_types.specs.declared.definitions.TableDef.{TableDef}

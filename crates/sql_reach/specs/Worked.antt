@@ -1,16 +1,16 @@
 -- Locals and catalogs, of which worked examples are made.
-use Rattle.std.specs.Prelude.{ℕ, codes, pos, neg_ℤ, List, [], ◌∷◌, Some, None}
+use Rattle.std.specs.Prelude.{ℕ, codes, pos, neg_ℤ, List, [], ◌∷◌, Some}
 use Rattle.val_types.specs.declared.value.Value.{Value}
 use Rattle.val_types.specs.declared.value.Value.TheVariants.{Int, Text}
 use Rattle.val_types.specs.declared.ops.Func.{Func}
-use Rattle.sql_tree.specs.Tree.{Tree, built_in, no_tree, new_column, call}
-use Rattle.sql_tree.specs.Statement.{trigger, return_value, insert_into, rows_of}
+use Rattle.sql_tree.specs.Tree.{built_in, no_tree, new_column, call}
+use Rattle.sql_tree.specs.Statement.{trigger, return_value}
 use Rattle.sql_tree.specs.declared.locals.Local.{Local}
 use Rattle.sql_tree.specs.declared.statements.Cause.TheVariants as causes
 use Rattle.sql_tree.specs.declared.statements.SqlType.{SqlType}
 use Rattle.sql_tree.specs.declared.statements.Time.TheVariants as times
 use Rattle.catalog_rules.specs.Objects.{Object, table, function, reaction}
-use Rattle.sql_meaning.specs.Worked.{t_def, a_def, l_def, giving, inserting}
+use Rattle.sql_meaning.specs.Worked.{t_def, l_def, giving, inserting}
 
 -- a local
 abbrev pub local_of : List ℕ → Value → Local
