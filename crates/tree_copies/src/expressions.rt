@@ -1,6 +1,5 @@
 //! Copies of expressions and SELECTs.
 ghost use Rattle.std.specs.Prelude.{◌≡◌, IfOk};
-ghost use Rattle.sql_tree.specs.declared.expressions.Expr.{Expr, Case, If, Substring};
 
 use sql_tree::{Aggregate, Arm, Expr, FromClause, OrderItem, Select, Selection};
 use std::alloc::Global;
@@ -11,53 +10,68 @@ use val_types::{Boxed, Duplicate, List, NoMemory};
 pub fn copy_expr(alloc: Global, expr: &Expr) -> Result<Expr, NoMemory>
     ensures { IfOk result (λ copy. copy ≡ expr.now) }
 {
-    match expr {
-        Expr::Literal(value) => Ok(Expr::Literal(value.duplicate(alloc)?)),
-        Expr::Name(name) => Ok(Expr::Name(name.duplicate(alloc)?)),
+    Ok(match expr {
+        Expr::Literal(value) => Expr::Literal(value.duplicate(alloc)?),
+        Expr::Name(name) => Expr::Name(name.duplicate(alloc)?),
         Expr::Column(table, name) => {
-            Ok(Expr::Column(table.duplicate(alloc)?, name.duplicate(alloc)?))
+            Expr::Column(table.duplicate(alloc)?, name.duplicate(alloc)?)
         }
-        Expr::NewColumn(name) => Ok(Expr::NewColumn(name.duplicate(alloc)?)),
-        Expr::OldColumn(name) => Ok(Expr::OldColumn(name.duplicate(alloc)?)),
-        Expr::UserVariable(name) => Ok(Expr::UserVariable(name.duplicate(alloc)?)),
-        Expr::SystemVariable(name) => Ok(Expr::SystemVariable(name.duplicate(alloc)?)),
-        Expr::Unary(op, a) => Ok(Expr::Unary(*op, copy_boxed(alloc, a)?)),
+        Expr::NewColumn(name) => Expr::NewColumn(name.duplicate(alloc)?),
+        Expr::OldColumn(name) => Expr::OldColumn(name.duplicate(alloc)?),
+        Expr::UserVariable(name) => Expr::UserVariable(name.duplicate(alloc)?),
+        Expr::SystemVariable(name) => Expr::SystemVariable(name.duplicate(alloc)?),
+        Expr::Unary(op, a) => Expr::Unary(*op, copy_boxed(alloc, a)?),
         Expr::Binary(op, a, b) => {
-            Ok(Expr::Binary(*op, copy_boxed(alloc, a)?, copy_boxed(alloc, b)?))
+            Expr::Binary(*op, copy_boxed(alloc, a)?, copy_boxed(alloc, b)?)
         }
         Expr::In {
             negated,
             left,
             items,
-        } => copy_in(alloc, *negated, left, items),
-        Expr::Case { arms, otherwise } => copy_case(alloc, arms, otherwise),
-        Expr::Subquery(select) => Ok(Expr::Subquery(copy_query(alloc, select)?)),
-        Expr::Exists(select) => Ok(Expr::Exists(copy_query(alloc, select)?)),
-        Expr::Call { name, arguments } => Ok(Expr::Call {
+        } => Expr::In {
+            negated: *negated,
+            left: copy_boxed(alloc, left)?,
+            items: copy_exprs(alloc, items)?,
+        },
+        Expr::Case { arms, otherwise } => Expr::Case {
+            arms: copy_arms(alloc, arms)?,
+            otherwise: copy_part(alloc, otherwise)?,
+        },
+        Expr::Subquery(select) => Expr::Subquery(copy_query(alloc, select)?),
+        Expr::Exists(select) => Expr::Exists(copy_query(alloc, select)?),
+        Expr::Call { name, arguments } => Expr::Call {
             name: name.duplicate(alloc)?,
             arguments: copy_exprs(alloc, arguments)?,
-        }),
-        Expr::Values(name) => Ok(Expr::Values(name.duplicate(alloc)?)),
+        },
+        Expr::Values(name) => Expr::Values(name.duplicate(alloc)?),
         Expr::NameConst(name, value) => {
-            Ok(Expr::NameConst(name.duplicate(alloc)?, value.duplicate(alloc)?))
+            Expr::NameConst(name.duplicate(alloc)?, value.duplicate(alloc)?)
         }
-        Expr::FloorRand(a) => Ok(Expr::FloorRand(copy_boxed(alloc, a)?)),
-        Expr::Abs(a) => Ok(Expr::Abs(copy_boxed(alloc, a)?)),
-        Expr::Coalesce(arguments) => Ok(Expr::Coalesce(copy_exprs(alloc, arguments)?)),
-        Expr::If(a, b, c) => copy_if(alloc, a, b, c),
-        Expr::IfNull(a, b) => Ok(Expr::IfNull(copy_boxed(alloc, a)?, copy_boxed(alloc, b)?)),
-        Expr::Concat(arguments) => Ok(Expr::Concat(copy_exprs(alloc, arguments)?)),
-        Expr::Length(a) => Ok(Expr::Length(copy_boxed(alloc, a)?)),
-        Expr::Substring(a, b, c) => copy_substring(alloc, a, b, c),
-        Expr::Now => Ok(Expr::Now),
-        Expr::UnixTimestamp => Ok(Expr::UnixTimestamp),
-        Expr::SysDate => Ok(Expr::SysDate),
-        Expr::User => Ok(Expr::User),
-        Expr::Uuid => Ok(Expr::Uuid),
-        Expr::ConnectionId => Ok(Expr::ConnectionId),
-        Expr::LastInsertId => Ok(Expr::LastInsertId),
-        Expr::RowCount => Ok(Expr::RowCount),
-    }
+        Expr::FloorRand(a) => Expr::FloorRand(copy_boxed(alloc, a)?),
+        Expr::Abs(a) => Expr::Abs(copy_boxed(alloc, a)?),
+        Expr::Coalesce(arguments) => Expr::Coalesce(copy_exprs(alloc, arguments)?),
+        Expr::If(a, b, c) => Expr::If(
+            copy_boxed(alloc, a)?,
+            copy_boxed(alloc, b)?,
+            copy_boxed(alloc, c)?,
+        ),
+        Expr::IfNull(a, b) => Expr::IfNull(copy_boxed(alloc, a)?, copy_boxed(alloc, b)?),
+        Expr::Concat(arguments) => Expr::Concat(copy_exprs(alloc, arguments)?),
+        Expr::Length(a) => Expr::Length(copy_boxed(alloc, a)?),
+        Expr::Substring(a, b, c) => Expr::Substring(
+            copy_boxed(alloc, a)?,
+            copy_boxed(alloc, b)?,
+            copy_boxed(alloc, c)?,
+        ),
+        Expr::Now => Expr::Now,
+        Expr::UnixTimestamp => Expr::UnixTimestamp,
+        Expr::SysDate => Expr::SysDate,
+        Expr::User => Expr::User,
+        Expr::Uuid => Expr::Uuid,
+        Expr::ConnectionId => Expr::ConnectionId,
+        Expr::LastInsertId => Expr::LastInsertId,
+        Expr::RowCount => Expr::RowCount,
+    })
 }
 
 #[cycle(copies)]
@@ -65,65 +79,6 @@ fn copy_boxed(alloc: Global, expr: &Boxed<Expr>) -> Result<Boxed<Expr>, NoMemory
     ensures { IfOk result (λ copy. copy ≡ expr.now) }
 {
     Boxed::new(alloc, copy_expr(alloc, expr.get())?)
-}
-
-#[cycle(copies)]
-fn copy_in(
-    alloc: Global,
-    negated: bool,
-    left: &Boxed<Expr>,
-    items: &List<Expr>,
-) -> Result<Expr, NoMemory>
-    ensures { IfOk result (λ copy. copy ≡ Expr.In negated left.now items.now) }
-{
-    let left = copy_boxed(alloc, left)?;
-    let items = copy_exprs(alloc, items)?;
-    Ok(Expr::In {
-        negated,
-        left,
-        items,
-    })
-}
-
-#[cycle(copies)]
-fn copy_case(
-    alloc: Global,
-    arms: &List<Arm>,
-    otherwise: &Option<Boxed<Expr>>,
-) -> Result<Expr, NoMemory>
-    ensures { IfOk result (λ copy. copy ≡ Case arms.now otherwise.now) }
-{
-    let arms = copy_arms(alloc, arms)?;
-    let otherwise = copy_part(alloc, otherwise)?;
-    Ok(Expr::Case { arms, otherwise })
-}
-
-#[cycle(copies)]
-fn copy_if(
-    alloc: Global,
-    a: &Boxed<Expr>,
-    b: &Boxed<Expr>,
-    c: &Boxed<Expr>,
-) -> Result<Expr, NoMemory>
-    ensures { IfOk result (λ copy. copy ≡ If a.now b.now c.now) }
-{
-    let a = copy_boxed(alloc, a)?;
-    let b = copy_boxed(alloc, b)?;
-    Ok(Expr::If(a, b, copy_boxed(alloc, c)?))
-}
-
-#[cycle(copies)]
-fn copy_substring(
-    alloc: Global,
-    a: &Boxed<Expr>,
-    b: &Boxed<Expr>,
-    c: &Boxed<Expr>,
-) -> Result<Expr, NoMemory>
-    ensures { IfOk result (λ copy. copy ≡ Substring a.now b.now c.now) }
-{
-    let a = copy_boxed(alloc, a)?;
-    let b = copy_boxed(alloc, b)?;
-    Ok(Expr::Substring(a, b, copy_boxed(alloc, c)?))
 }
 
 #[cycle(copies)]
@@ -139,7 +94,7 @@ fn copy_part(alloc: Global, part: &Option<Boxed<Expr>>) -> Result<Option<Boxed<E
 {
     match part {
         None => Ok(None),
-        Some(expr) => Ok(Some(Boxed::new(alloc, copy_expr(alloc, expr.get())?)?)),
+        Some(expr) => Ok(Some(copy_boxed(alloc, expr)?)),
     }
 }
 
@@ -161,11 +116,19 @@ fn copy_arms(alloc: Global, arms: &List<Arm>) -> Result<List<Arm>, NoMemory>
 {
     let mut copy = List::new(alloc);
     for arm in arms.as_slice() {
-        let condition = copy_expr(alloc, &arm.condition)?;
-        let value = copy_expr(alloc, &arm.value)?;
-        copy.push(Arm { condition, value })?;
+        copy.push(copy_arm(alloc, arm)?)?;
     }
     Ok(copy)
+}
+
+#[cycle(copies)]
+fn copy_arm(alloc: Global, arm: &Arm) -> Result<Arm, NoMemory>
+    ensures { IfOk result (λ copy. copy ≡ arm.now) }
+{
+    Ok(Arm {
+        condition: copy_expr(alloc, &arm.condition)?,
+        value: copy_expr(alloc, &arm.value)?,
+    })
 }
 
 /// An equal SELECT.
@@ -182,13 +145,13 @@ pub fn copy_select(alloc: Global, select: &Select) -> Result<Select, NoMemory>
 fn copy_selection(alloc: Global, what: &Selection) -> Result<Selection, NoMemory>
     ensures { IfOk result (λ copy. copy ≡ what.now) }
 {
-    match what {
-        Selection::Items(items) => Ok(Selection::Items(copy_exprs(alloc, items)?)),
-        Selection::All => Ok(Selection::All),
+    Ok(match what {
+        Selection::Items(items) => Selection::Items(copy_exprs(alloc, items)?),
+        Selection::All => Selection::All,
         Selection::Aggregates(aggregates) => {
-            Ok(Selection::Aggregates(copy_aggregates(alloc, aggregates)?))
+            Selection::Aggregates(copy_aggregates(alloc, aggregates)?)
         }
-    }
+    })
 }
 
 #[cycle(copies)]
@@ -206,10 +169,10 @@ fn copy_aggregates(alloc: Global, aggregates: &List<Aggregate>) -> Result<List<A
 fn copy_aggregate(alloc: Global, aggregate: &Aggregate) -> Result<Aggregate, NoMemory>
     ensures { IfOk result (λ copy. copy ≡ aggregate.now) }
 {
-    match aggregate {
-        Aggregate::CountAll => Ok(Aggregate::CountAll),
-        Aggregate::Of(function, expr) => Ok(Aggregate::Of(*function, copy_boxed(alloc, expr)?)),
-    }
+    Ok(match aggregate {
+        Aggregate::CountAll => Aggregate::CountAll,
+        Aggregate::Of(function, expr) => Aggregate::Of(*function, copy_boxed(alloc, expr)?),
+    })
 }
 
 #[cycle(copies)]

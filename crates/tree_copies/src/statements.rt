@@ -31,10 +31,10 @@ fn copy_rows(alloc: Global, rows: &List<List<Expr>>) -> Result<List<List<Expr>>,
 fn copy_source(alloc: Global, source: &Source) -> Result<Source, NoMemory>
     ensures { IfOk result (λ copy. copy ≡ source.now) }
 {
-    match source {
-        Source::Rows(rows) => Ok(Source::Rows(copy_rows(alloc, rows)?)),
-        Source::Select(select) => Ok(Source::Select(copy_select(alloc, select)?)),
-    }
+    Ok(match source {
+        Source::Rows(rows) => Source::Rows(copy_rows(alloc, rows)?),
+        Source::Select(select) => Source::Select(copy_select(alloc, select)?),
+    })
 }
 
 fn copy_sets(alloc: Global, sets: &List<ColumnSet>) -> Result<List<ColumnSet>, NoMemory>
@@ -91,8 +91,8 @@ fn copy_insert(alloc: Global, insert: &InsertStmt) -> Result<InsertStmt, NoMemor
         ignore: insert.ignore,
         table: insert.table.duplicate(alloc)?,
         columns: insert.columns.duplicate(alloc)?,
-        source: copy_source(alloc, &insert.source)?,
         update: copy_sets(alloc, &insert.update)?,
+        source: copy_source(alloc, &insert.source)?,
     })
 }
 
@@ -112,9 +112,9 @@ fn copy_update(alloc: Global, update: &UpdateStmt) -> Result<UpdateStmt, NoMemor
     Ok(UpdateStmt {
         table: update.table.duplicate(alloc)?,
         sets: copy_sets(alloc, &update.sets)?,
-        filter: copy_option(alloc, &update.filter)?,
         order: copy_order(alloc, &update.order)?,
         limit: update.limit.duplicate(alloc)?,
+        filter: copy_option(alloc, &update.filter)?,
     })
 }
 
@@ -123,9 +123,9 @@ fn copy_delete(alloc: Global, delete: &DeleteStmt) -> Result<DeleteStmt, NoMemor
 {
     Ok(DeleteStmt {
         table: delete.table.duplicate(alloc)?,
-        filter: copy_option(alloc, &delete.filter)?,
         order: copy_order(alloc, &delete.order)?,
         limit: delete.limit.duplicate(alloc)?,
+        filter: copy_option(alloc, &delete.filter)?,
     })
 }
 
@@ -134,49 +134,49 @@ fn copy_delete(alloc: Global, delete: &DeleteStmt) -> Result<DeleteStmt, NoMemor
 pub fn copy_stmt(alloc: Global, s: &Stmt) -> Result<Stmt, NoMemory>
     ensures { IfOk result (λ copy. copy ≡ s.now) }
 {
-    match s {
-        Stmt::CreateTable(table) => Ok(Stmt::CreateTable(table.duplicate(alloc)?)),
-        Stmt::CreateFunction(routine) => Ok(Stmt::CreateFunction(copy_boxed(alloc, routine)?)),
-        Stmt::CreateProcedure(routine) => Ok(Stmt::CreateProcedure(copy_boxed(alloc, routine)?)),
+    Ok(match s {
+        Stmt::CreateTable(table) => Stmt::CreateTable(table.duplicate(alloc)?),
+        Stmt::CreateFunction(routine) => Stmt::CreateFunction(copy_boxed(alloc, routine)?),
+        Stmt::CreateProcedure(routine) => Stmt::CreateProcedure(copy_boxed(alloc, routine)?),
         Stmt::CreateTrigger(trigger) => {
-            Ok(Stmt::CreateTrigger(Boxed::new(alloc, copy_trigger(alloc, trigger.get())?)?))
+            Stmt::CreateTrigger(Boxed::new(alloc, copy_trigger(alloc, trigger.get())?)?)
         }
-        Stmt::DropTable(name) => Ok(Stmt::DropTable(name.duplicate(alloc)?)),
-        Stmt::DropFunction(name) => Ok(Stmt::DropFunction(name.duplicate(alloc)?)),
-        Stmt::DropProcedure(name) => Ok(Stmt::DropProcedure(name.duplicate(alloc)?)),
-        Stmt::DropTrigger(name) => Ok(Stmt::DropTrigger(name.duplicate(alloc)?)),
-        Stmt::Truncate(name) => Ok(Stmt::Truncate(name.duplicate(alloc)?)),
-        Stmt::Insert(insert) => Ok(Stmt::Insert(copy_insert(alloc, insert)?)),
-        Stmt::Replace(replace) => Ok(Stmt::Replace(copy_replace(alloc, replace)?)),
-        Stmt::Update(update) => Ok(Stmt::Update(copy_update(alloc, update)?)),
-        Stmt::Delete(delete) => Ok(Stmt::Delete(copy_delete(alloc, delete)?)),
-        Stmt::Select(select) => Ok(Stmt::Select(copy_select(alloc, select)?)),
-        Stmt::Do(exprs) => Ok(Stmt::Do(copy_exprs(alloc, exprs)?)),
-        Stmt::Set(assignments) => Ok(Stmt::Set(copy_assignments(alloc, assignments)?)),
-        Stmt::Call { name, arguments } => Ok(Stmt::Call {
+        Stmt::DropTable(name) => Stmt::DropTable(name.duplicate(alloc)?),
+        Stmt::DropFunction(name) => Stmt::DropFunction(name.duplicate(alloc)?),
+        Stmt::DropProcedure(name) => Stmt::DropProcedure(name.duplicate(alloc)?),
+        Stmt::DropTrigger(name) => Stmt::DropTrigger(name.duplicate(alloc)?),
+        Stmt::Truncate(name) => Stmt::Truncate(name.duplicate(alloc)?),
+        Stmt::Insert(insert) => Stmt::Insert(copy_insert(alloc, insert)?),
+        Stmt::Replace(replace) => Stmt::Replace(copy_replace(alloc, replace)?),
+        Stmt::Update(update) => Stmt::Update(copy_update(alloc, update)?),
+        Stmt::Delete(delete) => Stmt::Delete(copy_delete(alloc, delete)?),
+        Stmt::Select(select) => Stmt::Select(copy_select(alloc, select)?),
+        Stmt::Do(exprs) => Stmt::Do(copy_exprs(alloc, exprs)?),
+        Stmt::Set(assignments) => Stmt::Set(copy_assignments(alloc, assignments)?),
+        Stmt::Call { name, arguments } => Stmt::Call {
             name: name.duplicate(alloc)?,
             arguments: copy_exprs(alloc, arguments)?,
-        }),
-        Stmt::Begin => Ok(Stmt::Begin),
-        Stmt::Commit => Ok(Stmt::Commit),
-        Stmt::Rollback => Ok(Stmt::Rollback),
-        Stmt::Savepoint(name) => Ok(Stmt::Savepoint(name.duplicate(alloc)?)),
-        Stmt::RollbackTo(name) => Ok(Stmt::RollbackTo(name.duplicate(alloc)?)),
-        Stmt::ReleaseSavepoint(name) => Ok(Stmt::ReleaseSavepoint(name.duplicate(alloc)?)),
-        Stmt::Block { declarations, body } => Ok(Stmt::Block {
+        },
+        Stmt::Begin => Stmt::Begin,
+        Stmt::Commit => Stmt::Commit,
+        Stmt::Rollback => Stmt::Rollback,
+        Stmt::Savepoint(name) => Stmt::Savepoint(name.duplicate(alloc)?),
+        Stmt::RollbackTo(name) => Stmt::RollbackTo(name.duplicate(alloc)?),
+        Stmt::ReleaseSavepoint(name) => Stmt::ReleaseSavepoint(name.duplicate(alloc)?),
+        Stmt::Block { declarations, body } => Stmt::Block {
             declarations: copy_declarations(alloc, declarations)?,
             body: copy_steps(alloc, body)?,
-        }),
-        Stmt::If { arms, otherwise } => Ok(Stmt::If {
+        },
+        Stmt::If { arms, otherwise } => Stmt::If {
             arms: copy_branches(alloc, arms)?,
             otherwise: copy_otherwise(alloc, otherwise)?,
-        }),
-        Stmt::While { condition, steps } => Ok(Stmt::While {
-            condition: copy_expr(alloc, condition)?,
+        },
+        Stmt::While { condition, steps } => Stmt::While {
             steps: copy_steps(alloc, steps)?,
-        }),
-        Stmt::Return(expr) => Ok(Stmt::Return(copy_expr(alloc, expr)?)),
-    }
+            condition: copy_expr(alloc, condition)?,
+        },
+        Stmt::Return(expr) => Stmt::Return(copy_expr(alloc, expr)?),
+    })
 }
 
 #[cycle(copies)]
@@ -196,8 +196,8 @@ fn copy_branches(alloc: Global, branches: &List<Branch>) -> Result<List<Branch>,
 {
     let mut copy = List::new(alloc);
     for branch in branches.as_slice() {
-        let condition = copy_expr(alloc, &branch.condition)?;
         let steps = copy_steps(alloc, &branch.steps)?;
+        let condition = copy_expr(alloc, &branch.condition)?;
         copy.push(Branch { condition, steps })?;
     }
     Ok(copy)

@@ -1,6 +1,4 @@
 use Rattle.std.proofs.Common.{◌≡◌, ◌+◌, ◌*◌, take}
-use Rattle.sql_tree.specs.declared.expressions.Expr.{In, Case, If, Substring}
-use Rattle.sql_tree.proofs.expressions.Expr.TheLaws.{the_size}
 use Rattle.tree_copies.proofs.expressions.+copies.Given as goal
 
 -- Each measure is ten times the depth of what is copied, and a number that falls where a function
@@ -33,26 +31,17 @@ decreases-copy_exprs l = 10 * goal.size-copy_exprs l + 4
 abbrev pub decreases-copy_arms : goal.decreases-copy_arms
 decreases-copy_arms l = 10 * goal.size-copy_arms l + 4
 
+abbrev pub decreases-copy_arm : goal.decreases-copy_arm
+decreases-copy_arm l = 10 * goal.size-copy_arm l + 3
+
 abbrev pub decreases-copy_part : goal.decreases-copy_part
-decreases-copy_part l = 10 * goal.size-copy_part l + 4
+decreases-copy_part l = 10 * goal.size-copy_part l + 5
 
 abbrev pub decreases-copy_boxed : goal.decreases-copy_boxed
 decreases-copy_boxed l = 10 * goal.size-copy_boxed l + 4
 
 abbrev pub decreases-copy_expr : goal.decreases-copy_expr
 decreases-copy_expr l = 10 * goal.size-copy_expr l + 1
-
-abbrev pub decreases-copy_in : goal.decreases-copy_in
-decreases-copy_in l = 10 * the_size (In l.negated l.left.now l.items.now)
-
-abbrev pub decreases-copy_case : goal.decreases-copy_case
-decreases-copy_case l = 10 * the_size (Case l.arms.now l.otherwise.now)
-
-abbrev pub decreases-copy_if : goal.decreases-copy_if
-decreases-copy_if l = 10 * the_size (If l.a.now l.b.now l.c.now)
-
-abbrev pub decreases-copy_substring : goal.decreases-copy_substring
-decreases-copy_substring l = 10 * the_size (Substring l.a.now l.b.now l.c.now)
 
 abbrev pub invariant-copy_exprs-loop-expr : goal.invariant-copy_exprs-loop-expr
 invariant-copy_exprs-loop-expr l = l.copy ≡ take l.expr-index l.expr-items
