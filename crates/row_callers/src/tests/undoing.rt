@@ -1,9 +1,9 @@
 //! Changes pushed, copied and taken out, by hand.
 
-use crate::Undo;
 use std::alloc::Global;
 use std::process::Abort;
 use std::test::Fail;
+use undo_log::Undo;
 use val_types::{Bytes, Change, List, Row, Value};
 
 /// A change of a table as a table of tests holds it: its name, and the number in its row.
