@@ -21,14 +21,12 @@
 //! - the worked values
 //!
 //! # Only tested
-//! That `add` succeeds with ample memory, and a table of first values at the ends of the types.
+//! That `add` succeeds with ample memory, and first values at the ends of the types, in `row_callers`.
 #![tactic(auto)]
 
 mod counters;
 mod laws;
 mod sequence;
-#[cfg(test)]
-mod tests;
 mod worked;
 
 pub use counters::{Counter, Counters};

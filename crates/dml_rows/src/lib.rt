@@ -12,13 +12,11 @@
 //!   one first, and leaves the list up to the mark; it takes no memory
 //!
 //! # Only tested
-//! That calls succeed with ample memory.
+//! That calls succeed with ample memory, in `row_callers`.
 #![tactic(auto)]
 
 mod storing;
 mod taking_back;
-#[cfg(test)]
-mod tests;
 
 pub use storing::{delete_row, insert_row, update_row};
 pub use taking_back::take_back_to;

@@ -24,7 +24,7 @@
 //!   want memory
 //!
 //! # Only tested
-//! That calls succeed with ample memory.
+//! That calls succeed with ample memory, in `row_callers`.
 #![tactic(auto)]
 
 mod arithmetic;
@@ -34,8 +34,6 @@ mod identifiers;
 mod moments;
 mod operators;
 mod random;
-#[cfg(test)]
-mod tests;
 mod texts;
 mod truths;
 

@@ -1,6 +1,7 @@
 //! What RAND() draws.
-ghost use Rattle.std.specs.Prelude.{◌≡◌};
-ghost use Rattle.value_rules.specs.Random.{scaled, seeds_after};
+ghost use Rattle.std.specs.Prelude.{◌≡◌, ◌*ℤ◌, pos};
+ghost use Rattle.std.specs.Int.{int_div_euclid};
+ghost use Rattle.value_rules.specs.Random.{scaled, seed_bound, seeds_after};
 
 use val_types::{KINDS_MIXED, NUMBER_OVERFLOW, SqlError, Value};
 
@@ -28,11 +29,17 @@ pub fn floor_rand(s1: u64, n: &Value) -> Result<Value, SqlError>
         Value::Null => Ok(Value::Null),
         Value::Text(_) => Err(KINDS_MIXED),
         Value::Int(n) => {
-            let floor = (i128::from(s1) * i128::from(*n)).div_euclid(i128::from(SEED_BOUND));
-            match i64::try_from(floor) {
+            match i64::try_from(scaled_floor(s1, *n)) {
                 Ok(number) => Ok(Value::Int(number)),
                 Err(_) => Err(NUMBER_OVERFLOW),
             }
         }
     }
+}
+
+/// The floor of `s1 * n / 1073741823`.
+fn scaled_floor(s1: u64, n: i64) -> i128
+    ensures { result ≡ int_div_euclid (pos s1 *ℤ n) (pos seed_bound) }
+{
+    (i128::from(s1) * i128::from(n)).div_euclid(i128::from(SEED_BOUND))
 }

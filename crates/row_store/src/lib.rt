@@ -29,7 +29,7 @@
 //! - a law: what is stored fits, rises by primary key and has no key in common ([`tables_are_kept`])
 //!
 //! # Only tested
-//! That calls succeed with ample memory.
+//! That calls succeed with ample memory, in `row_callers`.
 #![tactic(auto)]
 
 mod comparing;
@@ -40,8 +40,6 @@ mod refusal;
 mod shelf;
 mod slots;
 mod tables;
-#[cfg(test)]
-mod tests;
 
 pub use laws::tables_are_kept;
 pub use refusal::RowRefusal;

@@ -14,15 +14,13 @@
 //! - [`aggregate`] gives exactly the value or the error number of the definition, or wants memory
 //!
 //! # Only tested
-//! That calls succeed with ample memory.
+//! That calls succeed with ample memory, in `row_callers`.
 #![tactic(auto)]
 
 mod aggregates;
 mod keyed;
 mod limiting;
 mod ordering;
-#[cfg(test)]
-mod tests;
 
 pub use aggregates::aggregate;
 pub use keyed::Keyed;

@@ -10,11 +10,9 @@
 //! - [`Undo::pop`] takes the last change out, None just for the empty list; [`Undo::clear`] empties it
 //!
 //! # Only tested
-//! That calls succeed with ample memory.
+//! That calls succeed with ample memory, in `row_callers`.
 #![tactic(auto)]
 
-#[cfg(test)]
-mod tests;
 mod undo;
 
 pub use undo::Undo;

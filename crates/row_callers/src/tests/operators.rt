@@ -1,7 +1,7 @@
 //! Operators on values, and what a left operand decides.
 
 use super::{Part, outcome, value};
-use crate::{binary, decided, truth, unary};
+use expr_ops::{binary, decided, truth, unary};
 use std::alloc::Global;
 use std::process::Abort;
 use std::test::Fail;

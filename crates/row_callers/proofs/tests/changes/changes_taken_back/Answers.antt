@@ -1,6 +1,6 @@
 use Rattle.std.proofs.Common.{ℕ}
 use Rattle.dml_rows.proofs.Noting.{none_noted}
-use Rattle.dml_rows.proofs.tests.changes_taken_back.Goals as goal
+use Rattle.row_callers.proofs.tests.changes.changes_taken_back.Goals as goal
 
 pub loop-part-init : goal.loop-part-init
 loop-part-init g c = none_noted _ _ c.new-undo.ensures

@@ -1,7 +1,12 @@
-//! Operators and built-in functions, by hand.
+//! Calls of the crates of values and rows, by hand.
 
+mod changes;
+mod counting;
 mod functions;
 mod operators;
+mod selecting;
+mod storing;
+mod undoing;
 
 use std::alloc::Global;
 use std::test::Fail;

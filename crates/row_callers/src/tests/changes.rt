@@ -2,7 +2,7 @@
 ghost use Rattle.dml_rows.specs.Noted.{CanTakeBack, StaysReversible};
 ghost use Rattle.std.specs.Prelude.{drop};
 
-use crate::{delete_row, insert_row, take_back_to, update_row};
+use dml_rows::{delete_row, insert_row, take_back_to, update_row};
 use row_store::{RowRefusal, Tables};
 use std::alloc::Global;
 use std::process::Abort;

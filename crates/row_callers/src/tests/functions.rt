@@ -4,7 +4,7 @@ ghost use Rattle.std.specs.Prelude.{IsTrue};
 ghost use Rattle.value_rules.specs.Functions.{takes};
 
 use super::{Part, outcome, value};
-use crate::{builtin, floor_rand, rand_step, time_text, uuid_text};
+use expr_ops::{builtin, floor_rand, rand_step, time_text, uuid_text};
 use std::alloc::Global;
 use std::process::Abort;
 use std::test::Fail;

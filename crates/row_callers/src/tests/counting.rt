@@ -1,6 +1,6 @@
 //! Counters and sequences worked out by hand.
 
-use crate::{Counters, StmtSeq};
+use auto_inc::{Counters, StmtSeq};
 use std::alloc::Global;
 use std::process::Abort;
 use std::test::Fail;
