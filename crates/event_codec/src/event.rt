@@ -2,7 +2,7 @@
 
 /// What an event is written with: the time in seconds since 1970, the writing server's id and the
 /// place of the event's first byte in its log.
-#[derive(Clone, Copy, Debug, PartialEq, Eq)]
+#[derive(Clone, Copy)]
 pub struct Header {
     pub stamp: u32,
     pub server_id: u32,

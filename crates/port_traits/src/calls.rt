@@ -20,7 +20,7 @@ pub fn ended_after(ended: u64, end: bool) -> u64
 }
 
 /// The calls of an object in memory, counted from 1. All counts stand still at 2^64 - 1.
-#[derive(Debug, Drop)]
+#[derive(Drop)]
 pub struct Calls {
     /// The numbers of the calls that fail.
     pub fails: List<u64>,

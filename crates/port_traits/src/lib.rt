@@ -15,6 +15,21 @@
 //! - `standard`: [`StdSource`] and [`StdSink`], over the runtime's readers and writers
 //! - `host`: [`HostEnv`], over its clock and random source
 //! - `laws`: what follows of counts and of draws
+//!
+//! # Proved
+//! - The clauses of the traits, of each object here: a read takes bytes from the front of what is left,
+//!   a write adds the front of its piece, and a call that fails does neither; a call answers
+//!   [`Failed`] only where its count of faults rose, or stands at its last value.
+//! - [`MemSource`], [`MemSink`]: which calls fail and how many bytes a call moves; a write may fail
+//!   for want of memory too. [`MemEnv`] hands out its draws in order, the last one again and again.
+//! - [`StdSource`], [`StdSink`]: each error of the reader or the writer is a fault. [`HostEnv`]: the
+//!   identity is the one that was handed in; both times of a draw are one, its seeds below
+//!   [`SEED_BOUND`].
+//! - Laws of counts, reads and draws: [`counts_rise`], [`reads_join`], [`draws_come_in_order`].
+//!
+//! # Only tested
+//! That calls succeed with ample memory; the edges over the system, once each. That a clock is right
+//! or random words are random is neither proved nor tested.
 #![tactic(auto)]
 
 mod calls;

@@ -15,7 +15,7 @@ use std::marker::Model;
 use val_types::{Bytes, List, NoMemory};
 
 /// A source over bytes in memory.
-#[derive(Debug, Drop)]
+#[derive(Drop)]
 pub struct MemSource {
     bytes: Bytes,
     place: usize,
@@ -108,7 +108,7 @@ impl Source for MemSource {
 }
 
 /// A sink that keeps its bytes in memory.
-#[derive(Debug, Drop)]
+#[derive(Drop)]
 pub struct MemSink {
     written: Bytes,
     piece: usize,
@@ -206,7 +206,7 @@ impl Sink for MemSink {
 }
 
 /// An environment whose identity and draws are given.
-#[derive(Debug, Drop)]
+#[derive(Drop)]
 pub struct MemEnv {
     identity: Identity,
     draws: List<Draw>,

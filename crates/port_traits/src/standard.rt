@@ -13,7 +13,7 @@ use std::io::{Read, Write};
 /// A source over a reader: over standard input where that is the runtime's `reader()`.
 ///
 /// It does not tell what it has left. Each error of the reader is a fault.
-#[derive(Debug, Drop)]
+#[derive(Drop)]
 pub struct StdSource<R> {
     pub reader: R,
     faults: u64,
@@ -67,7 +67,7 @@ impl<R: Read> Source for StdSource<R> {
 ///
 /// It does not tell what was written. Each error of the writer is a fault, and so is a write that
 /// takes none of a piece that is not empty.
-#[derive(Debug, Drop)]
+#[derive(Drop)]
 pub struct StdSink<W> {
     pub writer: W,
     faults: u64,

@@ -8,7 +8,7 @@ use val_types::{Duplicate, List, NoMemory};
 
 /// What a call of [`crate::top`] tells: who the source and the replica are, once they are opened,
 /// and what each has drawn, in order.
-#[derive(Debug, Drop)]
+#[derive(Drop)]
 pub struct Report {
     pub src_identity: Option<Identity>,
     pub rep_identity: Option<Identity>,

@@ -2,6 +2,7 @@ pub mod Folded
 pub mod Quotes
 pub mod Blanks
 pub mod Keywords
+pub mod ByLetter
 pub mod Begins
 pub mod Plain
 pub mod Pieces

@@ -1,12 +1,15 @@
 //! The words of the grammar.
-ghost use Rattle.std.specs.Prelude.{◌≡◌};
+ghost use Rattle.std.specs.Prelude.{◌≡◌, ◌<◌, length, map};
 ghost use Rattle.std.specs.Str.{bytes_eq};
 ghost use Rattle.sql_lex.specs.Folded.{folded};
 ghost use Rattle.sql_lex.specs.Keywords as spec;
+ghost use Rattle.sql_lex.specs.ByLetter.{row_at, beginning_with};
+
+use crate::words::{BY_LETTER, WORDS};
 
 /// A word that the grammar knows, in the order: reserved words, which are no names without
 /// backquotes; words that may be names too; names of built-in functions and aggregates.
-#[derive(Clone, Copy, Debug, PartialEq, Eq)]
+#[derive(Clone, Copy, PartialEq, Eq)]
 pub enum Keyword {
     Alter,
     And,
@@ -125,261 +128,38 @@ pub enum Keyword {
     Uuid,
 }
 
-/// Every keyword once.
-static KEYWORDS: [Keyword; 115] = [
-    Keyword::Alter,
-    Keyword::And,
-    Keyword::As,
-    Keyword::Asc,
-    Keyword::Before,
-    Keyword::Between,
-    Keyword::Bigint,
-    Keyword::By,
-    Keyword::Call,
-    Keyword::Case,
-    Keyword::Create,
-    Keyword::Declare,
-    Keyword::Default,
-    Keyword::Delete,
-    Keyword::Desc,
-    Keyword::Deterministic,
-    Keyword::Distinct,
-    Keyword::Div,
-    Keyword::Drop,
-    Keyword::Each,
-    Keyword::Else,
-    Keyword::Elseif,
-    Keyword::Exists,
-    Keyword::For,
-    Keyword::From,
-    Keyword::Group,
-    Keyword::If,
-    Keyword::Ignore,
-    Keyword::In,
-    Keyword::Insert,
-    Keyword::Int,
-    Keyword::Integer,
-    Keyword::Into,
-    Keyword::Is,
-    Keyword::Join,
-    Keyword::Key,
-    Keyword::Limit,
-    Keyword::Mod,
-    Keyword::Modifies,
-    Keyword::Not,
-    Keyword::Null,
-    Keyword::On,
-    Keyword::Or,
-    Keyword::Order,
-    Keyword::Primary,
-    Keyword::Procedure,
-    Keyword::Reads,
-    Keyword::Release,
-    Keyword::Replace,
-    Keyword::Return,
-    Keyword::Select,
-    Keyword::Set,
-    Keyword::Sql,
-    Keyword::Table,
-    Keyword::Then,
-    Keyword::To,
-    Keyword::Trigger,
-    Keyword::Union,
-    Keyword::Unique,
-    Keyword::Update,
-    Keyword::Values,
-    Keyword::Varchar,
-    Keyword::When,
-    Keyword::Where,
-    Keyword::While,
-    Keyword::After,
-    Keyword::AutoIncrement,
-    Keyword::Begin,
-    Keyword::Commit,
-    Keyword::Contains,
-    Keyword::Data,
-    Keyword::Do,
-    Keyword::Duplicate,
-    Keyword::End,
-    Keyword::Engine,
-    Keyword::Function,
-    Keyword::Index,
-    Keyword::Innodb,
-    Keyword::Mixed,
-    Keyword::New,
-    Keyword::No,
-    Keyword::Offset,
-    Keyword::Old,
-    Keyword::Returns,
-    Keyword::Rollback,
-    Keyword::Row,
-    Keyword::Savepoint,
-    Keyword::Session,
-    Keyword::Start,
-    Keyword::Statement,
-    Keyword::Transaction,
-    Keyword::Truncate,
-    Keyword::Value,
-    Keyword::Work,
-    Keyword::Abs,
-    Keyword::Coalesce,
-    Keyword::Concat,
-    Keyword::ConnectionId,
-    Keyword::Count,
-    Keyword::Floor,
-    Keyword::Ifnull,
-    Keyword::LastInsertId,
-    Keyword::Length,
-    Keyword::Max,
-    Keyword::Min,
-    Keyword::NameConst,
-    Keyword::Now,
-    Keyword::Rand,
-    Keyword::RowCount,
-    Keyword::Substring,
-    Keyword::Sum,
-    Keyword::Sysdate,
-    Keyword::UnixTimestamp,
-    Keyword::User,
-    Keyword::Uuid,
-];
-
 impl Keyword {
     /// The word in lower case, as `select`.
     pub fn word(self) -> &'static [u8]
         ensures { result.now ≡ spec.word_of self }
     {
-        self.entry().1
+        WORDS[self as usize]
     }
 
     /// Whether the word is no name without backquotes.
     pub fn is_reserved(self) -> bool
         ensures { result ≡ spec.is_reserved self }
     {
-        self.entry().0
+        self as usize <= Keyword::While as usize
     }
+}
 
-    fn entry(self) -> (bool, &'static [u8])
-        ensures reserved { result.0 ≡ spec.is_reserved self }
-        ensures word { result.1.now ≡ spec.word_of self }
-    {
-        match self {
-            Keyword::Alter => (true, b"alter"),
-            Keyword::And => (true, b"and"),
-            Keyword::As => (true, b"as"),
-            Keyword::Asc => (true, b"asc"),
-            Keyword::Before => (true, b"before"),
-            Keyword::Between => (true, b"between"),
-            Keyword::Bigint => (true, b"bigint"),
-            Keyword::By => (true, b"by"),
-            Keyword::Call => (true, b"call"),
-            Keyword::Case => (true, b"case"),
-            Keyword::Create => (true, b"create"),
-            Keyword::Declare => (true, b"declare"),
-            Keyword::Default => (true, b"default"),
-            Keyword::Delete => (true, b"delete"),
-            Keyword::Desc => (true, b"desc"),
-            Keyword::Deterministic => (true, b"deterministic"),
-            Keyword::Distinct => (true, b"distinct"),
-            Keyword::Div => (true, b"div"),
-            Keyword::Drop => (true, b"drop"),
-            Keyword::Each => (true, b"each"),
-            Keyword::Else => (true, b"else"),
-            Keyword::Elseif => (true, b"elseif"),
-            Keyword::Exists => (true, b"exists"),
-            Keyword::For => (true, b"for"),
-            Keyword::From => (true, b"from"),
-            Keyword::Group => (true, b"group"),
-            Keyword::If => (true, b"if"),
-            Keyword::Ignore => (true, b"ignore"),
-            Keyword::In => (true, b"in"),
-            Keyword::Insert => (true, b"insert"),
-            Keyword::Int => (true, b"int"),
-            Keyword::Integer => (true, b"integer"),
-            Keyword::Into => (true, b"into"),
-            Keyword::Is => (true, b"is"),
-            Keyword::Join => (true, b"join"),
-            Keyword::Key => (true, b"key"),
-            Keyword::Limit => (true, b"limit"),
-            Keyword::Mod => (true, b"mod"),
-            Keyword::Modifies => (true, b"modifies"),
-            Keyword::Not => (true, b"not"),
-            Keyword::Null => (true, b"null"),
-            Keyword::On => (true, b"on"),
-            Keyword::Or => (true, b"or"),
-            Keyword::Order => (true, b"order"),
-            Keyword::Primary => (true, b"primary"),
-            Keyword::Procedure => (true, b"procedure"),
-            Keyword::Reads => (true, b"reads"),
-            Keyword::Release => (true, b"release"),
-            Keyword::Replace => (true, b"replace"),
-            Keyword::Return => (true, b"return"),
-            Keyword::Select => (true, b"select"),
-            Keyword::Set => (true, b"set"),
-            Keyword::Sql => (true, b"sql"),
-            Keyword::Table => (true, b"table"),
-            Keyword::Then => (true, b"then"),
-            Keyword::To => (true, b"to"),
-            Keyword::Trigger => (true, b"trigger"),
-            Keyword::Union => (true, b"union"),
-            Keyword::Unique => (true, b"unique"),
-            Keyword::Update => (true, b"update"),
-            Keyword::Values => (true, b"values"),
-            Keyword::Varchar => (true, b"varchar"),
-            Keyword::When => (true, b"when"),
-            Keyword::Where => (true, b"where"),
-            Keyword::While => (true, b"while"),
-            Keyword::After => (false, b"after"),
-            Keyword::AutoIncrement => (false, b"auto_increment"),
-            Keyword::Begin => (false, b"begin"),
-            Keyword::Commit => (false, b"commit"),
-            Keyword::Contains => (false, b"contains"),
-            Keyword::Data => (false, b"data"),
-            Keyword::Do => (false, b"do"),
-            Keyword::Duplicate => (false, b"duplicate"),
-            Keyword::End => (false, b"end"),
-            Keyword::Engine => (false, b"engine"),
-            Keyword::Function => (false, b"function"),
-            Keyword::Index => (false, b"index"),
-            Keyword::Innodb => (false, b"innodb"),
-            Keyword::Mixed => (false, b"mixed"),
-            Keyword::New => (false, b"new"),
-            Keyword::No => (false, b"no"),
-            Keyword::Offset => (false, b"offset"),
-            Keyword::Old => (false, b"old"),
-            Keyword::Returns => (false, b"returns"),
-            Keyword::Rollback => (false, b"rollback"),
-            Keyword::Row => (false, b"row"),
-            Keyword::Savepoint => (false, b"savepoint"),
-            Keyword::Session => (false, b"session"),
-            Keyword::Start => (false, b"start"),
-            Keyword::Statement => (false, b"statement"),
-            Keyword::Transaction => (false, b"transaction"),
-            Keyword::Truncate => (false, b"truncate"),
-            Keyword::Value => (false, b"value"),
-            Keyword::Work => (false, b"work"),
-            Keyword::Abs => (false, b"abs"),
-            Keyword::Coalesce => (false, b"coalesce"),
-            Keyword::Concat => (false, b"concat"),
-            Keyword::ConnectionId => (false, b"connection_id"),
-            Keyword::Count => (false, b"count"),
-            Keyword::Floor => (false, b"floor"),
-            Keyword::Ifnull => (false, b"ifnull"),
-            Keyword::LastInsertId => (false, b"last_insert_id"),
-            Keyword::Length => (false, b"length"),
-            Keyword::Max => (false, b"max"),
-            Keyword::Min => (false, b"min"),
-            Keyword::NameConst => (false, b"name_const"),
-            Keyword::Now => (false, b"now"),
-            Keyword::Rand => (false, b"rand"),
-            Keyword::RowCount => (false, b"row_count"),
-            Keyword::Substring => (false, b"substring"),
-            Keyword::Sum => (false, b"sum"),
-            Keyword::Sysdate => (false, b"sysdate"),
-            Keyword::UnixTimestamp => (false, b"unix_timestamp"),
-            Keyword::User => (false, b"user"),
-            Keyword::Uuid => (false, b"uuid"),
-        }
+/// The row at a place, counted from 0.
+fn row<'a>(rows: &[&'a [Keyword]], at: usize) -> &'a [Keyword]
+    requires { at < length rows.now }
+    ensures { result.now ≡ row_at at (map (λ row. row.now) rows.now) }
+{
+    rows[at]
+}
+
+/// The keywords whose words begin with a small letter; none for another byte.
+fn beginning_with(letter: u8) -> &'static [Keyword]
+    ensures { result.now ≡ beginning_with letter }
+{
+    if letter.is_ascii_lowercase() {
+        row(&BY_LETTER, usize::from(letter - b'a'))
+    } else {
+        &[]
     }
 }
 
@@ -387,7 +167,10 @@ impl Keyword {
 pub(crate) fn keyword_of(word: &[u8]) -> Option<Keyword>
     ensures { result ≡ spec.keyword_of (folded word.now) }
 {
-    find_keyword(&KEYWORDS, word)
+    match word {
+        [] => None,
+        [first, ..] => find_keyword(beginning_with(first.to_ascii_lowercase()), word),
+    }
 }
 
 fn find_keyword(keywords: &[Keyword], word: &[u8]) -> Option<Keyword>

@@ -13,7 +13,7 @@ use val_types::{List, NoMemory};
 
 /// Why a text is no list of tokens: the place of the first byte that begins no token, counted from
 /// 0, or want of memory.
-#[derive(Clone, Copy, Debug, PartialEq, Eq)]
+#[derive(Clone, Copy, PartialEq, Eq)]
 pub enum LexRefusal {
     At(u32),
     NoMemory,
@@ -28,6 +28,9 @@ impl From<AllocError> for LexRefusal {
         LexRefusal::NoMemory
     }
 }
+
+/// For how many tokens there is room from the start at most: a text of one token may be long.
+const MOST_ROOM: usize = 256;
 
 fn is_minus(kind: TokenKind) -> bool
     ensures { result ≡ spec.is_minus kind }
@@ -50,7 +53,8 @@ pub fn lex_front(alloc: Global, text: &[u8]) -> Result<(Tokens, usize), NoMemory
     ensures says { IfOk result (λ r. r.1 ≡ length text.now → Says text.now (plain_tokens text.now r.0)) }
     ensures said { (ps : Items Plain) → Says text.now ps → IfOk result (FrontSays text.now ps) }
 {
-    let mut tokens = List::new(alloc);
+    let room = (text.len() / 2).min(MOST_ROOM);
+    let mut tokens = List::from_vec(Vec::with_capacity(alloc, room)?);
     let mut at = 0;
     let mut behind_minus = false;
     'pieces: loop {

@@ -6,7 +6,7 @@ use val_types::List;
 
 /// A sign of one to three bytes. `NotEqual` is `<>` or `!=`, `NullSafeEqual` is `<=>`, `Assign` is
 /// `:=`.
-#[derive(Clone, Copy, Debug, PartialEq, Eq)]
+#[derive(Clone, Copy, PartialEq, Eq)]
 pub enum Symbol {
     Open,
     Close,
@@ -31,7 +31,7 @@ pub enum Symbol {
 
 /// What a token is. A `Word` is a name or a keyword without quotes, `Quoted` a name in backquotes,
 /// `Least` the digits 9223372036854775808 directly behind a `-`, `Text` a string or `X'..'`.
-#[derive(Clone, Copy, Debug, PartialEq, Eq)]
+#[derive(Clone, Copy, PartialEq, Eq)]
 pub enum TokenKind {
     Word,
     Quoted,
@@ -42,7 +42,7 @@ pub enum TokenKind {
 }
 
 /// A token, which stands in its text from the byte `at` to before the byte `end`, counted from 0.
-#[derive(Clone, Copy, Debug, PartialEq, Eq)]
+#[derive(Clone, Copy, PartialEq, Eq)]
 pub struct Token {
     pub kind: TokenKind,
     pub at: u32,
