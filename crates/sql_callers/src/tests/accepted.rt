@@ -121,29 +121,39 @@ static LONG: [(&str, u32, &str, &str); 6] = [
     ("SAVEPOINT `", 64, "``", "`"),
 ];
 
-fn is_long_read_back(
-    alloc: Global,
-    front: &str,
-    count: u32,
-    piece: &str,
-    end: &str,
-) -> Result<bool, NoMemory> {
-    let text = repeated(alloc, front, count, piece, end)?;
+type Long = (&'static str, u32, &'static str, &'static str);
+
+fn is_long_read_back(alloc: Global, long: &Long) -> Result<bool, NoMemory> {
+    let (front, count, piece, end) = long;
+    let text = repeated(alloc, front, *count, piece, end)?;
     is_read_back(alloc, text.as_slice())
+}
+
+/// How many texts from the first on are read back.
+fn count_read_back(alloc: Global, rows: &[&str]) -> Result<usize, NoMemory> {
+    for (i, text) in rows.iter().enumerate() {
+        if !is_read_back(alloc, text.as_bytes())? {
+            return Ok(i);
+        }
+    }
+    Ok(rows.len())
+}
+
+/// How many long texts from the first on are read back.
+fn count_long(alloc: Global, rows: &[Long]) -> Result<usize, NoMemory> {
+    for (i, long) in rows.iter().enumerate() {
+        if !is_long_read_back(alloc, long)? {
+            return Ok(i);
+        }
+    }
+    Ok(rows.len())
 }
 
 #[test]
 fn statements_are_read_back(rt: HostRuntime) -> Result<(), Fail> {
     for table in [PLAIN, PROGRAMS, SHOP] {
-        for text in table.iter() {
-            assert!(rt; is_read_back(rt.alloc(), text.as_bytes())?, "{text}");
-        }
+        assert_eq!(rt; count_read_back(rt.alloc(), table)?, table.len());
     }
-    for (front, count, piece, end) in LONG.iter() {
-        assert!(rt;
-            is_long_read_back(rt.alloc(), front, *count, piece, end)?,
-            "{front}"
-        );
-    }
+    assert_eq!(rt; count_long(rt.alloc(), &LONG)?, LONG.len());
     Ok(())
 }

@@ -85,36 +85,53 @@ fn unless_refused(answer: Result<Option<Bytes>, ParseRefusal>) -> Result<Option<
     }
 }
 
+/// The canonical text of what a text is, None where it is refused.
+fn canonical(alloc: Global, text: &[u8]) -> Result<Option<Bytes>, NoMemory> {
+    unless_refused(text_of(alloc, read(alloc, text)))
+}
+
+/// The canonical text of what the canonical text is.
+fn canonical_again(alloc: Global, text: &[u8]) -> Result<Option<Bytes>, NoMemory> {
+    unless_refused(text_again_of(alloc, read(alloc, text)))
+}
+
 /// Whether a text is a statement, which is read back from its canonical text.
 pub fn is_read_back(alloc: Global, text: &[u8]) -> Result<bool, NoMemory> {
-    match unless_refused(text_of(alloc, read(alloc, text)))? {
-        Some(found) => Ok(unless_refused(text_again_of(alloc, read(alloc, text)))? == Some(found)),
+    let found = canonical(alloc, text)?;
+    let again = canonical_again(alloc, text)?;
+    Ok(found.is_some() && found == again)
+}
+
+/// Whether a text is a statement with this canonical text.
+pub fn is_printed(alloc: Global, text: &[u8], expected: &[u8]) -> Result<bool, NoMemory> {
+    match canonical(alloc, text)? {
+        Some(found) => Ok(found.as_slice() == expected),
         None => Ok(false),
     }
 }
 
-/// Whether a text is a statement with this canonical text.
-pub fn is_printed(alloc: Global, text: &[u8], canonical: &[u8]) -> Result<bool, NoMemory> {
-    match unless_refused(text_of(alloc, read(alloc, text)))? {
-        Some(found) => Ok(found.as_slice() == canonical),
-        None => Ok(false),
+/// Why a text was refused, None where it was read.
+fn refusal_of<T: Drop>(answer: Result<T, ParseRefusal>) -> Option<ParseRefusal> {
+    match answer {
+        Ok(_) => None,
+        Err(refusal) => Some(refusal),
     }
 }
 
 /// Whether a text is refused at this byte.
 pub fn is_refused_at(alloc: Global, text: &[u8], place: usize) -> Result<bool, NoMemory> {
-    match read(alloc, text) {
-        Err(ParseRefusal::Syntax { at }) => Ok(at as usize == place),
-        Err(ParseRefusal::NoMemory) => Err(AllocError),
+    match refusal_of(read(alloc, text)) {
+        Some(ParseRefusal::Syntax { at }) => Ok(at as usize == place),
+        Some(ParseRefusal::NoMemory) => Err(AllocError),
         _ => Ok(false),
     }
 }
 
 /// Whether a text is refused as too deep.
 pub fn is_deep(alloc: Global, text: &[u8]) -> Result<bool, NoMemory> {
-    match read(alloc, text) {
-        Err(ParseRefusal::Deep) => Ok(true),
-        Err(ParseRefusal::NoMemory) => Err(AllocError),
+    match refusal_of(read(alloc, text)) {
+        Some(ParseRefusal::Deep) => Ok(true),
+        Some(ParseRefusal::NoMemory) => Err(AllocError),
         _ => Ok(false),
     }
 }

@@ -6,9 +6,11 @@ use std::alloc::Global;
 use std::test::Fail;
 use val_types::{Bytes, NoMemory};
 
+type Opening = (&'static str, &'static str, u32, &'static str);
+
 /// A front, what is opened again and again, how often at most, and what opens one construct more.
 /// So often, and then `last` and what is no token, it is refused at that; once more, it is too deep.
-static OPENINGS: &[(&str, &str, u32, &str)] = &[
+static OPENINGS: &[Opening] = &[
     ("DO ", "(", 399, "("),
     ("DO 1, ", "(", 399, "- "),
     ("DO ", "- ", 399, "- "),
@@ -134,29 +136,39 @@ static OPENINGS: &[(&str, &str, u32, &str)] = &[
     ),
 ];
 
-fn is_opened(
-    alloc: Global,
-    front: &str,
-    piece: &str,
-    most: u32,
-    last: &str,
-) -> Result<bool, NoMemory> {
-    let mut text = repeated(alloc, front, most, piece, last)?;
-    let place = text.len();
+/// A text of so many more constructs than the most, and then what is no token.
+fn opened(alloc: Global, opening: &Opening, more: u32) -> Result<Bytes, NoMemory> {
+    let (front, piece, most, last) = opening;
+    let mut text = repeated(alloc, front, most.saturating_add(more), piece, last)?;
     text.extend_from_slice(b"#")?;
-    let mut more = repeated(alloc, front, most.saturating_add(1), piece, last)?;
-    more.extend_from_slice(b"#")?;
-    Ok(is_refused_at(alloc, text.as_slice(), place)? && is_deep(alloc, more.as_slice())?)
+    Ok(text)
+}
+
+/// Whether the most are refused at their last byte.
+fn most_are_read(alloc: Global, opening: &Opening) -> Result<bool, NoMemory> {
+    let text = opened(alloc, opening, 0)?;
+    is_refused_at(alloc, text.as_slice(), text.len().saturating_sub(1))
+}
+
+/// Whether one construct more is too deep.
+fn one_more_is_deep(alloc: Global, opening: &Opening) -> Result<bool, NoMemory> {
+    let text = opened(alloc, opening, 1)?;
+    is_deep(alloc, text.as_slice())
+}
+
+/// How many openings from the first on are counted so.
+fn count_opened(alloc: Global, rows: &[Opening]) -> Result<usize, NoMemory> {
+    for (i, opening) in rows.iter().enumerate() {
+        if !most_are_read(alloc, opening)? || !one_more_is_deep(alloc, opening)? {
+            return Ok(i);
+        }
+    }
+    Ok(rows.len())
 }
 
 #[test]
 fn constructs_are_counted_while_open(rt: HostRuntime) -> Result<(), Fail> {
-    for (front, piece, most, last) in OPENINGS.iter() {
-        assert!(rt;
-            is_opened(rt.alloc(), front, piece, *most, last)?,
-            "{front}{piece}{last}"
-        );
-    }
+    assert_eq!(rt; count_opened(rt.alloc(), OPENINGS)?, OPENINGS.len());
     Ok(())
 }
 
@@ -200,8 +212,10 @@ fn is_flat(alloc: Global, front: &str, piece: &str) -> Result<bool, NoMemory> {
     is_refused_at(alloc, text.as_slice(), place)
 }
 
+type NotOpened = (&'static str, &'static str, &'static str, &'static str);
+
 /// A front, what is opened 400 times, what may follow, and what may not: it opens nothing.
-static NOT_OPENED: &[(&str, &str, &str, &str)] = &[
+static NOT_OPENED: &[NotOpened] = &[
     ("DO ", "(", "", ")"),
     ("DO ", "(", "1 ", "("),
     ("DO ", "(", "EXISTS ", "a"),
@@ -223,13 +237,8 @@ static NOT_OPENED: &[(&str, &str, &str, &str)] = &[
     ("CREATE PROCEDURE p() ", "BEGIN ", "CREATE TABLE t ", "t ("),
 ];
 
-fn is_not_opened(
-    alloc: Global,
-    front: &str,
-    piece: &str,
-    before: &str,
-    wrong: &str,
-) -> Result<bool, NoMemory> {
+fn is_not_opened(alloc: Global, row: &NotOpened) -> Result<bool, NoMemory> {
+    let (front, piece, before, wrong) = row;
     let mut text = repeated(alloc, front, 400, piece, before)?;
     let place = text.len();
     text.extend_from_slice(wrong.as_bytes())?;
@@ -253,20 +262,41 @@ fn is_left(alloc: Global, front: &str, wrong: &str) -> Result<bool, NoMemory> {
     is_refused_at(alloc, text.as_slice(), front.len())
 }
 
+/// How many rows from the first on are flat.
+fn count_flat(alloc: Global, rows: &[(&str, &str)]) -> Result<usize, NoMemory> {
+    for (i, (front, piece)) in rows.iter().enumerate() {
+        if !is_flat(alloc, front, piece)? {
+            return Ok(i);
+        }
+    }
+    Ok(rows.len())
+}
+
+/// How many rows from the first on open nothing more.
+fn count_not_opened(alloc: Global, rows: &[NotOpened]) -> Result<usize, NoMemory> {
+    for (i, row) in rows.iter().enumerate() {
+        if !is_not_opened(alloc, row)? {
+            return Ok(i);
+        }
+    }
+    Ok(rows.len())
+}
+
+/// How many texts from the first on are refused before what is left counts.
+fn count_left(alloc: Global, rows: &[(&str, &str)]) -> Result<usize, NoMemory> {
+    for (i, (front, wrong)) in rows.iter().enumerate() {
+        if !is_left(alloc, front, wrong)? {
+            return Ok(i);
+        }
+    }
+    Ok(rows.len())
+}
+
 #[test]
 fn constructs_beside_one_another_are_not_counted(rt: HostRuntime) -> Result<(), Fail> {
-    for (front, piece) in FLAT.iter() {
-        assert!(rt; is_flat(rt.alloc(), front, piece)?, "{front}{piece}");
-    }
-    for (front, piece, before, wrong) in NOT_OPENED.iter() {
-        assert!(rt;
-            is_not_opened(rt.alloc(), front, piece, before, wrong)?,
-            "{piece}{before}{wrong}"
-        );
-    }
-    for (front, wrong) in LEFT.iter() {
-        assert!(rt; is_left(rt.alloc(), front, wrong)?, "{front}{wrong}");
-    }
+    assert_eq!(rt; count_flat(rt.alloc(), FLAT)?, FLAT.len());
+    assert_eq!(rt; count_not_opened(rt.alloc(), NOT_OPENED)?, NOT_OPENED.len());
+    assert_eq!(rt; count_left(rt.alloc(), LEFT)?, LEFT.len());
     Ok(())
 }
 
@@ -336,19 +366,37 @@ static CLOSED: &[Nest] = &[
     ),
 ];
 
-fn is_closed(alloc: Global, nest: &Nest) -> Result<bool, NoMemory> {
+/// The text with the most turns, and so many more.
+fn nest_of(alloc: Global, nest: &Nest, more: u32) -> Result<Bytes, NoMemory> {
     let (_, _, _, _, _, most) = nest;
-    let text = nested(alloc, nest, *most)?;
-    let more = nested(alloc, nest, most.saturating_add(1))?;
-    Ok(is_read_back(alloc, text.as_slice())? && is_deep(alloc, more.as_slice())?)
+    nested(alloc, nest, most.saturating_add(more))
+}
+
+/// Whether the most turns are a statement.
+fn most_turns_are_read(alloc: Global, nest: &Nest) -> Result<bool, NoMemory> {
+    let text = nest_of(alloc, nest, 0)?;
+    is_read_back(alloc, text.as_slice())
+}
+
+/// Whether one turn more is too deep.
+fn one_turn_more_is_deep(alloc: Global, nest: &Nest) -> Result<bool, NoMemory> {
+    let text = nest_of(alloc, nest, 1)?;
+    is_deep(alloc, text.as_slice())
+}
+
+/// How many nests from the first on have that many turns at most.
+fn count_closed(alloc: Global, rows: &[Nest]) -> Result<usize, NoMemory> {
+    for (i, nest) in rows.iter().enumerate() {
+        if !most_turns_are_read(alloc, nest)? || !one_turn_more_is_deep(alloc, nest)? {
+            return Ok(i);
+        }
+    }
+    Ok(rows.len())
 }
 
 #[test]
 fn four_hundred_constructs_are_read(rt: HostRuntime) -> Result<(), Fail> {
-    for nest in CLOSED.iter() {
-        let (front, _, middle, _, _, _) = nest;
-        assert!(rt; is_closed(rt.alloc(), nest)?, "{front}{middle}");
-    }
+    assert_eq!(rt; count_closed(rt.alloc(), CLOSED)?, CLOSED.len());
     Ok(())
 }
 
@@ -506,23 +554,25 @@ static LEVELS: &[Nest] = &[
     ),
 ];
 
-/// Whether a text is a statement of 200 levels.
-fn is_deepest(alloc: Global, text: &[u8]) -> Result<bool, NoMemory> {
-    Ok(levels_of(read(alloc, text)) == Some(200) && is_read_back(alloc, text)?)
+/// Whether the most turns are 200 levels.
+fn has_most_levels(alloc: Global, nest: &Nest) -> Result<bool, NoMemory> {
+    let text = nest_of(alloc, nest, 0)?;
+    Ok(levels_of(read(alloc, text.as_slice())) == Some(200))
 }
 
-fn is_levelled(alloc: Global, nest: &Nest) -> Result<bool, NoMemory> {
-    let (_, _, _, _, _, most) = nest;
-    let text = nested(alloc, nest, *most)?;
-    let more = nested(alloc, nest, most.saturating_add(1))?;
-    Ok(is_deepest(alloc, text.as_slice())? && is_deep(alloc, more.as_slice())?)
+/// How many nests from the first on have 200 levels at most.
+fn count_levelled(alloc: Global, rows: &[Nest]) -> Result<usize, NoMemory> {
+    for (i, nest) in rows.iter().enumerate() {
+        if !has_most_levels(alloc, nest)? {
+            return Ok(i);
+        }
+    }
+    Ok(rows.len())
 }
 
 #[test]
 fn two_hundred_levels_are_read(rt: HostRuntime) -> Result<(), Fail> {
-    for nest in LEVELS.iter() {
-        let (front, open, middle, _, _, _) = nest;
-        assert!(rt; is_levelled(rt.alloc(), nest)?, "{front}{open}{middle}");
-    }
+    assert_eq!(rt; count_levelled(rt.alloc(), LEVELS)?, LEVELS.len());
+    assert_eq!(rt; count_closed(rt.alloc(), LEVELS)?, LEVELS.len());
     Ok(())
 }

@@ -2,7 +2,7 @@
 use crate::tests::common::{is_read_back, is_refused_at, repeated};
 use std::alloc::Global;
 use std::test::Fail;
-use val_types::{Bytes, NoMemory};
+use val_types::NoMemory;
 
 /// The reserved words.
 static RESERVED: &[&str] = &[
@@ -139,31 +139,47 @@ static FREE: &[&str] = &[
     "x",
 ];
 
-fn named(alloc: Global, front: &str, word: &str, end: &str) -> Result<Bytes, NoMemory> {
-    repeated(alloc, front, 1, word, end)
+/// Whether a word is refused as a name without quotes.
+fn is_reserved(alloc: Global, word: &str) -> Result<bool, NoMemory> {
+    let bare = repeated(alloc, "SAVEPOINT ", 1, word, "")?;
+    is_refused_at(alloc, bare.as_slice(), 10)
 }
 
-/// Whether a word is a name in quotes alone.
-fn is_reserved(alloc: Global, word: &str) -> Result<bool, NoMemory> {
-    let bare = named(alloc, "SAVEPOINT ", word, "")?;
-    let quoted = named(alloc, "SAVEPOINT `", word, "`")?;
-    let refused = is_refused_at(alloc, bare.as_slice(), 10)?;
-    Ok(refused && is_read_back(alloc, quoted.as_slice())?)
+/// Whether a word is a name in quotes.
+fn is_quoted(alloc: Global, word: &str) -> Result<bool, NoMemory> {
+    let quoted = repeated(alloc, "SAVEPOINT `", 1, word, "`")?;
+    is_read_back(alloc, quoted.as_slice())
 }
 
 /// Whether a word is a name without quotes too.
 fn is_free(alloc: Global, word: &str) -> Result<bool, NoMemory> {
-    let bare = named(alloc, "SAVEPOINT ", word, "")?;
+    let bare = repeated(alloc, "SAVEPOINT ", 1, word, "")?;
     is_read_back(alloc, bare.as_slice())
+}
+
+/// How many words from the first on are names in quotes alone.
+fn count_reserved(alloc: Global, rows: &[&str]) -> Result<usize, NoMemory> {
+    for (i, word) in rows.iter().enumerate() {
+        if !is_reserved(alloc, word)? || !is_quoted(alloc, word)? {
+            return Ok(i);
+        }
+    }
+    Ok(rows.len())
+}
+
+/// How many words from the first on are names without quotes.
+fn count_free(alloc: Global, rows: &[&str]) -> Result<usize, NoMemory> {
+    for (i, word) in rows.iter().enumerate() {
+        if !is_free(alloc, word)? {
+            return Ok(i);
+        }
+    }
+    Ok(rows.len())
 }
 
 #[test]
 fn reserved_words_are_no_names(rt: HostRuntime) -> Result<(), Fail> {
-    for word in RESERVED.iter() {
-        assert!(rt; is_reserved(rt.alloc(), word)?, "{word}");
-    }
-    for word in FREE.iter() {
-        assert!(rt; is_free(rt.alloc(), word)?, "{word}");
-    }
+    assert_eq!(rt; count_reserved(rt.alloc(), RESERVED)?, RESERVED.len());
+    assert_eq!(rt; count_free(rt.alloc(), FREE)?, FREE.len());
     Ok(())
 }

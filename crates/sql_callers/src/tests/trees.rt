@@ -1,13 +1,29 @@
 //! Each public call once with ample memory: what is made, how deep it is, and that a text gives it.
 use sql_tree::{
     Assignment, Cause, Expr, Local, Locals, OrderItem, Routine, Select, Selection, SqlType, Stmt,
-    Target, Time, TriggerDef, copy_expr, copy_exprs, copy_order, copy_routine, copy_select,
-    copy_stmt, copy_trigger, depth, expr_depth, is_name, select_depth, well, well_expr,
+    Target, Time, TriggerDef, depth, expr_depth, is_name, select_depth, well, well_expr,
     well_select, well_step,
 };
 use std::alloc::Global;
 use std::test::Fail;
+use tree_copies::{
+    copy_expr, copy_exprs, copy_order, copy_routine, copy_select, copy_stmt, copy_trigger,
+};
 use val_types::{BinOp, Boxed, Bytes, List, NoMemory, Value};
+
+/// What is copied, and whether something is what the tests make. A function that holds a tree is
+/// over this, since what drops one on its way out is dear to check.
+trait Copied: Drop {
+    fn copied(&self, alloc: Global) -> Result<Self, NoMemory>;
+
+    fn is_meant(&self) -> bool;
+}
+
+fn is_copied<T: Copied>(alloc: Global, made: Result<T, NoMemory>) -> Result<bool, NoMemory> {
+    let made = made?;
+    let copy = made.copied(alloc)?;
+    Ok(copy.is_meant())
+}
 
 fn name(alloc: Global) -> Result<Bytes, NoMemory> {
     List::from_slice(alloc, b"a")
@@ -15,7 +31,8 @@ fn name(alloc: Global) -> Result<Bytes, NoMemory> {
 
 /// `a + 1`
 fn sum(alloc: Global) -> Result<Expr, NoMemory> {
-    let left = Boxed::new(alloc, Expr::Name(name(alloc)?))?;
+    let name = name(alloc)?;
+    let left = Boxed::new(alloc, Expr::Name(name))?;
     let right = Boxed::new(alloc, Expr::Literal(Value::Int(1)))?;
     Ok(Expr::Binary(BinOp::Add, left, right))
 }
@@ -24,10 +41,14 @@ fn is_sum(expr: &Expr) -> bool {
     matches!(expr, Expr::Binary(BinOp::Add, _, _)) && expr_depth(expr) == 2 && well_expr(expr)
 }
 
-fn expr_is_copied(alloc: Global) -> Result<bool, NoMemory> {
-    let original = sum(alloc)?;
-    let copy = copy_expr(alloc, &original)?;
-    Ok(is_sum(&copy))
+impl Copied for Expr {
+    fn copied(&self, alloc: Global) -> Result<Expr, NoMemory> {
+        copy_expr(alloc, self)
+    }
+
+    fn is_meant(&self) -> bool {
+        is_sum(self)
+    }
 }
 
 fn sums(alloc: Global) -> Result<List<Expr>, NoMemory> {
@@ -36,34 +57,57 @@ fn sums(alloc: Global) -> Result<List<Expr>, NoMemory> {
     Ok(exprs)
 }
 
-fn list_is_copied(alloc: Global) -> Result<bool, NoMemory> {
-    let original = sums(alloc)?;
-    let copy = copy_exprs(alloc, &original)?;
-    Ok(matches!(copy.as_slice(), [expr] if is_sum(expr)))
+impl Copied for List<Expr> {
+    fn copied(&self, alloc: Global) -> Result<List<Expr>, NoMemory> {
+        copy_exprs(alloc, self)
+    }
+
+    fn is_meant(&self) -> bool {
+        matches!(self.as_slice(), [expr] if is_sum(expr))
+    }
 }
 
-fn select_is_copied(alloc: Global) -> Result<bool, NoMemory> {
+fn select(alloc: Global) -> Result<Select, NoMemory> {
     let what = Selection::Items(sums(alloc)?);
-    let original = Select { what, from: None };
-    let copy = copy_select(alloc, &original)?;
-    Ok(select_depth(&copy) == 3 && well_select(&copy))
+    Ok(Select { what, from: None })
 }
 
-fn order_is_copied(alloc: Global) -> Result<bool, NoMemory> {
+impl Copied for Select {
+    fn copied(&self, alloc: Global) -> Result<Select, NoMemory> {
+        copy_select(alloc, self)
+    }
+
+    fn is_meant(&self) -> bool {
+        select_depth(self) == 3 && well_select(self)
+    }
+}
+
+/// `a + 1 DESC`
+fn order(alloc: Global) -> Result<List<OrderItem>, NoMemory> {
+    let mut items = List::new(alloc);
     let by = sum(alloc)?;
     let descending = true;
-    let mut original = List::new(alloc);
-    original.push(OrderItem { by, descending })?;
-    let copy = copy_order(alloc, &original)?;
-    Ok(matches!(copy.as_slice(), [item] if item.descending && is_sum(&item.by)))
+    items.push(OrderItem { by, descending })?;
+    Ok(items)
+}
+
+impl Copied for List<OrderItem> {
+    fn copied(&self, alloc: Global) -> Result<List<OrderItem>, NoMemory> {
+        copy_order(alloc, self)
+    }
+
+    fn is_meant(&self) -> bool {
+        matches!(self.as_slice(), [item] if item.descending && is_sum(&item.by))
+    }
 }
 
 #[test]
 fn expressions_are_copied(rt: HostRuntime) -> Result<(), Fail> {
-    assert!(rt; expr_is_copied(rt.alloc())?);
-    assert!(rt; list_is_copied(rt.alloc())?);
-    assert!(rt; select_is_copied(rt.alloc())?);
-    assert!(rt; order_is_copied(rt.alloc())?);
+    let alloc = rt.alloc();
+    assert!(rt; is_copied(alloc, sum(alloc))?);
+    assert!(rt; is_copied(alloc, sums(alloc))?);
+    assert!(rt; is_copied(alloc, select(alloc))?);
+    assert!(rt; is_copied(alloc, order(alloc))?);
     Ok(())
 }
 
@@ -83,44 +127,68 @@ fn is_body(step: &Stmt) -> bool {
     depth(step) == 3 && well_step(step)
 }
 
-fn routine_is_copied(alloc: Global) -> Result<bool, NoMemory> {
-    let original = function(alloc)?;
-    let copy = copy_routine(alloc, &original)?;
-    Ok(is_name(&copy.name) && is_body(&copy.body))
+impl Copied for Routine {
+    fn copied(&self, alloc: Global) -> Result<Routine, NoMemory> {
+        copy_routine(alloc, self)
+    }
+
+    fn is_meant(&self) -> bool {
+        is_name(&self.name) && is_body(&self.body)
+    }
 }
 
-fn statement_is_copied(alloc: Global) -> Result<bool, NoMemory> {
-    let original = Stmt::CreateFunction(Boxed::new(alloc, function(alloc)?)?);
-    let copy = copy_stmt(alloc, &original)?;
-    Ok(depth(&copy) == 4 && well(&copy))
+fn create_function(alloc: Global) -> Result<Stmt, NoMemory> {
+    let routine = Boxed::new(alloc, function(alloc)?)?;
+    Ok(Stmt::CreateFunction(routine))
+}
+
+impl Copied for Stmt {
+    fn copied(&self, alloc: Global) -> Result<Stmt, NoMemory> {
+        copy_stmt(alloc, self)
+    }
+
+    fn is_meant(&self) -> bool {
+        depth(self) == 4 && well(self)
+    }
 }
 
 /// `SET NEW.a = a + 1`
 fn assignment(alloc: Global) -> Result<Stmt, NoMemory> {
-    let target = Target::New(name(alloc)?);
+    let name = name(alloc)?;
     let value = sum(alloc)?;
+    let target = Target::New(name);
     let mut assignments = List::new(alloc);
     assignments.push(Assignment { target, value })?;
     Ok(Stmt::Set(assignments))
 }
 
-fn trigger_is_copied(alloc: Global) -> Result<bool, NoMemory> {
-    let original = TriggerDef {
+/// `CREATE TRIGGER a BEFORE INSERT ON a FOR EACH ROW SET NEW.a = a + 1`
+fn trigger(alloc: Global) -> Result<TriggerDef, NoMemory> {
+    Ok(TriggerDef {
         name: name(alloc)?,
         time: Time::Before,
         event: Cause::Insert,
         table: name(alloc)?,
         body: assignment(alloc)?,
-    };
-    let copy = copy_trigger(alloc, &original)?;
-    Ok(copy.time == Time::Before && copy.event == Cause::Insert && is_body(&copy.body))
+    })
+}
+
+impl Copied for TriggerDef {
+    fn copied(&self, alloc: Global) -> Result<TriggerDef, NoMemory> {
+        copy_trigger(alloc, self)
+    }
+
+    fn is_meant(&self) -> bool {
+        self.time == Time::Before && self.event == Cause::Insert && is_body(&self.body)
+    }
 }
 
 #[test]
 fn statements_are_copied(rt: HostRuntime) -> Result<(), Fail> {
-    assert!(rt; routine_is_copied(rt.alloc())?);
-    assert!(rt; statement_is_copied(rt.alloc())?);
-    assert!(rt; trigger_is_copied(rt.alloc())?);
+    let alloc = rt.alloc();
+    assert!(rt; is_copied(alloc, function(alloc))?);
+    assert!(rt; is_copied(alloc, create_function(alloc))?);
+    assert!(rt; is_copied(alloc, trigger(alloc))?);
     Ok(())
 }
 
