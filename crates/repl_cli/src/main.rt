@@ -3,7 +3,22 @@
 //!
 //! - `main` (here): the real edges, the status line and the exit status
 //! - `nodes`: who the source and the replica are
+//!
+//! # Proved
+//! - The number of a text is the one that it is in decimal from 1 to 4294967295, and 1 for any other
+//!   text, or want of memory (`server_id_of`).
+//! - What the process ends with is the number of the status that is told (`ended`).
+//! - The source is `root@localhost`, the replica `rep@localhost` with the number 2.
+//!
+//! # Only tested
+//! By one stored run, and by reading these lines: that the words of the command line reach
+//! [`repl_run::top`] and its status is the one that is told, that the line goes to standard error,
+//! that `REPL_SERVER_ID` is the text that is read.
 #![tactic(auto)]
+
+ghost use Rattle.std.specs.Prelude.{◌≡◌};
+ghost use Rattle.std.specs.Process.{exit_status};
+ghost use Rattle.repl_run.specs.Statuses.{number_of_status};
 
 mod nodes;
 
@@ -42,18 +57,20 @@ fn call(rt: &HostRuntime) -> Result<Status, Status> {
     ))
 }
 
-/// Tells a status on standard error; nothing where there is no memory for it.
-fn tell(rt: &HostRuntime, status: &Status) {
+/// Tells a status on standard error, nothing where there is no memory for it, and gives what the
+/// process ends with.
+fn ended(rt: &HostRuntime, status: &Status) -> ExitCode
+    ensures { exit_status result ≡ number_of_status status.now }
+{
     if let Ok(line) = status_line(rt.alloc(), status) {
         let _ = rt.stderr().write_all(line.as_slice());
     }
+    ExitCode::from(status.number())
 }
 
 fn main(rt: HostRuntime) -> ExitCode {
-    let status = match call(&rt) {
-        Ok(status) => status,
-        Err(status) => status,
-    };
-    tell(&rt, &status);
-    ExitCode::from(status.number())
+    match call(&rt) {
+        Ok(status) => ended(&rt, &status),
+        Err(status) => ended(&rt, &status),
+    }
 }
