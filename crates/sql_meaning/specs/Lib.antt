@@ -1,5 +1,6 @@
 pub mod Changing
 pub mod Frames
+pub mod Fuel
 pub mod Leading
 pub mod Running
 pub mod Scenes

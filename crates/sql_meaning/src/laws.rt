@@ -1,4 +1,5 @@
 //! Laws of the definitions: what holds of every statement.
+ghost use Rattle.sql_meaning.specs.Fuel.{EvaluationsKeep, StatementsKeep};
 ghost use Rattle.sql_meaning.specs.Leading.{EvaluationsEndWell, StatementsEndWell};
 
 /// A law: what a statement does to the tables is made by its changes, one after the other, and an error
@@ -6,4 +7,11 @@ ghost use Rattle.sql_meaning.specs.Leading.{EvaluationsEndWell, StatementsEndWel
 pub fn statements_end_well()
     ensures statements { StatementsEndWell }
     ensures evaluations { EvaluationsEndWell }
+{}
+
+/// A law: with more levels of nesting and more turns left, a statement that ends without an error does the
+/// same, and uses as many turns; so it is with the expressions that a session evaluates.
+pub fn more_fuel_does_the_same()
+    ensures statements { StatementsKeep }
+    ensures evaluations { EvaluationsKeep }
 {}

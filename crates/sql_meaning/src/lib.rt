@@ -4,7 +4,7 @@
 //! does not change), `Values` (expressions and the rows of a SELECT), `Changing` (INSERT, REPLACE, UPDATE and DELETE, row by
 //! row), `Running` (bodies of functions and triggers, and what a statement comes to).
 //!
-//! `Leading` says what holds of every statement.
+//! `Leading` and `Fuel` say what holds of every statement.
 //!
 //! - `laws`: what follows from the definitions
 //! - `worked`, `worked_programs`: statements by hand, which the checker computes
@@ -12,6 +12,8 @@
 //! # Proved
 //! - What a statement does to the tables is made by its changes, one after the other, and an error leaves tables and
 //!   changes as they were, with functions and triggers at any depth (`statements_end_well`).
+//! - With more levels of nesting and more turns left, a statement that ends without an error does the same, and uses as
+//!   many turns (`more_fuel_does_the_same`).
 //! - The worked examples: what each statement shows, changes and counts, or its error and what it leaves.
 #![tactic(auto)]
 
@@ -19,6 +21,6 @@ mod laws;
 mod worked;
 mod worked_programs;
 
-pub use laws::statements_end_well;
+pub use laws::{more_fuel_does_the_same, statements_end_well};
 pub use worked::{expressions, keys_in_way, rows_changed, selected_rows, values_generated};
 pub use worked_programs::{functions_called, nesting_and_turns, triggers_fired};
