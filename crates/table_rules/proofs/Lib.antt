@@ -1,2 +1,3 @@
+pub mod InWay
 pub mod Storing
 pub mod Taking

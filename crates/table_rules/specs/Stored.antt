@@ -1,5 +1,5 @@
 -- Rows by their keys; what storing a row comes to: a change, or what is in its way.
-use Rattle.std.specs.Prelude.{◌≡◌, ℕ, suc, Bool, true, not, nat_eq, if◌then◌else◌, List, [], ◌∷◌, map, reverse, filter, Option, Some, None, Result, Ok, Err, is_some, is_ok}
+use Rattle.std.specs.Prelude.{◌≡◌, ℕ, suc, Bool, true, not, nat_eq, if◌then◌else◌, List, [], ◌∷◌, map, reverse, filter, Option, Some, None, Result, Ok, Err, is_some, is_ok, false, slice_index_or}
 use Rattle.std.specs.List.{list_any, find}
 use Rattle.std.specs.Option.{option_map, option_or, option_and_then, option_map_or}
 use Rattle.std.specs.Cmp.Lexicographic.{pointwise}
@@ -152,6 +152,15 @@ abbrev pub KeysInWay : Type 0
 KeysInWay =
     (definition : TableDef) (row : List Value) (rows : List (List Value))
     → is_some (key_in_way definition row rows) ≡ list_any (collide definition row) rows
+
+-- the row in the way is the first that has the first key in the way
+abbrev pub has_key_in_way : TableDef → List Value → ℕ → List Value → Bool
+has_key_in_way definition row which = slice_index_or (key_tests definition row) which (λ other. false)
+
+abbrev pub RowInWay : Type 0
+RowInWay =
+    (definition : TableDef) (row : List Value) (rows : List (List Value))
+    → row_in_way definition row rows ≡ option_and_then (λ which. find (has_key_in_way definition row which) rows) (key_in_way definition row rows)
 
 -- a row that fits its table is inserted just where the change can be made
 abbrev pub InsertsWhereApplied : Type 0

@@ -1,6 +1,6 @@
 //! Laws of the definitions: what follows from them, for all changes and tables.
 ghost use Rattle.table_rules.specs.Changes.{ChangesTurnBack};
-ghost use Rattle.table_rules.specs.Stored.{AllTurnBack, DefinitionsStay, DeletesWhatIsThere, InsertsWhereApplied, KeysInWay, ReplacesWhereApplied};
+ghost use Rattle.table_rules.specs.Stored.{AllTurnBack, DefinitionsStay, DeletesWhatIsThere, InsertsWhereApplied, KeysInWay, ReplacesWhereApplied, RowInWay};
 
 /// A law: a change that can be made to tables leaves each with rows that fit, rise by key and have no
 /// key in common, and the inverse change gives the tables as they were.
@@ -29,4 +29,9 @@ pub fn refusals_are_exact()
 /// A law: no change of rows changes which tables there are, their order or their definitions.
 pub fn definitions_stay()
     ensures { DefinitionsStay }
+{}
+
+/// A law: the row in the way is the first that has the first key in the way.
+pub fn rows_in_way_have_keys()
+    ensures { RowInWay }
 {}

@@ -13,7 +13,8 @@
 //!   (`all_turn_back`)
 //! - a key is in the way just where a row has a key in common with one that is there
 //!   (`keys_in_way_collide`), and storing a row that fits is refused just where its change cannot be
-//!   made (`refusals_are_exact`)
+//!   made (`refusals_are_exact`); the row in the way is the first that has the first key in the way
+//!   (`rows_in_way_have_keys`)
 //! - no change of rows changes a definition (`definitions_stay`)
 //! - the worked tables
 #![tactic(auto)]
@@ -23,5 +24,6 @@ mod worked;
 
 pub use laws::{
     all_turn_back, changes_turn_back, definitions_stay, keys_in_way_collide, refusals_are_exact,
+    rows_in_way_have_keys,
 };
 pub use worked::{changes_of_pens, keys_in_the_way};
