@@ -9,13 +9,13 @@ ghost use Rattle.sql_syntax.specs.Programs as spec;
 ghost use Rattle.sql_syntax.specs.Tables as types;
 ghost use Rattle.sql_syntax.specs.Tokens.{keyword, sign};
 
+use crate::types::a_type;
+use sql_lex::{Keyword, Symbol};
 use sql_parse_tokens::fault::Stop;
 use sql_parse_tokens::lexeme::sign_code;
 use sql_parse_tokens::opening::opening;
 use sql_parse_tokens::parts::a_name;
 use sql_parse_tokens::rest::Rest;
-use crate::types::a_type;
-use sql_lex::{Keyword, Symbol};
 use sql_syntax::Head;
 use sql_tree::{Cause, Parameter, SqlType, Time};
 use std::alloc::Global;

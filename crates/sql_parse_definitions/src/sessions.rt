@@ -8,10 +8,12 @@ ghost use Rattle.sql_syntax.specs.Tokens.{code, keyword, kind};
 ghost use Rattle.sql_tree.specs.Depth.{depth_of};
 ghost use Rattle.sql_tree.specs.StatementView.{view};
 
-use sql_parse_tokens::fault::Stop;
-use sql_parse_tokens::parts::{a_name, dotted_name, name_but, optional_name, system_name, word_name};
-use sql_parse_tokens::rest::Rest;
 use sql_lex::{Keyword, Symbol};
+use sql_parse_tokens::fault::Stop;
+use sql_parse_tokens::parts::{
+    a_name, dotted_name, name_but, optional_name, system_name, word_name,
+};
+use sql_parse_tokens::rest::Rest;
 use sql_tree::{Stmt, Target};
 use std::alloc::Global;
 use val_types::Bytes;

@@ -8,14 +8,14 @@ ghost use Rattle.sql_syntax.specs.Parts.{a_name, a_value, closed};
 ghost use Rattle.sql_syntax.specs.Tables as spec;
 ghost use Rattle.sql_syntax.specs.Tokens.{code, keyword, kind, sign, sign_code};
 
+use crate::name_set::NameSet;
+use crate::types::a_type;
+use sql_lex::{Keyword, Symbol};
 use sql_parse_tokens::fault::Stop;
 use sql_parse_tokens::lexeme::sign_code;
-use crate::name_set::NameSet;
 use sql_parse_tokens::opening::opening;
 use sql_parse_tokens::parts::{a_name, a_value, name_but, names_in, optional_name, word_name};
 use sql_parse_tokens::rest::Rest;
-use crate::types::a_type;
-use sql_lex::{Keyword, Symbol};
 use sql_syntax::{Marks, TablePart};
 use sql_tree::{Column, CreateTable, SqlType, UniqueKey};
 use std::alloc::Global;

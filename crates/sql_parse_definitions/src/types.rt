@@ -8,12 +8,12 @@ ghost use Rattle.sql_syntax.specs.Parts.{a_number, closed, in_parentheses};
 ghost use Rattle.sql_syntax.specs.Tables as spec;
 ghost use Rattle.sql_syntax.specs.Tokens.{keyword};
 
+use sql_lex::{Keyword, Symbol};
 use sql_parse_tokens::fault::Stop;
 use sql_parse_tokens::lexeme::sign_code;
 use sql_parse_tokens::opening::opening;
 use sql_parse_tokens::parts::a_number;
 use sql_parse_tokens::rest::Rest;
-use sql_lex::{Keyword, Symbol};
 use sql_tree::SqlType;
 
 /// A number and the closing parenthesis.
