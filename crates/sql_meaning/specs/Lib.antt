@@ -5,4 +5,5 @@ pub mod Leading
 pub mod Running
 pub mod Scenes
 pub mod Values
+pub mod Within
 pub mod Worked

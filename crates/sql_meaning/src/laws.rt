@@ -1,6 +1,7 @@
 //! Laws of the definitions: what holds of every statement.
 ghost use Rattle.sql_meaning.specs.Fuel.{EvaluationsKeep, StatementsKeep};
 ghost use Rattle.sql_meaning.specs.Leading.{EvaluationsEndWell, StatementsEndWell};
+ghost use Rattle.sql_meaning.specs.Within.{DosAreWell, StepsAreWell};
 
 /// A law: what a statement does to the tables is made by its changes, one after the other, and an error
 /// leaves tables and changes as they were; so it is with the expressions that a session evaluates.
@@ -14,4 +15,12 @@ pub fn statements_end_well()
 pub fn more_fuel_does_the_same()
     ensures statements { StatementsKeep }
     ensures evaluations { EvaluationsKeep }
+{}
+
+/// A law: the steps of a well statement are well and less deep, and DO over the values of a SET, the
+/// arguments of a CALL, a DEFAULT, a condition or the value of a RETURN is a statement of a session that is
+/// no deeper.
+pub fn parts_are_well()
+    ensures steps { StepsAreWell }
+    ensures dos { DosAreWell }
 {}
