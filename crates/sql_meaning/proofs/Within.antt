@@ -1,6 +1,7 @@
 -- Steps and expressions of a well statement are well.
 use Rattle.std.proofs.Common.{◌≡◌, ℕ, suc, ◌≤◌, Bool, true, false, ◌&&◌, List, [], ◌∷◌, ◌++◌, max, not, refl, ap, arith}
 use Rattle.std.specs.List.{All, list_all}
+use Rattle.std.proofs.lemmas.Bool.{and_parts}
 use Rattle.std.proofs.lemmas.List.Elements.{All-nil, All-cons, All-append}
 use Rattle.std.proofs.Math.Nat.{le-max_left, le-max_right, max-le}
 use Rattle.sql_tree.specs.Tree.{Tree, Trees, no_tree, tree, Part, no_part, part}
@@ -12,15 +13,7 @@ use Rattle.sql_tree.specs.Well.{is_well_tree, are_well_trees, is_well_part, is_t
 use Rattle.sql_tree.specs.declared.statements.Target.{Target}
 use Rattle.sql_meaning.specs.Within.{listed, branch_steps, else_listed, steps_of, do_if, do_one, do_part, values_assigned, do_presets, do_conditions, dos_of, IsStepIn, IsDoFor, StepsAreWell, DosAreWell}
 
--- ---- truth values and the greatest of two
-
-first_of : (a b : Bool) → (a && b) ≡ true → a ≡ true
-first_of true b e = refl
-first_of false b e = cc
-
-rest_of : (a b : Bool) → (a && b) ≡ true → b ≡ true
-rest_of true b e = e
-rest_of false b e = cc
+-- ---- the greatest of two
 
 left_within : (a b d : ℕ) → max a b ≤ d → a ≤ d
 left_within a b d l = omega (arith, le-max_left a b)
@@ -40,30 +33,30 @@ module _ (whole : Statement) (d : ℕ) (deep : depth_of whole ≡ suc d) where
   pub listed_in : (ss : Statements) → are_well_steps ss ≡ true → depth_of_statements ss ≤ d → All (IsStepIn whole) (listed ss)
   listed_in no_statement e l = All-nil (IsStepIn whole)
   listed_in (statement s ss) e l =
-    All-cons (IsStepIn whole) s (listed ss)
-      (step_in s (first_of (is_well_step s) (are_well_steps ss) e) (left_within (depth_of s) (depth_of_statements ss) d l))
-      (listed_in ss (rest_of (is_well_step s) (are_well_steps ss) e) (right_within (depth_of s) (depth_of_statements ss) d l))
+      All-cons (IsStepIn whole) s (listed ss)
+      (step_in s (and_parts (is_well_step s) (are_well_steps ss) e).0 (left_within (depth_of s) (depth_of_statements ss) d l))
+      (listed_in ss (and_parts (is_well_step s) (are_well_steps ss) e).1 (right_within (depth_of s) (depth_of_statements ss) d l))
 
   pub branches_in : (bs : Branches) → are_well_branches bs ≡ true → depth_of_branches bs ≤ d → All (IsStepIn whole) (branch_steps bs)
   branches_in no_branch e l = All-nil (IsStepIn whole)
   branches_in (branch c ss bs) e l =
-    let front = left_within (max (depth_of_tree c) (depth_of_statements ss)) (depth_of_branches bs) d l in
-    All-append (IsStepIn whole) (listed ss) (branch_steps bs)
-      (listed_in ss (rest_of (is_well_tree c && has_statement ss) (are_well_steps ss) (first_of _ (are_well_branches bs) e)) (right_within (depth_of_tree c) (depth_of_statements ss) d front))
-      (branches_in bs (rest_of _ (are_well_branches bs) e) (right_within (max (depth_of_tree c) (depth_of_statements ss)) (depth_of_branches bs) d l))
+      let front = left_within (max (depth_of_tree c) (depth_of_statements ss)) (depth_of_branches bs) d l in
+      All-append (IsStepIn whole) (listed ss) (branch_steps bs)
+      (listed_in ss (and_parts (is_well_tree c && has_statement ss) (are_well_steps ss) (and_parts _ (are_well_branches bs) e).0).1 (right_within (depth_of_tree c) (depth_of_statements ss) d front))
+      (branches_in bs (and_parts _ (are_well_branches bs) e).1 (right_within (max (depth_of_tree c) (depth_of_statements ss)) (depth_of_branches bs) d l))
 
   pub else_in : (o : Otherwise) → is_well_otherwise o ≡ true → depth_of_otherwise o ≤ d → All (IsStepIn whole) (else_listed o)
   else_in no_else e l = All-nil (IsStepIn whole)
-  else_in (else_steps ss) e l = listed_in ss (rest_of (has_statement ss) (are_well_steps ss) e) l
+  else_in (else_steps ss) e l = listed_in ss (and_parts (has_statement ss) (are_well_steps ss) e).1 l
 
 no_step : (s : Statement) → All (IsStepIn s) []
 no_step s = All-nil (IsStepIn s)
 
 pub steps_well : StepsAreWell
 steps_well (create_table t) e = no_step _
-steps_well (create_function (program n ps k body)) e = body_in _ (depth_of body) refl body (rest_of _ (is_well_step body) (rest_of (has_result (program n ps k body)) _ e)) (omega arith)
-steps_well (create_procedure (program n ps k body)) e = body_in _ (depth_of body) refl body (rest_of _ (is_well_step body) (rest_of (not (has_result (program n ps k body))) _ e)) (omega arith)
-steps_well (create_trigger (trigger n time event t body)) e = body_in _ (depth_of body) refl body (rest_of _ (is_well_step body) e) (omega arith)
+steps_well (create_function (program n ps k body)) e = body_in _ (depth_of body) refl body (and_parts _ (is_well_step body) (and_parts (has_result (program n ps k body)) _ e).1).1 (omega arith)
+steps_well (create_procedure (program n ps k body)) e = body_in _ (depth_of body) refl body (and_parts _ (is_well_step body) (and_parts (not (has_result (program n ps k body))) _ e).1).1 (omega arith)
+steps_well (create_trigger (trigger n time event t body)) e = body_in _ (depth_of body) refl body (and_parts _ (is_well_step body) e).1 (omega arith)
 steps_well (drop_table n) e = no_step _
 steps_well (drop_function n) e = no_step _
 steps_well (drop_procedure n) e = no_step _
@@ -83,12 +76,12 @@ steps_well rollback e = no_step _
 steps_well (savepoint n) e = no_step _
 steps_well (rollback_to n) e = no_step _
 steps_well (release_savepoint n) e = no_step _
-steps_well (block ds ss) e = listed_in _ _ refl ss (rest_of (list_all is_well_declaration ds) (are_well_steps ss) e) (le-max_right (depth_of_declarations ds) (depth_of_statements ss))
+steps_well (block ds ss) e = listed_in _ _ refl ss (and_parts (list_all is_well_declaration ds) (are_well_steps ss) e).1 (le-max_right (depth_of_declarations ds) (depth_of_statements ss))
 steps_well (if_steps bs o) e =
     All-append (IsStepIn (if_steps bs o)) (branch_steps bs) (else_listed o)
-      (branches_in (if_steps bs o) _ refl bs (rest_of (has_branch bs) (are_well_branches bs) (first_of _ (is_well_otherwise o) e)) (le-max_left (depth_of_branches bs) (depth_of_otherwise o)))
-      (else_in (if_steps bs o) _ refl o (rest_of _ (is_well_otherwise o) e) (le-max_right (depth_of_branches bs) (depth_of_otherwise o)))
-steps_well (while_steps c ss) e = listed_in _ _ refl ss (rest_of _ (are_well_steps ss) e) (le-max_right (depth_of_tree c) (depth_of_statements ss))
+    (branches_in (if_steps bs o) _ refl bs (and_parts (has_branch bs) (are_well_branches bs) (and_parts _ (is_well_otherwise o) e).0).1 (le-max_left (depth_of_branches bs) (depth_of_otherwise o)))
+    (else_in (if_steps bs o) _ refl o (and_parts _ (is_well_otherwise o) e).1 (le-max_right (depth_of_branches bs) (depth_of_otherwise o)))
+steps_well (while_steps c ss) e = listed_in _ _ refl ss (and_parts _ (are_well_steps ss) e).1 (le-max_right (depth_of_tree c) (depth_of_statements ss))
 steps_well (return_value t) e = no_step _
 
 -- ---- expressions
@@ -114,25 +107,25 @@ module _ (whole : Statement) (d : ℕ) (deep : depth_of whole ≡ suc d) where
   pub presets_for : (ds : List Declared) → list_all is_well_declaration ds ≡ true → depth_of_declarations ds ≤ d → All (IsDoFor whole) (do_presets ds)
   presets_for [] e l = All-nil (IsDoFor whole)
   presets_for (x ∷ ds) e l =
-    All-append (IsDoFor whole) (do_part x.preset) (do_presets ds)
-      (part_for x.preset (rest_of _ (is_well_part x.preset) (first_of (is_well_declaration x) _ e)) (left_within (depth_of_declared x) (depth_of_declarations ds) d l))
-      (presets_for ds (rest_of (is_well_declaration x) _ e) (right_within (depth_of_declared x) (depth_of_declarations ds) d l))
+      All-append (IsDoFor whole) (do_part x.preset) (do_presets ds)
+      (part_for x.preset (and_parts _ (is_well_part x.preset) (and_parts (is_well_declaration x) _ e).0).1 (left_within (depth_of_declared x) (depth_of_declarations ds) d l))
+      (presets_for ds (and_parts (is_well_declaration x) _ e).1 (right_within (depth_of_declared x) (depth_of_declarations ds) d l))
 
   pub conditions_for : (bs : Branches) → are_well_branches bs ≡ true → depth_of_branches bs ≤ d → All (IsDoFor whole) (do_conditions bs)
   conditions_for no_branch e l = All-nil (IsDoFor whole)
   conditions_for (branch c ss bs) e l =
-    let front = left_within (max (depth_of_tree c) (depth_of_statements ss)) (depth_of_branches bs) d l in
-    All-cons (IsDoFor whole) (do_one c) (do_conditions bs)
-      (one_for c (first_of (is_well_tree c) (has_statement ss) (first_of _ (are_well_steps ss) (first_of _ (are_well_branches bs) e))) (left_within (depth_of_tree c) (depth_of_statements ss) d front))
-      (conditions_for bs (rest_of _ (are_well_branches bs) e)
-        (right_within (max (depth_of_tree c) (depth_of_statements ss)) (depth_of_branches bs) d l))
+      let front = left_within (max (depth_of_tree c) (depth_of_statements ss)) (depth_of_branches bs) d l in
+      All-cons (IsDoFor whole) (do_one c) (do_conditions bs)
+      (one_for c (and_parts (is_well_tree c) (has_statement ss) (and_parts _ (are_well_steps ss) (and_parts _ (are_well_branches bs) e).0).0).0 (left_within (depth_of_tree c) (depth_of_statements ss) d front))
+      (conditions_for bs (and_parts _ (are_well_branches bs) e).1
+      (right_within (max (depth_of_tree c) (depth_of_statements ss)) (depth_of_branches bs) d l))
 
 -- the values of SET are well, and as deep as the assignments
 assigned_well : (as' : List (Target × Tree)) → list_all is_well_assignment as' ≡ true → are_well_trees (values_assigned as') ≡ true
 assigned_well [] e = refl
 assigned_well (a ∷ as') e =
-    rw (rest_of (is_target a.0) (is_well_tree a.1) (first_of (is_well_assignment a) (list_all is_well_assignment as') e))
-      (assigned_well as' (rest_of (is_well_assignment a) (list_all is_well_assignment as') e))
+    rw (and_parts (is_target a.0) (is_well_tree a.1) (and_parts (is_well_assignment a) (list_all is_well_assignment as') e).0).1
+    (assigned_well as' (and_parts (is_well_assignment a) (list_all is_well_assignment as') e).1)
 
 assigned_deep : (as' : List (Target × Tree)) → depth_of_trees (values_assigned as') ≡ depth_of_assignments as'
 assigned_deep [] = refl
@@ -158,15 +151,15 @@ dos_well (delete_rows t w os l) e = no_do _
 dos_well (select q) e = no_do _
 dos_well (evaluate ts) e = no_do _
 dos_well (set_all as') e =
-    if_for (set_all as') (depth_of_assignments as') refl (values_assigned as') (assigned_well as' (rest_of (has_item as') _ e)) (rw (assigned_deep as') (omega arith))
-dos_well (call_procedure n ts) e = if_for (call_procedure n ts) (depth_of_trees ts) refl ts (rest_of (is_name n) (are_well_trees ts) e) (omega arith)
+    if_for (set_all as') (depth_of_assignments as') refl (values_assigned as') (assigned_well as' (and_parts (has_item as') _ e).1) (rw (assigned_deep as') (omega arith))
+dos_well (call_procedure n ts) e = if_for (call_procedure n ts) (depth_of_trees ts) refl ts (and_parts (is_name n) (are_well_trees ts) e).1 (omega arith)
 dos_well begin e = no_do _
 dos_well commit e = no_do _
 dos_well rollback e = no_do _
 dos_well (savepoint n) e = no_do _
 dos_well (rollback_to n) e = no_do _
 dos_well (release_savepoint n) e = no_do _
-dos_well (block ds ss) e = presets_for (block ds ss) _ refl ds (first_of (list_all is_well_declaration ds) (are_well_steps ss) e) (le-max_left (depth_of_declarations ds) (depth_of_statements ss))
-dos_well (if_steps bs o) e = conditions_for (if_steps bs o) _ refl bs (rest_of (has_branch bs) (are_well_branches bs) (first_of _ (is_well_otherwise o) e)) (le-max_left (depth_of_branches bs) (depth_of_otherwise o))
-dos_well (while_steps c ss) e = alone_for (while_steps c ss) _ refl c (first_of (is_well_tree c) (has_statement ss) (first_of _ (are_well_steps ss) e)) (le-max_left (depth_of_tree c) (depth_of_statements ss))
+dos_well (block ds ss) e = presets_for (block ds ss) _ refl ds (and_parts (list_all is_well_declaration ds) (are_well_steps ss) e).0 (le-max_left (depth_of_declarations ds) (depth_of_statements ss))
+dos_well (if_steps bs o) e = conditions_for (if_steps bs o) _ refl bs (and_parts (has_branch bs) (are_well_branches bs) (and_parts _ (is_well_otherwise o) e).0).1 (le-max_left (depth_of_branches bs) (depth_of_otherwise o))
+dos_well (while_steps c ss) e = alone_for (while_steps c ss) _ refl c (and_parts (is_well_tree c) (has_statement ss) (and_parts _ (are_well_steps ss) e).0).0 (le-max_left (depth_of_tree c) (depth_of_statements ss))
 dos_well (return_value t) e = alone_for (return_value t) (depth_of_tree t) refl t e (omega arith)

@@ -1,11 +1,14 @@
 -- A statement of a procedure as it is logged: with its locals closed in.
-use Rattle.std.specs.Prelude.{ℕ, List, map, Option, Some, None}
+use Rattle.std.specs.Prelude.{◌≡◌, ℕ, Bool, List, map, Option, Some, None, IsTrue}
+use Rattle.std.specs.List.{list_all}
 use Rattle.std.specs.Option.{option_map}
 use Rattle.sql_tree.specs.Tree.{Tree, literal, name, column, new_column, old_column, user_variable, system_variable, unary, binary, is_in, choice, subquery, exists, call, built_in, values_of, name_const, floor_rand}
 use Rattle.sql_tree.specs.Tree.{Trees, no_tree, tree, Arms, no_arm, arm, Part, no_part, part, Query, query, Selected, items, all_columns, aggregates}
 use Rattle.sql_tree.specs.Tree.{Aggregates, no_aggregate, count_all, aggregate, Origin, no_origin, from_table, Orders, no_order, order_by}
 use Rattle.sql_tree.specs.Statement.{Statement, insert_into, replace_into, update_rows, delete_rows, select, evaluate, Supply, rows, rows_of}
+use Rattle.sql_tree.specs.Depth.{depth_of}
 use Rattle.sql_tree.specs.Locals.{find_local}
+use Rattle.sql_tree.specs.Well.{is_literal, IsWell}
 use Rattle.sql_tree.specs.declared.expressions.Count.{Count}
 use Rattle.sql_tree.specs.declared.expressions.Count.TheVariants as counts
 use Rattle.sql_tree.specs.declared.expressions.Limit.{Limit}
@@ -115,3 +118,17 @@ closed_count locals (counts.Name n) = closed_by (counts.Name n) (find_local loca
 -- a statement with its locals closed in
 unfoldable pub closed : Statement → List Local → Statement
 closed s locals = statement_mapped (closed_name locals) (closed_count locals) s
+
+-- ---- laws
+
+-- a local holds what a literal can say
+abbrev pub has_literal : Local → Bool
+has_literal l = is_literal l.value
+
+-- what the parser can give, it can give with locals closed in
+abbrev pub ClosedIsWell : Type 0
+ClosedIsWell = (s : Statement) (locals : List Local) → IsTrue (list_all has_literal locals) → IsWell s → IsWell (closed s locals)
+
+-- closing adds no level and takes none away
+abbrev pub ClosedIsAsDeep : Type 0
+ClosedIsAsDeep = (s : Statement) (locals : List Local) → depth_of (closed s locals) ≡ depth_of s

@@ -4,12 +4,17 @@
 //! `Reasons` (for which a statement is unsafe to log by its text), `Carrying` (what an item carries of its context), `Closing`
 //! (a statement of a procedure with its locals closed in).
 //!
+//! - `laws`: what follows from the definitions
 //! - `worked`: statements by hand, which the checker computes
 //!
 //! # Proved
-//! The worked examples.
+//! - What the parser can give, it can give with locals closed in, where each holds what a literal can say; and closing
+//!   leaves every depth (`closed_is_well`).
+//! - The worked examples.
 #![tactic(auto)]
 
+mod laws;
 mod worked;
 
+pub use laws::closed_is_well;
 pub use worked::{carried_parts, closed_statements, unsafe_statements, writing_statements};
