@@ -1,13 +1,20 @@
 -- What holds of every statement: its changes are made one after the other, and an error takes them back.
-use Rattle.std.specs.Prelude.{◌≡◌, ℕ, List, ◌++◌, Some}
+use Rattle.std.specs.Prelude.{◌≡◌, ℕ, List, ◌++◌, Some, None}
+use Rattle.val_types.specs.declared.value.Value.{Value}
 use Rattle.val_types.specs.declared.change.Change.{Change}
 use Rattle.table_rules.specs.Stored.{all_applied}
-use Rattle.sql_tree.specs.Tree.{Trees}
-use Rattle.sql_tree.specs.Statement.{Statement}
+use Rattle.sql_tree.specs.Tree.{Trees, Query}
+use Rattle.sql_tree.specs.Statement.{Statement, select, evaluate}
 use Rattle.sql_tree.specs.declared.locals.Local.{Local}
 use Rattle.sql_meaning.specs.Scenes.{Scene, Ending, done, failed}
-use Rattle.sql_meaning.specs.Frames.{Setting}
-use Rattle.sql_meaning.specs.Running.{effect, evaluation}
+use Rattle.catalog_rules.specs.Objects.{function_in}
+use Rattle.sql_meaning.specs.Frames.{Setting, Running}
+use Rattle.sql_meaning.specs.Running.{level_of, effect, evaluation}
+
+-- the scene that an action leaves, whether it ends with a value or with an error
+abbrev pub scene_after : {A : Type 0} → Ending A → Scene
+scene_after (done a scene) = scene
+scene_after (failed code scene) = scene
 
 -- The changes of one scene are those of an earlier one with more behind them, and these lead from its tables to those then.
 pub record Leads (old new : Scene) : Type 0 where
@@ -33,3 +40,32 @@ StatementsEndWell =
 abbrev pub EvaluationsEndWell : Type 0
 EvaluationsEndWell =
     (setting : Setting) (nesting : ℕ) (locals : List Local) (ts : Trees) (scene : Scene) → EndsWell scene (evaluation setting nesting locals ts scene)
+
+-- the functions that a session may call change nothing
+abbrev pub CallsChangeNothing : Setting → ℕ → Type 0
+CallsChangeNothing setting nesting =
+    (running : Running) (name : List ℕ) (arguments : List Value) (scene : Scene)
+    → StaysAsItWas scene (scene_after ((level_of setting nesting).call running name arguments scene))
+
+-- then a SELECT changes nothing
+abbrev pub SelectsChangeNothing : Type 0
+SelectsChangeNothing =
+    (setting : Setting) (nesting : ℕ) (locals : List Local) (q : Query) (scene : Scene)
+    → CallsChangeNothing setting nesting → StaysAsItWas scene (scene_after (effect setting nesting locals (select q) scene))
+
+-- and a DO changes nothing
+abbrev pub DosChangeNothing : Type 0
+DosChangeNothing =
+    (setting : Setting) (nesting : ℕ) (locals : List Local) (ts : Trees) (scene : Scene)
+    → CallsChangeNothing setting nesting → StaysAsItWas scene (scene_after (effect setting nesting locals (evaluate ts) scene))
+
+-- nor do the expressions that a session evaluates
+abbrev pub EvaluationsChangeNothing : Type 0
+EvaluationsChangeNothing =
+    (setting : Setting) (nesting : ℕ) (locals : List Local) (ts : Trees) (scene : Scene)
+    → CallsChangeNothing setting nesting → StaysAsItWas scene (scene_after (evaluation setting nesting locals ts scene))
+
+-- where a catalog has no function, none changes anything
+abbrev pub NoFunctionChanges : Type 0
+NoFunctionChanges =
+    (setting : Setting) (nesting : ℕ) → ((name : List ℕ) → function_in setting.catalog name ≡ None) → CallsChangeNothing setting nesting

@@ -1,6 +1,6 @@
 //! Laws of the definitions: what holds of every statement.
 ghost use Rattle.sql_meaning.specs.Fuel.{EvaluationsKeep, StatementsKeep};
-ghost use Rattle.sql_meaning.specs.Leading.{EvaluationsEndWell, StatementsEndWell};
+ghost use Rattle.sql_meaning.specs.Leading.{DosChangeNothing, EvaluationsChangeNothing, EvaluationsEndWell, NoFunctionChanges, SelectsChangeNothing, StatementsEndWell};
 ghost use Rattle.sql_meaning.specs.Within.{DosAreWell, StepsAreWell};
 
 /// A law: what a statement does to the tables is made by its changes, one after the other, and an error
@@ -23,4 +23,13 @@ pub fn more_fuel_does_the_same()
 pub fn parts_are_well()
     ensures steps { StepsAreWell }
     ensures dos { DosAreWell }
+{}
+
+/// A law: where the functions that a session may call change nothing, as where there is none, a SELECT, a
+/// DO and the expressions that the session evaluates leave tables and changes as they were.
+pub fn reading_changes_nothing()
+    ensures selects { SelectsChangeNothing }
+    ensures dos { DosChangeNothing }
+    ensures evaluations { EvaluationsChangeNothing }
+    ensures functions { NoFunctionChanges }
 {}

@@ -16,6 +16,8 @@
 //!   many turns (`more_fuel_does_the_same`).
 //! - Steps of a well statement are well and less deep, and DO over the expressions that it evaluates by themselves is
 //!   a statement of a session and no deeper (`parts_are_well`).
+//! - Where the functions that a session may call change nothing, as where there is none, a SELECT and a DO change
+//!   nothing (`reading_changes_nothing`).
 //! - The worked examples: what each statement shows, changes and counts, or its error and what it leaves.
 #![tactic(auto)]
 
@@ -23,6 +25,8 @@ mod laws;
 mod worked;
 mod worked_programs;
 
-pub use laws::{more_fuel_does_the_same, parts_are_well, statements_end_well};
+pub use laws::{
+    more_fuel_does_the_same, parts_are_well, reading_changes_nothing, statements_end_well,
+};
 pub use worked::{expressions, keys_in_way, rows_changed, selected_rows, values_generated};
 pub use worked_programs::{functions_called, nesting_and_turns, triggers_fired};
