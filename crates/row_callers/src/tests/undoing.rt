@@ -36,6 +36,7 @@ fn filled(alloc: Global) -> Result<Undo, Fail> {
 }
 
 fn expect_since(rt: &impl Abort, undo: &Undo, mark: u64, wanted: usize) -> Result<(), Fail> {
+    assert!(rt; mark <= undo.mark());
     let changes = undo.since(mark)?;
     assert_eq!(rt; changes.len(), wanted);
     Ok(())
