@@ -8,7 +8,7 @@ use Rattle.val_types.specs.declared.change.Change.TheVariants as changes
 use Rattle.val_types.specs.declared.definitions.ColType.{ColType}
 use Rattle.val_types.specs.declared.definitions.ColumnDef.{ColumnDef}
 use Rattle.val_types.specs.declared.definitions.TableDef.{TableDef}
-use Rattle.val_types.specs.Fitting.{fitting}
+use Rattle.val_types.specs.Fitting.{fitting, greatest_of}
 use Rattle.val_types.specs.Keys.{primary_key, same_values}
 use Rattle.auto_inc.specs.Generating.{Sequence, after_generated, after_explicit}
 use Rattle.table_rules.specs.Tables.{Table}
@@ -24,7 +24,7 @@ use Rattle.catalog_rules.specs.Objects.{columns_of}
 use Rattle.sql_meaning.specs.Scenes.{Action, ◌>>=◌, pure, answered, needed, require, each, kept_by, counted, carried_on, make, table_now, counter_now, raise_counter, fail}
 use Rattle.sql_meaning.specs.Frames.{Frame, sees, Setting, Running, Below}
 use Rattle.sql_meaning.specs.Values.{value, values, is_kept, order_values, rows_of_query}
-use Rattle.sql_meaning.specs.Changing.{fitted, type_at, put_at, asks, asked_place, has_missing, none_missing, before_row, after_row, delete_row, assign_column, store_update, update_row, Inserting, nothing_inserted, Manner, refusing, ignoring, replacing, updating, greatest_of, generated_next, Counted, generate_at, given_value, count_row, put_row, clear_way, passed_by, updating_frame, settle, place_row, left_out_row, insert_row, insert_supply, insert_into_table, chosen_rows, update_table, delete_from_table}
+use Rattle.sql_meaning.specs.Changing.{fitted, type_at, put_at, asks, asked_place, has_missing, none_missing, before_row, after_row, delete_row, assign_column, store_update, update_row, Inserting, nothing_inserted, Manner, refusing, ignoring, replacing, updating, generated_next, Counted, generate_at, given_value, count_row, put_row, clear_way, passed_by, updating_frame, settle, place_row, left_out_row, insert_row, insert_supply, insert_into_table, chosen_rows, update_table, delete_from_table}
 use Rattle.sql_meaning.proofs.Again.{Again, bind_again, pure_again, fail_again, answered_again, needed_again, require_again, if_again, each_again, kept_again, counted_again, carried_again, make_again, table_again, counter_again, raise_again}
 use Rattle.sql_meaning.proofs.AgainValues.{AgainBelow, around, value_again, values_again, is_kept_again, order_again, query_again}
 

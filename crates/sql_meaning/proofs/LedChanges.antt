@@ -8,7 +8,7 @@ use Rattle.val_types.specs.declared.change.Change.TheVariants as changes
 use Rattle.val_types.specs.declared.definitions.ColType.{ColType}
 use Rattle.val_types.specs.declared.definitions.ColumnDef.{ColumnDef}
 use Rattle.val_types.specs.declared.definitions.TableDef.{TableDef}
-use Rattle.val_types.specs.Fitting.{fitting}
+use Rattle.val_types.specs.Fitting.{fitting, greatest_of}
 use Rattle.val_types.specs.Keys.{primary_key, same_values}
 use Rattle.auto_inc.specs.Generating.{Sequence, after_generated, after_explicit}
 use Rattle.table_rules.specs.Tables.{Table}
@@ -24,7 +24,7 @@ use Rattle.catalog_rules.specs.Objects.{columns_of}
 use Rattle.sql_meaning.specs.Scenes.{Action, ◌>>=◌, pure, answered, needed, require, each, kept_by, counted, carried_on, make, table_now, counter_now, raise_counter}
 use Rattle.sql_meaning.specs.Frames.{Running, Below, World, Frame, sees}
 use Rattle.sql_meaning.specs.Values.{value, values, is_kept, order_values, rows_of_query}
-use Rattle.sql_meaning.specs.Changing.{fitted, type_at, put_at, asks, asked_place, has_missing, none_missing, before_row, after_row, delete_row, assign_column, store_update, update_row, Inserting, nothing_inserted, Manner, refusing, ignoring, replacing, updating, greatest_of, generated_next, Counted, generate_at, given_value, count_row, put_row, clear_way, passed_by, updating_frame, settle, place_row, left_out_row, insert_row, insert_supply, insert_into_table, chosen_rows, update_table, delete_from_table}
+use Rattle.sql_meaning.specs.Changing.{fitted, type_at, put_at, asks, asked_place, has_missing, none_missing, before_row, after_row, delete_row, assign_column, store_update, update_row, Inserting, nothing_inserted, Manner, refusing, ignoring, replacing, updating, generated_next, Counted, generate_at, given_value, count_row, put_row, clear_way, passed_by, updating_frame, settle, place_row, left_out_row, insert_row, insert_supply, insert_into_table, chosen_rows, update_table, delete_from_table}
 use Rattle.sql_meaning.proofs.Steps.{leading, IsLed, bind_moved, pure_moved, fail_moved, answered_moved, needed_moved, require_moved, if_moved, each_moved, kept_moved, counted_moved, carried_moved, make_led, table_moved, counter_moved, raise_moved}
 use Rattle.sql_meaning.specs.Leading.{Leads}
 use Rattle.sql_meaning.proofs.Moved.{CallsMoved, value_moved, values_moved, is_kept_moved, order_moved, query_moved}

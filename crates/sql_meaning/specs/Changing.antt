@@ -9,7 +9,7 @@ use Rattle.val_types.specs.declared.definitions.ColType.{ColType}
 use Rattle.val_types.specs.declared.definitions.ColType.TheVariants as kinds
 use Rattle.val_types.specs.declared.definitions.ColumnDef.{ColumnDef}
 use Rattle.val_types.specs.declared.definitions.TableDef.{TableDef}
-use Rattle.val_types.specs.Fitting.{fitting, is_null}
+use Rattle.val_types.specs.Fitting.{fitting, greatest_of, is_null}
 use Rattle.val_types.specs.Keys.{primary_key, same_values}
 use Rattle.auto_inc.specs.Generating.{Sequence, next_value, after_generated, after_explicit}
 use Rattle.table_rules.specs.Tables.{Table}
@@ -133,12 +133,6 @@ pub data Manner : Type 0 where
   ignoring : Manner
   replacing : Manner
   updating : List (List ℕ × Tree) → Manner
-
--- the greatest value of an AUTO_INCREMENT column
-abbrev pub greatest_of : ColType → ℤ
-greatest_of kinds.Int = pos (2 ^ 31 - 1)
-greatest_of kinds.BigInt = pos (2 ^ 63 - 1)
-greatest_of (kinds.Varchar most) = pos (2 ^ 63 - 1)
 
 -- a forced value within the type
 abbrev pub within : ℤ → ℤ → Option ℤ

@@ -7,10 +7,10 @@ use Rattle.val_types.specs.declared.definitions.TableDef.{TableDef}
 use Rattle.sql_tree.specs.declared.expressions.Count.{Count}
 use Rattle.sql_tree.specs.declared.expressions.Count.TheVariants as counts
 use Rattle.sql_tree.specs.declared.expressions.Limit.{Limit}
-use Rattle.sql_tree.specs.declared.locals.Local.{Local}
+use Rattle.sql_locals.specs.declared.locals.Local.{Local}
 use Rattle.sql_tree.specs.declared.statements.Time.{Time}
 use Rattle.sql_tree.specs.declared.statements.Cause.{Cause}
-use Rattle.sql_tree.specs.Locals.{find_local}
+use Rattle.sql_locals.specs.Locals.{find_local}
 use Rattle.value_rules.specs.Functions.{text_value}
 use Rattle.value_rules.specs.Selecting.{cut}
 use Rattle.catalog_rules.specs.Names.{same_name, place_among, first_made}

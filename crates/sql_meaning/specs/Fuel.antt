@@ -2,7 +2,7 @@
 use Rattle.std.specs.Prelude.{◌≡◌, ℕ, ◌+◌, ◌≤◌, List}
 use Rattle.sql_tree.specs.Tree.{Trees}
 use Rattle.sql_tree.specs.Statement.{Statement}
-use Rattle.sql_tree.specs.declared.locals.Local.{Local}
+use Rattle.sql_locals.specs.declared.locals.Local.{Local}
 use Rattle.sql_meaning.specs.Scenes.{Scene, Ending, done, failed}
 use Rattle.sql_meaning.specs.Frames.{Setting}
 use Rattle.sql_meaning.specs.Running.{effect, evaluation}

@@ -7,12 +7,12 @@ use Rattle.sql_tree.specs.Tree.{Trees, no_tree, tree, Arms, no_arm, arm, Part, n
 use Rattle.sql_tree.specs.Tree.{Aggregates, no_aggregate, count_all, aggregate, Origin, no_origin, from_table, Orders, no_order, order_by}
 use Rattle.sql_tree.specs.Statement.{Statement, insert_into, replace_into, update_rows, delete_rows, select, evaluate, Supply, rows, rows_of}
 use Rattle.sql_tree.specs.Depth.{depth_of}
-use Rattle.sql_tree.specs.Locals.{find_local}
+use Rattle.sql_locals.specs.Locals.{find_local}
 use Rattle.sql_tree.specs.Well.{is_literal, IsWell}
 use Rattle.sql_tree.specs.declared.expressions.Count.{Count}
 use Rattle.sql_tree.specs.declared.expressions.Count.TheVariants as counts
 use Rattle.sql_tree.specs.declared.expressions.Limit.{Limit}
-use Rattle.sql_tree.specs.declared.locals.Local.{Local}
+use Rattle.sql_locals.specs.declared.locals.Local.{Local}
 use Rattle.sql_meaning.specs.Frames.{number_or_none}
 
 -- ---- a map over the names of a tree, and over the numbers and names of its LIMITs

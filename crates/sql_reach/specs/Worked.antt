@@ -5,7 +5,7 @@ use Rattle.val_types.specs.declared.value.Value.TheVariants.{Int, Text}
 use Rattle.val_types.specs.declared.ops.Func.{Func}
 use Rattle.sql_tree.specs.Tree.{built_in, no_tree, new_column, call}
 use Rattle.sql_tree.specs.Statement.{trigger, return_value}
-use Rattle.sql_tree.specs.declared.locals.Local.{Local}
+use Rattle.sql_locals.specs.declared.locals.Local.{Local}
 use Rattle.sql_tree.specs.declared.statements.Cause.TheVariants as causes
 use Rattle.sql_tree.specs.declared.statements.SqlType.{SqlType}
 use Rattle.sql_tree.specs.declared.statements.Time.TheVariants as times

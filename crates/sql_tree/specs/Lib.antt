@@ -5,5 +5,4 @@ pub mod View
 pub mod StatementView
 pub mod Depth
 pub mod Well
-pub mod Locals
 pub mod Worked

@@ -7,7 +7,6 @@
 //!
 //! - `expressions`: [`Expr`], [`Select`] and their parts
 //! - `statements`: [`Stmt`], with [`Routine`] and [`TriggerDef`] for stored programs
-//! - `locals`: [`Locals`], the local variables in scope in a stored program
 //! - `expression_depth`, `statement_depth`: [`depth`], how many nodes lie one in the other
 //! - `names`, `expression_rules`, `statement_rules`: [`well`], what the parser can give
 //! - `part_copies`: equal copies of what holds no tree
@@ -19,14 +18,12 @@
 //! - [`well`], [`well_step`], [`well_expr`], [`well_select`], [`is_name`] answer just what their
 //!   definitions say: which statements the parser can give, at most 200 deep, which stand inside a
 //!   stored program, and which parts stand in them.
-//! - [`Locals`] finds the last local variable of a name, and leaves what it had where memory is short.
 //! - Copies of tables, LIMITs and numbers of rows are equal to the original, or memory is short.
 #![tactic(auto)]
 
 mod expression_depth;
 mod expression_rules;
 mod expressions;
-mod locals;
 mod names;
 mod part_copies;
 mod statement_depth;
@@ -39,7 +36,6 @@ pub use expression_rules::{well_expr, well_select};
 pub use expressions::{
     Aggregate, Arm, Count, Expr, FromClause, Limit, OrderItem, Select, Selection,
 };
-pub use locals::{Local, Locals};
 pub use names::is_name;
 pub use statement_depth::depth;
 pub use statement_rules::{well, well_step};

@@ -1,5 +1,5 @@
 -- Which values may be put into a column, and which rows may stand in a table.
-use Rattle.std.specs.Prelude.{ℕ, ◌^◌, Bool, true, false, not, ◌&&◌, ◌||◌, nat_le, if◌then◌else◌, List, [], ◌∷◌, length, Result, Ok, Err, ℤ, pos, neg_ℤ, int_le, int_lt}
+use Rattle.std.specs.Prelude.{ℕ, ◌-◌, ◌^◌, Bool, true, false, not, ◌&&◌, ◌||◌, nat_le, if◌then◌else◌, List, [], ◌∷◌, length, Result, Ok, Err, ℤ, pos, neg_ℤ, int_le, int_lt}
 use Rattle.std.specs.Result.{is_ok}
 use Rattle.val_types.specs.declared.value.Value.{Value}
 use Rattle.val_types.specs.declared.value.Value.TheVariants.{Null, Int, Text}
@@ -25,6 +25,12 @@ fitting BigInt (Int n) = if is_bigint n then Ok tt else Err out_of_range
 fitting BigInt (Text t) = Err kinds_mixed
 fitting (Varchar most) (Int n) = Err kinds_mixed
 fitting (Varchar most) (Text t) = if nat_le (length t) most then Ok tt else Err too_long_for_column
+
+-- the greatest number of a type; a VARCHAR, which has none, counts as BIGINT
+abbrev pub greatest_of : ColType → ℤ
+greatest_of IntType = pos (2 ^ 31 - 1)
+greatest_of BigInt = pos (2 ^ 63 - 1)
+greatest_of (Varchar most) = pos (2 ^ 63 - 1)
 
 -- whether a value is NULL
 abbrev pub is_null : Value → Bool

@@ -1,6 +1,6 @@
 //! Which values fit a column, and which rows fit a table.
 ghost use Rattle.std.specs.Prelude.{◌≡◌};
-ghost use Rattle.val_types.specs.Fitting.{fitting, is_null, may_hold, row_fits};
+ghost use Rattle.val_types.specs.Fitting.{fitting, greatest_of, is_null, may_hold, row_fits};
 
 use crate::definitions::{ColType, ColumnDef};
 use crate::list::List;
@@ -25,13 +25,13 @@ fn bigint_fits(number: i64) -> Result<(), SqlError>
     Ok(())
 }
 
-/// Whether a value may be put into a column: 30002 where the kinds differ, 1264 for a number past the
-/// range of INT (32 bits) or BIGINT (64 bits), 1406 for a text of more bytes than VARCHAR allows.
-/// NULL fits every column here; NOT NULL is tested when the row is stored.
-pub fn fits(column: &ColumnDef, value: &Value) -> Result<(), SqlError>
-    ensures { result ≡ fitting column.now.kind value.now }
+/// Whether a value may be put where a type is declared, as that of a parameter, a result or a local
+/// variable: 30002 where the kinds differ, 1264 for a number past the range of INT (32 bits) or BIGINT
+/// (64 bits), 1406 for a text of more bytes than VARCHAR allows. NULL fits every type.
+pub fn type_fits(kind: ColType, value: &Value) -> Result<(), SqlError>
+    ensures { result ≡ fitting kind value.now }
 {
-    match (column.kind, value) {
+    match (kind, value) {
         (_, Value::Null) => Ok(()),
         (ColType::Int, Value::Int(number)) => int_fits(*number),
         (ColType::BigInt, Value::Int(number)) => bigint_fits(*number),
@@ -45,6 +45,25 @@ pub fn fits(column: &ColumnDef, value: &Value) -> Result<(), SqlError>
         (ColType::Int | ColType::BigInt, Value::Text(_)) | (ColType::Varchar(_), Value::Int(_)) => {
             Err(KINDS_MIXED)
         }
+    }
+}
+
+/// Whether a value may be put into a column, as [`type_fits`] says of its type. NULL fits every column
+/// here; NOT NULL is tested when the row is stored.
+pub fn fits(column: &ColumnDef, value: &Value) -> Result<(), SqlError>
+    ensures { result ≡ fitting column.now.kind value.now }
+{
+    type_fits(column.kind, value)
+}
+
+/// The greatest number of a type: 2147483647 of INT, 9223372036854775807 of BIGINT. VARCHAR, which has
+/// none, counts as BIGINT.
+pub fn greatest(kind: ColType) -> i64
+    ensures { result ≡ greatest_of kind }
+{
+    match kind {
+        ColType::Int => i64::from(i32::MAX),
+        ColType::BigInt | ColType::Varchar(_) => i64::MAX,
     }
 }
 

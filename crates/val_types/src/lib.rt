@@ -25,8 +25,8 @@
 //! - [`Duplicate::duplicate`] and [`Duplicate::duplicate_all`] give equal copies, or want of memory
 //! - [`key_cmp`] is the order of keys, Equal exactly on equal keys, and a total order
 //!   (`key_order_is_total`)
-//! - [`value_text`] and [`row_text`] give exactly the text of the definitions, [`fits`], [`row_fits`],
-//!   [`Change::inverse`] and [`Change::table`] exactly what theirs say, [`value_at`] the value in a
+//! - [`value_text`] and [`row_text`] give exactly the text of the definitions, [`fits`], [`type_fits`],
+//!   [`row_fits`], [`greatest`], [`Change::inverse`] and [`Change::table`] exactly what theirs say, [`value_at`] the value in a
 //!   column, [`key_of`] the key or want of memory
 //! - the worked texts, orders, fittings and keys
 //!
@@ -51,7 +51,7 @@ pub use boxed::Boxed;
 pub use change::Change;
 pub use definitions::{ColType, ColumnDef, KeyDef, TableDef};
 pub use duplicate::Duplicate;
-pub use fitting::{fits, row_fits};
+pub use fitting::{fits, greatest, row_fits, type_fits};
 pub use keys::{key_of, value_at};
 pub use list::{Bytes, List, NoMemory};
 pub use ops::{Agg, BinOp, Func, UnOp};

@@ -1,6 +1,6 @@
 //! Each public call once with ample memory: what is made, how deep it is, and that a text gives it.
 use sql_tree::{
-    Assignment, Cause, Expr, Local, Locals, OrderItem, Routine, Select, Selection, SqlType, Stmt,
+    Assignment, Cause, Expr, OrderItem, Routine, Select, Selection, SqlType, Stmt,
     Target, Time, TriggerDef, depth, expr_depth, is_name, select_depth, well, well_expr,
     well_select, well_step,
 };
@@ -189,41 +189,5 @@ fn statements_are_copied(rt: HostRuntime) -> Result<(), Fail> {
     assert!(rt; is_copied(alloc, function(alloc))?);
     assert!(rt; is_copied(alloc, create_function(alloc))?);
     assert!(rt; is_copied(alloc, trigger(alloc))?);
-    Ok(())
-}
-
-fn declare(alloc: Global, locals: &mut Locals, number: i64) -> Result<(), NoMemory> {
-    locals.push(Local {
-        name: name(alloc)?,
-        kind: SqlType::Int,
-        value: Value::Int(number),
-    })
-}
-
-fn number_of(local: Option<&Local>) -> Option<i64> {
-    match local {
-        Some(
-            Local {
-                value: Value::Int(number),
-                ..
-            },
-        ) => Some(*number),
-        _ => None,
-    }
-}
-
-/// What `a` means where it was declared as 1 and then as 2, and what another name means.
-fn meanings(alloc: Global) -> Result<(Option<i64>, Option<i64>), NoMemory> {
-    let mut locals = Locals::new(alloc);
-    declare(alloc, &mut locals, 1)?;
-    declare(alloc, &mut locals, 2)?;
-    let other = List::from_slice(alloc, b"b")?;
-    let meant = number_of(locals.find(&name(alloc)?));
-    Ok((meant, number_of(locals.find(&other))))
-}
-
-#[test]
-fn the_last_of_a_name_counts(rt: HostRuntime) -> Result<(), Fail> {
-    assert!(rt; meanings(rt.alloc())? == (Some(2), None));
     Ok(())
 }

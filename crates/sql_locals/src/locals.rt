@@ -2,7 +2,7 @@
 ghost use Rattle.std.specs.Prelude.{◌≡◌, ◌++◌, [], ◌∷◌, Option, IfOk, OnOk, OnErr};
 ghost use Rattle.std.specs.Option.{option_copied};
 
-use crate::statements::SqlType;
+use sql_tree::SqlType;
 use std::alloc::Global;
 use std::marker::Model;
 use val_types::{Bytes, Duplicate, List, NoMemory, Value};
@@ -23,7 +23,7 @@ pub struct Locals {
 
 impl Model for Locals {
     ghost use Rattle.std.specs.Prelude.{List};
-    ghost use Rattle.sql_tree.specs.declared.locals.Local.{Local};
+    ghost use Rattle.sql_locals.specs.declared.locals.Local.{Local};
 
     ghost Value = { List Local };
 
@@ -31,7 +31,7 @@ impl Model for Locals {
 }
 
 impl Locals {
-    ghost use Rattle.sql_tree.specs.Locals.{find_local};
+    ghost use Rattle.sql_locals.specs.Locals.{find_local};
 
     /// No local variables, as in a session.
     pub fn new(alloc: Global) -> Locals

@@ -1,7 +1,7 @@
 -- Which local variable a name means.
 use Rattle.std.specs.Prelude.{ℕ, nat_eq, if◌then◌else◌, List, [], ◌∷◌, Option, Some, None}
 use Rattle.std.specs.Cmp.Lexicographic.{pointwise}
-use Rattle.sql_tree.specs.declared.locals.Local.{Local}
+use Rattle.sql_locals.specs.declared.locals.Local.{Local}
 
 -- the last local variable of a name, or else this one
 abbrev pub find_from : Option Local → List Local → List ℕ → Option Local
