@@ -1,0 +1,33 @@
+-- What commands are answered.
+use Rattle.std.specs.Prelude.{ℕ, false, List, [], ◌∷◌, Option, Some, None, min}
+use Rattle.val_types.specs.declared.value.Value.{Value}
+use Rattle.answer_text.specs.declared.answer.Answer.{Answer}
+use Rattle.answer_text.specs.declared.answer.End.{End}
+use Rattle.answer_text.specs.declared.answer.End.TheVariants as ends
+use Rattle.std.specs.Prelude.{ℤ, pos, neg_ℤ, ◌^◌, ◌-◌}
+
+-- rows affected, 0 for what affects none
+abbrev pub ok : ℕ → Answer
+ok affected = record { sets = []; end = ends.Ok affected false }
+
+-- the rows of a SELECT
+abbrev pub showing : List (List Value) → Answer
+showing rows = record { sets = rows ∷ []; end = ends.Rows false }
+
+-- an error
+abbrev pub refused : ℕ → Answer
+refused code = record { sets = []; end = ends.Refused code None None }
+
+-- 1064 at a byte of the text
+abbrev pub refused_at : ℕ → Answer
+refused_at place = record { sets = []; end = ends.Refused 1064 (Some place) None }
+
+-- 1205: another session has the writer's lock
+abbrev pub refused_by : ℕ → Answer
+refused_by holder = record { sets = []; end = ends.Refused 1205 None (Some holder) }
+
+-- ROW_COUNT() behind a command: the affected rows, the greatest number at the most; -1 behind rows shown and errors
+abbrev pub row_count_after : End → ℤ
+row_count_after (ends.Ok affected warned) = pos (min affected (2 ^ 63 - 1))
+row_count_after (ends.Rows warned) = neg_ℤ (pos 1)
+row_count_after (ends.Refused code at holder) = neg_ℤ (pos 1)

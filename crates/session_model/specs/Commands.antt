@@ -1,0 +1,288 @@
+-- What each command of a session does: one definition a command.
+use Rattle.std.specs.Prelude.{ℕ, ◌+◌, ◌==◌, Bool, true, false, not, nat_lt, if◌then◌else◌, List, [], ◌∷◌, ◌++◌, length, filter, find, map, take, zip, Option, Some, None, Result, Ok, Err, is_some}
+use Rattle.std.specs.Option.{option_map}
+use Rattle.val_types.specs.declared.value.Value.{Value}
+use Rattle.val_types.specs.declared.definitions.TableDef.{TableDef}
+use Rattle.auto_inc.specs.declared.counters.Counter.{Counter}
+use Rattle.auto_inc.specs.Counting.{changed_for, counters_beside}
+use Rattle.sql_print.specs.StatementSpelling.{spelling}
+use Rattle.sql_tree.specs.Statement.{Statement, create_table, create_function, create_procedure, create_trigger, drop_table, truncate, set_all, call_procedure, begin, commit, rollback, savepoint, rollback_to, release_savepoint, evaluate}
+use Rattle.sql_tree.specs.Tree.{Tree, Trees, no_tree, tree}
+use Rattle.sql_tree.specs.declared.statements.Target.{Target}
+use Rattle.catalog_rules.specs.Names.{same_name, first_made}
+use Rattle.catalog_rules.specs.Bases.{Base, defined}
+use Rattle.catalog_rules.specs.Checks.{session_scope, statement_refusal}
+use Rattle.catalog_rules.specs.Creating.{ddl_refusal}
+use Rattle.catalog_rules.specs.Defined.{definition_of}
+use Rattle.log_entries.specs.declared.carried.Carried.{Carried}
+use Rattle.log_entries.specs.declared.entries.Item.{Item}
+use Rattle.log_entries.specs.declared.entries.Entry.{Entry}
+use Rattle.log_entries.specs.declared.entries.Entry.TheVariants.{Definition}
+use Rattle.answer_text.specs.declared.answer.Answer.{Answer}
+use Rattle.sql_meaning.specs.Frames.{Context}
+use Rattle.sql_meaning.specs.Running.{most_nested}
+use Rattle.sql_reach.specs.Reach.{is_definition}
+use Rattle.session_model.specs.Answers.{ok, refused}
+use Rattle.session_model.specs.Sessions.{Save, Open, just_opened, Session, Shared}
+use Rattle.session_model.specs.Running.{Call, Fuel, full, Turn, Given, is_other, writing_refusal, lock_refusal, closed, commit_open, statement_run, expressions_run, given_answer}
+use Rattle.session_ctx.specs.Variables.{setting, fitting, assigned}
+use Rattle.session_ctx.specs.declared.session.SessionVars.{SessionVars}
+use Rattle.log_entries.specs.Variables.{variable_set}
+
+-- a command that changes nothing of what is shared
+abbrev pub answered : {I : Type 0} → Answer → Shared → Session I → Turn I Answer
+answered answer shared session = record { shared = shared; session = session; committed = []; given = answer }
+
+abbrev pub with_answer : {I : Type 0} {A : Type 0} → Answer → Turn I A → Turn I Answer
+with_answer answer t = record { shared = t.shared; session = t.session; committed = t.committed; given = answer }
+
+-- ---- transactions
+
+abbrev pub opened : {I : Type 0} → Session I → Session I
+opened session = record session { transaction = Some just_opened }
+
+-- BEGIN commits the open transaction, and opens one
+abbrev pub begin_turn : {I : Type 0} → Call I → Shared → Session I → Turn I Answer
+begin_turn call shared session =
+    let t = commit_open call shared session in
+    record { shared = t.shared; session = opened t.session; committed = t.committed; given = ok 0 }
+
+abbrev pub commit_turn : {I : Type 0} → Call I → Shared → Session I → Turn I Answer
+commit_turn call shared session = with_answer (ok 0) (commit_open call shared session)
+
+-- the open changes of a session dropped, with its lock; those of another stay
+abbrev pub dropped : ℕ → Shared → Shared
+dropped n shared = if is_other n shared.writer then shared else record shared { changes = []; writer = None }
+
+abbrev pub rollback_turn : {I : Type 0} → Call I → Shared → Session I → Turn I Answer
+rollback_turn call shared session = answered (ok 0) (dropped call.number shared) (closed session)
+
+-- ---- savepoints
+
+abbrev pub is_save_of : List ℕ → Save → Bool
+is_save_of name save = same_name name save.name
+
+abbrev pub saves_but : List ℕ → List Save → List Save
+saves_but name saves = filter (λ (s : Save). not (is_save_of name s)) saves
+
+-- how many changes a session's transaction has
+abbrev pub changes_of_own : ℕ → Shared → ℕ
+changes_of_own n shared = if is_other n shared.writer then 0 else length shared.changes
+
+-- SAVEPOINT: one of the name in use moves; outside a transaction it does nothing
+abbrev pub saved : {I : Type 0} → List ℕ → ℕ → Open I → Open I
+saved name changes open' =
+    record open' { saves = saves_but name open'.saves ++ record { name = name; items = length open'.items; changes = changes } ∷ [] }
+
+abbrev pub save_turn : {I : Type 0} → Call I → List ℕ → Shared → Session I → Turn I Answer
+save_turn call name shared session =
+    answered (ok 0) shared (record session { transaction = option_map (saved name (changes_of_own call.number shared)) session.transaction })
+
+-- the savepoints up to the one of a name, which stays
+abbrev pub saves_up_to : List ℕ → List Save → List Save
+saves_up_to name [] = []
+saves_up_to name (s ∷ ss) = if is_save_of name s then s ∷ [] else s ∷ saves_up_to name ss
+
+-- what stands at a savepoint: the first so many items
+abbrev pub cut_back : {I : Type 0} → List ℕ → Save → Open I → Open I
+cut_back name save open' = record open' { items = take save.items open'.items; saves = saves_up_to name open'.saves }
+
+abbrev pub changes_cut : ℕ → Save → Shared → Shared
+changes_cut n save shared = if is_other n shared.writer then shared else record shared { changes = take save.changes shared.changes }
+
+-- ROLLBACK TO: 1305 outside a transaction, and where there is no savepoint of the name
+abbrev pub back_to_save : {I : Type 0} → Call I → List ℕ → Open I → Option Save → Shared → Session I → Turn I Answer
+back_to_save call name open' None shared session = answered (refused 1305) shared session
+back_to_save call name open' (Some save) shared session =
+    answered (ok 0) (changes_cut call.number save shared) (record session { transaction = Some (cut_back name save open') })
+
+abbrev pub back_in : {I : Type 0} → Call I → List ℕ → Option (Open I) → Shared → Session I → Turn I Answer
+back_in call name None shared session = answered (refused 1305) shared session
+back_in call name (Some open') shared session = back_to_save call name open' (find (is_save_of name) open'.saves) shared session
+
+abbrev pub back_turn : {I : Type 0} → Call I → List ℕ → Shared → Session I → Turn I Answer
+back_turn call name shared session = back_in call name session.transaction shared session
+
+-- RELEASE drops the savepoint of the name alone
+abbrev pub release_in : {I : Type 0} → List ℕ → Option (Open I) → Shared → Session I → Turn I Answer
+release_in name None shared session = answered (refused 1305) shared session
+release_in name (Some open') shared session =
+    if is_some (find (is_save_of name) open'.saves)
+    then answered (ok 0) shared (record session { transaction = Some (record open' { saves = saves_but name open'.saves }) })
+    else answered (refused 1305) shared session
+
+-- ---- CREATE, DROP and TRUNCATE
+
+-- the counter of a table that is made with an AUTO_INCREMENT column begins at 1
+abbrev pub counters_with : TableDef → List Counter → List Counter
+counters_with definition counters =
+    elim (definition.auto) [ None ↦ counters | Some place ↦ counters ++ record { table = definition.name; value = 1 } ∷ [] ]
+
+abbrev pub counters_after : Statement → List Counter → List Counter
+counters_after (create_table t) counters = counters_with (definition_of t) counters
+counters_after (drop_table name) counters = counters_beside name counters
+counters_after (truncate name) counters = changed_for name (λ _. 1) counters
+counters_after s counters = counters
+
+-- until they come, stored programs are not allowed
+abbrev pub is_still_refused : Statement → Bool
+is_still_refused (create_function p) = true
+is_still_refused (create_procedure p) = true
+is_still_refused (create_trigger t) = true
+is_still_refused s = false
+
+-- a definition carries its moment, its session and the two AUTO_INCREMENT variables
+abbrev pub definition_carried : Context → Carried
+definition_carried context = record {
+  stamp = context.stamp;
+  connection = context.connection;
+  inc = context.increment;
+  off = context.offset;
+  last_id = None;
+  first = None;
+  seeds = None;
+  vars = [];
+}
+
+abbrev pub definition_item : {I : Type 0} → Call I → List ℕ → Statement → Context → Shared → I
+definition_item call text s context shared =
+    call.note
+    (record { text = text; carried = definition_carried context; rows = false; defs = []; changes = [] })
+    (record {
+      tree = s;
+      counters = shared.counters;
+      catalog = shared.base.catalog;
+      context = context;
+      draw = call.draw;
+      nesting = most_nested;
+      turns = full.turns;
+      uuids = full.uuids;
+    })
+
+-- a definition made is a transaction by itself
+abbrev pub defined_turn : {I : Type 0} → Call I → List ℕ → Statement → Base → Turn I (Unit {0}) → Turn I Answer
+defined_turn call text s base t = record {
+  shared = record (t.shared) { base = base; counters = counters_after s t.shared.counters; committed = t.shared.committed + 1 };
+  session = t.session;
+  committed = t.committed ++ Definition t.session.vars.context.stamp call.identity.server_id (definition_item call text s t.session.vars.context t.shared) ∷ [];
+  given = ok 0;
+}
+
+-- the catalog's checks, then those of every statement that writes
+abbrev pub define_turn : {I : Type 0} → Call I → List ℕ → Statement → Turn I (Unit {0}) → Turn I Answer
+define_turn call text s t =
+    elim (ddl_refusal t.shared.base.catalog s) [
+      | Some code ↦ with_answer (refused code) t
+      | None ↦ elim (writing_refusal call.number t.shared) [
+            | Some answer ↦ with_answer answer t
+            | None ↦ elim (defined s t.shared.base) [ None ↦ with_answer (refused 30005) t | Some base ↦ defined_turn call text s base t ]
+          ]
+    ]
+
+-- the open transaction is committed first, whatever comes of the definition
+abbrev pub definition_turn : {I : Type 0} → Call I → List ℕ → Statement → Shared → Session I → Turn I Answer
+definition_turn call text s shared session =
+    let t = commit_open call shared session in
+    if is_still_refused s then with_answer (refused 30005) t else define_turn call text s t
+
+-- ---- SET
+
+abbrev pub trees_of : List Tree → Trees
+trees_of [] = no_tree
+trees_of (t ∷ ts) = tree t (trees_of ts)
+
+-- a text of more bytes than a command may have
+abbrev pub is_too_long : List ℕ → Bool
+is_too_long text = nat_lt (2 ^ 20) (length text)
+
+-- what refuses an assignment: a user variable takes every value, a session variable those of its own
+abbrev pub refusal_of : Result (Unit {0}) ℕ → Option ℕ
+refusal_of (Ok done) = None
+refusal_of (Err code) = Some code
+
+abbrev pub assignment_refusal : Target × Value → Option ℕ
+assignment_refusal (Target.User n, v) = None
+assignment_refusal (Target.Plain n, v) = refusal_of (fitting (setting n v))
+assignment_refusal (Target.System n, v) = refusal_of (fitting (setting n v))
+assignment_refusal (Target.New c, v) = Some 1193
+
+-- the refusal of the first assignment that is refused
+abbrev pub first_refused : List (Target × Value) → Option ℕ
+first_refused as' = first_made assignment_refusal as'
+
+abbrev pub with_variable : List ℕ → Value → SessionVars → SessionVars
+with_variable n v vars = record vars { context = record (vars.context) { variables = variable_set vars.context.variables n v } }
+
+-- an assignment that nothing refuses
+abbrev pub assign : SessionVars → Target × Value → SessionVars
+assign vars (Target.User n, v) = with_variable n v vars
+assign vars (Target.Plain n, v) = assigned (setting n v) vars
+assign vars (Target.System n, v) = assigned (setting n v) vars
+assign vars (Target.New c, v) = vars
+
+-- assignments from left to right
+abbrev pub all_assigned : SessionVars → List (Target × Value) → SessionVars
+all_assigned vars [] = vars
+all_assigned vars (a ∷ as') = all_assigned (assign vars a) as'
+
+abbrev pub with_vars : {I : Type 0} → SessionVars → Session I → Session I
+with_vars vars session = record session { vars = vars }
+
+-- all assigned, or none where one is refused: then the first refused counts
+abbrev pub assign_turn : {I : Type 0} → List (Target × Value) → Turn I (Given (List Value)) → Turn I Answer
+assign_turn assignments t =
+    elim (first_refused assignments) [
+      | Some code ↦ with_answer (refused code) t
+      | None ↦ record { shared = t.shared; session = with_vars (all_assigned t.session.vars assignments) t.session; committed = t.committed; given = ok 0 }
+    ]
+
+abbrev pub set_given : {I : Type 0} → List (Target × Tree) → Turn I (Given (List Value)) → Turn I Answer
+set_given as' t =
+    elim (t.given.result) [
+      | Err code ↦ with_answer (refused code) t
+      | Ok vs ↦ assign_turn (zip (map (λ (a : Target × Tree). a.0) as') vs) t
+    ]
+
+abbrev pub set_expressions : List (Target × Tree) → Trees
+set_expressions as' = trees_of (map (λ (a : Target × Tree). a.1) as')
+
+-- an answer that refuses, or what comes where nothing does
+abbrev pub unless_refused : {I : Type 0} → Option Answer → Shared → Session I → Turn I Answer → Turn I Answer
+unless_refused None shared session t = t
+unless_refused (Some answer) shared session t = answered answer shared session
+
+abbrev pub code_answer : Option ℕ → Option Answer
+code_answer code = option_map refused code
+
+-- SET: 1153 for the printed DO of its expressions, the catalog's checks, the lock, the values of all its expressions, then
+-- all assignments
+abbrev pub set_turn : {I : Type 0} → Call I → List (Target × Tree) → Shared → Session I → Turn I Answer
+set_turn call as' shared session =
+    let ts = set_expressions as' in
+    let text = spelling (evaluate ts) in
+    if is_too_long text then answered (refused 1153) shared session
+    else
+    unless_refused (code_answer (statement_refusal shared.base.catalog session_scope (set_all as'))) shared session
+    (unless_refused (lock_refusal call.number shared (evaluate ts)) shared session
+    (set_given as' (expressions_run call full text ts shared session)))
+
+-- ---- CALL
+
+-- until procedures come, none is there: 1153, then the catalog's checks, which refuse it
+abbrev pub call_turn : {I : Type 0} → Call I → List ℕ → Trees → Shared → Session I → Turn I Answer
+call_turn call name ts shared session =
+    if is_too_long (spelling (evaluate ts)) then answered (refused 1153) shared session
+    else
+    unless_refused (code_answer (statement_refusal shared.base.catalog session_scope (call_procedure name ts))) shared session
+    (answered (refused 1305) shared session)
+
+-- ---- changes, SELECT and DO
+
+abbrev pub given_turn : {I : Type 0} → Turn I (Given Did) → Turn I Answer
+given_turn t = with_answer (given_answer t.given) t
+
+-- the catalog's checks, the lock, then the run
+abbrev pub plain_turn : {I : Type 0} → Call I → List ℕ → Statement → Shared → Session I → Turn I Answer
+plain_turn call text s shared session =
+    unless_refused (code_answer (statement_refusal shared.base.catalog session_scope s)) shared session
+    (unless_refused (lock_refusal call.number shared s) shared session (given_turn (statement_run call full text s shared session)))

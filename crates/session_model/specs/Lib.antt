@@ -1,0 +1,5 @@
+pub mod Sessions
+pub mod Answers
+pub mod Running
+pub mod Commands
+pub mod Machine

@@ -1,0 +1,133 @@
+-- The machine of sessions: what a command makes of a source, what it is answered, and which entries it puts out.
+use Rattle.std.specs.Prelude.{ℕ, ◌+◌, ◌%◌, Bool, true, false, if◌then◌else◌, List, [], ◌∷◌, ◌++◌, map, replicate, Option, Some, None, ℤ, pos, neg_ℤ, slice_index_or, slice_set, unwrap_or}
+use Rattle.std.specs.Option.{option_map}
+use Rattle.port_traits.specs.declared.identity.Identity.{Identity}
+use Rattle.port_traits.specs.declared.identity.Draw.{Draw}
+use Rattle.sql_tree.specs.Statement.{Statement, set_all, call_procedure, begin, commit, rollback, savepoint, rollback_to, release_savepoint}
+use Rattle.log_entries.specs.declared.entries.Item.{Item}
+use Rattle.log_entries.specs.declared.entries.Entry.{Entry}
+use Rattle.log_entries.specs.declared.entries.Entry.TheVariants.{Transaction, Definition, LogStart}
+use Rattle.answer_text.specs.declared.answer.Answer.{Answer}
+use Rattle.catalog_rules.specs.Bases.{Base}
+use Rattle.auto_inc.specs.declared.counters.Counter.{Counter}
+use Rattle.session_ctx.specs.Contexts.{new_context, at_command}
+use Rattle.session_ctx.specs.declared.session.SessionVars.{SessionVars}
+use Rattle.sql_reach.specs.Reach.{is_definition}
+use Rattle.text_answers.specs.Answers.{TextAnswer, a_statement, a_syntax_error, too_deep, text_answer}
+use Rattle.session_model.specs.Answers.{refused, refused_at, row_count_after}
+use Rattle.session_model.specs.Sessions.{Open, Session, Shared, State}
+use Rattle.session_model.specs.Running.{Began, Call, Turn}
+use Rattle.session_model.specs.Commands.{answered, begin_turn, commit_turn, rollback_turn, save_turn, back_turn, release_in, definition_turn, set_turn, call_turn, plain_turn}
+
+-- ---- one command
+
+-- a statement of a session
+abbrev pub statement_turn : {I : Type 0} → Call I → List ℕ → Statement → Shared → Session I → Turn I Answer
+statement_turn call text begin shared session = begin_turn call shared session
+statement_turn call text commit shared session = commit_turn call shared session
+statement_turn call text rollback shared session = rollback_turn call shared session
+statement_turn call text (savepoint name) shared session = save_turn call name shared session
+statement_turn call text (rollback_to name) shared session = back_turn call name shared session
+statement_turn call text (release_savepoint name) shared session = release_in name session.transaction shared session
+statement_turn call text (set_all as') shared session = set_turn call as' shared session
+statement_turn call text (call_procedure name ts) shared session = call_turn call name ts shared session
+statement_turn call text s shared session =
+    if is_definition s then definition_turn call text s shared session else plain_turn call text s shared session
+
+-- what a text is, is done, or refused
+abbrev pub text_turn : {I : Type 0} → Call I → List ℕ → TextAnswer → Shared → Session I → Turn I Answer
+text_turn call text (a_statement s) shared session = statement_turn call text s shared session
+text_turn call text (a_syntax_error place) shared session = answered (refused_at place) shared session
+text_turn call text too_deep shared session = answered (refused 30007) shared session
+
+-- the variables of a command: those of a new session, or with the moments of this command
+abbrev pub vars_at_work : {I : Type 0} → Call I → SessionVars → SessionVars
+vars_at_work call vars = record vars { context = at_command vars.timestamp call.draw vars.context }
+
+abbrev pub at_work : {I : Type 0} → Call I → Option (Session I) → Session I
+at_work call None = record { vars = record { context = new_context call.identity call.number call.draw; timestamp = None }; transaction = None }
+at_work call (Some session) = record session { vars = vars_at_work call session.vars }
+
+-- ROW_COUNT() behind the command
+abbrev pub counted_vars : Answer → SessionVars → SessionVars
+counted_vars answer vars = record vars { context = record (vars.context) { row_count = row_count_after answer.end } }
+
+abbrev pub counted : {I : Type 0} → Answer → Session I → Session I
+counted answer session = record session { vars = counted_vars answer session.vars }
+
+abbrev pub with_count : {I : Type 0} → Turn I Answer → Turn I Answer
+with_count t = record t { session = counted t.given t.session }
+
+-- a command of a session: its text, whatever it is
+abbrev pub command : {I : Type 0} → Call I → List ℕ → Shared → Option (Session I) → Turn I Answer
+command call text shared session = with_count (text_turn call text (text_answer text) shared (at_work call session))
+
+-- ---- the machine
+
+-- sessions have the numbers 1 to 99
+abbrev pub session_slots : ℕ
+session_slots = 100
+
+-- a source that starts from a base with its counters, and so many transactions committed
+abbrev pub first_state : {I : Type 0} → Base → List Counter → ℕ → State I
+first_state base counters committed = record {
+  shared = record { base = base; counters = counters; changes = []; writer = None; committed = committed };
+  sessions = replicate session_slots None;
+}
+
+-- A step: the state after it, the answer, and the entries that it put out.
+pub record Step (I : Type 0) : Type 0 where
+  pub state : State I
+  pub answer : Answer
+  pub committed : List (Entry I)
+
+abbrev pub stepped : {I : Type 0} → ℕ → State I → Turn I Answer → Step I
+stepped n state t = record {
+  state = record { shared = t.shared; sessions = slice_set state.sessions n (Some t.session) };
+  answer = t.given;
+  committed = t.committed;
+}
+
+-- the command of a session on a text, with its draw
+unfoldable pub step : {I : Type 0} → (Item → Began → I) → Identity → State I → ℕ → List ℕ → Draw → Step I
+step note identity state n text draw =
+    stepped n state (command (record { identity = identity; draw = draw; number = n; note = note }) text state.shared (slice_index_or state.sessions n None))
+
+-- ---- whole items, and what a node keeps of them
+
+-- A whole item: what the log has of it, and all that it began with.
+pub record Whole : Type 0 where
+  pub kept : Item
+  pub began : Began
+
+abbrev pub whole : Item → Began → Whole
+whole item began = record { kept = item; began = began }
+
+abbrev pub kept : Item → Began → Item
+kept item began = item
+
+-- cut down to what a node keeps, part by part
+abbrev pub kept_open : Open Whole → Open Item
+kept_open open' = record { items = map (λ (i : Whole). i.kept) open'.items; saves = open'.saves; changed = open'.changed }
+
+abbrev pub kept_session : Session Whole → Session Item
+kept_session session = record { vars = session.vars; transaction = option_map kept_open session.transaction }
+
+abbrev pub kept_state : State Whole → State Item
+kept_state state = record { shared = state.shared; sessions = map (option_map kept_session) state.sessions }
+
+abbrev pub kept_entry : Entry Whole → Entry Item
+kept_entry (Transaction stamp server items) = Transaction stamp server (map (λ (i : Whole). i.kept) items)
+kept_entry (Definition stamp server item) = Definition stamp server item.kept
+kept_entry (LogStart stamp server) = LogStart stamp server
+
+abbrev pub kept_step : Step Whole → Step Item
+kept_step s = record { state = kept_state s.state; answer = s.answer; committed = map kept_entry s.committed }
+
+-- A run so far: the state, and all entries that were committed.
+pub record Machine : Type 0 where
+  pub state : State Whole
+  pub history : List (Entry Whole)
+
+abbrev pub machine_after : Machine → Step Whole → Machine
+machine_after m s = record { state = s.state; history = m.history ++ s.committed }
