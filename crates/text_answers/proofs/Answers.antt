@@ -1,5 +1,5 @@
 -- The answer that is computed is that of the grammar.
-use Rattle.std.proofs.Common.{◌≡◌, ◌<◌, ◌≤◌, ℕ, zero, suc, ◌+◌, ◌-◌, ◌⊎◌, ◌↔◌, inl, inr, Bool, true, false, List, [], ◌∷◌, ◌++◌, length, drop, Result, Ok, Err, refl, sym, ◌∙◌, ap, subst, arith, cond}
+use Rattle.std.proofs.Common.{◌≡◌, ◌<◌, ℕ, zero, suc, ◌+◌, ◌-◌, inl, inr, Bool, true, false, List, [], ◌∷◌, ◌++◌, length, drop, Result, Ok, Err, refl, ◌∙◌, ap, subst, arith, cond}
 use Rattle.std.proofs.lemmas.Bool.{ltb-true, ltb-false, leb-true, leb-false}
 use Rattle.std.proofs.lemmas.List.{length-drop}
 use Rattle.std.specs.Prelude.{nat_le, nat_lt}
@@ -7,21 +7,20 @@ use Rattle.hex.specs.Hex.{IsBytes}
 use Rattle.sql_lex.specs.declared.pieces.Piece.{Piece}
 use Rattle.sql_lex.specs.declared.pieces.Piece.TheVariants as pieces
 use Rattle.sql_lex.specs.declared.token.Token.{Token}
-use Rattle.sql_lex.specs.Lexes.{Front, stop', blank', token', is_minus, IsFront, Lexes}
+use Rattle.sql_lex.specs.Lexes.{Front, stop', blank', token', is_minus, IsFront}
 use Rattle.sql_lex.specs.Pieces.{piece_of, IsWithin}
 use Rattle.sql_lex.proofs.SpanLaws.{tokens_within}
 use Rattle.sql_grammar.specs.Reader.{Fault, Syntax, Deep}
-use Rattle.sql_grammar.specs.Whole.{read_whole, IsPlaced, IsExact}
+use Rattle.sql_grammar.specs.Whole.{read_whole, IsPlaced}
 use Rattle.sql_syntax.specs.Statements.{statement}
 use Rattle.sql_syntax.specs.Texts.{toks, limit_open, limit_deep, place_of, Stops, reads, IsStatement, IsRefusedAt, IsTooDeep}
 use Rattle.sql_syntax.specs.Tokens.{Tok}
 use Rattle.sql_syntax.proofs.StatementLaws.{statement_exact}
 use Rattle.sql_syntax.proofs.TextLaws.{rest_of, toks_length, statement_once, place_once, not_refused, not_deep, not_refused_deep}
-use Rattle.sql_text.proofs.GoodTexts.{reading_is_well}
 use Rattle.sql_tree.specs.Depth.{depth_of}
 use Rattle.sql_tree.specs.Statement.{Statement}
 use Rattle.sql_tree.specs.Well.{IsWell}
-use Rattle.text_answers.specs.Answers.{with_first, tokens_by, tokens_from, placed_tokens, TextAnswer, a_statement, a_syntax_error, too_deep, place_before, whole_answer, answer_by, answer_of_tokens, text_answer, IsAnswered, TokensAreComputed, AnswersAreWell}
+use Rattle.text_answers.specs.Answers.{tokens_by, tokens_from, placed_tokens, TextAnswer, a_statement, a_syntax_error, too_deep, place_before, whole_answer, answer_by, text_answer, IsAnswered, TokensAreComputed, AnswersAreWell}
 use Rattle.text_answers.proofs.Pieces.{piece_within}
 
 -- ---- tokens
@@ -144,5 +143,6 @@ answered text = record {
   deep = ((λ g. only_deep text (text_answer text) g (right text)), λ e. subst (IsRight text) e (right text));
 }
 
-pub answers_well : AnswersAreWell
-answers_well text s bytes e = reading_is_well text s bytes (subst (IsRight text) e (right text))
+-- by the law that what a text of bytes is read as is well
+pub answers_well : ((text : List ℕ) (s : Statement) → IsBytes text → reads text s → IsWell s) → AnswersAreWell
+answers_well well text s bytes e = well text s bytes (subst (IsRight text) e (right text))

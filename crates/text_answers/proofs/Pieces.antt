@@ -1,5 +1,5 @@
 -- A piece of a text has at least one byte, and no more than there are.
-use Rattle.std.proofs.Common.{◌≡◌, ◌<◌, ◌≤◌, ℕ, zero, suc, ◌+◌, ◌-◌, ◌%◌, Bool, true, false, not, ◌&&◌, ◌||◌, ◌==◌, List, [], ◌∷◌, length, take, drop, Option, Some, None, refl, sym, subst, arith, cond}
+use Rattle.std.proofs.Common.{◌≡◌, ◌<◌, ◌≤◌, ℕ, zero, suc, ◌+◌, ◌-◌, ◌%◌, Bool, true, false, not, ◌&&◌, ◌||◌, ◌==◌, List, [], ◌∷◌, length, take, drop, Option, Some, None, refl, subst, arith, cond}
 use Rattle.std.proofs.lemmas.Bool.{and_parts, ltb-true}
 use Rattle.std.specs.Prelude.{nat_le, nat_lt, nat_eq, codes, unwrap_or}
 use Rattle.std.specs.Char.{is_ascii_digit}
@@ -7,13 +7,12 @@ use Rattle.std.specs.List.{starts_with, prefix_len}
 use Rattle.std.specs.Option.{option_map, option_and_then, option_or}
 use Rattle.std.proofs.lemmas.List.Sums.{prefix_len-le-length}
 use Rattle.hex.specs.Hex.{is_hex_digit}
-use Rattle.sql_lex.specs.declared.pieces.Piece.{Piece}
 use Rattle.sql_lex.specs.declared.pieces.Piece.TheVariants as pieces
 use Rattle.sql_lex.specs.declared.token.Symbol.{Symbol}
 use Rattle.sql_lex.specs.declared.token.Symbol.TheVariants as signs
 use Rattle.sql_lex.specs.declared.token.TokenKind.{TokenKind}
 use Rattle.sql_lex.specs.declared.token.TokenKind.TheVariants as kinds
-use Rattle.sql_lex.specs.Begins.{sized, number_from, number_kind, is_letter, is_word_byte, number_token, word_token, name_kind, quoted_token, string_token, hex_token, symbol_of_one, symbol_of_two, signed, short_symbol, symbol_token, token_by, token_of}
+use Rattle.sql_lex.specs.Begins.{sized, number_from, number_kind, is_letter, is_word_byte, number_token, word_token, name_kind, quoted_token, string_token, hex_token, symbol_of_one, symbol_of_two, signed, short_symbol, symbol_token, token_of}
 use Rattle.sql_lex.specs.Blanks.{is_white_first, is_white_next, line_length, closes_block, block_length, opens_line, opens_block, blank_length}
 use Rattle.sql_lex.specs.Pieces.{piece_by, piece_of, IsWithin}
 use Rattle.sql_lex.specs.Quotes.{begins, further, leads, closes, closing_from, closing, meant, is_name}
