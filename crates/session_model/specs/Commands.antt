@@ -1,5 +1,5 @@
 -- What each command of a session does: one definition a command.
-use Rattle.std.specs.Prelude.{ℕ, ◌+◌, ◌==◌, Bool, true, false, not, nat_lt, if◌then◌else◌, List, [], ◌∷◌, ◌++◌, length, filter, find, map, take, zip, Option, Some, None, Result, Ok, Err, is_some}
+use Rattle.std.specs.Prelude.{ℕ, ◌+◌, ◌^◌, ◌==◌, Bool, true, false, not, nat_lt, if◌then◌else◌, List, [], ◌∷◌, ◌++◌, length, filter, find, map, take, zip, Option, Some, None, Result, Ok, Err, is_some}
 use Rattle.std.specs.Option.{option_map}
 use Rattle.val_types.specs.declared.value.Value.{Value}
 use Rattle.val_types.specs.declared.definitions.TableDef.{TableDef}
@@ -20,6 +20,7 @@ use Rattle.log_entries.specs.declared.entries.Entry.{Entry}
 use Rattle.log_entries.specs.declared.entries.Entry.TheVariants.{Definition}
 use Rattle.answer_text.specs.declared.answer.Answer.{Answer}
 use Rattle.sql_meaning.specs.Frames.{Context}
+use Rattle.sql_meaning.specs.Changing.{Did}
 use Rattle.sql_meaning.specs.Running.{most_nested}
 use Rattle.sql_reach.specs.Reach.{is_definition}
 use Rattle.session_model.specs.Answers.{ok, refused}
