@@ -3,3 +3,4 @@ pub mod Answers
 pub mod Running
 pub mod Commands
 pub mod Machine
+pub mod Worked

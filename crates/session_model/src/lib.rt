@@ -6,4 +6,10 @@
 //!
 //! The definitions stand in specs/: `Sessions` (what is kept), `Answers`, `Running` (the writer's lock, transactions and one
 //! statement's run), `Commands` (one definition a command), `Machine` (a step, and the whole run).
+//!
+//! - `worked`: scripts by hand, which the checker computes
 #![tactic(auto)]
+
+mod worked;
+
+pub use worked::{savepoints_kept, variables_set, writers_and_readers};

@@ -1,0 +1,61 @@
+-- A small script run by the machine, of which worked examples are made.
+use Rattle.std.specs.Prelude.{ℕ, ◌+◌, List, [], ◌∷◌, ◌++◌, codes, replicate, ℤ, pos}
+use Rattle.val_types.specs.declared.value.Value.{Value}
+use Rattle.val_types.specs.declared.value.Value.TheVariants.{Int}
+use Rattle.port_traits.specs.declared.identity.Identity.{Identity}
+use Rattle.port_traits.specs.declared.identity.Draw.{Draw}
+use Rattle.log_entries.specs.declared.entries.Item.{Item}
+use Rattle.log_entries.specs.declared.entries.Entry.{Entry}
+use Rattle.answer_text.specs.declared.answer.Answer.{Answer}
+use Rattle.catalog_rules.specs.Bases.{empty_base}
+use Rattle.session_model.specs.Sessions.{State}
+use Rattle.session_model.specs.Machine.{first_state, step, Step, kept}
+
+abbrev pub root : Identity
+root = record { server_id = 1; user = codes "root@localhost" }
+
+-- the draw of a command, counted from 0
+abbrev pub draw_of : ℕ → Draw
+draw_of i = record { now = 1700000000 + i; sys = 1700000000 + i; seed1 = 1; seed2 = 2; uuid = replicate 15 0 ++ i ∷ [] }
+
+-- a command: the number of its session, and its text
+abbrev pub Spoken : Type 0
+Spoken = ℕ × List ℕ
+
+abbrev pub answers_behind : (State Item → List Answer) → Step Item → List Answer
+answers_behind more s = s.answer ∷ more s.state
+
+-- the answers of commands, from a state on, where so many draws were taken
+abbrev pub answers_from : ℕ → List Spoken → State Item → List Answer
+answers_from i [] state = []
+answers_from i (c ∷ cs) state = answers_behind (answers_from (i + 1) cs) (step kept root state c.0 c.1 (draw_of i))
+
+-- the answers of a script on an empty source
+abbrev pub answers_of : List Spoken → List Answer
+answers_of commands = answers_from 0 commands (first_state empty_base [] 0)
+
+abbrev pub entries_behind : (State Item → List (Entry Item)) → Step Item → List (Entry Item)
+entries_behind more s = s.committed ++ more s.state
+
+-- the entries that its commands put out
+abbrev pub entries_from : ℕ → List Spoken → State Item → List (Entry Item)
+entries_from i [] state = []
+entries_from i (c ∷ cs) state = entries_behind (entries_from (i + 1) cs) (step kept root state c.0 c.1 (draw_of i))
+
+abbrev pub entries_of : List Spoken → List (Entry Item)
+entries_of commands = entries_from 0 commands (first_state empty_base [] 0)
+
+-- a command of the first session
+abbrev pub s1 : List ℕ → Spoken
+s1 text = (1, text)
+
+abbrev pub s2 : List ℕ → Spoken
+s2 text = (2, text)
+
+-- a table of two numbers, whose key is the first
+abbrev pub made_t : Spoken
+made_t = s1 (codes "CREATE TABLE t (id INT, v INT, PRIMARY KEY (id))")
+
+-- a row of two numbers
+abbrev pub pair : ℕ → ℕ → List Value
+pair a b = Int (pos a) ∷ Int (pos b) ∷ []

@@ -1,0 +1,29 @@
+//! Scripts and their answers, which the checker computes.
+//!
+//! The table `t` has two numbers, `id` and `v`, of which the first is its key.
+ghost use Rattle.std.specs.Prelude.{◌≡◌, [], ◌∷◌, codes, pos};
+ghost use Rattle.val_types.specs.declared.value.Value.TheVariants.{Int};
+ghost use Rattle.session_model.specs.Answers.{ok, refused, refused_at, refused_by, showing};
+ghost use Rattle.session_model.specs.Worked.{answers_of, made_t, pair, s1, s2};
+
+/// A transaction under way: another session may not write, and reads what was committed before.
+pub fn writers_and_readers()
+    ensures { answers_of (made_t ∷ s1 (codes "INSERT INTO t VALUES (1, 10)") ∷ s1 (codes "BEGIN") ∷ s1 (codes "INSERT INTO t VALUES (2, 20)")
+        ∷ s2 (codes "UPDATE t SET v = 0") ∷ s2 (codes "SELECT * FROM t") ∷ s1 (codes "COMMIT") ∷ [])
+        ≡ ok 0 ∷ ok 1 ∷ ok 0 ∷ ok 1 ∷ refused_by 1 ∷ showing (pair 1 10 ∷ []) ∷ ok 0 ∷ [] }
+{}
+
+/// Savepoints: what was done behind one is taken back to it, and there is none outside a transaction.
+pub fn savepoints_kept()
+    ensures { answers_of (made_t ∷ s1 (codes "BEGIN") ∷ s1 (codes "INSERT INTO t VALUES (1, 10)") ∷ s1 (codes "SAVEPOINT x")
+        ∷ s1 (codes "INSERT INTO t VALUES (2, 20)") ∷ s1 (codes "ROLLBACK TO x") ∷ s1 (codes "COMMIT") ∷ s1 (codes "SELECT * FROM t")
+        ∷ s1 (codes "ROLLBACK TO x") ∷ [])
+        ≡ ok 0 ∷ ok 0 ∷ ok 1 ∷ ok 0 ∷ ok 1 ∷ ok 0 ∷ ok 0 ∷ showing (pair 1 10 ∷ []) ∷ refused 1305 ∷ [] }
+{}
+
+/// Variables: an unknown name, a number that stands for 1, and one that a variable does not take.
+pub fn variables_set()
+    ensures { answers_of (s1 (codes "SET nosuch = NULL") ∷ s1 (codes "SET auto_increment_offset = LENGTH('')") ∷ s1 (codes "SELECT @@auto_increment_offset")
+        ∷ s1 (codes "SET rand_seed1 = 'a'") ∷ s1 (codes "SELECT 1 FORM t") ∷ s1 (codes "") ∷ [])
+        ≡ refused 1193 ∷ ok 0 ∷ showing ((Int (pos 1) ∷ []) ∷ []) ∷ refused 1231 ∷ refused_at 9 ∷ refused_at 0 ∷ [] }
+{}
