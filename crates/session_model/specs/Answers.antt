@@ -1,5 +1,5 @@
 -- What commands are answered.
-use Rattle.std.specs.Prelude.{ℕ, false, List, [], ◌∷◌, Option, Some, None, min}
+use Rattle.std.specs.Prelude.{ℕ, false, List, [], ◌∷◌, Some, None, min}
 use Rattle.val_types.specs.declared.value.Value.{Value}
 use Rattle.answer_text.specs.declared.answer.Answer.{Answer}
 use Rattle.answer_text.specs.declared.answer.End.{End}

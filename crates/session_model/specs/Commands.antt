@@ -1,12 +1,12 @@
 -- What each command of a session does: one definition a command.
-use Rattle.std.specs.Prelude.{ℕ, ◌+◌, ◌^◌, ◌==◌, Bool, true, false, not, nat_lt, if◌then◌else◌, List, [], ◌∷◌, ◌++◌, length, filter, find, map, take, zip, Option, Some, None, Result, Ok, Err, is_some}
+use Rattle.std.specs.Prelude.{ℕ, ◌+◌, ◌^◌, Bool, true, false, not, nat_lt, if◌then◌else◌, List, [], ◌∷◌, ◌++◌, length, filter, find, map, take, zip, Option, Some, None, Result, Ok, Err, is_some}
 use Rattle.std.specs.Option.{option_map}
 use Rattle.val_types.specs.declared.value.Value.{Value}
 use Rattle.val_types.specs.declared.definitions.TableDef.{TableDef}
 use Rattle.auto_inc.specs.declared.counters.Counter.{Counter}
 use Rattle.auto_inc.specs.Counting.{changed_for, counters_beside}
 use Rattle.sql_print.specs.StatementSpelling.{spelling}
-use Rattle.sql_tree.specs.Statement.{Statement, create_table, create_function, create_procedure, create_trigger, drop_table, truncate, set_all, call_procedure, begin, commit, rollback, savepoint, rollback_to, release_savepoint, evaluate}
+use Rattle.sql_tree.specs.Statement.{Statement, create_table, create_function, create_procedure, create_trigger, drop_table, truncate, set_all, call_procedure, evaluate}
 use Rattle.sql_tree.specs.Tree.{Tree, Trees, no_tree, tree}
 use Rattle.sql_tree.specs.declared.statements.Target.{Target}
 use Rattle.catalog_rules.specs.Names.{same_name, first_made}
@@ -15,17 +15,14 @@ use Rattle.catalog_rules.specs.Checks.{session_scope, statement_refusal}
 use Rattle.catalog_rules.specs.Creating.{ddl_refusal}
 use Rattle.catalog_rules.specs.Defined.{definition_of}
 use Rattle.log_entries.specs.declared.carried.Carried.{Carried}
-use Rattle.log_entries.specs.declared.entries.Item.{Item}
-use Rattle.log_entries.specs.declared.entries.Entry.{Entry}
 use Rattle.log_entries.specs.declared.entries.Entry.TheVariants.{Definition}
 use Rattle.answer_text.specs.declared.answer.Answer.{Answer}
 use Rattle.sql_meaning.specs.Frames.{Context}
 use Rattle.sql_meaning.specs.Changing.{Did}
 use Rattle.sql_meaning.specs.Running.{most_nested}
-use Rattle.sql_reach.specs.Reach.{is_definition}
 use Rattle.session_model.specs.Answers.{ok, refused}
 use Rattle.session_model.specs.Sessions.{Save, Open, just_opened, Session, Shared}
-use Rattle.session_model.specs.Running.{Call, Fuel, full, Turn, Given, is_other, writing_refusal, lock_refusal, closed, commit_open, statement_run, expressions_run, given_answer}
+use Rattle.session_model.specs.Running.{Call, full, Turn, Given, is_other, writing_refusal, lock_refusal, closed, commit_open, statement_run, expressions_run, given_answer}
 use Rattle.session_ctx.specs.Variables.{setting, fitting, assigned}
 use Rattle.session_ctx.specs.declared.session.SessionVars.{SessionVars}
 use Rattle.log_entries.specs.Variables.{variable_set}
@@ -169,16 +166,20 @@ defined_turn call text s base t = record {
   given = ok 0;
 }
 
+abbrev pub made_turn : {I : Type 0} → Call I → List ℕ → Statement → Option Base → Turn I (Unit {0}) → Turn I Answer
+made_turn call text s None t = with_answer (refused 30005) t
+made_turn call text s (Some base) t = defined_turn call text s base t
+
+-- an answer that refuses, or what comes where nothing does
+abbrev pub unless_answered : {I : Type 0} {A : Type 0} → Option Answer → Turn I A → Turn I Answer → Turn I Answer
+unless_answered None t next = next
+unless_answered (Some answer) t next = with_answer answer t
+
 -- the catalog's checks, then those of every statement that writes
 abbrev pub define_turn : {I : Type 0} → Call I → List ℕ → Statement → Turn I (Unit {0}) → Turn I Answer
 define_turn call text s t =
-    elim (ddl_refusal t.shared.base.catalog s) [
-      | Some code ↦ with_answer (refused code) t
-      | None ↦ elim (writing_refusal call.number t.shared) [
-            | Some answer ↦ with_answer answer t
-            | None ↦ elim (defined s t.shared.base) [ None ↦ with_answer (refused 30005) t | Some base ↦ defined_turn call text s base t ]
-          ]
-    ]
+    unless_answered (option_map refused (ddl_refusal t.shared.base.catalog s)) t
+    (unless_answered (writing_refusal call.number t.shared) t (made_turn call text s (defined s t.shared.base) t))
 
 -- the open transaction is committed first, whatever comes of the definition
 abbrev pub definition_turn : {I : Type 0} → Call I → List ℕ → Statement → Shared → Session I → Turn I Answer
@@ -230,19 +231,21 @@ abbrev pub with_vars : {I : Type 0} → SessionVars → Session I → Session I
 with_vars vars session = record session { vars = vars }
 
 -- all assigned, or none where one is refused: then the first refused counts
+abbrev pub assign_unless : {I : Type 0} → Option ℕ → List (Target × Value) → Turn I (Given (List Value)) → Turn I Answer
+assign_unless (Some code) assignments t = with_answer (refused code) t
+assign_unless None assignments t =
+    record { shared = t.shared; session = with_vars (all_assigned t.session.vars assignments) t.session; committed = t.committed; given = ok 0 }
+
 abbrev pub assign_turn : {I : Type 0} → List (Target × Value) → Turn I (Given (List Value)) → Turn I Answer
-assign_turn assignments t =
-    elim (first_refused assignments) [
-      | Some code ↦ with_answer (refused code) t
-      | None ↦ record { shared = t.shared; session = with_vars (all_assigned t.session.vars assignments) t.session; committed = t.committed; given = ok 0 }
-    ]
+assign_turn assignments t = assign_unless (first_refused assignments) assignments t
+
+-- the values assigned, or the error of their evaluation
+abbrev pub set_by : {I : Type 0} → List (Target × Tree) → Result (List Value) ℕ → Turn I (Given (List Value)) → Turn I Answer
+set_by as' (Err code) t = with_answer (refused code) t
+set_by as' (Ok vs) t = assign_turn (zip (map (λ (a : Target × Tree). a.0) as') vs) t
 
 abbrev pub set_given : {I : Type 0} → List (Target × Tree) → Turn I (Given (List Value)) → Turn I Answer
-set_given as' t =
-    elim (t.given.result) [
-      | Err code ↦ with_answer (refused code) t
-      | Ok vs ↦ assign_turn (zip (map (λ (a : Target × Tree). a.0) as') vs) t
-    ]
+set_given as' t = set_by as' t.given.result t
 
 abbrev pub set_expressions : List (Target × Tree) → Trees
 set_expressions as' = trees_of (map (λ (a : Target × Tree). a.1) as')

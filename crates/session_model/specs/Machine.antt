@@ -1,5 +1,5 @@
 -- The machine of sessions: what a command makes of a source, what it is answered, and which entries it puts out.
-use Rattle.std.specs.Prelude.{ℕ, ◌+◌, ◌%◌, Bool, true, false, if◌then◌else◌, List, [], ◌∷◌, ◌++◌, map, replicate, Option, Some, None, ℤ, pos, neg_ℤ, slice_index_or, slice_set, unwrap_or}
+use Rattle.std.specs.Prelude.{◌≡◌, ℕ, if◌then◌else◌, List, [], ◌++◌, map, replicate, Option, Some, None, slice_index_or, slice_set}
 use Rattle.std.specs.Option.{option_map}
 use Rattle.port_traits.specs.declared.identity.Identity.{Identity}
 use Rattle.port_traits.specs.declared.identity.Draw.{Draw}
@@ -93,6 +93,32 @@ unfoldable pub step : {I : Type 0} → (Item → Began → I) → Identity → S
 step note identity state n text draw =
     stepped n state (command (record { identity = identity; draw = draw; number = n; note = note }) text state.shared (slice_index_or state.sessions n None))
 
+-- ---- the same with something else known of items
+
+module _ {I J : Type 0} (f : I → J) where
+  abbrev pub open_by : Open I → Open J
+  open_by open' = record { items = map f open'.items; saves = open'.saves; changed = open'.changed }
+
+  abbrev pub session_by : Session I → Session J
+  session_by session = record { vars = session.vars; transaction = option_map open_by session.transaction }
+
+  abbrev pub state_by : State I → State J
+  state_by state = record { shared = state.shared; sessions = map (option_map session_by) state.sessions }
+
+  abbrev pub entry_by : Entry I → Entry J
+  entry_by (Transaction stamp server items) = Transaction stamp server (map f items)
+  entry_by (Definition stamp server item) = Definition stamp server (f item)
+  entry_by (LogStart stamp server) = LogStart stamp server
+
+  abbrev pub step_by : Step I → Step J
+  step_by s = record { state = state_by s.state; answer = s.answer; committed = map entry_by s.committed }
+
+-- a source does the same whatever is known of items: what is known by a function of what is known elsewhere, is the function of that
+abbrev pub StepsAreNatural : {I J : Type 0} → (I → J) → Type 0
+StepsAreNatural {I = I} {J = J} f =
+    (note : Item → Began → I) (identity : Identity) (state : State I) (n : ℕ) (text : List ℕ) (draw : Draw)
+    → step (λ item began. f (note item began)) identity (state_by f state) n text draw ≡ step_by f (step note identity state n text draw)
+
 -- ---- whole items, and what a node keeps of them
 
 -- A whole item: what the log has of it, and all that it began with.
@@ -106,23 +132,20 @@ whole item began = record { kept = item; began = began }
 abbrev pub kept : Item → Began → Item
 kept item began = item
 
--- cut down to what a node keeps, part by part
-abbrev pub kept_open : Open Whole → Open Item
-kept_open open' = record { items = map (λ (i : Whole). i.kept) open'.items; saves = open'.saves; changed = open'.changed }
-
-abbrev pub kept_session : Session Whole → Session Item
-kept_session session = record { vars = session.vars; transaction = option_map kept_open session.transaction }
+abbrev pub kept_of : Whole → Item
+kept_of i = i.kept
 
 abbrev pub kept_state : State Whole → State Item
-kept_state state = record { shared = state.shared; sessions = map (option_map kept_session) state.sessions }
-
-abbrev pub kept_entry : Entry Whole → Entry Item
-kept_entry (Transaction stamp server items) = Transaction stamp server (map (λ (i : Whole). i.kept) items)
-kept_entry (Definition stamp server item) = Definition stamp server item.kept
-kept_entry (LogStart stamp server) = LogStart stamp server
+kept_state state = state_by kept_of state
 
 abbrev pub kept_step : Step Whole → Step Item
-kept_step s = record { state = kept_state s.state; answer = s.answer; committed = map kept_entry s.committed }
+kept_step s = step_by kept_of s
+
+-- what a node keeps of a step is its step on what it keeps
+abbrev pub StepsAreKept : Type 0
+StepsAreKept =
+    (identity : Identity) (state : State Whole) (n : ℕ) (text : List ℕ) (draw : Draw)
+    → step kept identity (kept_state state) n text draw ≡ kept_step (step whole identity state n text draw)
 
 -- A run so far: the state, and all entries that were committed.
 pub record Machine : Type 0 where

@@ -1,5 +1,5 @@
 -- What one statement of a session does to what is shared and to its session, and which entries it puts out.
-use Rattle.std.specs.Prelude.{ℕ, ◌+◌, ◌*◌, ◌%◌, ◌^◌, ◌-◌, ◌==◌, Bool, true, false, not, nat_le, if◌then◌else◌, List, [], ◌∷◌, ◌++◌, length, drop, filter, map, Option, Some, None, Result, Ok, Err, ℤ, unwrap_or}
+use Rattle.std.specs.Prelude.{ℕ, ◌+◌, ◌*◌, ◌^◌, ◌-◌, ◌==◌, Bool, true, false, not, nat_le, if◌then◌else◌, List, [], ◌∷◌, ◌++◌, length, drop, filter, map, Option, Some, None, Result, Ok, Err, ℤ}
 use Rattle.std.specs.Option.{option_map_or}
 use Rattle.val_types.specs.declared.change.Change.{Change}
 use Rattle.val_types.specs.declared.definitions.TableDef.{TableDef}
@@ -12,7 +12,7 @@ use Rattle.sql_tree.specs.Statement.{Statement, evaluate}
 use Rattle.sql_tree.specs.Tree.{Trees}
 use Rattle.catalog_rules.specs.Names.{is_among}
 use Rattle.catalog_rules.specs.Objects.{Object}
-use Rattle.catalog_rules.specs.Bases.{Base, definitions_in}
+use Rattle.catalog_rules.specs.Bases.{definitions_in}
 use Rattle.log_entries.specs.declared.entries.Item.{Item}
 use Rattle.log_entries.specs.declared.entries.Entry.{Entry}
 use Rattle.log_entries.specs.declared.entries.Entry.TheVariants.{Transaction}

@@ -1,5 +1,5 @@
 -- A small script run by the machine, of which worked examples are made.
-use Rattle.std.specs.Prelude.{ℕ, ◌+◌, List, [], ◌∷◌, ◌++◌, codes, replicate, ℤ, pos}
+use Rattle.std.specs.Prelude.{ℕ, ◌+◌, List, [], ◌∷◌, ◌++◌, codes, replicate, pos}
 use Rattle.val_types.specs.declared.value.Value.{Value}
 use Rattle.val_types.specs.declared.value.Value.TheVariants.{Int}
 use Rattle.port_traits.specs.declared.identity.Identity.{Identity}

@@ -7,9 +7,12 @@
 //! The definitions stand in specs/: `Sessions` (what is kept), `Answers`, `Running` (the writer's lock, transactions and one
 //! statement's run), `Commands` (one definition a command), `Machine` (a step, and the whole run).
 //!
+//! - `laws`: what follows from the definitions
 //! - `worked`: scripts by hand, which the checker computes
 #![tactic(auto)]
 
+mod laws;
 mod worked;
 
+pub use laws::{steps_are_kept, steps_are_natural};
 pub use worked::{savepoints_kept, variables_set, writers_and_readers};
