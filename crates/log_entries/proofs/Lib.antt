@@ -1,2 +1,2 @@
 mod Copying
-mod Following
+pub mod Following

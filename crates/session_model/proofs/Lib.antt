@@ -1,1 +1,4 @@
+mod Holding
+mod Leaving
 mod Natural
+mod Saving

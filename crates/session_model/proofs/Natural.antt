@@ -26,7 +26,7 @@ use Rattle.sql_meaning.specs.Running.{context_after, effect, evaluation, most_ne
 use Rattle.text_answers.specs.Answers.{TextAnswer, a_statement, a_syntax_error, too_deep, text_answer}
 use Rattle.session_model.specs.Answers.{ok, refused}
 use Rattle.session_model.specs.Sessions.{Save, Open, Session, Shared, State}
-use Rattle.session_model.specs.Running.{Call, Fuel, full, Turn, Given, items_of, commit_shared, commit_entries, commit_open, kept_shared, keep, settle, ended, statement_run, expressions_run, writing_refusal, lock_refusal, item_of, made_behind, with_counters, with_context, fuel_of, scene_for, setting_of, number_of_bytes}
+use Rattle.session_model.specs.Running.{Call, Fuel, full, Turn, Given, is_other, items_of, commit_shared, commit_entries, commit_open, kept_shared, keep, settle, ended, statement_run, expressions_run, writing_refusal, lock_refusal, item_of, made_behind, with_counters, with_context, fuel_of, scene_for, setting_of, number_of_bytes}
 use Rattle.session_model.specs.Commands.{answered, with_answer, counters_after, definition_item, begin_turn, commit_turn, save_turn, is_save_of, saves_but, changes_of_own, saves_up_to, changes_cut, back_to_save, back_in, release_in, defined_turn, made_turn, unless_answered, define_turn, definition_turn, is_still_refused, assign_unless, first_refused, set_by, set_given, set_expressions, code_answer, is_too_long, given_turn, unless_refused, set_turn, call_turn, plain_turn}
 use Rattle.session_model.specs.Machine.{statement_turn, text_turn, at_work, with_count, command, stepped, step, open_by, session_by, state_by, entry_by, step_by, StepsAreNatural}
 
@@ -142,7 +142,7 @@ module _ {I J : Type 0} (f : I → J) where
   ended_by : {A : Type 0} (call : Call I) (fuel : Fuel) (text : List ℕ) (tree : Statement) (shared : Shared) (session : Session I) (first last_id : A → Option ℤ) (before : Scene) (e : Ending A)
       → ended (call_by call) fuel text tree shared (session_by f session) first last_id before e ≡ turn_by (ended call fuel text tree shared session first last_id before e)
   ended_by call fuel text tree shared session first last_id before (done a scene) =
-      settle_by call (item_of call fuel text tree session.vars.context shared (first a)) (made_behind before scene) scene (with_counters scene shared)
+      settle_by call (item_of call fuel text tree session.vars.context shared (first a)) (made_behind (is_other call.number shared.writer) before scene) scene (with_counters scene shared)
       (with_context (context_after session.vars.context tree scene.seeds (last_id a)) session) (record { result = Ok a; fuel = fuel_of scene })
   ended_by call fuel text tree shared session first last_id before (failed code scene) = refl
 

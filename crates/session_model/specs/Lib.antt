@@ -3,4 +3,5 @@ pub mod Answers
 pub mod Running
 pub mod Commands
 pub mod Machine
+pub mod Holding
 pub mod Worked

@@ -196,9 +196,10 @@ scene_for n fuel context shared = record {
   uuids = fuel.uuids;
 }
 
--- the changes that a statement made behind those before it
-abbrev pub made_behind : Scene → Scene → List Change
-made_behind before after = drop (length before.changes) after.changes
+-- the changes that a statement made behind those before it; one that reads beside another session's open changes makes none
+abbrev pub made_behind : Bool → Scene → Scene → List Change
+made_behind true before after = []
+made_behind false before after = drop (length before.changes) after.changes
 
 -- what is used stays used, whatever the end: counters; seeds, a forced INSERT_ID, LAST_INSERT_ID
 abbrev pub with_counters : Scene → Shared → Shared
@@ -223,7 +224,7 @@ settle call item (c ∷ cs) scene shared session given = keep call (item (c ∷ 
 -- how a statement that began on a scene ended: its text and its tree make the item
 abbrev pub ended : {I : Type 0} {A : Type 0} → Call I → Fuel → List ℕ → Statement → Shared → Session I → (A → Option ℤ) → (A → Option ℤ) → Scene → Ending A → Turn I (Given A)
 ended call fuel text tree shared session first last_id before (done a scene) =
-    settle call (item_of call fuel text tree session.vars.context shared (first a)) (made_behind before scene) scene (with_counters scene shared)
+    settle call (item_of call fuel text tree session.vars.context shared (first a)) (made_behind (is_other call.number shared.writer) before scene) scene (with_counters scene shared)
     (with_context (context_after session.vars.context tree scene.seeds (last_id a)) session) (record { result = Ok a; fuel = fuel_of scene })
 ended call fuel text tree shared session first last_id before (failed code scene) = record {
   shared = with_counters scene shared;

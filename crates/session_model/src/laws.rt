@@ -1,5 +1,8 @@
 //! What holds of the machine of sessions.
+ghost use Rattle.session_model.specs.Holding.{ErrorsLeaveAll, ReadersSeeCommitted, RunsBegin, RunsGoOn};
 ghost use Rattle.session_model.specs.Machine.{StepsAreKept, StepsAreNatural};
+
+use sql_meaning::statements_end_well;
 
 /// A law: a source does the same whatever is known of items.
 pub fn steps_are_natural<I, J>()
@@ -9,4 +12,25 @@ pub fn steps_are_natural<I, J>()
 /// A law: what a node keeps of a step on whole items is its step on what it keeps of them.
 pub fn steps_are_kept()
     ensures { StepsAreKept }
+{}
+
+/// A law: in every run the committed base is what the entries that were put out make of the base that it
+/// began with; the open changes are those of the items of the session that has the lock, and no other
+/// session has an item; a savepoint stands at the changes of its items.
+pub fn runs_hold()
+    ensures begins { RunsBegin }
+    ensures goes_on { RunsGoOn }
+{
+    statements_end_well();
+}
+
+/// A law: a change, a SELECT, a DO or a statement on savepoints that is refused leaves all tables, the
+/// open transaction and what was committed as they were.
+pub fn errors_leave_all()
+    ensures { ErrorsLeaveAll }
+{}
+
+/// A law: a session beside another one's open changes reads the rows that were last committed.
+pub fn readers_see_committed()
+    ensures { ReadersSeeCommitted }
 {}

@@ -1,18 +1,32 @@
-//! What sessions do: definitions, and no code.
+//! What sessions do: definitions with their laws, and no code.
 //!
 //! A source is a machine that a command of a session moves on: it gives an answer, and puts out what was committed. It is
 //! generic in what is known of an item, so that what a node keeps (what the log has of an item) and what a whole run knows
 //! (all that an item began with) are the same machine; one law joins them.
 //!
 //! The definitions stand in specs/: `Sessions` (what is kept), `Answers`, `Running` (the writer's lock, transactions and one
-//! statement's run), `Commands` (one definition a command), `Machine` (a step, and the whole run).
+//! statement's run), `Commands` (one definition a command), `Machine` (a step, and the whole run), `Holding` (what holds of
+//! every run).
 //!
 //! - `laws`: what follows from the definitions
-//! - `worked`: scripts by hand, which the checker computes
+//! - `worked`: scripts by hand, which the checker computes from their texts to their answers
+//!
+//! # Proved
+//! - What a node keeps of a step on whole items is its step on what it keeps of them ([`steps_are_kept`]), since a source does
+//!   the same whatever is known of items ([`steps_are_natural`]).
+//! - In every run the committed base is what the entries that were put out make of the base that it began with; the open
+//!   changes are those of the items of the session that has the lock, and no other session has an item; a savepoint stands at
+//!   the changes of its items, so that ROLLBACK TO cuts rows and items at one place ([`runs_hold`]).
+//! - A change, a SELECT, a DO or a statement on savepoints that is refused leaves all tables, the open transaction and what was
+//!   committed ([`errors_leave_all`]).
+//! - A session beside another one's open changes reads the rows that were last committed ([`readers_see_committed`]).
+//! - The worked scripts: a writer and a reader, savepoints, variables.
 #![tactic(auto)]
 
 mod laws;
 mod worked;
 
-pub use laws::{steps_are_kept, steps_are_natural};
+pub use laws::{
+    errors_leave_all, readers_see_committed, runs_hold, steps_are_kept, steps_are_natural,
+};
 pub use worked::{savepoints_kept, variables_set, writers_and_readers};

@@ -1,0 +1,113 @@
+-- What holds of every run: the committed base is what its entries make of the first one, the open changes are those of the
+-- writer's items, and a savepoint stands where it says.
+use Rattle.std.specs.Prelude.{◌≡◌, ℕ, ◌≤◌, ◌<◌, ◌==◌, Bool, true, false, not, List, [], ◌∷◌, length, flat_map, take, Option, Some, None, is_some, slice_index_or}
+use Rattle.std.specs.Option.{option_map_or, option_and_then}
+use Rattle.val_types.specs.declared.change.Change.{Change}
+use Rattle.auto_inc.specs.declared.counters.Counter.{Counter}
+use Rattle.port_traits.specs.declared.identity.Identity.{Identity}
+use Rattle.port_traits.specs.declared.identity.Draw.{Draw}
+use Rattle.table_rules.specs.Stored.{all_applied}
+use Rattle.catalog_rules.specs.Bases.{Base, defined}
+use Rattle.log_entries.specs.Entries.{after}
+use Rattle.session_model.specs.Sessions.{Save, Open, Session, Shared}
+use Rattle.answer_text.specs.declared.answer.Answer.{Answer}
+use Rattle.answer_text.specs.declared.answer.End.{End}
+use Rattle.answer_text.specs.declared.answer.End.TheVariants as ends
+use Rattle.sql_meaning.specs.Frames.{Context}
+use Rattle.sql_reach.specs.Reach.{is_definition}
+use Rattle.sql_tree.specs.Statement.{Statement, begin, set_all, call_procedure}
+use Rattle.session_model.specs.Running.{Call, Fuel, Turn, items_of, is_other, scene_for}
+use Rattle.session_model.specs.Machine.{Whole, whole, Machine, machine_after, first_state, step, statement_turn}
+
+-- ---- entries of whole items
+
+abbrev pub changes_of : Whole → List Change
+changes_of i = i.kept.changes
+
+-- what a definition makes of a base
+abbrev pub define : Whole → Base → Option Base
+define i base = defined i.began.tree base
+
+abbrev pub changes_in : List Whole → List Change
+changes_in items = flat_map changes_of items
+
+-- ---- one session
+
+abbrev pub holds_lock : ℕ → Option ℕ → Bool
+holds_lock n writer = option_map_or (λ w. w == n) writer false
+
+abbrev pub saves_of : Option (Open Whole) → List Save
+saves_of None = []
+saves_of (Some open') = open'.saves
+
+-- savepoints from one on, each with at least so many items: its changes are those of its items, and later ones have no fewer
+abbrev pub SavesFrom : List Whole → ℕ → List Save → Type 0
+SavesFrom items least [] = least ≤ length items
+SavesFrom items least (s ∷ ss) = (least ≤ s.items) × (s.changes ≡ length (changes_in (take s.items items))) × SavesFrom items s.items ss
+
+-- the session that has the lock has made the open changes, by its items; another has no item
+pub record Owns (n : ℕ) (shared : Shared) (t : Option (Open Whole)) : Type 0 where
+  pub own : holds_lock n shared.writer ≡ true → shared.changes ≡ changes_in (items_of t)
+  pub none : holds_lock n shared.writer ≡ false → items_of t ≡ []
+  pub saves : SavesFrom (items_of t) 0 (saves_of t)
+
+-- ---- what all share
+
+-- without a writer nothing is open, and open changes can be made to the committed tables
+pub record SharedHolds (shared : Shared) : Type 0 where
+  pub free : shared.writer ≡ None → shared.changes ≡ []
+  pub makes : is_some (all_applied shared.changes shared.base.tables) ≡ true
+
+abbrev pub transaction_of : Option (Session Whole) → Option (Open Whole)
+transaction_of session = option_and_then (λ (s : Session Whole). s.transaction) session
+
+-- a run that began with a base
+pub record Holds (base : Base) (m : Machine) : Type 0 where
+  pub entries : after changes_of define m.history base ≡ Some m.state.shared.base
+  pub shared : SharedHolds m.state.shared
+  pub each : (n : ℕ) → Owns n m.state.shared (transaction_of (slice_index_or m.state.sessions n None))
+
+-- ---- laws
+
+abbrev pub RunsBegin : Type 0
+RunsBegin = (base : Base) (counters : List Counter) (committed : ℕ) → Holds base (record { state = first_state base counters committed; history = [] })
+
+-- each step keeps it, whatever the command
+abbrev pub RunsGoOn : Type 0
+RunsGoOn =
+    (base : Base) (m : Machine) (identity : Identity) (n : ℕ) (text : List ℕ) (draw : Draw) → Holds base m → n < length m.state.sessions
+    → Holds base (machine_after m (step whole identity m.state n text draw))
+
+-- ---- errors and readers
+
+abbrev pub is_refused : End → Bool
+is_refused (ends.Ok affected warned) = false
+is_refused (ends.Rows warned) = false
+is_refused (ends.Refused code place holder) = true
+
+-- a change, a SELECT or a DO; savepoints; COMMIT and ROLLBACK
+abbrev pub leaves_on_error : Statement → Bool
+leaves_on_error begin = false
+leaves_on_error (set_all as') = false
+leaves_on_error (call_procedure name ts) = false
+leaves_on_error s = not (is_definition s)
+
+-- all is as it was, but for counters, and what the session sees of its statement
+pub record IsLeft {I : Type 0} (shared : Shared) (session : Session I) (t : Turn I Answer) : Type 0 where
+  pub base : t.shared.base ≡ shared.base
+  pub changes : t.shared.changes ≡ shared.changes
+  pub writer : t.shared.writer ≡ shared.writer
+  pub count : t.shared.committed ≡ shared.committed
+  pub transaction : t.session.transaction ≡ session.transaction
+  pub entries : t.committed ≡ []
+
+-- such a statement that is refused leaves all tables, the transaction and what was committed
+abbrev pub ErrorsLeaveAll : Type 0
+ErrorsLeaveAll =
+    (call : Call Whole) (text : List ℕ) (s : Statement) (shared : Shared) (session : Session Whole) → leaves_on_error s ≡ true
+    → is_refused (statement_turn call text s shared session).given.end ≡ true → IsLeft shared session (statement_turn call text s shared session)
+
+-- a session beside another one's open changes reads the committed rows; the one that has the lock, or any where none has, its own
+abbrev pub ReadersSeeCommitted : Type 0
+ReadersSeeCommitted =
+    (n : ℕ) (fuel : Fuel) (context : Context) (shared : Shared) → is_other n shared.writer ≡ true → (scene_for n fuel context shared).tables ≡ shared.base.tables
