@@ -1,10 +1,10 @@
 //! Counters and sequences worked out by hand.
 
-use auto_inc::{Counters, StmtSeq};
+use auto_inc::{Counters, StmtSeq, start_value};
 use std::alloc::Global;
 use std::process::Abort;
 use std::test::Fail;
-use val_types::{Bytes, List};
+use val_types::{Bytes, Duplicate, List, NoMemory, Row, Value};
 
 /// The greatest number of INT.
 const INT: i64 = 2_147_483_647;
@@ -140,10 +140,17 @@ fn name(alloc: Global, bytes: &[u8]) -> Result<Bytes, Fail> {
 /// Three counters: of `t` 1, of `u` 5 and of a name of other bytes 9.
 fn three(alloc: Global) -> Result<Counters, Fail> {
     let mut counters = Counters::new(alloc);
-    counters.add(&name(alloc, b"t")?, 1)?;
-    counters.add(&name(alloc, b"u")?, 5)?;
-    counters.add(&name(alloc, b"\xe9")?, 9)?;
+    add(&mut counters, &name(alloc, b"t")?, 1)?;
+    add(&mut counters, &name(alloc, b"u")?, 5)?;
+    add(&mut counters, &name(alloc, b"\xe9")?, 9)?;
     Ok(counters)
+}
+
+fn add(counters: &mut Counters, table: &Bytes, value: u64) -> Result<(), NoMemory> {
+    match counters.place(table) {
+        None => counters.add(table, value),
+        Some(_) => Ok(()),
+    }
 }
 
 #[test]
@@ -169,5 +176,30 @@ fn counters_rise(rt: HostRuntime) -> Result<(), Fail> {
     counters.remove(&u);
     assert_eq!(rt; counters.value(&u), 0);
     assert_eq!(rt; counters.value(&t), 1);
+    Ok(())
+}
+
+#[test]
+fn places_and_copies(rt: HostRuntime) -> Result<(), Fail> {
+    let alloc = rt.alloc();
+    let mut counters = three(alloc)?;
+    let u = name(alloc, b"u")?;
+    let copy = counters.duplicate(alloc)?;
+    assert_eq!(rt; counters.place(&u), Some(1));
+    counters.raise(&u, 8);
+    assert_eq!(rt; counters.value(&u), 9);
+    assert_eq!(rt; copy.value(&u), 5);
+    Ok(())
+}
+
+#[test]
+fn a_counter_starts(rt: HostRuntime) -> Result<(), Fail> {
+    let alloc = rt.alloc();
+    let mut row: Row = List::new(alloc);
+    row.push(Value::Int(BIGINT))?;
+    let mut rows = List::new(alloc);
+    rows.push(row)?;
+    assert_eq!(rt; start_value(Some(0), rows.as_slice()), 9_223_372_036_854_775_808);
+    assert_eq!(rt; start_value(Some(1), rows.as_slice()), 1);
     Ok(())
 }
