@@ -179,27 +179,35 @@ fn counters_rise(rt: HostRuntime) -> Result<(), Fail> {
     Ok(())
 }
 
-#[test]
-fn places_and_copies(rt: HostRuntime) -> Result<(), Fail> {
-    let alloc = rt.alloc();
+/// The place of a counter, and its value, raised, beside that of a copy.
+fn beside_a_copy(alloc: Global) -> Result<(Option<usize>, u64, u64), Fail> {
     let mut counters = three(alloc)?;
     let u = name(alloc, b"u")?;
     let copy = counters.duplicate(alloc)?;
-    assert_eq!(rt; counters.place(&u), Some(1));
     counters.raise(&u, 8);
-    assert_eq!(rt; counters.value(&u), 9);
-    assert_eq!(rt; copy.value(&u), 5);
+    Ok((counters.place(&u), counters.value(&u), copy.value(&u)))
+}
+
+#[test]
+fn places_and_copies(rt: HostRuntime) -> Result<(), Fail> {
+    assert!(rt; beside_a_copy(rt.alloc())? == (Some(1), 9, 5));
     Ok(())
+}
+
+/// What a counter starts with by the only column of a row, and by one that is not there.
+fn starts(alloc: Global, number: i64) -> Result<(u64, u64), Fail> {
+    let mut row: Row = List::new(alloc);
+    row.push(Value::Int(number))?;
+    let mut rows = List::new(alloc);
+    rows.push(row)?;
+    Ok((
+        start_value(Some(0), rows.as_slice()),
+        start_value(Some(1), rows.as_slice()),
+    ))
 }
 
 #[test]
 fn a_counter_starts(rt: HostRuntime) -> Result<(), Fail> {
-    let alloc = rt.alloc();
-    let mut row: Row = List::new(alloc);
-    row.push(Value::Int(BIGINT))?;
-    let mut rows = List::new(alloc);
-    rows.push(row)?;
-    assert_eq!(rt; start_value(Some(0), rows.as_slice()), 9_223_372_036_854_775_808);
-    assert_eq!(rt; start_value(Some(1), rows.as_slice()), 1);
+    assert!(rt; starts(rt.alloc(), BIGINT)? == (9_223_372_036_854_775_808, 1));
     Ok(())
 }
