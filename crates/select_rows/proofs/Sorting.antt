@@ -5,20 +5,21 @@ use Rattle.std.specs.List.{filter}
 use Rattle.std.specs.List.Sorted.{IsSortedBy, IsStableBy, ties}
 use Rattle.std.proofs.lemmas.Bool.{false_from_ne_true, true≢false, and_parts, not-true}
 use Rattle.std.proofs.lemmas.List.Sorted.{sorted_far}
-use Rattle.value_rules.specs.Selecting.{put_in_order, in_order}
+use Rattle.value_rules.specs.Selecting.{in_order}
+use Rattle.value_rules.proofs.Sorting.{Least, Sorted, sorted_in_order, kept_in_order}
 
 module _ {X : Type 0} (lt : X → X → Bool) (o : IsStrictWeakOrder lt) where
   irreflexive : (x : X) → lt x x ≡ false
   irreflexive x = false_from_ne_true (lt x x) (λ e. true≢false (sym e ∙ o.one_way x x e))
 
-  least_from : (x : X) (xs : List X) → ((j : ℕ) (d : X) → j < length xs → lt (get_or xs j d) x ≡ false) → Least x xs
+  least_from : (x : X) (xs : List X) → ((j : ℕ) (d : X) → j < length xs → lt (get_or xs j d) x ≡ false) → Least lt o x xs
   least_from x [] f = tt
   least_from x (y ∷ ys) f = (f 0 y (omega arith), least_from x ys (λ j d h. f (suc j) d (omega arith)))
 
   sorted_tail : (x : X) (xs : List X) → IsSortedBy lt (x ∷ xs) → IsSortedBy lt xs
   sorted_tail x xs up k d low high = rw add-one (rw add-one at (up (suc k) d (omega arith) (omega arith)))
 
-  sorted_from : (xs : List X) → IsSortedBy lt xs → Sorted xs
+  sorted_from : (xs : List X) → IsSortedBy lt xs → Sorted lt o xs
   sorted_from [] up = tt
   sorted_from (x ∷ xs) up =
       (least_from x xs (λ j d h. sorted_far lt o (x ∷ xs) up 0 (suc j) d (omega arith) (omega arith)), sorted_from xs (sorted_tail x xs up))
@@ -33,12 +34,12 @@ module _ {X : Type 0} (lt : X → X → Bool) (o : IsStrictWeakOrder lt) where
   found_step p z w ws v vs true e least rest h = (w, e, least)
   found_step p z w ws v vs false e least rest h = rest h
 
-  found_behind : (p : X → Bool) (z : X) (ws : List X) (v : X) (vs : List X) → Least z ws → filter p ws ≡ v ∷ vs → (u : X) × (p u ≡ true) × (lt u z ≡ false)
+  found_behind : (p : X → Bool) (z : X) (ws : List X) (v : X) (vs : List X) → Least lt o z ws → filter p ws ≡ v ∷ vs → (u : X) × (p u ≡ true) × (lt u z ≡ false)
   found_behind p z [] v vs least h = cc
   found_behind p z (w ∷ ws) v vs least h = found_step p z w ws v vs (p w) refl least.0 (found_behind p z ws v vs least.1) h
 
   -- the least of a list is not behind the least of another that has what ties with it
-  not_behind : (y z : X) (ys zs : List X) → Least z zs → filter (ties lt y) (y ∷ ys) ≡ filter (ties lt y) (z ∷ zs) → lt y z ≡ false
+  not_behind : (y z : X) (ys zs : List X) → Least lt o z zs → filter (ties lt y) (y ∷ ys) ≡ filter (ties lt y) (z ∷ zs) → lt y z ≡ false
   not_behind y z ys zs least same =
       let begins : filter (ties lt y) (z ∷ zs) ≡ y ∷ filter (ties lt y) ys = sym same ∙ ap (λ (b : Bool). cond b (y ∷ filter (ties lt y) ys) (filter (ties lt y) ys)) (ties_self y) in
       let found = found_behind (ties lt y) z (z ∷ zs) y (filter (ties lt y) ys) (irreflexive z, least) begins in
@@ -49,7 +50,7 @@ module _ {X : Type 0} (lt : X → X → Bool) (o : IsStrictWeakOrder lt) where
   tail_step x y ys zs true e = cc
   tail_step x y ys zs false e = e
 
-  first_same : (y z : X) (ys zs : List X) → Least y ys → Least z zs → ((x : X) → filter (ties lt x) (y ∷ ys) ≡ filter (ties lt x) (z ∷ zs)) → y ≡ z
+  first_same : (y z : X) (ys zs : List X) → Least lt o y ys → Least lt o z zs → ((x : X) → filter (ties lt x) (y ∷ ys) ≡ filter (ties lt x) (z ∷ zs)) → y ≡ z
   first_same y z ys zs least_y least_z same =
       let forth : lt y z ≡ false = not_behind y z ys zs least_z (same y) in
       let back : lt z y ≡ false = not_behind z y zs ys least_y (sym (same z)) in
@@ -59,7 +60,7 @@ module _ {X : Type 0} (lt : X → X → Bool) (o : IsStrictWeakOrder lt) where
       let firsts : y ∷ filter (ties lt y) ys ≡ z ∷ filter (ties lt y) zs = sym left ∙ same y ∙ right in
       cc
 
-  same_sorted : (ys zs : List X) → Sorted ys → Sorted zs → ((x : X) → filter (ties lt x) ys ≡ filter (ties lt x) zs) → ys ≡ zs
+  same_sorted : (ys zs : List X) → Sorted lt o ys → Sorted lt o zs → ((x : X) → filter (ties lt x) ys ≡ filter (ties lt x) zs) → ys ≡ zs
   same_sorted [] [] p q same = refl
   same_sorted [] (z ∷ zs) p q same =
       let h : [] ≡ z ∷ filter (ties lt z) zs = same z ∙ ap (λ (b : Bool). cond b (z ∷ filter (ties lt z) zs) (filter (ties lt z) zs)) (ties_self z) in cc
@@ -73,4 +74,4 @@ module _ {X : Type 0} (lt : X → X → Bool) (o : IsStrictWeakOrder lt) where
 
   -- what a stable sort gives is what the definition gives
   pub stable_sort : (xs ys : List X) → IsSortedBy lt ys → IsStableBy lt xs ys → ys ≡ in_order lt xs
-  stable_sort xs ys up stable = same_sorted ys (in_order lt xs) (sorted_from ys up) (sorted_in_order xs) (λ x. stable x ∙ sym (kept_in_order x xs))
+  stable_sort xs ys up stable = same_sorted ys (in_order lt xs) (sorted_from ys up) (sorted_in_order lt o xs) (λ x. stable x ∙ sym (kept_in_order lt o x xs))

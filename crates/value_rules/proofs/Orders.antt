@@ -17,3 +17,7 @@ by_items_total (down ∷ downs) = then_total (on_total first_value (directed_tot
 
 pub key_ranks : {X : Type 0} (key : X → List Value) (downs : List Bool) → IsStrictWeakOrder (key_before key downs)
 key_ranks key downs = ranks_by (by_items_total downs) key
+
+pub comes_first_ranks : (highest : Bool) → IsStrictWeakOrder (comes_first highest)
+comes_first_ranks false = ranks_by value_order_total (λ (v : Value). v)
+comes_first_ranks true = ranks_by (back_total value_order_total) (λ (v : Value). v)

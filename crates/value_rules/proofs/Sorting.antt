@@ -1,10 +1,10 @@
 -- Sorting by putting each element in front of the first that does not come before it.
-use Rattle.std.proofs.Common.{◌≡◌, List, [], ◌∷◌, ◌&&◌, Bool, true, false, not, cond, refl, sym, ap, ◌∙◌}
+use Rattle.std.proofs.Common.{◌≡◌, List, [], ◌∷◌, Bool, true, false, not, cond, refl, sym, ap, ◌∙◌}
 use Rattle.std.specs.Cmp.{IsStrictWeakOrder}
-use Rattle.std.specs.List.{filter, list_all}
+use Rattle.std.specs.List.{filter}
 use Rattle.std.specs.List.Sorted.{IsPermutation, ties}
 use Rattle.std.proofs.lemmas.Bool.{true≢false, and_parts, not-true}
-use Rattle.std.proofs.lemmas.List.Sorted.{IsPermutation-refl, IsPermutation-cons, IsPermutation-trans, IsPermutation-swap}
+use Rattle.std.proofs.lemmas.List.Sorted.{IsPermutation-refl, IsPermutation-cons, IsPermutation-trans, IsPermutation-append_left, IsPermutation-append_comm}
 use Rattle.value_rules.specs.Selecting.{put_in_order, in_order, comes_first_of, stand_in_order, IsSorting}
 
 module _ {X : Type 0} (lt : X → X → Bool) (o : IsStrictWeakOrder lt) where
@@ -71,7 +71,7 @@ module _ {X : Type 0} (lt : X → X → Bool) (o : IsStrictWeakOrder lt) where
   -- ---- and all that there were
 
   swapped : (b : Bool) (x y : X) (xs ys : List X) → IsPermutation (x ∷ ys) xs → IsPermutation (x ∷ y ∷ ys) (cond b (y ∷ xs) (x ∷ y ∷ ys))
-  swapped true x y xs ys p = IsPermutation-trans (x ∷ y ∷ ys) (y ∷ x ∷ ys) (y ∷ xs) (IsPermutation-swap x y ys) (IsPermutation-cons y (x ∷ ys) xs p)
+  swapped true x y xs ys p = IsPermutation-trans (x ∷ y ∷ ys) (y ∷ x ∷ ys) (y ∷ xs) (IsPermutation-append_left ys (x ∷ y ∷ []) (y ∷ x ∷ []) (IsPermutation-append_comm (x ∷ []) (y ∷ []))) (IsPermutation-cons y (x ∷ ys) xs p)
   swapped false x y xs ys p = IsPermutation-refl (x ∷ y ∷ ys)
 
   all_put : (x : X) (ys : List X) → IsPermutation (x ∷ ys) (put_in_order lt x ys)

@@ -1,6 +1,7 @@
 -- What SELECT makes of the rows that WHERE keeps: their order, a part of them, and aggregates.
-use Rattle.std.specs.Prelude.{ℕ, Bool, true, false, not, ◌&&◌, ◌||◌, if◌then◌else◌, List, [], ◌∷◌, length, take, drop, filter, slice_index_or, Result, Ok, Err, ℤ, pos, ◌+ℤ◌}
-use Rattle.std.specs.List.{list_any}
+use Rattle.std.specs.Prelude.{◌≡◌, ℕ, Bool, true, false, not, ◌&&◌, ◌||◌, if◌then◌else◌, List, [], ◌∷◌, length, take, drop, filter, slice_index_or, Result, Ok, Err, ℤ, pos, ◌+ℤ◌, IsTrue}
+use Rattle.std.specs.List.{list_all, list_any, Contains}
+use Rattle.std.specs.List.Sorted.{IsPermutation, IsStableBy}
 use Rattle.std.specs.declared.cmp.Ordering.{Ordering}
 use Rattle.std.specs.declared.cmp.Ordering.TheVariants.{Equal}
 use Rattle.std.specs.Ordering.{is_lt, on, flip_args, then_cmp}
@@ -137,7 +138,7 @@ OrderSorts {X} key = (downs : List Bool) (rows : List X) → IsSorting (key_befo
 -- the best of some values: one of those that are not NULL, before which none of these comes; NULL where all are
 pub record IsBest (before : Value → Value → Bool) (vs : List Value) (best : Value) : Type 0 where
   pub known : best ≡ Null → IsTrue (list_all is_null vs)
-  pub among : IsTrue (is_null best || is_some (find (same_value best) vs))
+  pub among : IsTrue (not (is_null best)) → Contains vs best
   pub first : IsTrue (list_all (λ v. is_null v || not (before v best)) vs)
 
 -- MIN is the lowest value and MAX the highest
