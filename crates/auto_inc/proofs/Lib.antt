@@ -1,1 +1,3 @@
 pub mod Congruent
+pub mod Greatest
+pub mod Places

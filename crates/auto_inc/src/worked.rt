@@ -1,5 +1,7 @@
 //! Values by hand, which the checker computes from the definitions.
-ghost use Rattle.std.specs.Prelude.{◌≡◌, neg_ℤ, None, pos, Some};
+ghost use Rattle.std.specs.Prelude.{◌≡◌, [], ◌∷◌, neg_ℤ, None, pos, Some};
+ghost use Rattle.val_types.specs.declared.value.Value.TheVariants.{Int, Null};
+ghost use Rattle.auto_inc.specs.Counting.{start_value};
 ghost use Rattle.auto_inc.specs.Generating.{after_explicit, least_congruent, next_value, used_offset};
 
 /// Offsets and the values looked for: an offset above the increment counts as 0.
@@ -21,4 +23,12 @@ pub fn values_generated()
     ensures past { next_value 2147483648 1 1 (pos 2147483647) None ≡ None }
     ensures moved { after_explicit (pos 40) (Some (pos 13, 14)) ≡ Some (pos 13, 41) }
     ensures below { after_explicit (neg_ℤ (pos 5)) (Some (pos 13, 14)) ≡ Some (pos 13, 14) }
+{}
+
+/// What counters start with.
+pub fn values_at_start()
+    ensures greatest { start_value (Some 0) ((Int (pos 3) ∷ Null ∷ []) ∷ (Int (pos 7) ∷ Null ∷ []) ∷ (Int (pos 5) ∷ Null ∷ []) ∷ []) ≡ 8 }
+    ensures below { start_value (Some 1) ((Int (pos 3) ∷ Int (neg_ℤ (pos 9)) ∷ []) ∷ (Int (pos 7) ∷ Null ∷ []) ∷ []) ≡ 1 }
+    ensures empty { start_value (Some 0) [] ≡ 1 }
+    ensures no_column { start_value None ((Int (pos 3) ∷ []) ∷ []) ≡ 1 }
 {}

@@ -5,9 +5,9 @@
 //! that runs statements; what depends on a session, as NOW() or USER(), stands there too.
 //!
 //! - `operators`: [`binary`] and [`unary`], every operator
-//! - `truths`: conditions, NOT, AND and OR with three values; [`truth`] and [`decided`] are for those
-//!   who leave out operands that do not count
-//! - `comparing`: comparisons
+//! - `truths`: conditions, NOT, AND and OR with three values; [`truth`], [`holds`] and [`decided`] are for those
+//!   who leave out operands that do not count, [`truth_value`] and [`value_of_truth`] for EXISTS and IN
+//! - `comparing`: comparisons; [`compare`] and [`equal`] are for IN
 //! - `arithmetic`: numbers of 64 bits with their overflow
 //! - `functions`: [`builtin`], the built-in functions that depend on their arguments alone
 //! - `texts`: CONCAT, LENGTH and SUBSTRING
@@ -16,8 +16,9 @@
 //! - `random`: [`rand_step`] and [`floor_rand`], what RAND() draws
 //!
 //! # Proved
-//! - [`binary`], [`unary`], [`truth`], [`decided`], [`rand_step`] and [`floor_rand`] give exactly the value
-//!   or the error number of their definitions, on all values and without memory
+//! - [`binary`], [`unary`], [`compare`], [`equal`], [`truth`], [`holds`], [`truth_value`], [`value_of_truth`],
+//!   [`decided`], [`rand_step`] and [`floor_rand`] give exactly the value or the error number of their
+//!   definitions, on all values and without memory
 //! - [`builtin`] the same, or wants memory, for the seven functions of values with just their number of
 //!   arguments
 //! - [`time_text`] and [`uuid_text`] give exactly the text of the definition, for every u32 and u128, or
@@ -37,9 +38,10 @@ mod random;
 mod texts;
 mod truths;
 
+pub use comparing::{compare, equal};
 pub use functions::builtin;
 pub use identifiers::uuid_text;
 pub use moments::time_text;
 pub use operators::{binary, unary};
 pub use random::{floor_rand, rand_step};
-pub use truths::{decided, truth};
+pub use truths::{decided, holds, truth, truth_value, value_of_truth};

@@ -1,18 +1,19 @@
 //! Conditions, and logic with three values: true, false and unknown.
 ghost use Rattle.std.specs.Prelude.{◌≡◌};
 ghost use Rattle.std.specs.Option.{option_map};
-ghost use Rattle.value_rules.specs.Operators.{binary_value, both, decided, either, negation, truth_of, truth_value, value_of_truth};
+ghost use Rattle.value_rules.specs.Functions.{is_known_true};
+ghost use Rattle.value_rules.specs.Operators.{binary_value, both, decided, either, negation, truth_of, truth_value, value_of_truth, with_value};
 
 use val_types::{BinOp, KINDS_MIXED, SqlError, Value};
 
-/// True as 1 and false as 0.
+/// True as 1 and false as 0, as EXISTS gives it.
 pub fn truth_value(truth: bool) -> Value
     ensures { result ≡ truth_value truth }
 {
     Value::Int(i64::from(truth))
 }
 
-/// A truth as a value, NULL where it is unknown.
+/// A truth as a value, NULL where it is unknown, as IN gives it.
 pub fn value_of_truth(truth: Option<bool>) -> Value
     ensures { result ≡ value_of_truth truth }
 {
@@ -31,6 +32,17 @@ pub fn truth(value: &Value) -> Result<Option<bool>, SqlError>
         Value::Null => Ok(None),
         Value::Int(number) => Ok(Some(*number != 0)),
         Value::Text(_) => Err(KINDS_MIXED),
+    }
+}
+
+/// Whether a condition is true: WHERE keeps a row, and IF, WHILE and CASE go on, just where it is. What is unknown is not
+/// true, and a text is 30002.
+pub fn holds(value: &Value) -> Result<bool, SqlError>
+    ensures { result ≡ with_value is_known_true (truth_of value.now) }
+{
+    match truth(value)? {
+        Some(truth) => Ok(truth),
+        None => Ok(false),
     }
 }
 

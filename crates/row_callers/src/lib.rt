@@ -4,7 +4,6 @@
 //!
 //! - `tests::operators`, `tests::functions`: `expr_ops`
 //! - `tests::selecting`: `select_rows`
-//! - `tests::counting`: `auto_inc`
 //! - `tests::undoing`: `undo_log`
 //! - `tests::storing`: `row_store`
 //! - `tests::changes`: `dml_rows`

@@ -1,7 +1,6 @@
 //! Calls of the crates of values and rows, by hand.
 
 mod changes;
-mod counting;
 mod functions;
 mod operators;
 mod selecting;

@@ -5,29 +5,21 @@ use Rattle.std.specs.List.{filter}
 use Rattle.std.specs.List.Sorted.{IsSortedBy, IsStableBy, ties}
 use Rattle.std.proofs.lemmas.Bool.{false_from_ne_true, true≢false, and_parts, not-true}
 use Rattle.std.proofs.lemmas.List.Sorted.{sorted_far}
-use Rattle.value_rules.specs.Selecting.{put_in_order, in_order}
+use Rattle.value_rules.specs.Selecting.{in_order}
+use Rattle.value_rules.proofs.Sorting.{Least, Sorted, sorted_in_order, kept_in_order}
 
 module _ {X : Type 0} (lt : X → X → Bool) (o : IsStrictWeakOrder lt) where
   irreflexive : (x : X) → lt x x ≡ false
   irreflexive x = false_from_ne_true (lt x x) (λ e. true≢false (sym e ∙ o.one_way x x e))
 
-  -- none of some elements comes before x
-  abbrev Least : X → List X → Type 0
-  Least x [] = Unit {0}
-  Least x (y ∷ ys) = (lt y x ≡ false) × Least x ys
-
-  abbrev Sorted : List X → Type 0
-  Sorted [] = Unit {0}
-  Sorted (x ∷ xs) = Least x xs × Sorted xs
-
-  least_from : (x : X) (xs : List X) → ((j : ℕ) (d : X) → j < length xs → lt (get_or xs j d) x ≡ false) → Least x xs
+  least_from : (x : X) (xs : List X) → ((j : ℕ) (d : X) → j < length xs → lt (get_or xs j d) x ≡ false) → Least lt o x xs
   least_from x [] f = tt
   least_from x (y ∷ ys) f = (f 0 y (omega arith), least_from x ys (λ j d h. f (suc j) d (omega arith)))
 
   sorted_tail : (x : X) (xs : List X) → IsSortedBy lt (x ∷ xs) → IsSortedBy lt xs
   sorted_tail x xs up k d low high = rw add-one (rw add-one at (up (suc k) d (omega arith) (omega arith)))
 
-  sorted_from : (xs : List X) → IsSortedBy lt xs → Sorted xs
+  sorted_from : (xs : List X) → IsSortedBy lt xs → Sorted lt o xs
   sorted_from [] up = tt
   sorted_from (x ∷ xs) up =
       (least_from x xs (λ j d h. sorted_far lt o (x ∷ xs) up 0 (suc j) d (omega arith) (omega arith)), sorted_from xs (sorted_tail x xs up))
@@ -42,12 +34,12 @@ module _ {X : Type 0} (lt : X → X → Bool) (o : IsStrictWeakOrder lt) where
   found_step p z w ws v vs true e least rest h = (w, e, least)
   found_step p z w ws v vs false e least rest h = rest h
 
-  found_behind : (p : X → Bool) (z : X) (ws : List X) (v : X) (vs : List X) → Least z ws → filter p ws ≡ v ∷ vs → (u : X) × (p u ≡ true) × (lt u z ≡ false)
+  found_behind : (p : X → Bool) (z : X) (ws : List X) (v : X) (vs : List X) → Least lt o z ws → filter p ws ≡ v ∷ vs → (u : X) × (p u ≡ true) × (lt u z ≡ false)
   found_behind p z [] v vs least h = cc
   found_behind p z (w ∷ ws) v vs least h = found_step p z w ws v vs (p w) refl least.0 (found_behind p z ws v vs least.1) h
 
   -- the least of a list is not behind the least of another that has what ties with it
-  not_behind : (y z : X) (ys zs : List X) → Least z zs → filter (ties lt y) (y ∷ ys) ≡ filter (ties lt y) (z ∷ zs) → lt y z ≡ false
+  not_behind : (y z : X) (ys zs : List X) → Least lt o z zs → filter (ties lt y) (y ∷ ys) ≡ filter (ties lt y) (z ∷ zs) → lt y z ≡ false
   not_behind y z ys zs least same =
       let begins : filter (ties lt y) (z ∷ zs) ≡ y ∷ filter (ties lt y) ys = sym same ∙ ap (λ (b : Bool). cond b (y ∷ filter (ties lt y) ys) (filter (ties lt y) ys)) (ties_self y) in
       let found = found_behind (ties lt y) z (z ∷ zs) y (filter (ties lt y) ys) (irreflexive z, least) begins in
@@ -58,7 +50,7 @@ module _ {X : Type 0} (lt : X → X → Bool) (o : IsStrictWeakOrder lt) where
   tail_step x y ys zs true e = cc
   tail_step x y ys zs false e = e
 
-  first_same : (y z : X) (ys zs : List X) → Least y ys → Least z zs → ((x : X) → filter (ties lt x) (y ∷ ys) ≡ filter (ties lt x) (z ∷ zs)) → y ≡ z
+  first_same : (y z : X) (ys zs : List X) → Least lt o y ys → Least lt o z zs → ((x : X) → filter (ties lt x) (y ∷ ys) ≡ filter (ties lt x) (z ∷ zs)) → y ≡ z
   first_same y z ys zs least_y least_z same =
       let forth : lt y z ≡ false = not_behind y z ys zs least_z (same y) in
       let back : lt z y ≡ false = not_behind z y zs ys least_y (sym (same z)) in
@@ -68,7 +60,7 @@ module _ {X : Type 0} (lt : X → X → Bool) (o : IsStrictWeakOrder lt) where
       let firsts : y ∷ filter (ties lt y) ys ≡ z ∷ filter (ties lt y) zs = sym left ∙ same y ∙ right in
       cc
 
-  same_sorted : (ys zs : List X) → Sorted ys → Sorted zs → ((x : X) → filter (ties lt x) ys ≡ filter (ties lt x) zs) → ys ≡ zs
+  same_sorted : (ys zs : List X) → Sorted lt o ys → Sorted lt o zs → ((x : X) → filter (ties lt x) ys ≡ filter (ties lt x) zs) → ys ≡ zs
   same_sorted [] [] p q same = refl
   same_sorted [] (z ∷ zs) p q same =
       let h : [] ≡ z ∷ filter (ties lt z) zs = same z ∙ ap (λ (b : Bool). cond b (z ∷ filter (ties lt z) zs) (filter (ties lt z) zs)) (ties_self z) in cc
@@ -80,57 +72,6 @@ module _ {X : Type 0} (lt : X → X → Bool) (o : IsStrictWeakOrder lt) where
       let rest : ys ≡ zs = same_sorted ys zs p.1 q.1 (λ x. tail_step x y ys zs (ties lt x y) (again x)) in
       cc
 
-  -- ---- the definition gives a list in order, which keeps ties
-
-  least_choice : (y : X) (b : Bool) (xs ys : List X) → Least y xs → Least y ys → Least y (cond b xs ys)
-  least_choice y true xs ys p q = p
-  least_choice y false xs ys p q = q
-
-  least_put : (y x : X) (ys : List X) → Least y ys → lt x y ≡ false → Least y (put_in_order lt x ys)
-  least_put y x [] p e = (e, tt)
-  least_put y x (z ∷ zs) p e = least_choice y (lt z x) (z ∷ put_in_order lt x zs) (x ∷ z ∷ zs) (p.0, least_put y x zs p.1 e) (e, p)
-
-  least_chain : (x y : X) (ys : List X) → lt y x ≡ false → Least y ys → Least x ys
-  least_chain x y [] e p = tt
-  least_chain x y (z ∷ zs) e p = (o.chain z y x p.0 e, least_chain x y zs e p.1)
-
-  put_step : (x y : X) (ys : List X) (b : Bool) → lt y x ≡ b → Sorted (y ∷ ys) → Sorted (put_in_order lt x ys) → Sorted (cond b (y ∷ put_in_order lt x ys) (x ∷ y ∷ ys))
-  put_step x y ys true e p q = (least_put y x ys p.0 (o.one_way y x e), q)
-  put_step x y ys false e p q = ((e, least_chain x y ys e p.0), p)
-
-  sorted_put : (x : X) (ys : List X) → Sorted ys → Sorted (put_in_order lt x ys)
-  sorted_put x [] p = (tt, tt)
-  sorted_put x (y ∷ ys) p = put_step x y ys (lt y x) refl p (sorted_put x ys p.1)
-
-  sorted_in_order : (xs : List X) → Sorted (in_order lt xs)
-  sorted_in_order [] = tt
-  sorted_in_order (x ∷ xs) = sorted_put x (in_order lt xs) (sorted_in_order xs)
-
-  -- of two elements that tie with w, none comes before the other
-  no_tie : (w x y : X) → ties lt w x ≡ true → ties lt w y ≡ true → lt y x ≡ false
-  no_tie w x y e f =
-      o.chain y w x (not-true (lt y w) (and_parts (not (lt w y)) (not (lt y w)) f).1) (not-true (lt w x) (and_parts (not (lt w x)) (not (lt x w)) e).0)
-
-  kept_step : (w x y : X) (ys : List X) (b px py : Bool) → lt y x ≡ b → ties lt w x ≡ px → ties lt w y ≡ py
-      → filter (ties lt w) (put_in_order lt x ys) ≡ cond px (x ∷ filter (ties lt w) ys) (filter (ties lt w) ys)
-      → filter (ties lt w) (cond b (y ∷ put_in_order lt x ys) (x ∷ y ∷ ys)) ≡ filter (ties lt w) (x ∷ y ∷ ys)
-  kept_step w x y ys false px py e f g h = refl
-  kept_step w x y ys true true true e f g h = absurd (true≢false (sym e ∙ no_tie w x y f g))
-  kept_step w x y ys true false true e f g h = rw (f, g, h) refl
-  kept_step w x y ys true true false e f g h = rw (f, g, h) refl
-  kept_step w x y ys true false false e f g h = rw (f, g, h) refl
-
-  kept_put : (w x : X) (ys : List X) → filter (ties lt w) (put_in_order lt x ys) ≡ filter (ties lt w) (x ∷ ys)
-  kept_put w x [] = refl
-  kept_put w x (y ∷ ys) = kept_step w x y ys (lt y x) (ties lt w x) (ties lt w y) refl refl refl (kept_put w x ys)
-
-  filter_behind : (p : X → Bool) (x : X) (xs ys : List X) → filter p xs ≡ filter p ys → filter p (x ∷ xs) ≡ filter p (x ∷ ys)
-  filter_behind p x xs ys e = ap (λ (zs : List X). cond (p x) (x ∷ zs) zs) e
-
-  kept_in_order : (w : X) (xs : List X) → filter (ties lt w) (in_order lt xs) ≡ filter (ties lt w) xs
-  kept_in_order w [] = refl
-  kept_in_order w (x ∷ xs) = kept_put w x (in_order lt xs) ∙ filter_behind (ties lt w) x (in_order lt xs) xs (kept_in_order w xs)
-
   -- what a stable sort gives is what the definition gives
   pub stable_sort : (xs ys : List X) → IsSortedBy lt ys → IsStableBy lt xs ys → ys ≡ in_order lt xs
-  stable_sort xs ys up stable = same_sorted ys (in_order lt xs) (sorted_from ys up) (sorted_in_order xs) (λ x. stable x ∙ sym (kept_in_order x xs))
+  stable_sort xs ys up stable = same_sorted ys (in_order lt xs) (sorted_from ys up) (sorted_in_order lt o xs) (λ x. stable x ∙ sym (kept_in_order lt o x xs))

@@ -9,7 +9,8 @@
 //! - `aggregates`: [`aggregate`], COUNT, SUM, MIN and MAX
 //!
 //! # Proved
-//! - [`order`] gives exactly the rows in the order of the definition, ties as they came, or wants memory
+//! - [`order`] gives exactly the rows in the order of the definition, or wants memory; a law of `value_rules`
+//!   says that this sorts them, ties as they came
 //! - [`limit`] gives exactly the part that LIMIT and OFFSET leave, without memory
 //! - [`aggregate`] gives exactly the value or the error number of the definition, or wants memory
 //!

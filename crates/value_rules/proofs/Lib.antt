@@ -1,1 +1,4 @@
 pub mod Comparing
+pub mod Extremes
+pub mod Orders
+pub mod Sorting

@@ -1,6 +1,7 @@
 -- What SELECT makes of the rows that WHERE keeps: their order, a part of them, and aggregates.
-use Rattle.std.specs.Prelude.{ℕ, Bool, true, false, not, ◌&&◌, ◌||◌, if◌then◌else◌, List, [], ◌∷◌, length, take, drop, filter, slice_index_or, Result, Ok, Err, ℤ, pos, ◌+ℤ◌}
-use Rattle.std.specs.List.{list_any}
+use Rattle.std.specs.Prelude.{◌≡◌, ℕ, Bool, true, false, not, ◌&&◌, ◌||◌, if◌then◌else◌, List, [], ◌∷◌, length, take, drop, filter, slice_index_or, Result, Ok, Err, ℤ, pos, ◌+ℤ◌, IsTrue}
+use Rattle.std.specs.List.{list_all, list_any, Contains}
+use Rattle.std.specs.List.Sorted.{IsPermutation, IsStableBy}
 use Rattle.std.specs.declared.cmp.Ordering.{Ordering}
 use Rattle.std.specs.declared.cmp.Ordering.TheVariants.{Equal}
 use Rattle.std.specs.Ordering.{is_lt, on, flip_args, then_cmp}
@@ -39,6 +40,11 @@ module _ {X : Type 0} (before : X → X → Bool) where
   abbrev pub in_order : List X → List X
   in_order [] = []
   in_order (x ∷ xs) = put_in_order x (in_order xs)
+
+module _ {X : Type 0} (key : X → List Value) (downs : List Bool) where
+  -- whether a row comes before another by the values of its items
+  abbrev pub key_before : X → X → Bool
+  key_before a b = is_lt (by_items downs (key a) (key b))
 
 -- ---- LIMIT
 
@@ -105,3 +111,37 @@ aggregate_value Count vs = Ok (Int (pos (known_count vs)))
 aggregate_value Sum vs = sum_of vs
 aggregate_value Min vs = extreme_of (comes_first false) vs
 aggregate_value Max vs = extreme_of (comes_first true) vs
+
+-- ---- laws
+
+module _ {X : Type 0} (before : X → X → Bool) where
+  -- whether none of some elements comes before a first one
+  abbrev pub comes_first_of : X → List X → Bool
+  comes_first_of x xs = list_all (λ later. not (before later x)) xs
+
+  -- whether none comes before one that stands before it
+  abbrev pub stand_in_order : List X → Bool
+  stand_in_order [] = true
+  stand_in_order (x ∷ xs) = comes_first_of x xs && stand_in_order xs
+
+  -- sorting: the same elements, none of which comes before one that stands before it; those of which neither comes before
+  -- the other stand as they stood
+  pub record IsSorting (xs ys : List X) : Type 0 where
+    pub same : IsPermutation xs ys
+    pub ordered : IsTrue (stand_in_order ys)
+    pub as_they_stood : IsStableBy before xs ys
+
+-- ORDER BY sorts rows, whatever a row is beside the values of its items
+abbrev pub OrderSorts : {X : Type 0} → (X → List Value) → Type 0
+OrderSorts {X} key = (downs : List Bool) (rows : List X) → IsSorting (key_before key downs) rows (in_order (key_before key downs) rows)
+
+-- the best of some values: one of those that are not NULL, before which none of these comes; NULL where all are
+pub record IsBest (before : Value → Value → Bool) (vs : List Value) (best : Value) : Type 0 where
+  pub known : best ≡ Null → IsTrue (list_all is_null vs)
+  pub among : IsTrue (not (is_null best)) → Contains vs best
+  pub first : IsTrue (list_all (λ v. is_null v || not (before v best)) vs)
+
+-- MIN is the lowest value and MAX the highest
+pub record ExtremesAreBest : Type 0 where
+  pub least : (vs : List Value) (best : Value) → aggregate_value Min vs ≡ Ok best → IsBest (comes_first false) vs best
+  pub greatest : (vs : List Value) (best : Value) → aggregate_value Max vs ≡ Ok best → IsBest (comes_first true) vs best

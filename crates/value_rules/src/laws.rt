@@ -1,5 +1,8 @@
 //! Laws of the definitions: what follows from them, for all values.
+ghost use Rattle.std.specs.Prelude.{List};
+ghost use Rattle.val_types.specs.declared.value.Value.{Value};
 ghost use Rattle.value_rules.specs.Operators.{ComparesAsKeys, LeftDecides, NullSafeIsEquality};
+ghost use Rattle.value_rules.specs.Selecting.{ExtremesAreBest, OrderSorts};
 
 /// A law: where `=`, `<` and the like have an order of two values to test, it is the order in which
 /// keys stand.
@@ -16,4 +19,16 @@ pub fn null_safe_equality_is_equality()
 /// so that the right operand may be left out.
 pub fn left_operands_decide()
     ensures { LeftDecides }
+{}
+
+/// A law: ORDER BY gives the same rows, none of which comes before one that stands before it, and those that are alike as
+/// they came. A row may be anything that has values to be ordered by.
+pub fn order_by_sorts<X>()
+    ensures { (key : X → List Value) → OrderSorts key }
+{}
+
+/// A law: MIN is one of the values that are not NULL, below which none of these is, and MAX one above which none is; NULL
+/// just where all are.
+pub fn extremes_are_best()
+    ensures { ExtremesAreBest }
 {}

@@ -1,4 +1,4 @@
-use Rattle.std.proofs.Common.{◌≡◌, ℕ, get_or, Option, Some, None, sym, ap, ◌∙◌}
+use Rattle.std.proofs.Common.{◌≡◌, get_or, Option, Some, None, sym, ap, ◌∙◌}
 use Rattle.std.specs.Prelude.{position, unwrap_or}
 use Rattle.std.specs.Option.{option_map}
 use Rattle.val_types.proofs.Lookup.{found, missing}

@@ -1,10 +1,10 @@
 //! Counters and sequences worked out by hand.
 
-use auto_inc::{Counters, StmtSeq};
+use auto_inc::{Counters, StmtSeq, start_value};
 use std::alloc::Global;
 use std::process::Abort;
 use std::test::Fail;
-use val_types::{Bytes, List};
+use val_types::{Bytes, Duplicate, List, NoMemory, Row, Value};
 
 /// The greatest number of INT.
 const INT: i64 = 2_147_483_647;
@@ -140,10 +140,17 @@ fn name(alloc: Global, bytes: &[u8]) -> Result<Bytes, Fail> {
 /// Three counters: of `t` 1, of `u` 5 and of a name of other bytes 9.
 fn three(alloc: Global) -> Result<Counters, Fail> {
     let mut counters = Counters::new(alloc);
-    counters.add(&name(alloc, b"t")?, 1)?;
-    counters.add(&name(alloc, b"u")?, 5)?;
-    counters.add(&name(alloc, b"\xe9")?, 9)?;
+    add(&mut counters, &name(alloc, b"t")?, 1)?;
+    add(&mut counters, &name(alloc, b"u")?, 5)?;
+    add(&mut counters, &name(alloc, b"\xe9")?, 9)?;
     Ok(counters)
+}
+
+fn add(counters: &mut Counters, table: &Bytes, value: u64) -> Result<(), NoMemory> {
+    match counters.place(table) {
+        None => counters.add(table, value),
+        Some(_) => Ok(()),
+    }
 }
 
 #[test]
@@ -169,5 +176,38 @@ fn counters_rise(rt: HostRuntime) -> Result<(), Fail> {
     counters.remove(&u);
     assert_eq!(rt; counters.value(&u), 0);
     assert_eq!(rt; counters.value(&t), 1);
+    Ok(())
+}
+
+/// The place of a counter, and its value, raised, beside that of a copy.
+fn beside_a_copy(alloc: Global) -> Result<(Option<usize>, u64, u64), Fail> {
+    let mut counters = three(alloc)?;
+    let u = name(alloc, b"u")?;
+    let copy = counters.duplicate(alloc)?;
+    counters.raise(&u, 8);
+    Ok((counters.place(&u), counters.value(&u), copy.value(&u)))
+}
+
+#[test]
+fn places_and_copies(rt: HostRuntime) -> Result<(), Fail> {
+    assert!(rt; beside_a_copy(rt.alloc())? == (Some(1), 9, 5));
+    Ok(())
+}
+
+/// What a counter starts with by the only column of a row, and by one that is not there.
+fn starts(alloc: Global, number: i64) -> Result<(u64, u64), Fail> {
+    let mut row: Row = List::new(alloc);
+    row.push(Value::Int(number))?;
+    let mut rows = List::new(alloc);
+    rows.push(row)?;
+    Ok((
+        start_value(Some(0), rows.as_slice()),
+        start_value(Some(1), rows.as_slice()),
+    ))
+}
+
+#[test]
+fn a_counter_starts(rt: HostRuntime) -> Result<(), Fail> {
+    assert!(rt; starts(rt.alloc(), BIGINT)? == (9_223_372_036_854_775_808, 1));
     Ok(())
 }

@@ -1,0 +1,5 @@
+//! Calls of the crates of contexts, by hand.
+
+mod counting;
+mod locals;
+mod sessions;
