@@ -1,3 +1,4 @@
 pub mod InWay
+pub mod Leading
 pub mod Storing
 pub mod Taking
