@@ -2,6 +2,7 @@
 ghost use Rattle.table_rules.specs.Changes.{ChangesTurnBack};
 ghost use Rattle.table_rules.specs.Leads.{LastTakenBack, LeadsBack, LeadsHome, LeadsNowhere, LeadsOn, NoneTakenBack, NotedTakenBack, OneChangeLeads, StillTakenBack};
 ghost use Rattle.table_rules.specs.Stored.{AllTurnBack, DefinitionsStay, DeletesWhatIsThere, InsertsWhereApplied, KeysInWay, ReplacesWhereApplied, RowInWay};
+ghost use Rattle.table_rules.specs.Stores.{FitsByPlace, PlaceHasName, PlaceIsOfName, PlacesStay};
 
 /// A law: a change that can be made to tables leaves each with rows that fit, rise by key and have no
 /// key in common, and the inverse change gives the tables as they were.
@@ -59,4 +60,13 @@ pub fn changes_can_be_taken_back()
 pub fn taking_back_leads_back()
     ensures back { LeadsBack }
     ensures home { LeadsHome }
+{}
+
+/// A law: the table at the place of a name is the table of the name, so that rows fit it by either; places
+/// stay where no table is made or dropped.
+pub fn places_are_of_names()
+    ensures table { PlaceIsOfName }
+    ensures name { PlaceHasName }
+    ensures fit { FitsByPlace }
+    ensures stay { PlacesStay }
 {}
