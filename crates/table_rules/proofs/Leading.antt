@@ -16,7 +16,7 @@ use Rattle.table_rules.specs.Tables.{Table}
 use Rattle.table_rules.specs.Changes.{applied, AreKept}
 use Rattle.table_rules.specs.Stored.{all_applied, all_inverse}
 use Rattle.table_rules.specs.Stores.{Store, definitions_of, keeps_put, KeepsAll, keeps_inverses, can_take_back}
-use Rattle.table_rules.specs.Leads.{Leads, LeadsNowhere, LeadsOn, OneChangeLeads, StillTakenBack, NotedTakenBack, LastTakenBack, NoneTakenBack, LeadsBack, LeadsHome}
+use Rattle.table_rules.specs.Leads.{Leads, LeadsNowhere, LeadsOn, OneChangeLeads, NoChangeLeads, StillTakenBack, NotedTakenBack, LastTakenBack, NoneTakenBack, LeadsBack, LeadsHome}
 use Rattle.table_rules.proofs.Taking.{tables_reversible}
 use Rattle.table_rules.proofs.Storing.{all_applied_behind, all_inverse_front, definitions_kept, turn_back}
 
@@ -91,6 +91,17 @@ one_change_leads old new noted change all made kept keys = record {
   kept = and_from (keeps_put new (inverse change)) true kept refl;
   keys = keys;
   same = definitions_kept change old.tables new.tables made;
+}
+
+pub no_change_leads : NoChangeLeads
+no_change_leads old new noted tables keys = record {
+  more = [];
+  added = sym (append-nil noted);
+  made = ap (λ (ts : List Table). Some ts) (sym tables);
+  back = ap (λ (ts : List Table). Some ts) tables;
+  kept = refl;
+  keys = keys;
+  same = ap definitions_of tables;
 }
 
 -- ---- what can be taken back

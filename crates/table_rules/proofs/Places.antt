@@ -1,17 +1,18 @@
 -- Tables by their places.
-use Rattle.std.proofs.Common.{◌≡◌, ℕ, zero, suc, ◌+◌, List, [], ◌∷◌, map, length, Bool, true, false, not, nat_lt, cond, Option, Some, None, refl, sym, ap, ◌∙◌, arith}
+use Rattle.std.proofs.Common.{◌≡◌, ℕ, zero, suc, ◌+◌, List, [], ◌∷◌, map, length, Bool, true, false, not, nat_lt, cond, Option, Some, None, Result, Ok, Err, refl, sym, ap, ◌∙◌, arith}
 use Rattle.std.specs.List.{position_or_len}
 use Rattle.std.proofs.lemmas.Bool.Decides.{nat_tests}
 use Rattle.std.specs.Prelude.{nat_eq, find, position, slice_get}
-use Rattle.std.specs.Option.{option_map, option_map_or}
+use Rattle.std.specs.Option.{option_map, option_map_or, option_and_then}
 use Rattle.std.specs.Cmp.Lexicographic.{pointwise}
 use Rattle.std.proofs.lemmas.Bool.{and_parts, and_from, eqb-true, eq-eqb}
 use Rattle.val_types.specs.declared.value.Value.{Value}
 use Rattle.val_types.specs.declared.definitions.TableDef.{TableDef}
 use Rattle.val_types.specs.Fitting.{row_fits}
-use Rattle.val_types.proofs.Lookup.{place_mapped}
+use Rattle.val_types.specs.Keys.{primary_key}
+use Rattle.val_types.proofs.Lookup.{place_mapped, missing, unchanged, all_left}
 use Rattle.table_rules.specs.Tables.{Table}
-use Rattle.table_rules.specs.Stored.{has_name, table_named}
+use Rattle.table_rules.specs.Stored.{has_name, table_named, row_of_key, row_at, row_absent, where_found, insertion_in, replacement_in, deletion_in, insertion, replacement, deletion, keys_at, fits_table, tables_beside, tables_cleared}
 use Rattle.table_rules.specs.Stores.{place_of, definitions_of, PlaceIsOfName, PlaceHasName, FitsByPlace, PlacesStay}
 
 -- ---- names
@@ -96,3 +97,32 @@ places_stay name old new same =
     sym (place_mapped (λ (t : Table). t.definition) (λ (d : TableDef). pointwise nat_eq name d.name) new)
     ∙ ap (position (λ (d : TableDef). pointwise nat_eq name d.name)) same
     ∙ place_mapped (λ (t : Table). t.definition) (λ (d : TableDef). pointwise nat_eq name d.name) old
+
+-- ---- where there is no table of a name
+
+pub none_named : (name : List ℕ) (ts : List Table) → place_of name ts ≡ None → table_named name ts ≡ None
+none_named name ts e = missing (has_name name) ts e
+
+pub nothing_inserted : (name : List ℕ) (row : List Value) (ts : List Table) → place_of name ts ≡ None → insertion name row ts ≡ Err row_absent
+nothing_inserted name row ts e = ap (λ (t : Option Table). where_found t (insertion_in name row)) (none_named name ts e)
+
+pub nothing_replaced : (name : List ℕ) (key row : List Value) (ts : List Table) → place_of name ts ≡ None → replacement name key row ts ≡ Err row_absent
+nothing_replaced name key row ts e = ap (λ (t : Option Table). where_found t (replacement_in name key row)) (none_named name ts e)
+
+pub nothing_deleted : (name : List ℕ) (key : List Value) (ts : List Table) → place_of name ts ≡ None → deletion name key ts ≡ Err row_absent
+nothing_deleted name key ts e = ap (λ (t : Option Table). where_found t (deletion_in name key)) (none_named name ts e)
+
+pub no_row : (name : List ℕ) (key : List Value) (ts : List Table) → place_of name ts ≡ None → row_at name key ts ≡ None
+no_row name key ts e = ap (option_and_then (λ (t : Table). row_of_key t.definition key t.rows)) (none_named name ts e)
+
+pub no_keys : (name : List ℕ) (ts : List Table) → place_of name ts ≡ None → keys_at name ts ≡ []
+no_keys name ts e = ap (λ (o : Option Table). option_map_or (λ (t : Table). map (primary_key t.definition) t.rows) o []) (none_named name ts e)
+
+pub all_fit : (name : List ℕ) (row : List Value) (ts : List Table) → place_of name ts ≡ None → fits_table name row ts ≡ true
+all_fit name row ts e = ap (λ (o : Option Table). option_map_or (λ (t : Table). row_fits t.definition.columns row) o true) (none_named name ts e)
+
+pub nothing_cleared : (name : List ℕ) (ts : List Table) → place_of name ts ≡ None → ts ≡ tables_cleared name ts
+nothing_cleared name ts e = sym (unchanged (has_name name) (λ table. record table { rows = [] }) ts e)
+
+pub nothing_dropped : (name : List ℕ) (ts : List Table) → place_of name ts ≡ None → ts ≡ tables_beside name ts
+nothing_dropped name ts e = sym (all_left (has_name name) ts e)

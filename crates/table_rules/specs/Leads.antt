@@ -36,6 +36,10 @@ OneChangeLeads =
     → AreKept old.tables → applied change old.tables ≡ Some new.tables → keeps_put new (inverse change) ≡ true → KeepsAll old new
     → Leads old noted new (noted ++ change ∷ [])
 
+-- where no change was made and none noted, more keys may be kept
+abbrev pub NoChangeLeads : Type 0
+NoChangeLeads = (old new : Store) (noted : List Change) → new.tables ≡ old.tables → KeepsAll old new → Leads old noted new noted
+
 -- what could be taken back before can be taken back after it, whatever the mark
 abbrev pub StillTakenBack : Type 0
 StillTakenBack =

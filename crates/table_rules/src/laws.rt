@@ -1,6 +1,6 @@
 //! Laws of the definitions: what follows from them, for all changes and tables.
 ghost use Rattle.table_rules.specs.Changes.{ChangesTurnBack};
-ghost use Rattle.table_rules.specs.Leads.{LastTakenBack, LeadsBack, LeadsHome, LeadsNowhere, LeadsOn, NoneTakenBack, NotedTakenBack, OneChangeLeads, StillTakenBack};
+ghost use Rattle.table_rules.specs.Leads.{LastTakenBack, LeadsBack, LeadsHome, LeadsNowhere, LeadsOn, NoChangeLeads, NoneTakenBack, NotedTakenBack, OneChangeLeads, StillTakenBack};
 ghost use Rattle.table_rules.specs.Stored.{AllTurnBack, DefinitionsStay, DeletesWhatIsThere, InsertsWhereApplied, KeysInWay, ReplacesWhereApplied, RowInWay};
 ghost use Rattle.table_rules.specs.Stores.{FitsByPlace, PlaceHasName, PlaceIsOfName, PlacesStay};
 
@@ -42,6 +42,7 @@ pub fn rows_in_way_have_keys()
 /// a change that was made and noted is one, and two of them are one.
 pub fn changes_lead_on()
     ensures nowhere { LeadsNowhere }
+    ensures none { NoChangeLeads }
     ensures one { OneChangeLeads }
     ensures on { LeadsOn }
 {}
