@@ -169,6 +169,26 @@ still_taken_back old new noted now p mark can = still_by old new noted now p mar
 
 -- ---- taking back
 
+-- the last of some changes that can be taken back is a step, and the key of the row that taking it back puts is kept
+pub last_step : (store : Store) (xs : List Change) (last : Change) → can_take_back store (xs ++ last ∷ []) ≡ true
+    → (is_some (applied (inverse last) store.tables) ≡ true) × (keeps_put store (inverse last) ≡ true)
+last_step store xs last can =
+    let parts = can_parts store (last ∷ []) (last_of store xs (last ∷ []) can) in
+    (first_some (all_applied []) (applied (inverse last) store.tables) parts.0, (and_parts (keeps_put store (inverse last)) true parts.1).0)
+
+-- taking the last back, and then the others
+pub back_last : (xs : List Change) (last : Change) (ts : List Table) → all_applied (all_inverse (xs ++ last ∷ [])) ts ≡ option_and_then (all_applied (all_inverse xs)) (applied (inverse last) ts)
+back_last xs last ts = ap (λ (cs : List Change). all_applied cs ts) (all_inverse_both xs (last ∷ []))
+
+-- then the others can be taken back
+pub rest_taken_back : (old new : Store) (xs : List Change) (last : Change) → applied (inverse last) old.tables ≡ Some new.tables → KeepsAll old new → can_take_back old (xs ++ last ∷ []) ≡ true
+    → can_take_back new xs ≡ true
+rest_taken_back old new xs last made keys can =
+    let parts = can_parts old (xs ++ last ∷ []) can in
+    can_from new xs
+    (ap (λ (o : Option (List Table)). is_some o) (sym (back_last xs last old.tables ∙ ap (option_and_then (all_applied (all_inverse xs))) made)) ∙ parts.0)
+    (kept_more old new xs keys (and_parts (keeps_inverses old xs) (keeps_inverses old (last ∷ [])) (sym (kept_both old xs (last ∷ [])) ∙ parts.1)).0)
+
 all_definitions : (xs : List Change) (ts after : List Table) → all_applied xs ts ≡ Some after → definitions_of after ≡ definitions_of ts
 all_definitions [] ts after e = let same : ts ≡ after = cc in ap definitions_of (sym same)
 all_definitions (x ∷ xs) ts after e =
