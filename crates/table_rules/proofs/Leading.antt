@@ -82,6 +82,16 @@ leads_on old mid new noted later now p q = record {
   same = q.same ∙ p.same;
 }
 
+-- the same from the last step, of which a search knows where it ends
+pub leads_from : (old mid new : Store) (noted later now : List Change) → Leads mid later new now → Leads old noted mid later → Leads old noted new now
+leads_from old mid new noted later now q p = leads_on old mid new noted later now p q
+
+pub leads_by_three : (a b c d : Store) (k l m n : List Change) → Leads c m d n → Leads b l c m → Leads a k b l → Leads a k d n
+leads_by_three a b c d k l m n r q p = leads_on a b d k l n p (leads_on b c d l m n q r)
+
+pub leads_by_four : (a b c d e : Store) (k l m n o : List Change) → Leads d n e o → Leads c m d n → Leads b l c m → Leads a k b l → Leads a k e o
+leads_by_four a b c d e k l m n o s r q p = leads_on a b e k l o p (leads_by_three b c d e l m n o s r q)
+
 pub one_change_leads : OneChangeLeads
 one_change_leads old new noted change all made kept keys = record {
   more = change ∷ [];
@@ -230,4 +240,4 @@ leads_home start old noted later p = (
 )
 
 -- what callers need where calls lead on
-pub ruleset leading = (leads_nowhere, leads_on, still_taken_back, noted_taken_back, last_taken_back, none_taken_back)
+pub ruleset leading = (leads_nowhere, leads_from, leads_by_three, leads_by_four, still_taken_back, noted_taken_back, last_taken_back, none_taken_back)
