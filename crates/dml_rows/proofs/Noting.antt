@@ -1,24 +1,27 @@
 -- The change that storing a row makes, and changes noted and taken back.
-use Rattle.std.proofs.Common.{◌≡◌, ℕ, ◌+◌, ◌<◌, ◌≤◌, List, [], ◌∷◌, ◌++◌, map, length, take, drop, true, Option, Some, None, Result, Ok, Err, ◌⊎◌, inl, inr, length-append, refl, sym, ap, subst, ◌∙◌, arith}
-use Rattle.std.specs.Prelude.{is_some}
-use Rattle.std.specs.Option.{option_and_then}
+use Rattle.std.proofs.Common.{◌≡◌, ℕ, ◌+◌, ◌<◌, ◌≤◌, List, [], ◌∷◌, ◌++◌, map, length, take, drop, true, false, Option, Some, None, Result, Ok, Err, ◌⊎◌, inl, inr, length-append, refl, sym, ap, subst, ◌∙◌, arith}
+use Rattle.std.specs.Prelude.{is_some, slice_get}
+use Rattle.std.specs.Option.{option_map, option_and_then}
 use Rattle.std.proofs.Math.ListN.{drop_of_length-le}
-use Rattle.std.proofs.lemmas.List.{reverse-append, drop-append-le}
-use Rattle.std.proofs.lemmas.List.Folds.{list_all-append}
-use Rattle.std.proofs.lemmas.Bool.{and_parts, and_from, cases_lt}
+use Rattle.std.proofs.Math.Seq.{drop-append_seam, take-append_seam}
+use Rattle.std.proofs.lemmas.List.{drop-append-le, take-append-le}
+use Rattle.std.proofs.lemmas.Bool.{cases_lt}
 use Rattle.val_types.specs.declared.value.Value.{Value}
+use Rattle.val_types.specs.declared.definitions.TableDef.{TableDef}
 use Rattle.val_types.specs.declared.change.Change.{Change}
 use Rattle.val_types.specs.declared.change.Change.TheVariants.{Insert, Update, Delete}
-use Rattle.table_rules.specs.Tables.{Table}
-use Rattle.table_rules.specs.Changes.{applied, AreKept}
 use Rattle.val_types.specs.Changes.{inverse}
+use Rattle.table_rules.specs.Tables.{Table}
+use Rattle.table_rules.specs.Changes.{applied}
 use Rattle.table_rules.specs.Stored.{table_named, row_of_key, row_at, rows_beside, key_in_way, Obstacle, where_found, unless_taken, insertion_in, replacement_in, deletion_in, insertion, replacement, deletion, carried_out, all_applied, all_inverse}
-use Rattle.table_rules.proofs.Taking.{tables_reversible}
+use Rattle.table_rules.specs.Stores.{Store, place_of, definitions_of, keeps, keeps_put, KeepsAll, KeepsSame, IsWhole, can_take_back}
+use Rattle.table_rules.specs.Leads.{Leads}
+use Rattle.table_rules.proofs.Places.{place_has_name}
+use Rattle.table_rules.proofs.Leading.{leads_nowhere, one_change_leads, no_change_leads, leads_back, none_taken_back, last_step, back_last, rest_taken_back}
 use Rattle.row_store.specs.declared.refusal.RowRefusal.{RowRefusal}
 use Rattle.row_store.specs.declared.refusal.RowRefusal.TheVariants.{Taken, Absent, NoMemory}
-use Rattle.row_store.specs.declared.tables.Tables.{Tables}
-use Rattle.row_store.specs.Stores.{tables_of, keeps_put, KeepsAll, KeepsSame, Stores}
-use Rattle.dml_rows.specs.Noted.{keeps_inverses, CanTakeBack, StaysReversible}
+use Rattle.row_store.specs.Stores.{Stores}
+use Rattle.dml_rows.specs.Noted.{changes_of, Notes, StaysReversible}
 
 -- ---- the change that was made
 
@@ -66,86 +69,125 @@ refused (Taken which) step old new p = p.1
 refused Absent step old new p = p.1
 refused NoMemory step old new p = p
 
-pub refused_row : (refusal : RowRefusal) (step : Result Change Obstacle) (old new : List Table) → Stores {A = List Value} (Err refusal) step old new → new ≡ old
-refused_row (Taken which) step old new p = p.1
-refused_row Absent step old new p = p.1
-refused_row NoMemory step old new p = p
-
 pub carried : (step : Result Change Obstacle) (change : Change) (old new : List Table) → step ≡ Ok change → carried_out step old ≡ Some new → applied change old ≡ Some new
 carried step change old new is e = ap (λ (s : Result Change Obstacle). carried_out s old) (sym is) ∙ e
 
--- ---- what can be taken back
+-- ---- names and places
 
-all_inverse_last : (xs : List Change) (last : Change) → all_inverse (xs ++ last ∷ []) ≡ inverse last ∷ all_inverse xs
-all_inverse_last xs last = ap (map inverse) (reverse-append xs (last ∷ []))
+some_name : (o : Option TableDef) (d : TableDef) (name : List ℕ) → Some d ≡ o → option_map (λ (e : TableDef). e.name) o ≡ Some name → d.name ≡ name
+some_name None d name e f = cc
+some_name (Some g) d name e f = let same : d ≡ g = cc in let named : g.name ≡ name = cc in ap (λ (h : TableDef). h.name) same ∙ named
 
-back_last : (xs : List Change) (last : Change) (ts : List Table) → all_applied (all_inverse (xs ++ last ∷ [])) ts ≡ option_and_then (all_applied (all_inverse xs)) (applied (inverse last) ts)
-back_last xs last ts = ap (λ (cs : List Change). all_applied cs ts) (all_inverse_last xs last)
+-- the definition at the place of a name has the name
+pub name_there : (name : List ℕ) (ts : List Table) (at : ℕ) (d : TableDef) → Some d ≡ slice_get (definitions_of ts) at → place_of name ts ≡ Some at → d.name ≡ name
+name_there name ts at d is e = some_name (slice_get (definitions_of ts) at) d name is (place_has_name name ts at e)
 
-pub none_to_take : (tables : Tables) → CanTakeBack tables []
-none_to_take tables = record { steps = refl; kept = refl }
+none_name : (o : Option TableDef) (name : List ℕ) → None ≡ o → option_map (λ (e : TableDef). e.name) o ≡ Some name → ⊥
+none_name None name e f = cc
+none_name (Some g) name e f = cc
 
-put_more : (old new : Tables) (change : Change) → KeepsAll old new → keeps_put old change ≡ true → keeps_put new change ≡ true
-put_more old new (Insert name row) more = more name row
-put_more old new (Update name before after) more = more name after
-put_more old new (Delete name row) more = λ e. refl
+-- where no definition stands, no name has its place
+pub no_name_there : (name : List ℕ) (ts : List Table) (at : ℕ) → None ≡ slice_get (definitions_of ts) at → place_of name ts ≡ Some at → ⊥
+no_name_there name ts at none e = none_name (slice_get (definitions_of ts) at) name none (place_has_name name ts at e)
 
-kept_more : (old new : Tables) (xs : List Change) → KeepsAll old new → keeps_inverses old xs ≡ true → keeps_inverses new xs ≡ true
-kept_more old new [] more e = refl
-kept_more old new (x ∷ xs) more e =
-    let parts = and_parts (keeps_put old (inverse x)) (keeps_inverses old xs) e in
-    and_from (keeps_put new (inverse x)) (keeps_inverses new xs) (put_more old new (inverse x) more parts.0) (kept_more old new xs more parts.1)
+-- ---- a change that was made and noted
 
--- where the tables are the same and more keys are kept
-pub same_back : (old new : Tables) (xs : List Change) → tables_of new ≡ tables_of old → KeepsAll old new → CanTakeBack old xs → CanTakeBack new xs
-same_back old new xs same more can = record {
-  steps = ap (λ (ts : List Table). is_some (all_applied (all_inverse xs) ts)) same ∙ can.steps;
-  kept = kept_more old new xs more can.kept;
-}
+-- a row that was inserted leads on
+pub insert_leads : (old new : Store) (noted now : List Change) (name : List ℕ) (row : List Value) → IsWhole old → carried_out (insertion name row old.tables) old.tables ≡ Some new.tables
+    → KeepsAll old new → now ≡ noted ++ Insert name row ∷ [] → Leads old noted new now
+insert_leads old new noted now name row whole made keys is =
+    subst (λ (cs : List Change). Leads old noted new cs) (sym is)
+    (one_change_leads old new noted (Insert name row) whole.rows
+    (carried (insertion name row old.tables) (Insert name row) old.tables new.tables (inserted name row old.tables new.tables made) made) refl keys)
 
--- where a change was made, and the key of the row that taking it back puts is kept
-pub more_back : (old new : Tables) (xs : List Change) (change : Change) → AreKept (tables_of old) → applied change (tables_of old) ≡ Some (tables_of new) → KeepsAll old new
-    → keeps_put new (inverse change) ≡ true → CanTakeBack old xs → CanTakeBack new (xs ++ change ∷ [])
-more_back old new xs change all made more kept can =
-    let turned = tables_reversible change (tables_of old) (tables_of new) all made in
-    record {
-      steps = ap (λ (o : Option (List Table)). is_some o) (back_last xs change (tables_of new) ∙ ap (option_and_then (all_applied (all_inverse xs))) turned.0) ∙ can.steps;
-      kept = list_all-append (λ (c : Change). keeps_put new (inverse c)) xs (change ∷ [])
-          ∙ and_from (keeps_inverses new xs) (keeps_inverses new (change ∷ [])) (kept_more old new xs more can.kept) (and_from (keeps_put new (inverse change)) true kept refl);
-    }
+pub update_leads : (old new : Store) (noted now : List Change) (name : List ℕ) (key before row : List Value) → IsWhole old → row_at name key old.tables ≡ Some before
+    → carried_out (replacement name key row old.tables) old.tables ≡ Some new.tables → keeps new name before ≡ true
+    → KeepsAll old new → now ≡ noted ++ Update name before row ∷ [] → Leads old noted new now
+update_leads old new noted now name key before row whole there made kept keys is =
+    subst (λ (cs : List Change). Leads old noted new cs) (sym is)
+    (one_change_leads old new noted (Update name before row) whole.rows
+    (carried (replacement name key row old.tables) (Update name before row) old.tables new.tables (replaced name key row before old.tables new.tables there made) made) kept keys)
 
--- ---- by marks
+pub delete_leads : (old new : Store) (noted now : List Change) (name : List ℕ) (key row : List Value) → IsWhole old → row_at name key old.tables ≡ Some row
+    → carried_out (deletion name key old.tables) old.tables ≡ Some new.tables → keeps new name row ≡ true
+    → KeepsAll old new → now ≡ noted ++ Delete name row ∷ [] → Leads old noted new now
+delete_leads old new noted now name key row whole there made kept keys is =
+    subst (λ (cs : List Change). Leads old noted new cs) (sym is)
+    (one_change_leads old new noted (Delete name row) whole.rows
+    (carried (deletion name key old.tables) (Delete name row) old.tables new.tables (deleted name key old.tables (Some row) there) made) kept keys)
 
-past_all : (mark : ℕ) (xs : List Change) (last : Change) → length xs < mark → drop mark (xs ++ last ∷ []) ≡ []
-past_all mark xs last h =
-    let long : length (xs ++ last ∷ []) ≡ length xs + 1 = length-append xs (last ∷ []) in
-    drop_of_length-le (xs ++ last ∷ []) (omega arith)
+-- what was noted is the change of storing the row
+pub insert_notes : (old new : List Table) (noted now : List Change) (name : List ℕ) (row : List Value) → carried_out (insertion name row old) old ≡ Some new → now ≡ noted ++ Insert name row ∷ []
+    → now ≡ noted ++ changes_of (insertion name row old)
+insert_notes old new noted now name row made is = is ∙ ap (λ (s : Result Change Obstacle). noted ++ changes_of s) (sym (inserted name row old new made))
 
-more_by : (mark : ℕ) (old new : Tables) (xs : List Change) (change : Change) → (length xs < mark) ⊎ (mark ≤ length xs)
-    → (CanTakeBack old (drop mark xs) → CanTakeBack new (drop mark xs ++ change ∷ [])) → CanTakeBack old (drop mark xs) → CanTakeBack new (drop mark (xs ++ change ∷ []))
-more_by mark old new xs change (inl past) more can = subst (λ (cs : List Change). CanTakeBack new cs) (sym (past_all mark xs change past)) (none_to_take new)
-more_by mark old new xs change (inr within) more can = subst (λ (cs : List Change). CanTakeBack new cs) (sym (drop-append-le mark xs (change ∷ []) within)) (more can)
+pub update_notes : (old new : List Table) (noted now : List Change) (name : List ℕ) (key before row : List Value) → row_at name key old ≡ Some before
+    → carried_out (replacement name key row old) old ≡ Some new → now ≡ noted ++ Update name before row ∷ [] → now ≡ noted ++ changes_of (replacement name key row old)
+update_notes old new noted now name key before row there made is = is ∙ ap (λ (s : Result Change Obstacle). noted ++ changes_of s) (sym (replaced name key row before old new there made))
 
--- a change noted behind the others
-pub stays_with : (old new : Tables) (xs : List Change) (change : Change) → AreKept (tables_of old) → applied change (tables_of old) ≡ Some (tables_of new) → KeepsAll old new
-    → keeps_put new (inverse change) ≡ true → StaysReversible old xs new (xs ++ change ∷ [])
-stays_with old new xs change all made more kept mark can =
-    more_by mark old new xs change (cases_lt (length xs) mark) (more_back old new (drop mark xs) change all made more kept) can
+pub delete_notes : (old : List Table) (noted now : List Change) (name : List ℕ) (key row : List Value) → row_at name key old ≡ Some row
+    → now ≡ noted ++ Delete name row ∷ [] → now ≡ noted ++ changes_of (deletion name key old)
+delete_notes old noted now name key row there is = is ∙ ap (λ (s : Result Change Obstacle). noted ++ changes_of s) (sym (deleted name key old (Some row) there))
 
-pub stays_same : (old new : Tables) (xs : List Change) → tables_of new ≡ tables_of old → KeepsAll old new → StaysReversible old xs new xs
-stays_same old new xs same more mark can = same_back old new (drop mark xs) same more can
+-- what was refused leads on, with more keys at most
+pub refused_leads : (refusal : RowRefusal) (step : Result Change Obstacle) (old new : Store) (noted now : List Change) → Stores {A = Unit {0}} (Err refusal) step old.tables new.tables → KeepsAll old new → now ≡ noted
+    → Leads old noted new now
+refused_leads refusal step old new noted now p keys is =
+    subst (λ (cs : List Change). Leads old noted new cs) (sym is) (no_change_leads old new noted (refused refusal step old.tables new.tables p) keys)
+
+pub nothing_leads : (store : Store) (noted now : List Change) → now ≡ noted → Leads store noted store now
+nothing_leads store noted now is = subst (λ (cs : List Change). Leads store noted store cs) (sym is) (leads_nowhere store noted)
 
 -- ---- taking back to a mark
 
 -- what is known where changes are taken back as far as they are
-pub record TakenSoFar (mark : ℕ) (first : Tables) (all : List Change) (tables : Tables) (changes : List Change) : Type 0 where
-  pub back : all_applied (all_inverse (drop mark changes)) (tables_of tables) ≡ all_applied (all_inverse (drop mark all)) (tables_of first)
+pub record TakenSoFar (mark : ℕ) (first : Store) (all : List Change) (store : Store) (changes : List Change) : Type 0 where
+  pub back : all_applied (all_inverse (drop mark changes)) store.tables ≡ all_applied (all_inverse (drop mark all)) first.tables
   pub front : take mark changes ≡ take mark all
-  pub can : CanTakeBack tables (drop mark changes)
-  pub still : StaysReversible first all tables changes
-  pub same : KeepsSame first tables
+  pub can : can_take_back store (drop mark changes) ≡ true
+  pub still : StaysReversible first all store changes
+  pub same : KeepsSame first store
+  pub leads : (start : Store) (noted : List Change) → Leads start noted first all → length noted ≤ mark → Leads start noted store changes
 
-pub none_noted : (tables : Tables) (changes : List Change) → changes ≡ [] → (mark : ℕ) → CanTakeBack tables (drop mark changes)
-none_noted tables changes e mark =
-    let none : drop mark changes ≡ [] = ap (drop mark) e ∙ drop_of_length-le [] (omega arith) in
-    subst (λ (cs : List Change). CanTakeBack tables cs) (sym none) (none_to_take tables)
+behind_mark : (mark : ℕ) (store : Store) (changes mid : List Change) (last : Change) → changes ≡ mid ++ last ∷ [] → mark < length changes → mark ≤ length mid
+behind_mark mark store changes mid last is h =
+    let long : length changes ≡ length mid + 1 = ap length is ∙ length-append mid (last ∷ []) in omega arith
+
+can_last : (mark : ℕ) (store : Store) (changes mid : List Change) (last : Change) → changes ≡ mid ++ last ∷ [] → mark ≤ length mid → can_take_back store (drop mark changes) ≡ true
+    → can_take_back store (drop mark mid ++ last ∷ []) ≡ true
+can_last mark store changes mid last is h can =
+    sym (ap (λ (cs : List Change). can_take_back store (drop mark cs)) is ∙ ap (can_take_back store) (drop-append-le mark mid (last ∷ []) h)) ∙ can
+
+-- the last change behind the mark is a step
+pub one_step : (mark : ℕ) (store : Store) (changes mid : List Change) (last : Change) → changes ≡ mid ++ last ∷ [] → mark < length changes → can_take_back store (drop mark changes) ≡ true
+    → (is_some (applied (inverse last) store.tables) ≡ true) × (keeps_put store (inverse last) ≡ true)
+one_step mark store changes mid last is h can =
+    last_step store (drop mark mid) last (can_last mark store changes mid last is (behind_mark mark store changes mid last is h) can)
+
+still_step : (mark : ℕ) (store after : Store) (changes mid : List Change) (last : Change) → changes ≡ mid ++ last ∷ [] → applied (inverse last) store.tables ≡ Some after.tables → KeepsAll store after
+    → (length mid < mark) ⊎ (mark ≤ length mid) → can_take_back store (drop mark changes) ≡ true → can_take_back after (drop mark mid) ≡ true
+still_step mark store after changes mid last is made keys (inl past) can = ap (can_take_back after) (drop_of_length-le mid (omega arith)) ∙ none_taken_back after
+still_step mark store after changes mid last is made keys (inr within) can =
+    rest_taken_back store after (drop mark mid) last made keys (can_last mark store changes mid last is within can)
+
+pub taken_one : (mark : ℕ) (first store after : Store) (all changes mid : List Change) (last : Change) → TakenSoFar mark first all store changes
+    → changes ≡ mid ++ last ∷ [] → mark < length changes → applied (inverse last) store.tables ≡ Some after.tables → KeepsSame store after → IsWhole after
+    → TakenSoFar mark first all after mid
+taken_one mark first store after all changes mid last so is h made same whole =
+    let within : mark ≤ length mid = behind_mark mark store changes mid last is h in
+    let keys : KeepsAll store after = λ name row kept. same name row ∙ kept in
+    record {
+      back = sym (ap (λ (cs : List Change). all_applied (all_inverse (drop mark cs)) store.tables) is
+          ∙ ap (λ (cs : List Change). all_applied (all_inverse cs) store.tables) (drop-append-le mark mid (last ∷ []) within)
+          ∙ back_last (drop mark mid) last store.tables
+          ∙ ap (option_and_then (all_applied (all_inverse (drop mark mid)))) made) ∙ so.back;
+      front = sym (ap (take mark) is ∙ take-append-le mark mid (last ∷ []) within) ∙ so.front;
+      can = still_step mark store after changes mid last is made keys (inr within) so.can;
+      still = λ other can. still_step other store after changes mid last is made keys (cases_lt (length mid) other) (so.still other can);
+      same = λ name row. same name row ∙ so.same name row;
+      leads = λ start noted leads past. leads_back start store after noted changes mid (length mid) whole.rows (so.leads start noted leads past) (omega arith)
+          (ap (λ (cs : List Change). all_applied (all_inverse (drop (length mid) cs)) store.tables) is
+          ∙ ap (λ (cs : List Change). all_applied (all_inverse cs) store.tables) (drop-append_seam mid (last ∷ []))
+          ∙ ap (option_and_then (all_applied [])) made)
+          (sym (ap (take (length mid)) is ∙ take-append_seam mid (last ∷ []))) keys;
+    }

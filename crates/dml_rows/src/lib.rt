@@ -15,8 +15,10 @@
 //! That calls succeed with ample memory, in `row_callers`.
 #![tactic(auto)]
 
+mod by_name;
 mod storing;
 mod taking_back;
 
-pub use storing::{delete_row, insert_row, update_row};
+pub use by_name::{delete_row, insert_row, update_row};
+pub use storing::{delete_row_at, insert_row_at, update_row_at};
 pub use taking_back::take_back_to;

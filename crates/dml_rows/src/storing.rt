@@ -1,36 +1,41 @@
-//! One row stored, with its change noted.
-ghost use Rattle.std.specs.Prelude.{◌≡◌, ◌++◌, ◌∷◌, [], true, List};
+//! One row stored in the table at a place, with its change noted.
+ghost use Rattle.std.specs.Prelude.{◌≡◌, ℕ, ◌++◌, ◌∷◌, [], true, List, Some};
 ghost use Rattle.val_types.specs.declared.change.Change.{Change};
-ghost use Rattle.table_rules.specs.Stored.{deletion, fits_table, insertion, replacement};
-ghost use Rattle.row_store.specs.Stores.{KeepsAll, Stores, tables_of};
-ghost use Rattle.dml_rows.specs.Noted.{Notes, StaysReversible};
+ghost use Rattle.table_rules.specs.Stored.{deletion, insertion, replacement};
+ghost use Rattle.table_rules.specs.Stores.{fits_at, place_of};
+ghost use Rattle.table_rules.specs.Leads.{Leads};
+ghost use Rattle.row_store.specs.Stores.{Stores};
+ghost use Rattle.dml_rows.specs.Noted.{Notes};
 
 use row_store::{RowRefusal, Tables};
 use std::alloc::Global;
 use undo_log::Undo;
-use val_types::{Bytes, Change, Duplicate, Row};
+use val_types::{Change, Duplicate, Row};
 
-/// Inserts a row.
-pub fn insert_row(
+/// Inserts a row into the table at a place.
+pub fn insert_row_at(
     alloc: Global,
     tables: &mut Tables,
     undo: &mut Undo,
-    table: &Bytes,
+    at: usize,
     row: Row,
 ) -> Result<(), RowRefusal>
-    requires { fits_table table.now row (tables_of tables.old) ≡ true }
-    ensures stored { Stores result (insertion table.now row (tables_of tables.old))
-        (tables_of tables.old) (tables_of tables.new) }
-    ensures noted { Notes result (insertion table.now row (tables_of tables.old)) undo.old undo.new }
-    ensures back { StaysReversible tables.old undo.old tables.new undo.new }
-    ensures keys { KeepsAll tables.old tables.new }
+    requires { fits_at at row tables.old.tables ≡ true }
+    ensures stored { (name : List ℕ) → place_of name tables.old.tables ≡ Some at
+        → Stores result (insertion name row tables.old.tables) tables.old.tables tables.new.tables }
+    ensures noted { (name : List ℕ) → place_of name tables.old.tables ≡ Some at
+        → Notes result (insertion name row tables.old.tables) undo.old undo.new }
+    ensures leads { Leads tables.old undo.old tables.new undo.new }
 {
+    let Some(definition) = tables.definition(at) else {
+        return Err(RowRefusal::Absent);
+    };
     let change = Change::Insert {
-        table: table.duplicate(alloc)?,
+        table: definition.name.duplicate(alloc)?,
         row: row.duplicate(alloc)?,
     };
     undo.push(change)?;
-    match tables.insert(table, row) {
+    match tables.insert_at(at, row) {
         Ok(()) => Ok(()),
         Err(refusal) => {
             forget(undo);
@@ -39,34 +44,36 @@ pub fn insert_row(
     }
 }
 
-/// Replaces the row of a key.
-pub fn update_row(
+/// Replaces the row of a key in the table at a place.
+pub fn update_row_at(
     alloc: Global,
     tables: &mut Tables,
     undo: &mut Undo,
-    table: &Bytes,
+    at: usize,
     key: &Row,
     row: Row,
 ) -> Result<(), RowRefusal>
-    requires { fits_table table.now row (tables_of tables.old) ≡ true }
-    ensures stored { Stores result (replacement table.now key.now row (tables_of tables.old))
-        (tables_of tables.old) (tables_of tables.new) }
-    ensures noted { Notes result (replacement table.now key.now row (tables_of tables.old))
-        undo.old undo.new }
-    ensures back { StaysReversible tables.old undo.old tables.new undo.new }
-    ensures keys { KeepsAll tables.old tables.new }
+    requires { fits_at at row tables.old.tables ≡ true }
+    ensures stored { (name : List ℕ) → place_of name tables.old.tables ≡ Some at
+        → Stores result (replacement name key.now row tables.old.tables) tables.old.tables tables.new.tables }
+    ensures noted { (name : List ℕ) → place_of name tables.old.tables ≡ Some at
+        → Notes result (replacement name key.now row tables.old.tables) undo.old undo.new }
+    ensures leads { Leads tables.old undo.old tables.new undo.new }
 {
-    let before = match tables.get(table, key) {
+    let Some(definition) = tables.definition(at) else {
+        return Err(RowRefusal::Absent);
+    };
+    let before = match tables.get_at(at, key) {
         Some(before) => before.duplicate(alloc)?,
         None => return Err(RowRefusal::Absent),
     };
     let change = Change::Update {
-        table: table.duplicate(alloc)?,
+        table: definition.name.duplicate(alloc)?,
         before,
         after: row.duplicate(alloc)?,
     };
     undo.push(change)?;
-    match tables.update(table, key, row) {
+    match tables.update_at(at, key, row) {
         Ok(()) => Ok(()),
         Err(refusal) => {
             forget(undo);
@@ -75,35 +82,34 @@ pub fn update_row(
     }
 }
 
-/// Deletes the row of a key.
-pub fn delete_row(
+/// Deletes the row of a key from the table at a place.
+pub fn delete_row_at(
     alloc: Global,
     tables: &mut Tables,
     undo: &mut Undo,
-    table: &Bytes,
+    at: usize,
     key: &Row,
 ) -> Result<(), RowRefusal>
-    ensures stored { Stores result (deletion table.now key.now (tables_of tables.old))
-        (tables_of tables.old) (tables_of tables.new) }
-    ensures noted { Notes result (deletion table.now key.now (tables_of tables.old))
-        undo.old undo.new }
-    ensures back { StaysReversible tables.old undo.old tables.new undo.new }
-    ensures keys { KeepsAll tables.old tables.new }
+    ensures stored { (name : List ℕ) → place_of name tables.old.tables ≡ Some at
+        → Stores result (deletion name key.now tables.old.tables) tables.old.tables tables.new.tables }
+    ensures noted { (name : List ℕ) → place_of name tables.old.tables ≡ Some at
+        → Notes result (deletion name key.now tables.old.tables) undo.old undo.new }
+    ensures leads { Leads tables.old undo.old tables.new undo.new }
 {
-    let row = match tables.get(table, key) {
+    let Some(definition) = tables.definition(at) else {
+        return Err(RowRefusal::Absent);
+    };
+    let row = match tables.get_at(at, key) {
         Some(row) => row.duplicate(alloc)?,
         None => return Err(RowRefusal::Absent),
     };
     let change = Change::Delete {
-        table: table.duplicate(alloc)?,
+        table: definition.name.duplicate(alloc)?,
         row,
     };
     undo.push(change)?;
-    match tables.delete(table, key) {
-        Ok(row) => {
-            drop(row);
-            Ok(())
-        }
+    match tables.delete_at(at, key) {
+        Ok(()) => Ok(()),
         Err(refusal) => {
             forget(undo);
             Err(refusal)

@@ -1,5 +1,5 @@
 -- The keys of other tables, tables added, and requests that a change can be taken back.
-use Rattle.std.proofs.Common.{◌≡◌, ℕ, zero, suc, List, [], ◌∷◌, ◌++◌, get_or, Bool, true, false, cond, Option, Some, None, Result, Ok, Err, refl, sym, ap, ◌∙◌, OnOk, OnErr}
+use Rattle.std.proofs.Common.{◌≡◌, ℕ, zero, suc, List, [], ◌∷◌, ◌++◌, get_or, Bool, true, false, cond, Option, Some, None, Result, Ok, Err, refl, sym, ap, ◌∙◌, IfOk, OnOk, OnErr}
 use Rattle.std.specs.Prelude.{slice_set, is_some, nat_eq, position}
 use Rattle.std.specs.List.{remove}
 use Rattle.std.specs.Option.{option_map_or}
@@ -17,28 +17,15 @@ use Rattle.table_rules.specs.Tables.{Table}
 use Rattle.table_rules.specs.Changes.{rows_after, applied}
 use Rattle.val_types.specs.Changes.{table_of, inverse}
 use Rattle.table_rules.specs.Stored.{row_put}
+use Rattle.table_rules.proofs.Places.{name_is, name_self}
 use Rattle.table_rules.proofs.Storing.{applied_where}
 use Rattle.row_store.specs.declared.shelf.Shelf.{Shelf}
 use Rattle.row_store.specs.Slots.{rows_in}
 use Rattle.row_store.specs.Shelves.{table_on, tables_on, is_named, has_slot, has_slot_for, has_slot_to_put}
-use Rattle.row_store.specs.Stores.{kept_on}
-use Rattle.row_store.proofs.Swapping.{shelf_named, swap, same_name, later_kept, named_same, keeps_here, kept_found}
+use Rattle.row_store.proofs.Swapping.{kept_on, shelf_named, swap, same_name, later_kept, named_same, keeps_here, kept_found}
 use Rattle.row_store.proofs.Storing.{table_found, no_table}
 
 -- ---- names
-
-name_is : (a b : List ℕ) → pointwise nat_eq a b ≡ true → a ≡ b
-name_is [] [] e = refl
-name_is [] (y ∷ ys) e = cc
-name_is (x ∷ xs) [] e = cc
-name_is (x ∷ xs) (y ∷ ys) e =
-    let parts = and_parts (nat_eq x y) (pointwise nat_eq xs ys) e in
-    let first : x ≡ y = eqb-true x y parts.0 in
-    let rest : xs ≡ ys = name_is xs ys parts.1 in cc
-
-name_self : (a : List ℕ) → pointwise nat_eq a a ≡ true
-name_self [] = refl
-name_self (x ∷ xs) = and_from (nat_eq x x) (pointwise nat_eq xs xs) (eq-eqb x x refl) (name_self xs)
 
 -- a shelf of one name has no other
 other_named : (name other : List ℕ) (s : Shelf) → pointwise nat_eq name other ≡ false → is_named name s ≡ true → is_named other s ≡ false
@@ -116,6 +103,10 @@ here_kept name row old new ss found same slot =
 pub on_ok : {A E : Type 0} (r : Result A E) (P Q : Type 0) → (P → Q) → OnOk r P → OnOk r Q
 on_ok (Ok a) P Q f p = f p
 on_ok (Err e) P Q f p = p
+
+pub if_ok : {A E : Type 0} (r : Result A E) (P Q : A → Type 0) → ((a : A) → P a → Q a) → IfOk r P → IfOk r Q
+if_ok (Ok a) P Q f p = f a p
+if_ok (Err e) P Q f p = p
 
 pub on_err : {A E : Type 0} (r : Result A E) (P : Type 0) → P → OnErr r P
 on_err (Ok a) P p = tt

@@ -50,13 +50,3 @@ kept_step false s more e none = none
 pub none_left : (ss : List Slot) → count_by is_bare (filter is_full ss) ≡ 0
 none_left [] = refl
 none_left (s ∷ ss) = kept_step (is_full s) s (filter is_full ss) refl (none_left ss)
-
-full_step : (b : Bool) (s : Slot) (ss : List Slot) → is_full s ≡ b → (count_by is_bare ss ≡ 0 → list_all is_full ss ≡ true) → cond (not b) 1 0 + count_by is_bare ss ≡ 0
-    → list_all is_full (s ∷ ss) ≡ true
-full_step true s ss e later none = and_from (is_full s) (list_all is_full ss) e (later (omega arith))
-full_step false s ss e later none = absurd (omega arith)
-
--- where none is counted, each slot has a row
-pub all_full_at_none : (ss : List Slot) → count_by is_bare ss ≡ 0 → list_all is_full ss ≡ true
-all_full_at_none [] e = refl
-all_full_at_none (s ∷ ss) e = full_step (is_full s) s ss refl (all_full_at_none ss) (sym (bare_cons s ss) ∙ e)

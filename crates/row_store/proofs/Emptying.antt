@@ -17,7 +17,8 @@ use Rattle.val_types.proofs.Values.{key_order_total}
 use Rattle.table_rules.proofs.Taking.{Kept, as_kept, is_kept, same_is, same_self, kept_with, taken_out}
 use Rattle.table_rules.proofs.Storing.{without_is_beside}
 use Rattle.row_store.specs.declared.slots.Slot.{Slot}
-use Rattle.row_store.specs.Slots.{place, rows_in, keys_in, is_slot_of, is_not_before, is_among, all_above, keys_rise, has_own_key, rows_are_kept, is_sound}
+use Rattle.table_rules.specs.Stores.{is_among}
+use Rattle.row_store.specs.Slots.{place, rows_in, keys_in, is_slot_of, is_not_before, all_above, keys_rise, has_own_key, rows_are_kept, is_sound}
 
 -- ---- the order of keys
 

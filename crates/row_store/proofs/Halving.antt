@@ -10,7 +10,8 @@ use Rattle.val_types.specs.Keys.{same_values}
 use Rattle.val_types.proofs.Values.{key_order_total}
 use Rattle.table_rules.proofs.Taking.{same_self, same_is}
 use Rattle.row_store.specs.declared.slots.Slot.{Slot}
-use Rattle.row_store.specs.Slots.{place, keys_in, is_slot_of, is_not_before, is_among, all_above, keys_rise, Finds}
+use Rattle.table_rules.specs.Stores.{is_among}
+use Rattle.row_store.specs.Slots.{place, keys_in, is_slot_of, is_not_before, all_above, keys_rise, Finds}
 use Rattle.row_store.proofs.Emptying.{chain}
 
 -- the first place that passes where none before it does

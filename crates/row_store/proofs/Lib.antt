@@ -3,10 +3,11 @@ pub mod Beside
 pub mod Counting
 pub mod Emptying
 pub mod Halving
-pub mod Kept
 pub mod Places
+pub mod Shelved
 pub mod Storing
 pub mod Swapping
 pub mod Tidying
 pub mod Undoing
+pub mod Unnamed
 pub mod Writing

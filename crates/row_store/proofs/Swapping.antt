@@ -16,9 +16,9 @@ use Rattle.val_types.specs.Changes.{table_of}
 use Rattle.table_rules.specs.Stored.{has_name, table_named, tables_beside, tables_cleared}
 use Rattle.table_rules.proofs.Taking.{is_kept}
 use Rattle.row_store.specs.declared.shelf.Shelf.{Shelf}
-use Rattle.row_store.specs.Slots.{rows_in, keys_in, is_among}
+use Rattle.table_rules.specs.Stores.{is_among}
+use Rattle.row_store.specs.Slots.{rows_in, keys_in}
 use Rattle.row_store.specs.Shelves.{table_on, tables_on, is_named, has_slot, has_slot_for, KeepsSlots}
-use Rattle.row_store.specs.Stores.{kept_on}
 use Rattle.row_store.proofs.Emptying.{sound}
 
 -- the shelf of a table
@@ -28,6 +28,11 @@ shelf_named name ss = find (is_named name) ss
 -- the shelves, another one in the place of that of a table
 abbrev pub swap : List ℕ → Shelf → List Shelf → List Shelf
 swap name new ss = change_first (is_named name) (λ s. new) ss
+
+-- whether the first shelf of a name has a slot for a row
+abbrev pub kept_on : List ℕ → List Value → List Shelf → Bool
+kept_on name row [] = false
+kept_on name row (shelf ∷ shelves) = cond (is_named name shelf) (has_slot_for row shelf) (kept_on name row shelves)
 
 -- ---- tables
 

@@ -14,9 +14,9 @@ use Rattle.table_rules.specs.Stored.{table_named, row_of_key}
 use Rattle.table_rules.proofs.Taking.{Kept}
 use Rattle.row_store.specs.declared.slots.Slot.{Slot}
 use Rattle.row_store.specs.declared.shelf.Shelf.{Shelf}
-use Rattle.row_store.specs.Slots.{rows_in, keys_in, all_above, keys_rise, has_own_key, is_sound, is_full, is_slot_of, is_among}
-use Rattle.row_store.specs.Shelves.{table_on, tables_on, is_named, has_slot_for, all_full}
-use Rattle.row_store.specs.Stores.{kept_on}
+use Rattle.table_rules.specs.Stores.{is_among}
+use Rattle.row_store.specs.Slots.{rows_in, keys_in, all_above, keys_rise, has_own_key, is_sound, is_full, is_slot_of}
+use Rattle.row_store.specs.Shelves.{table_on, tables_on, is_named, has_slot_for}
 use Rattle.row_store.proofs.Emptying.{sound, is_sound_from, row_in, row_of_slot}
 
 full_step : (o : Option (List Value)) (key : List Value) (ss more : List Slot) → rows_in more ≡ rows_in ss
@@ -67,39 +67,3 @@ full_sound d ss h =
       own = own_full d ss s.own;
       kept = subst (λ (rows : List (List Value)). Kept d rows) (sym (full_rows ss)) s.kept;
     })
-
-filter_step : (b : Bool) (s : Slot) (more : List Slot) → is_full s ≡ b → list_all is_full more ≡ true → list_all is_full (cond b (s ∷ more) more) ≡ true
-filter_step true s more e later = and_from (is_full s) (list_all is_full more) e later
-filter_step false s more e later = later
-
--- the slots that are left have rows
-pub left_full : (ss : List Slot) → list_all is_full (filter is_full ss) ≡ true
-left_full [] = refl
-left_full (s ∷ ss) = filter_step (is_full s) s (filter is_full ss) refl (left_full ss)
-
-full_row_step : (b : Bool) (o p : Option (List Value)) (c : Bool) → is_some o ≡ true → (c ≡ true → is_some p ≡ true) → (b || c) ≡ true → is_some (cond b o p) ≡ true
-full_row_step true o p c full later e = full
-full_row_step false o p c full later e = later e
-
-full_row : (key : List Value) (ss : List Slot) → list_all is_full ss ≡ true → is_among key (keys_in ss) ≡ true → is_some (row_in key ss) ≡ true
-full_row key [] full e = cc
-full_row key (s ∷ ss) full e =
-    let parts = and_parts (is_full s) (list_all is_full ss) full in
-    full_row_step (is_slot_of key s) s.row (row_in key ss) (is_among key (keys_in ss)) parts.0 (full_row key ss parts.1) e
-
-only_step : (b : Bool) (name : List ℕ) (row : List Value) (s : Shelf) (ss : List Shelf) → all_full s ≡ true
-    → (kept_on name row ss ≡ true → option_map_or (λ (t : Table). is_some (row_of_key t.definition (primary_key t.definition row) t.rows)) (table_named name (tables_on ss)) false ≡ true)
-    → cond b (has_slot_for row s) (kept_on name row ss) ≡ true
-    → option_map_or (λ (t : Table). is_some (row_of_key t.definition (primary_key t.definition row) t.rows)) (cond b (Some (table_on s)) (table_named name (tables_on ss))) false ≡ true
-only_step true name row s ss full later e =
-    ap (λ (o : Option (List Value)). is_some o) (row_of_slot s.definition (primary_key s.definition row) s.slots.items (sound s.definition s.slots.items s.sound))
-    ∙ full_row (primary_key s.definition row) s.slots.items full e
-only_step false name row s ss full later e = later e
-
--- where all slots have rows, each key that is kept is that of a row
-pub only_rows : (name : List ℕ) (row : List Value) (ss : List Shelf) → list_all all_full ss ≡ true → kept_on name row ss ≡ true
-    → option_map_or (λ (t : Table). is_some (row_of_key t.definition (primary_key t.definition row) t.rows)) (table_named name (tables_on ss)) false ≡ true
-only_rows name row [] full e = cc
-only_rows name row (s ∷ ss) full e =
-    let parts = and_parts (all_full s) (list_all all_full ss) full in
-    only_step (is_named name s) name row s ss parts.0 (only_rows name row ss parts.1) e

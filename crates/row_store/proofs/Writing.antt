@@ -15,7 +15,8 @@ use Rattle.row_store.specs.declared.slots.Slot.{Slot}
 use Rattle.row_store.specs.declared.refusal.RowRefusal.{RowRefusal}
 use Rattle.row_store.specs.declared.refusal.RowRefusal.TheVariants.{Taken, Absent, NoMemory}
 use Rattle.row_store.specs.Shelves.{Inserted, Replaced}
-use Rattle.row_store.specs.Slots.{place, rows_in, keys_in, is_slot_of, is_not_before, is_among, is_sound, Finds}
+use Rattle.table_rules.specs.Stores.{is_among}
+use Rattle.row_store.specs.Slots.{place, rows_in, keys_in, is_slot_of, is_not_before, is_sound, Finds}
 use Rattle.row_store.proofs.Places.{some_passes}
 use Rattle.row_store.proofs.Halving.{before_differs}
 use Rattle.row_store.proofs.Emptying.{fill, with_slot, row_in, filled, row_there, no_slot, among_slots, keys_filled, among_with, rows_with, sound, is_sound_from, sound_with, row_of_slot, rows_emptied, sound_emptied, rows_filled, sound_put, any_of_key}

@@ -1,6 +1,5 @@
 -- What the shelves stand for, and what is done with the rows on one.
 use Rattle.std.specs.Prelude.{◌≡◌, ℕ, Bool, true, nat_eq, List, map, Some, None, Result, Ok, Err, is_some}
-use Rattle.std.specs.List.{list_all}
 use Rattle.std.specs.Option.{option_map_or}
 use Rattle.std.specs.Cmp.Lexicographic.{pointwise}
 use Rattle.val_types.specs.declared.value.Value.{Value}
@@ -13,7 +12,8 @@ use Rattle.table_rules.specs.Stored.{row_of_key, rows_beside, key_in_way, row_pu
 use Rattle.row_store.specs.declared.refusal.RowRefusal.{RowRefusal}
 use Rattle.row_store.specs.declared.refusal.RowRefusal.TheVariants.{Taken, Absent, NoMemory}
 use Rattle.row_store.specs.declared.shelf.Shelf.{Shelf}
-use Rattle.row_store.specs.Slots.{rows_in, keys_in, is_among, is_full}
+use Rattle.table_rules.specs.Stores.{Store, is_among}
+use Rattle.row_store.specs.Slots.{rows_in, keys_in}
 
 -- the table that a shelf holds
 abbrev pub table_on : Shelf → Table
@@ -23,6 +23,18 @@ table_on shelf = record { definition = shelf.definition; rows = rows_in shelf.sl
 abbrev pub tables_on : List Shelf → List Table
 tables_on shelves = map table_on shelves
 
+-- the definitions of the tables on some shelves
+abbrev pub definitions_on : List Shelf → List TableDef
+definitions_on shelves = map (λ shelf. shelf.definition) shelves
+
+-- the keys that a shelf has slots of
+abbrev pub keys_on : Shelf → List (List Value)
+keys_on shelf = keys_in shelf.slots.items
+
+-- what some shelves store: their tables, and the keys that they have slots of
+unfoldable pub store_of : List Shelf → Store
+store_of shelves = record { tables = tables_on shelves; kept = map keys_on shelves }
+
 -- whether a shelf holds the table of a name
 abbrev pub is_named : List ℕ → Shelf → Bool
 is_named name shelf = pointwise nat_eq name shelf.definition.name
@@ -30,10 +42,6 @@ is_named name shelf = pointwise nat_eq name shelf.definition.name
 -- whether a shelf has a slot of a key
 abbrev pub has_slot : List Value → Shelf → Bool
 has_slot key shelf = is_among key (keys_in shelf.slots.items)
-
--- whether each slot of a shelf has a row
-abbrev pub all_full : Shelf → Bool
-all_full shelf = list_all is_full shelf.slots.items
 
 -- whether each key that a shelf had a slot of has one still
 abbrev pub KeepsSlots : Shelf → Shelf → Type 0
@@ -66,3 +74,10 @@ Replaced (Err (Taken which)) definition key row old new =
     × (new ≡ old)
 Replaced (Err Absent) definition key row old new = (row_of_key definition key old ≡ None) × (new ≡ old)
 Replaced (Err NoMemory) definition key row old new = new ≡ old
+
+-- what taking the row of a key out makes of rows
+abbrev pub Deleted : Result (Unit {0}) RowRefusal → TableDef → List Value → List (List Value) → List (List Value) → Type 0
+Deleted (Ok done) definition key old new = (is_some (row_of_key definition key old) ≡ true) × (new ≡ rows_beside definition key old)
+Deleted (Err (Taken which)) definition key old new = ⊥
+Deleted (Err Absent) definition key old new = (row_of_key definition key old ≡ None) × (new ≡ old)
+Deleted (Err NoMemory) definition key old new = ⊥

@@ -9,6 +9,7 @@ use Rattle.val_types.specs.Order.{key_order}
 use Rattle.val_types.specs.Fitting.{row_fits}
 use Rattle.val_types.specs.Keys.{primary_key, same_values, agree_on}
 use Rattle.table_rules.specs.Tables.{rise, are_apart}
+use Rattle.table_rules.specs.Stores.{is_among}
 use Rattle.row_store.specs.declared.slots.Slot.{Slot}
 
 -- how many items stand before the first that passes a test, or all where none does
@@ -44,10 +45,6 @@ is_full slot = is_some slot.row
 -- whether a slot is empty
 abbrev pub is_bare : Slot → Bool
 is_bare slot = not (is_some slot.row)
-
--- whether a key is among some
-abbrev pub is_among : List Value → List (List Value) → Bool
-is_among key keys = list_any (same_values key) keys
 
 -- where a key was looked for: the place of its slot, or the one at which a slot of it belongs
 abbrev pub Finds : List Value → List Slot → Result ℕ ℕ → Type 0

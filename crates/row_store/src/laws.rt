@@ -1,13 +1,12 @@
 //! What holds of all that is stored.
-ghost use Rattle.table_rules.specs.Changes.{AreKept};
-ghost use Rattle.row_store.specs.Stores.{tables_of};
+ghost use Rattle.table_rules.specs.Stores.{IsWhole};
 
 use crate::tables::Tables;
 
-/// A law: what is stored holds what tables have to hold: rows fit, rise by their primary keys and have
-/// no key in common.
+/// A law: what is stored holds what tables have to: rows fit, rise by their primary keys and have no key
+/// in common, their keys are kept, and no two tables have the same name.
 pub fn tables_are_kept(tables: &Tables)
-    ensures { AreKept (tables_of tables.now) }
+    ensures { IsWhole tables.now }
 {
-    let _ = tables;
+    let _ = &tables.shelves;
 }

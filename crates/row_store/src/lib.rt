@@ -32,6 +32,7 @@
 //! That calls succeed with ample memory, in `row_callers`.
 #![tactic(auto)]
 
+mod by_name;
 mod comparing;
 mod laws;
 mod looking;

@@ -9,7 +9,7 @@ use std::alloc::Global;
 use val_types::{Change, Duplicate, List, NoMemory, Row, TableDef, key_of};
 
 /// A table: its definition, its slots in the order of their keys, and how many of them are empty.
-#[derive(Debug, Drop)]
+#[derive(Drop)]
 pub struct Shelf {
     pub definition: TableDef,
     pub slots: Vec<Slot>,
@@ -28,7 +28,7 @@ impl Shelf {
     ghost use Rattle.val_types.specs.Keys.{collide, primary_key};
     ghost use Rattle.table_rules.specs.Stored.{key_in_way, row_of_key, rows_beside};
     ghost use Rattle.row_store.specs.Slots.{is_slot_of, keys_in, place, rows_in, Finds};
-    ghost use Rattle.row_store.specs.Shelves.{all_full, has_slot, has_slot_to_put, Inserted, KeepsSlots, Replaced};
+    ghost use Rattle.row_store.specs.Shelves.{has_slot, has_slot_to_put, Deleted, Inserted, KeepsSlots, Replaced};
 
     /// A table without rows.
     pub(crate) fn new(alloc: Global, definition: TableDef) -> Shelf
@@ -219,6 +219,19 @@ impl Shelf {
         }
     }
 
+    /// Takes the row of a key out, and drops it.
+    pub(crate) fn delete(&mut self, key: &Row) -> Result<(), RowRefusal>
+        ensures stored { Deleted result self.old.definition key.now
+            (rows_in self.old.slots.items) (rows_in self.new.slots.items) }
+        ensures slots { keys_in self.new.slots.items ≡ keys_in self.old.slots.items }
+        ensures definition { self.new.definition ≡ self.old.definition }
+    {
+        if self.take(key).is_none() {
+            return Err(RowRefusal::Absent);
+        }
+        Ok(())
+    }
+
     /// Takes a change of the rows back.
     pub(crate) fn take_back(&mut self, change: Change)
         requires step { IsSome (rows_after self.old.definition (inverse change) (rows_in self.old.slots.items)) }
@@ -240,7 +253,6 @@ impl Shelf {
 
     /// Drops the slots without rows.
     pub(crate) fn tidy(&mut self)
-        ensures full { all_full self.new ≡ true }
         ensures rows { rows_in self.new.slots.items ≡ rows_in self.old.slots.items }
         ensures definition { self.new.definition ≡ self.old.definition }
     {

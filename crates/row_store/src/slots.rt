@@ -3,7 +3,7 @@
 use val_types::Row;
 
 /// A primary key with its row, None where the row was taken out.
-#[derive(Debug, Drop)]
+#[derive(Drop)]
 pub struct Slot {
     pub key: Row,
     pub row: Option<Row>,

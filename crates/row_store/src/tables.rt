@@ -1,29 +1,45 @@
-//! The tables by their names.
+//! The tables with their rows, by their places.
 
 use crate::named::shelf_of;
 use crate::refusal::RowRefusal;
 use crate::shelf::Shelf;
 use std::alloc::Global;
-use val_types::{Bytes, Change, Duplicate, List, NoMemory, Row, TableDef, row_fits};
+use std::marker::Model;
+use val_types::{Bytes, Change, Duplicate, NoMemory, Row, TableDef, row_fits};
 
-/// The tables with their rows.
-#[derive(Debug, Drop)]
+/// The tables with their rows, no two of the same name. A table's place is good while no table is made or
+/// dropped.
+#[derive(Drop)]
 pub struct Tables {
-    alloc: Global,
-    shelves: Vec<Shelf>,
+    pub(crate) alloc: Global,
+    pub(crate) shelves: Vec<Shelf>,
+}
+
+impl Model for Tables {
+    ghost use Rattle.std.specs.Prelude.{IsTrue};
+    ghost use Rattle.table_rules.specs.Stores.{Store, names_differ};
+
+    ghost Value = { Store };
+
+    ghost use Rattle.row_store.specs.Shelves.{definitions_on, store_of};
+
+    ghost view = { λ t. store_of t.shelves.items };
+
+    ghost invariant = { λ t. IsTrue (names_differ (definitions_on t.shelves.items)) };
 }
 
 impl Tables {
-    ghost use Rattle.std.specs.Prelude.{◌≡◌, ◌++◌, ◌∷◌, [], true, option_copied, IfOk, IsSome, List, OnErr, OnOk};
+    ghost use Rattle.std.specs.Prelude.{◌≡◌, ℕ, ◌++◌, ◌∷◌, [], true, None, Some, option_copied, slice_get, IfSome, IsSome, List, OnErr, OnOk};
     ghost use Rattle.val_types.specs.declared.value.Value.{Value};
-    ghost use Rattle.table_rules.specs.Changes.{applied};
     ghost use Rattle.val_types.specs.Changes.{inverse};
-    ghost use Rattle.table_rules.specs.Stored.{deletion, fits_table, insertion, keys_at, replacement, row_at, table_named, tables_beside, tables_cleared};
-    ghost use Rattle.row_store.specs.Stores.{keeps, keeps_put, KeepsAll, KeepsBeside, KeepsOnlyRows, KeepsSame, Stores, tables_of};
+    ghost use Rattle.table_rules.specs.Changes.{applied};
+    ghost use Rattle.table_rules.specs.Stored.{deletion, insertion, replacement, row_at, table_named, tables_beside, tables_cleared};
+    ghost use Rattle.table_rules.specs.Stores.{definitions_of, fits_at, keeps, keeps_put, place_of, IsWhole, KeepsAll, KeepsBeside, KeepsSame};
+    ghost use Rattle.row_store.specs.Stores.{Stores};
 
     /// No table, which takes no memory.
     pub fn new(alloc: Global) -> Tables
-        ensures { tables_of result ≡ [] }
+        ensures { result ≡ record { tables = []; kept = [] } }
     {
         Tables {
             alloc,
@@ -31,91 +47,112 @@ impl Tables {
         }
     }
 
-    /// The row of a primary key in a table, None where there is no such row or table.
-    pub fn get(&self, table: &Bytes, key: &Row) -> Option<&Row>
-        ensures { option_copied result ≡ row_at table.now key.now (tables_of self.now) }
+    /// The place of a table, None where there is no such table.
+    pub fn place(&self, table: &Bytes) -> Option<usize>
+        ensures { result ≡ place_of table.now self.now.tables }
     {
-        match shelf_of(&self.shelves, table) {
-            Some(at) => self.shelves[at].get(key),
-            None => None,
-        }
+        shelf_of(&self.shelves, table)
     }
 
-    /// The primary keys of a table's rows, in the order of the rows; none where there is no such table.
-    pub fn keys(&self, table: &Bytes) -> Result<List<Row>, NoMemory>
-        ensures { IfOk result (λ keys. keys ≡ keys_at table.now (tables_of self.now)) }
+    /// The definition of the table at a place, if there is one.
+    pub fn definition(&self, at: usize) -> Option<&TableDef>
+        ensures is { option_copied result ≡ slice_get (definitions_of self.now.tables) at }
+        ensures place { IfSome (option_copied result) (λ definition. place_of definition.name self.now.tables ≡ Some at) }
+        ensures whole { IsWhole self.now }
     {
-        match shelf_of(&self.shelves, table) {
-            Some(at) => self.shelves[at].keys(self.alloc),
-            None => Ok(List::new(self.alloc)),
+        if at >= self.shelves.len() {
+            return None;
         }
+        Some(&self.shelves[at].definition)
     }
 
-    /// Whether a row fits a table; it does where there is no such table.
-    pub fn fits(&self, table: &Bytes, row: &Row) -> bool
-        ensures { result ≡ fits_table table.now row.now (tables_of self.now) }
+    /// The row of a primary key in the table at a place, None where there is no such row.
+    pub fn get_at(&self, at: usize, key: &Row) -> Option<&Row>
+        ensures { (name : List ℕ) → place_of name self.now.tables ≡ Some at
+            → option_copied result ≡ row_at name key.now self.now.tables }
     {
-        match shelf_of(&self.shelves, table) {
-            Some(at) => row_fits(&self.shelves[at].definition.columns, row),
-            None => true,
+        if at >= self.shelves.len() {
+            return None;
         }
+        self.shelves[at].get(key)
     }
 
-    /// Inserts a row. The primary key is looked at first, then the unique keys in order of definition.
-    /// Absent where there is no such table.
-    pub fn insert(&mut self, table: &Bytes, row: Row) -> Result<(), RowRefusal>
-        requires { fits_table table.now row (tables_of self.old) ≡ true }
-        ensures stored { Stores result (insertion table.now row (tables_of self.old))
-            (tables_of self.old) (tables_of self.new) }
-        ensures kept { OnOk result (keeps self.new table.now row ≡ true) }
+    /// Whether a row fits the table at a place; it does where there is no table.
+    pub fn fits_at(&self, at: usize, row: &Row) -> bool
+        ensures { result ≡ fits_at at row.now self.now.tables }
+    {
+        if at >= self.shelves.len() {
+            return true;
+        }
+        row_fits(&self.shelves[at].definition.columns, row)
+    }
+
+    /// Inserts a row into the table at a place. The primary key is looked at first, then the unique keys in
+    /// order of definition. Absent where there is no table.
+    pub fn insert_at(&mut self, at: usize, row: Row) -> Result<(), RowRefusal>
+        requires { fits_at at row self.old.tables ≡ true }
+        ensures stored { (name : List ℕ) → place_of name self.old.tables ≡ Some at
+            → Stores result (insertion name row self.old.tables) self.old.tables self.new.tables }
+        ensures kept { (name : List ℕ) → place_of name self.old.tables ≡ Some at
+            → OnOk result (keeps self.new name row ≡ true) }
         ensures keys { KeepsAll self.old self.new }
     {
-        match shelf_of(&self.shelves, table) {
-            Some(at) => self.shelves[at].insert(self.alloc, row),
-            None => Err(RowRefusal::Absent),
+        if at >= self.shelves.len() {
+            return Err(RowRefusal::Absent);
         }
+        self.shelves[at].insert(self.alloc, row)
     }
 
-    /// Replaces the row of a key. Keys of the row itself are in no way of it.
-    pub fn update(&mut self, table: &Bytes, key: &Row, row: Row) -> Result<(), RowRefusal>
-        requires { fits_table table.now row (tables_of self.old) ≡ true }
-        ensures stored { Stores result (replacement table.now key.now row (tables_of self.old))
-            (tables_of self.old) (tables_of self.new) }
-        ensures kept { OnOk result (keeps self.new table.now row ≡ true) }
-        ensures before { OnOk result ((before : List Value)
-            → row_at table.now key.now (tables_of self.old) ≡ Some before
-            → keeps self.new table.now before ≡ true) }
+    /// Replaces the row of a key in the table at a place. Keys of the row itself are in no way of it.
+    pub fn update_at(&mut self, at: usize, key: &Row, row: Row) -> Result<(), RowRefusal>
+        requires { fits_at at row self.old.tables ≡ true }
+        ensures stored { (name : List ℕ) → place_of name self.old.tables ≡ Some at
+            → Stores result (replacement name key.now row self.old.tables) self.old.tables self.new.tables }
+        ensures kept { (name : List ℕ) → place_of name self.old.tables ≡ Some at
+            → OnOk result (keeps self.new name row ≡ true) }
+        ensures before { (name : List ℕ) → (before : List Value)
+            → row_at name key.now self.old.tables ≡ Some before → keeps self.new name before ≡ true }
         ensures keys { KeepsAll self.old self.new }
     {
-        match shelf_of(&self.shelves, table) {
-            Some(at) => self.shelves[at].update(self.alloc, key, row),
-            None => Err(RowRefusal::Absent),
+        if at >= self.shelves.len() {
+            return Err(RowRefusal::Absent);
         }
+        self.shelves[at].update(self.alloc, key, row)
     }
 
-    /// Takes the row of a key out.
-    pub fn delete(&mut self, table: &Bytes, key: &Row) -> Result<Row, RowRefusal>
-        ensures stored { Stores result (deletion table.now key.now (tables_of self.old))
-            (tables_of self.old) (tables_of self.new) }
-        ensures row { IfOk result (λ row. row_at table.now key.now (tables_of self.old) ≡ Some row) }
-        ensures kept { IfOk result (λ row. keeps self.new table.now row ≡ true) }
+    /// Takes the row of a key out of the table at a place, and drops it. It takes no memory.
+    pub fn delete_at(&mut self, at: usize, key: &Row) -> Result<(), RowRefusal>
+        ensures stored { (name : List ℕ) → place_of name self.old.tables ≡ Some at
+            → Stores result (deletion name key.now self.old.tables) self.old.tables self.new.tables }
+        ensures before { (name : List ℕ) → (before : List Value)
+            → row_at name key.now self.old.tables ≡ Some before → keeps self.new name before ≡ true }
         ensures keys { KeepsAll self.old self.new }
     {
-        match shelf_of(&self.shelves, table) {
-            Some(at) => match self.shelves[at].take(key) {
-                Some(row) => Ok(row),
-                None => Err(RowRefusal::Absent),
-            },
-            None => Err(RowRefusal::Absent),
+        if at >= self.shelves.len() {
+            return Err(RowRefusal::Absent);
+        }
+        self.shelves[at].delete(key)
+    }
+
+    /// Takes a change back, without memory.
+    pub fn take_back(&mut self, change: Change)
+        requires step { IsSome (applied (inverse change) self.old.tables) }
+        requires kept { keeps_put self.old (inverse change) ≡ true }
+        ensures tables { applied (inverse change) self.old.tables ≡ Some self.new.tables }
+        ensures keys { KeepsSame self.old self.new }
+        ensures whole { IsWhole self.new }
+    {
+        if let Some(at) = self.place(change.table()) {
+            self.shelves[at].take_back(change);
         }
     }
 
     /// Adds a table without rows.
     pub fn create(&mut self, definition: &TableDef) -> Result<(), NoMemory>
-        requires { table_named definition.now.name (tables_of self.old) ≡ None }
-        ensures ok { OnOk result (tables_of self.new
-            ≡ tables_of self.old ++ record { definition = definition.now; rows = [] } ∷ []) }
-        ensures err { OnErr result (tables_of self.new ≡ tables_of self.old) }
+        requires { table_named definition.now.name self.old.tables ≡ None }
+        ensures ok { OnOk result (self.new.tables
+            ≡ self.old.tables ++ record { definition = definition.now; rows = [] } ∷ []) }
+        ensures err { OnErr result (self.new ≡ self.old) }
         ensures keys { KeepsAll self.old self.new }
     {
         let shelf = Shelf::new(self.alloc, definition.duplicate(self.alloc)?);
@@ -125,41 +162,30 @@ impl Tables {
 
     /// Drops a table with its rows.
     pub fn drop_table(&mut self, table: &Bytes)
-        ensures tables { tables_of self.new ≡ tables_beside table.now (tables_of self.old) }
+        ensures tables { self.new.tables ≡ tables_beside table.now self.old.tables }
+        ensures gone { table_named table.now self.new.tables ≡ None }
         ensures keys { KeepsBeside table.now self.old self.new }
     {
-        if let Some(at) = shelf_of(&self.shelves, table) {
+        if let Some(at) = self.place(table) {
             self.shelves.remove(at);
         }
     }
 
     /// Drops the rows of a table.
     pub fn clear(&mut self, table: &Bytes)
-        ensures tables { tables_of self.new ≡ tables_cleared table.now (tables_of self.old) }
+        ensures tables { self.new.tables ≡ tables_cleared table.now self.old.tables }
         ensures keys { KeepsBeside table.now self.old self.new }
     {
-        if let Some(at) = shelf_of(&self.shelves, table) {
+        if let Some(at) = self.place(table) {
             self.shelves[at].clear();
         }
     }
 
-    /// Takes a change back, without memory.
-    pub fn take_back(&mut self, change: Change)
-        requires step { IsSome (applied (inverse change) (tables_of self.old)) }
-        requires kept { keeps_put self.old (inverse change) ≡ true }
-        ensures tables { applied (inverse change) (tables_of self.old) ≡ Some (tables_of self.new) }
-        ensures keys { KeepsSame self.old self.new }
-    {
-        if let Some(at) = shelf_of(&self.shelves, change.table()) {
-            self.shelves[at].take_back(change);
-        }
-    }
-
-    /// Lets the keys go that are kept for changes to be taken back. It is called where a transaction
-    /// ends.
+    /// Lets the keys go that are kept for changes to be taken back, and keeps those of rows. It is called
+    /// where a transaction ends.
     pub fn tidy(&mut self)
-        ensures tables { tables_of self.new ≡ tables_of self.old }
-        ensures keys { KeepsOnlyRows self.new }
+        ensures tables { self.new.tables ≡ self.old.tables }
+        ensures whole { IsWhole self.new }
     {
         for i in 0..self.shelves.len() {
             self.shelves[i].tidy();

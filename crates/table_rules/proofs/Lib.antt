@@ -1,3 +1,5 @@
 pub mod InWay
+pub mod Leading
+pub mod Places
 pub mod Storing
 pub mod Taking

@@ -1,4 +1,6 @@
 pub mod Changes
+pub mod Leads
 pub mod Stored
+pub mod Stores
 pub mod Tables
 pub mod Worked

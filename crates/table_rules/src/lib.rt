@@ -23,7 +23,8 @@ mod laws;
 mod worked;
 
 pub use laws::{
-    all_turn_back, changes_turn_back, definitions_stay, keys_in_way_collide, refusals_are_exact,
-    rows_in_way_have_keys,
+    all_turn_back, changes_can_be_taken_back, changes_lead_on, changes_turn_back, definitions_stay,
+    keys_in_way_collide, places_are_of_names, refusals_are_exact, rows_in_way_have_keys,
+    taking_back_leads_back,
 };
 pub use worked::{changes_of_pens, keys_in_the_way};

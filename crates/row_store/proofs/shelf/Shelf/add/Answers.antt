@@ -3,7 +3,8 @@ use Rattle.std.specs.Prelude.{is_ok, count_by}
 use Rattle.std.specs.List.{insert}
 use Rattle.row_store.specs.declared.slots.Slot.{Slot}
 use Rattle.val_types.specs.Keys.{primary_key}
-use Rattle.row_store.specs.Slots.{is_not_before, place, is_sound, is_bare, rows_in, keys_in, is_among}
+use Rattle.table_rules.specs.Stores.{is_among}
+use Rattle.row_store.specs.Slots.{is_not_before, place, is_sound, is_bare, rows_in, keys_in}
 use Rattle.row_store.proofs.Counting.{added_count}
 use Rattle.row_store.proofs.Places.{place_at_most}
 use Rattle.row_store.proofs.Writing.{added_sound, added_rows, added_keeps, either}

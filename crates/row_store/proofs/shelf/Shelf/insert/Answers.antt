@@ -1,6 +1,7 @@
 use Rattle.std.proofs.Common.{Ok, sym, ap, ◌∙◌}
 use Rattle.val_types.specs.Keys.{primary_key}
-use Rattle.row_store.specs.Slots.{Finds, rows_in, is_among}
+use Rattle.table_rules.specs.Stores.{is_among}
+use Rattle.row_store.specs.Slots.{Finds, rows_in}
 use Rattle.row_store.proofs.Writing.{free_rows, slot_within}
 use Rattle.row_store.proofs.shelf.Shelf.insert.Goals as goal
 

@@ -1,11 +1,10 @@
 use Rattle.std.proofs.Common.{rules, ◌≡◌, List, sym, ap, ◌∙◌}
 use Rattle.std.specs.Prelude.{filter, count_by}
-use Rattle.std.specs.List.{list_all}
 use Rattle.std.proofs.lemmas.Fn.{filter_same}
 use Rattle.row_store.specs.Slots.{rows_in, is_sound, is_full, is_bare}
 use Rattle.row_store.specs.declared.slots.Slot.{Slot}
-use Rattle.row_store.proofs.Counting.{none_left, all_full_at_none}
-use Rattle.row_store.proofs.Tidying.{full_rows, full_sound, left_full}
+use Rattle.row_store.proofs.Counting.{none_left}
+use Rattle.row_store.proofs.Tidying.{full_rows, full_sound}
 use Rattle.row_store.proofs.shelf.Shelf.tidy.Goals as goal
 
 pub invariant_of-self : goal.invariant_of-self
@@ -20,11 +19,3 @@ pub returns-clause-rows : goal.returns-clause-rows
 returns-clause-rows c =
     let kept : c.retain.new.self.items ≡ filter is_full c.args.self.now.slots.items = filter_same _ is_full _ (λ x b f' k. search rules) _ _ c.retain.ensures.filtered in
     ap rows_in kept ∙ full_rows c.args.self.now.slots.items
-
-pub returns-clause-full : goal.returns-clause-full
-returns-clause-full c =
-    let kept : c.retain.new.self.items ≡ filter is_full c.args.self.now.slots.items = filter_same _ is_full _ (λ x b f' k. search rules) _ _ c.retain.ensures.filtered in
-    ap (list_all is_full) kept ∙ left_full c.args.self.now.slots.items
-
-pub returns-then-self-eq0-clause-full : goal.returns-then-self-eq0-clause-full
-returns-then-self-eq0-clause-full c = all_full_at_none c.args.self.now.slots.items (sym c.args.self.now.counted ∙ c.if-self-eq0.true)

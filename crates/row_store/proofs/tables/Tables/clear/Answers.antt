@@ -1,30 +1,30 @@
-use Rattle.std.proofs.Common.{◌≡◌, Some, None, sym, ap, ◌∙◌}
-use Rattle.std.specs.Prelude.{position, slice_set}
-use Rattle.row_store.specs.Shelves.{tables_on, is_named}
-use Rattle.row_store.specs.Stores.{tables_of, keeps, kept_on}
-use Rattle.val_types.proofs.Lookup.{found, replaced}
-use Rattle.row_store.proofs.Swapping.{shelf_named, swap, none_cleared, cleared_swap}
-use Rattle.row_store.proofs.Beside.{beside_swap}
+use Rattle.std.proofs.Common.{◌≡◌, Some, None, sym, ◌∙◌, ◌<◌, length, arith}
+use Rattle.table_rules.specs.Stores.{place_of}
+use Rattle.row_store.specs.Shelves.{store_of}
+use Rattle.row_store.proofs.Shelved.{place_within, names_set, cleared_at, beside_at}
+use Rattle.table_rules.proofs.Places.{nothing_cleared}
 use Rattle.row_store.proofs.tables.Tables.clear.Goals as goal
 
+pub index_mut-requires : goal.index_mut-requires
+index_mut-requires c =
+    let at : place_of c.args.table.now (store_of c.self.inside.shelves.items).tables ≡ Some c.in-Some.at = rw c.self.view_is (sym c.place.ensures ∙ c.in-Some.is) in
+    let less : c.in-Some.at < length c.self.inside.shelves.items = place_within c.args.table.now c.self.inside.shelves.items c.in-Some.at at in
+    omega (arith, less, c.self.inside.shelves.ok)
+
+pub invariant_of-self : goal.invariant_of-self
+invariant_of-self c = names_set c.self.inside.shelves.items c.in-Some.at c.clear.new.self c.index_mut.result.now c.self.invariant c.index_mut.ensures.value c.clear.ensures.definition
+
 pub returns-in-Some-clause-tables : goal.returns-in-Some-clause-tables
-unfolding tables_of
 returns-in-Some-clause-tables c =
-    let at : position (is_named c.args.table.now) c.args.self.now.shelves.items ≡ Some c.in-Some.at = ap (position (is_named c.args.table.now)) (sym c.deref.ensures.value) ∙ sym c.shelf_of.ensures.place ∙ c.in-Some.is in
-    let found : shelf_named c.args.table.now c.args.self.now.shelves.items ≡ Some c.index_mut.result.now = found (is_named c.args.table.now) c.args.self.now.shelves.items c.in-Some.at c.index_mut.result.now at c.index_mut.ensures.value in
-    let put : slice_set c.args.self.now.shelves.items c.in-Some.at c.clear.new.self ≡ swap c.args.table.now c.clear.new.self c.args.self.now.shelves.items = replaced (is_named c.args.table.now) c.clear.new.self c.args.self.now.shelves.items c.in-Some.at at in
-    ap tables_on put ∙ cleared_swap c.args.table.now c.index_mut.result.now c.clear.new.self c.args.self.now.shelves.items found c.clear.ensures.definition c.clear.ensures.rows
+    let at : place_of c.args.table.now (store_of c.self.inside.shelves.items).tables ≡ Some c.in-Some.at = rw c.self.view_is (sym c.place.ensures ∙ c.in-Some.is) in
+    rw (← c.self.view_is)
+    (cleared_at c.args.table.now c.self.inside.shelves.items c.in-Some.at c.index_mut.result.now c.clear.new.self c.index_mut.ensures.value c.clear.ensures.definition c.clear.ensures.rows at)
 
 pub returns-in-Some-clause-keys : goal.returns-in-Some-clause-keys
-unfolding keeps
 returns-in-Some-clause-keys c =
-    let at : position (is_named c.args.table.now) c.args.self.now.shelves.items ≡ Some c.in-Some.at = ap (position (is_named c.args.table.now)) (sym c.deref.ensures.value) ∙ sym c.shelf_of.ensures.place ∙ c.in-Some.is in
-    let found : shelf_named c.args.table.now c.args.self.now.shelves.items ≡ Some c.index_mut.result.now = found (is_named c.args.table.now) c.args.self.now.shelves.items c.in-Some.at c.index_mut.result.now at c.index_mut.ensures.value in
-    let put : slice_set c.args.self.now.shelves.items c.in-Some.at c.clear.new.self ≡ swap c.args.table.now c.clear.new.self c.args.self.now.shelves.items = replaced (is_named c.args.table.now) c.clear.new.self c.args.self.now.shelves.items c.in-Some.at at in
-    λ other r differ. ap (kept_on other r) put ∙ beside_swap c.args.table.now other r c.index_mut.result.now c.clear.new.self c.args.self.now.shelves.items differ found c.clear.ensures.definition
+    let at : place_of c.args.table.now (store_of c.self.inside.shelves.items).tables ≡ Some c.in-Some.at = rw c.self.view_is (sym c.place.ensures ∙ c.in-Some.is) in
+    rw (← c.self.view_is)
+    (beside_at c.args.table.now c.self.inside.shelves.items c.in-Some.at c.index_mut.result.now c.clear.new.self c.index_mut.ensures.value c.clear.ensures.definition at)
 
 pub returns-in_default-clause-tables : goal.returns-in_default-clause-tables
-unfolding tables_of
-returns-in_default-clause-tables c =
-    let at : position (is_named c.args.table.now) c.args.self.now.shelves.items ≡ None = ap (position (is_named c.args.table.now)) (sym c.deref.ensures.value) ∙ sym c.shelf_of.ensures.place ∙ c.in_default.is in
-    none_cleared c.args.table.now c.args.self.now.shelves.items at
+returns-in_default-clause-tables c = nothing_cleared c.args.table.now c.args.self.now.tables (sym c.place.ensures ∙ c.in_default.is)

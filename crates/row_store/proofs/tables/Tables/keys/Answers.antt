@@ -1,23 +1,22 @@
-use Rattle.std.proofs.Common.{◌≡◌, List, Some, None, sym, ap, subst, ◌∙◌}
-use Rattle.std.specs.Prelude.{position, IfOk}
-use Rattle.val_types.specs.declared.value.Value.{Value}
-use Rattle.row_store.specs.Shelves.{is_named}
-use Rattle.row_store.specs.Stores.{tables_of}
-use Rattle.val_types.proofs.Lookup.{found, missing}
-use Rattle.row_store.proofs.Swapping.{shelf_named}
-use Rattle.row_store.proofs.Storing.{keys_found, no_keys}
+use Rattle.std.proofs.Common.{◌≡◌, Some, sym, ◌∙◌, ◌<◌, length, arith}
+use Rattle.table_rules.specs.Stores.{place_of}
+use Rattle.row_store.specs.Shelves.{store_of}
+use Rattle.table_rules.proofs.Places.{no_keys}
+use Rattle.row_store.proofs.Shelved.{place_within, keys_of}
+use Rattle.row_store.proofs.Beside.{if_ok}
 use Rattle.row_store.proofs.tables.Tables.keys.Goals as goal
 
-pub returns-in-Some : goal.returns-in-Some
-unfolding tables_of
-returns-in-Some c =
-    let at : position (is_named c.args.table.now) c.args.self.now.shelves.items ≡ Some c.in-Some.at = ap (position (is_named c.args.table.now)) (sym c.deref.ensures.value) ∙ sym c.shelf_of.ensures.place ∙ c.in-Some.is in
-    let found : shelf_named c.args.table.now c.args.self.now.shelves.items ≡ Some c.index.result.now = found (is_named c.args.table.now) c.args.self.now.shelves.items c.in-Some.at c.index.result.now at c.index.ensures in
-    subst (λ (wanted : List (List Value)). IfOk c.keys.result (λ keys. keys ≡ wanted)) (sym (keys_found c.args.table.now c.args.self.now.shelves.items c.index.result.now found)) c.keys.ensures
+pub index-requires : goal.index-requires
+index-requires c =
+    let at : place_of c.args.table.now (store_of c.self.inside.shelves.items).tables ≡ Some c.in-Some.at = rw c.self.view_is (sym c.place.ensures ∙ c.in-Some.is) in
+    let less : c.in-Some.at < length c.self.inside.shelves.items = place_within c.args.table.now c.self.inside.shelves.items c.in-Some.at at in
+    omega (arith, less, c.self.inside.shelves.ok)
 
 pub returns-in-None : goal.returns-in-None
-unfolding tables_of
-returns-in-None c =
-    let at : position (is_named c.args.table.now) c.args.self.now.shelves.items ≡ None = ap (position (is_named c.args.table.now)) (sym c.deref.ensures.value) ∙ sym c.shelf_of.ensures.place ∙ c.in-None.is in
-    let none : shelf_named c.args.table.now c.args.self.now.shelves.items ≡ None = missing (is_named c.args.table.now) c.args.self.now.shelves.items at in
-    c.new.ensures ∙ sym (no_keys c.args.table.now c.args.self.now.shelves.items none)
+returns-in-None c = c.new.ensures ∙ sym (no_keys c.args.table.now c.args.self.now.tables (sym c.place.ensures ∙ c.in-None.is))
+
+pub returns-in-Some : goal.returns-in-Some
+returns-in-Some c =
+    let at : place_of c.args.table.now (store_of c.self.inside.shelves.items).tables ≡ Some c.in-Some.at = rw c.self.view_is (sym c.place.ensures ∙ c.in-Some.is) in
+    rw (← c.self.view_is)
+    (if_ok c.keys.result _ _ (λ keys e. e ∙ keys_of c.args.table.now c.self.inside.shelves.items c.in-Some.at c.index.result.now c.index.ensures at) c.keys.ensures)
