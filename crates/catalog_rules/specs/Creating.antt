@@ -18,7 +18,8 @@ use Rattle.sql_tree.specs.declared.statements.Cause.{Cause}
 use Rattle.sql_tree.specs.declared.statements.Cause.TheVariants as causes
 use Rattle.catalog_rules.specs.Names.{same_name, is_among, has_twice}
 use Rattle.catalog_rules.specs.Objects.{Object, table, function, procedure, reaction, table_in, function_in, procedure_in, trigger_in, trigger_for, name_of, parameters_of, result_of, body_of, trigger_name, trigger_table, count_of_tables, count_of_programs}
-use Rattle.catalog_rules.specs.Defined.{column_type, definition_of, names_of_columns}
+use Rattle.sql_locals.specs.Types.{column_type}
+use Rattle.catalog_rules.specs.Defined.{definition_of, names_of_columns}
 use Rattle.catalog_rules.specs.Bodies.{Kind, of_function, of_procedure, of_trigger, body_codes, declared_types, has_code}
 
 -- a check: the number of its error, and whether it refuses

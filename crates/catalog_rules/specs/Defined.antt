@@ -11,16 +11,11 @@ use Rattle.sql_tree.specs.declared.statements.SqlType.TheVariants as types
 use Rattle.sql_tree.specs.declared.statements.Column.{Column}
 use Rattle.sql_tree.specs.declared.statements.UniqueKey.{UniqueKey}
 use Rattle.sql_tree.specs.declared.statements.CreateTable.{CreateTable}
+use Rattle.sql_locals.specs.Types.{column_type}
 use Rattle.catalog_rules.specs.Names.{place_among}
 use Rattle.catalog_rules.specs.Objects.{columns_of}
 
--- the type of a column, as one that was written is
-abbrev pub column_type : SqlType → ColType
-column_type types.Int = kinds.Int
-column_type types.BigInt = kinds.BigInt
-column_type (types.Varchar most) = kinds.Varchar most
-
--- the type as it is written
+-- a type as it is written
 abbrev pub written_type : ColType → SqlType
 written_type kinds.Int = types.Int
 written_type kinds.BigInt = types.BigInt

@@ -12,11 +12,11 @@
 //!
 //! # Proved
 //! - [`Vars::get`] and [`Vars::set`] are the variable of a name and the variables with one set; want of memory leaves them as
-//!   they were; no name stands twice
+//!   they were; a copy of variables is equal, or memory is wanted; no name stands twice
 //! - entries behind others are applied to what those leave (`entries_go_on`)
 //!
 //! # Only tested
-//! Nothing yet: that variables are set with ample memory is shown where sessions are.
+//! That variables are set and copied with ample memory, in `context_callers`.
 #![tactic(auto)]
 
 mod carried;

@@ -1,5 +1,5 @@
 //! User variables.
-ghost use Rattle.std.specs.Prelude.{◌≡◌, [], nat_eq, OnErr, OnOk, option_copied};
+ghost use Rattle.std.specs.Prelude.{◌≡◌, [], nat_eq, IfOk, OnErr, OnOk, option_copied};
 ghost use Rattle.std.specs.Cmp.Lexicographic.{pointwise};
 ghost use Rattle.std.specs.Map.{lookup};
 ghost use Rattle.log_entries.specs.Variables.{variable_set};
@@ -52,5 +52,16 @@ impl Vars {
         let name = name.duplicate(self.alloc)?;
         self.map.insert(name, value)?;
         Ok(())
+    }
+}
+
+impl Duplicate for Vars {
+    fn duplicate(&self, alloc: Global) -> Result<Vars, NoMemory> {
+        let mut copy = Vars::new(alloc);
+        for (name, value) in self.map.iter() {
+            let value = value.duplicate(alloc)?;
+            copy.set(name, value)?;
+        }
+        Ok(copy)
     }
 }

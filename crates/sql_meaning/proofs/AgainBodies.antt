@@ -17,7 +17,7 @@ use Rattle.sql_tree.specs.declared.statements.Time.{Time}
 use Rattle.sql_tree.specs.declared.statements.Cause.{Cause}
 use Rattle.catalog_rules.specs.Names.{is_among, place_among}
 use Rattle.catalog_rules.specs.Objects.{function_in, trigger_for, parameters_of, result_of, body_of, trigger_body, columns_of}
-use Rattle.catalog_rules.specs.Defined.{column_type}
+use Rattle.sql_locals.specs.Types.{column_type}
 use Rattle.catalog_rules.specs.Nodes.{Node, no_sight, nodes_of, nodes_of_tree, nodes_of_trees}
 use Rattle.catalog_rules.specs.Checks.{statement_refusal, expression_refusal}
 use Rattle.sql_meaning.specs.Scenes.{Action, ◌>>=◌, pure, fail, needed, require, each, carried_on, spend_turn, Scene}
@@ -103,7 +103,7 @@ module _ (extra : ℕ) where
   assign_local_again : (body : Body) (n : List ℕ) (v : Value) → Again extra (assign_local body n v) (assign_local body n v)
   assign_local_again body n v =
       bind_again extra (needed 1193 (find_local body.locals n)) (needed 1193 (find_local body.locals n)) _ _ (needed_again extra 1193 (find_local body.locals n)) (λ l.
-      bind_again extra (fitted (column_type l.kind) v) (fitted (column_type l.kind) v) _ _ (fitted_again extra (column_type l.kind) v) (λ fit. pure_again extra _))
+      bind_again extra (fitted l.kind v) (fitted l.kind v) _ _ (fitted_again extra l.kind v) (λ fit. pure_again extra _))
 
   assign_new_again : (body : Body) (c : List ℕ) (v : Value) → Again extra (assign_new body c v) (assign_new body c v)
   assign_new_again body c v =

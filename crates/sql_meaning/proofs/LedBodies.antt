@@ -17,7 +17,7 @@ use Rattle.sql_tree.specs.declared.statements.Time.{Time}
 use Rattle.sql_tree.specs.declared.statements.Cause.{Cause}
 use Rattle.catalog_rules.specs.Names.{is_among, place_among}
 use Rattle.catalog_rules.specs.Objects.{function_in, trigger_for, parameters_of, result_of, body_of, trigger_body, columns_of}
-use Rattle.catalog_rules.specs.Defined.{column_type}
+use Rattle.sql_locals.specs.Types.{column_type}
 use Rattle.catalog_rules.specs.Nodes.{Node, no_sight, nodes_of, nodes_of_tree, nodes_of_trees}
 use Rattle.catalog_rules.specs.Checks.{statement_refusal, expression_refusal}
 use Rattle.sql_meaning.specs.Scenes.{Action, ◌>>=◌, pure, fail, needed, require, each, carried_on, spend_turn}
@@ -92,7 +92,7 @@ turns_left_led test do_steps tested stepped body = record { moves = λ scene. (t
 assign_local_led : (body : Body) (n : List ℕ) (v : Value) → IsLed (assign_local body n v)
 assign_local_led body n v =
     bind_moved leading (needed 1193 (find_local body.locals n)) _ (needed_moved leading 1193 (find_local body.locals n)) (λ l.
-    bind_moved leading (fitted (column_type l.kind) v) _ (fitted_led (column_type l.kind) v) (λ fit. pure_moved leading _))
+    bind_moved leading (fitted l.kind v) _ (fitted_led l.kind v) (λ fit. pure_moved leading _))
 
 assign_new_led : (body : Body) (c : List ℕ) (v : Value) → IsLed (assign_new body c v)
 assign_new_led body c v =

@@ -9,7 +9,7 @@ use Rattle.sql_tree.specs.Tree.{Tree, Trees, Part, no_part, part}
 use Rattle.sql_tree.specs.Statement.{Declared, Program, Trigger}
 use Rattle.sql_tree.specs.Statement.{Statement, insert_into, replace_into, update_rows, delete_rows, select, evaluate, set_all, block, if_steps, while_steps, return_value}
 use Rattle.sql_tree.specs.Statement.{Statements, no_statement, statement, Branches, no_branch, branch, Otherwise, no_else, else_steps}
-use Rattle.sql_locals.specs.Locals.{find_local}
+use Rattle.sql_locals.specs.Locals.{find_local, set_local}
 use Rattle.sql_tree.specs.declared.expressions.Count.{Count}
 use Rattle.sql_tree.specs.declared.expressions.Count.TheVariants as counts
 use Rattle.sql_locals.specs.declared.locals.Local.{Local}
@@ -20,7 +20,7 @@ use Rattle.sql_tree.specs.declared.statements.Time.{Time}
 use Rattle.sql_tree.specs.declared.statements.Cause.{Cause}
 use Rattle.catalog_rules.specs.Names.{same_name, is_among, place_among}
 use Rattle.catalog_rules.specs.Objects.{function_in, trigger_for, parameters_of, result_of, body_of, trigger_body, columns_of}
-use Rattle.catalog_rules.specs.Defined.{column_type}
+use Rattle.sql_locals.specs.Types.{column_type}
 use Rattle.catalog_rules.specs.Nodes.{Node, a_limit, no_sight, nodes_of, nodes_of_tree, nodes_of_trees, table_at, table_changed}
 use Rattle.catalog_rules.specs.Checks.{Scope, statement_refusal, expression_refusal}
 use Rattle.sql_meaning.specs.Scenes.{Action, ◌>>=◌, pure, fail, needed, require, each, carried_on, spend_turn, undone}
@@ -131,17 +131,9 @@ body_perform world body s =
 
 -- ---- SET in a body
 
--- the locals, the last of a name with another value
-abbrev pub set_local : List ℕ → Value → List Local → List Local
-set_local n v [] = []
-set_local n v (l ∷ ls) =
-    if is_some (find_local ls n) then l ∷ set_local n v ls
-    else if same_name l.name n then record l { value = v } ∷ ls
-    else l ∷ ls
-
 abbrev pub assign_local : Body → List ℕ → Value → Action Body
 assign_local body n v =
-    needed 1193 (find_local body.locals n) >>= λ l. fitted (column_type l.kind) v >>= λ fit.
+    needed 1193 (find_local body.locals n) >>= λ l. fitted l.kind v >>= λ fit.
     pure (record body { locals = set_local n fit body.locals })
 
 abbrev pub with_new_row : Body → View → List Value → Body
@@ -171,7 +163,7 @@ body_set world body as' =
 abbrev pub declare_name : SqlType → Value → Body → List ℕ → Action Body
 declare_name kind v body n =
     fitted (column_type kind) v >>= λ fit.
-    pure (record body { locals = body.locals ++ record { name = n; kind = kind; value = fit } ∷ [] })
+    pure (record body { locals = body.locals ++ record { name = n; kind = column_type kind; value = fit } ∷ [] })
 
 -- the DEFAULT is evaluated once, also for several names
 abbrev pub preset_value : World → Body → Part → Action Value
@@ -228,7 +220,7 @@ abbrev mutual
 
 -- a parameter with the value of its argument, fitted to its type
 abbrev pub local_for : Parameter × Value → Action Local
-local_for p = fitted (column_type (p.0.kind)) p.1 >>= λ fit. pure (record { name = p.0.name; kind = p.0.kind; value = fit })
+local_for p = fitted (column_type (p.0.kind)) p.1 >>= λ fit. pure (record { name = p.0.name; kind = column_type (p.0.kind); value = fit })
 
 abbrev pub fitted_result : Option SqlType → Value → Action Value
 fitted_result None v = pure v

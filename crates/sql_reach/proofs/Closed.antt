@@ -8,13 +8,13 @@ use Rattle.val_types.specs.declared.value.Value.{Value}
 use Rattle.val_types.specs.declared.value.Value.TheVariants.{Null, Int, Text}
 use Rattle.sql_tree.specs.Statement.{Statement, create_table, create_function, create_procedure, create_trigger, drop_table, drop_function, drop_procedure, drop_trigger, truncate, insert_into, replace_into, update_rows, delete_rows, select, evaluate, set_all, call_procedure, begin, commit, rollback, savepoint, rollback_to, release_savepoint, block, if_steps, while_steps, return_value}
 use Rattle.sql_tree.specs.Depth.{depth_of, depth_of_tree}
-use Rattle.sql_locals.specs.Locals.{find_from, find_local}
+use Rattle.sql_locals.specs.Locals.{find_from, find_local, has_literal}
 use Rattle.sql_tree.specs.Well.{is_name_byte, is_name, is_literal, is_number, is_count, is_well_tree, is_whole}
 use Rattle.sql_tree.specs.declared.expressions.Count.{Count}
 use Rattle.sql_tree.specs.declared.expressions.Count.TheVariants as counts
 use Rattle.sql_locals.specs.declared.locals.Local.{Local}
 use Rattle.sql_meaning.specs.Frames.{number_or_none}
-use Rattle.sql_reach.specs.Closing.{const_if, closed_name, number_if, closed_by, closed_count, statement_mapped, closed, has_literal, ClosedIsWell, ClosedIsAsDeep}
+use Rattle.sql_reach.specs.Closing.{const_if, closed_name, number_if, closed_by, closed_count, statement_mapped, closed, ClosedIsWell, ClosedIsAsDeep}
 use Rattle.sql_reach.proofs.Deep.{statement_deep}
 use Rattle.sql_reach.proofs.StaysWell.{both, step_well}
 

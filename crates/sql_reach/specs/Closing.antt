@@ -7,8 +7,8 @@ use Rattle.sql_tree.specs.Tree.{Trees, no_tree, tree, Arms, no_arm, arm, Part, n
 use Rattle.sql_tree.specs.Tree.{Aggregates, no_aggregate, count_all, aggregate, Origin, no_origin, from_table, Orders, no_order, order_by}
 use Rattle.sql_tree.specs.Statement.{Statement, insert_into, replace_into, update_rows, delete_rows, select, evaluate, Supply, rows, rows_of}
 use Rattle.sql_tree.specs.Depth.{depth_of}
-use Rattle.sql_locals.specs.Locals.{find_local}
-use Rattle.sql_tree.specs.Well.{is_literal, IsWell}
+use Rattle.sql_locals.specs.Locals.{find_local, has_literal}
+use Rattle.sql_tree.specs.Well.{IsWell}
 use Rattle.sql_tree.specs.declared.expressions.Count.{Count}
 use Rattle.sql_tree.specs.declared.expressions.Count.TheVariants as counts
 use Rattle.sql_tree.specs.declared.expressions.Limit.{Limit}
@@ -120,10 +120,6 @@ unfoldable pub closed : Statement → List Local → Statement
 closed s locals = statement_mapped (closed_name locals) (closed_count locals) s
 
 -- ---- laws
-
--- a local holds what a literal can say
-abbrev pub has_literal : Local → Bool
-has_literal l = is_literal l.value
 
 -- what the parser can give, it can give with locals closed in
 abbrev pub ClosedIsWell : Type 0

@@ -7,14 +7,14 @@ use Rattle.sql_tree.specs.Tree.{built_in, no_tree, new_column, call}
 use Rattle.sql_tree.specs.Statement.{trigger, return_value}
 use Rattle.sql_locals.specs.declared.locals.Local.{Local}
 use Rattle.sql_tree.specs.declared.statements.Cause.TheVariants as causes
-use Rattle.sql_tree.specs.declared.statements.SqlType.{SqlType}
+use Rattle.val_types.specs.declared.definitions.ColType.{ColType}
 use Rattle.sql_tree.specs.declared.statements.Time.TheVariants as times
 use Rattle.catalog_rules.specs.Objects.{Object, table, function, reaction}
 use Rattle.sql_meaning.specs.Worked.{t_def, l_def, giving, inserting}
 
 -- a local
 abbrev pub local_of : List ℕ → Value → Local
-local_of n v = record { name = n; kind = SqlType.Int; value = v }
+local_of n v = record { name = n; kind = ColType.Int; value = v }
 
 -- v = -5 and b = X'0027'
 abbrev pub two_locals : List Local
