@@ -6,4 +6,5 @@ pub mod Defined
 pub mod Names
 pub mod Nodes
 pub mod Objects
+pub mod Ranks
 pub mod Worked

@@ -1,0 +1,5 @@
+pub mod Found
+pub mod Kept
+pub mod Orders
+pub mod Parts
+pub mod Rising

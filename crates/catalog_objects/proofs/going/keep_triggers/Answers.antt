@@ -1,0 +1,8 @@
+use Rattle.std.proofs.Common.{rules}
+use Rattle.std.proofs.lemmas.Fn.{filter_same}
+use Rattle.sql_tree.specs.StatementView.{view}
+use Rattle.catalog_objects.specs.Lookups.{trigger_stays}
+use Rattle.catalog_objects.proofs.going.keep_triggers.Goals as goal
+
+pub returns : goal.returns
+returns c = filter_same _ (trigger_stays (view c.args.s.now)) _ (λ x b f' k. search rules) _ _ c.retain.ensures.filtered
