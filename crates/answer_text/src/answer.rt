@@ -6,9 +6,14 @@ use val_types::{List, Row, SqlError};
 #[derive(Drop)]
 pub enum End {
     /// So many rows were affected, 0 for what affects none.
-    Ok { affected: u64, warned: bool },
+    Ok {
+        affected: u64,
+        warned: bool,
+    },
     /// The rows of the last set were shown.
-    Rows { warned: bool },
+    Rows {
+        warned: bool,
+    },
     /// An error, with the place of a syntax error in the text, and with the session that holds the
     /// writer's lock.
     Refused {
