@@ -128,14 +128,16 @@ impl Ctx {
 
     /// The variable auto_increment_increment.
     pub fn increment(&self) -> u16
-        ensures { result ≡ self.now.increment }
+        ensures value { result ≡ self.now.increment }
+        ensures counts { 1 ≤ result }
     {
         self.inc
     }
 
     /// The variable auto_increment_offset.
     pub fn offset(&self) -> u16
-        ensures { result ≡ self.now.offset }
+        ensures value { result ≡ self.now.offset }
+        ensures counts { 1 ≤ result }
     {
         self.off
     }

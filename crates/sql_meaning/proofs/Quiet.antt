@@ -8,7 +8,7 @@ use Rattle.sql_tree.specs.Statement.{Program}
 use Rattle.sql_meaning.specs.Scenes.{Scene, Ending, done, failed, Action, ◌>>=◌, pure, needed, undone_from, undone}
 use Rattle.sql_meaning.specs.Frames.{Setting, Running, Below, only_locals}
 use Rattle.sql_meaning.specs.Values.{values, rows_of_query}
-use Rattle.sql_meaning.specs.Running.{call_function, start_function, level_of, world_of, effect, evaluation}
+use Rattle.sql_meaning.specs.Running.{start_function, level_of, world_of, effect, evaluation}
 use Rattle.sql_meaning.specs.Leading.{scene_after, StaysAsItWas, CallsChangeNothing, SelectsChangeNothing, DosChangeNothing, EvaluationsChangeNothing, NoFunctionChanges}
 use Rattle.sql_meaning.proofs.Steps.{IsMoved, staying, bind_moved, pure_moved}
 use Rattle.sql_meaning.proofs.Moved.{CallsMoved, values_moved, query_moved}

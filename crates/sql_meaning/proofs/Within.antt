@@ -1,17 +1,17 @@
 -- Steps and expressions of a well statement are well.
-use Rattle.std.proofs.Common.{◌≡◌, ℕ, suc, ◌≤◌, Bool, true, false, ◌&&◌, List, [], ◌∷◌, ◌++◌, max, not, refl, ap, arith}
+use Rattle.std.proofs.Common.{◌≡◌, ℕ, suc, ◌≤◌, true, ◌&&◌, List, [], ◌∷◌, max, not, refl, ap, arith}
 use Rattle.std.specs.List.{All, list_all}
 use Rattle.std.proofs.lemmas.Bool.{and_parts}
 use Rattle.std.proofs.lemmas.List.Elements.{All-nil, All-cons, All-append}
 use Rattle.std.proofs.Math.Nat.{le-max_left, le-max_right, max-le}
 use Rattle.sql_tree.specs.Tree.{Tree, Trees, no_tree, tree, Part, no_part, part}
-use Rattle.sql_tree.specs.Statement.{Declared, Program, program, Trigger, trigger}
+use Rattle.sql_tree.specs.Statement.{Declared, program, trigger}
 use Rattle.sql_tree.specs.Statement.{Statement, create_table, create_function, create_procedure, create_trigger, drop_table, drop_function, drop_procedure, drop_trigger, truncate, insert_into, replace_into, update_rows, delete_rows, select, evaluate, set_all, call_procedure, begin, commit, rollback, savepoint, rollback_to, release_savepoint, block, if_steps, while_steps, return_value}
 use Rattle.sql_tree.specs.Statement.{Statements, no_statement, statement, Branches, no_branch, branch, Otherwise, no_else, else_steps}
 use Rattle.sql_tree.specs.Depth.{depth_of, depth_of_tree, depth_of_trees, depth_of_part, depth_of_statements, depth_of_branches, depth_of_otherwise, depth_of_assignments, depth_of_declared, depth_of_declarations}
-use Rattle.sql_tree.specs.Well.{is_well_tree, are_well_trees, is_well_part, is_target, is_well_assignment, is_well_declaration, are_names, is_type, has_item, is_well_step, are_well_steps, are_well_branches, is_well_otherwise, has_branch, has_statement, is_name, is_parameter, is_type_if, has_result}
+use Rattle.sql_tree.specs.Well.{is_well_tree, are_well_trees, is_well_part, is_target, is_well_assignment, is_well_declaration, has_item, is_well_step, are_well_steps, are_well_branches, is_well_otherwise, has_branch, has_statement, is_name, has_result}
 use Rattle.sql_tree.specs.declared.statements.Target.{Target}
-use Rattle.sql_meaning.specs.Within.{listed, branch_steps, else_listed, steps_of, do_if, do_one, do_part, values_assigned, do_presets, do_conditions, dos_of, IsStepIn, IsDoFor, StepsAreWell, DosAreWell}
+use Rattle.sql_meaning.specs.Within.{listed, branch_steps, else_listed, do_if, do_one, do_part, values_assigned, do_presets, do_conditions, IsStepIn, IsDoFor, StepsAreWell, DosAreWell}
 
 -- ---- the greatest of two
 

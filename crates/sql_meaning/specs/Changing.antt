@@ -1,12 +1,11 @@
 -- What INSERT, REPLACE, UPDATE and DELETE make of the rows of a table, row by row, with the triggers of the table.
-use Rattle.std.specs.Prelude.{ℕ, ◌+◌, ◌*◌, ◌-◌, ◌^◌, ◌==◌, Bool, true, false, not, ◌&&◌, if◌then◌else◌, List, [], ◌∷◌, length, map, find, zip, Option, Some, None, ℤ, pos, unwrap_or, slice_get, slice_index_or, slice_set, int_le, is_none}
+use Rattle.std.specs.Prelude.{ℕ, ◌+◌, ◌*◌, ◌==◌, Bool, true, false, not, ◌&&◌, if◌then◌else◌, List, [], ◌∷◌, length, map, find, zip, Option, Some, None, ℤ, pos, unwrap_or, slice_get, slice_index_or, slice_set, int_le, is_none}
 use Rattle.std.specs.List.{list_any, enumerate_from}
 use Rattle.std.specs.Option.{option_map, option_map_or, option_or}
 use Rattle.val_types.specs.declared.value.Value.{Value}
 use Rattle.val_types.specs.declared.value.Value.TheVariants.{Null, Int, Text}
 use Rattle.val_types.specs.declared.change.Change.TheVariants as changes
 use Rattle.val_types.specs.declared.definitions.ColType.{ColType}
-use Rattle.val_types.specs.declared.definitions.ColType.TheVariants as kinds
 use Rattle.val_types.specs.declared.definitions.ColumnDef.{ColumnDef}
 use Rattle.val_types.specs.declared.definitions.TableDef.{TableDef}
 use Rattle.val_types.specs.Fitting.{fitting, greatest_of, is_null}

@@ -18,7 +18,7 @@ use Rattle.sql_tree.specs.declared.statements.Parameter.{Parameter}
 use Rattle.sql_tree.specs.declared.statements.Target.{Target}
 use Rattle.sql_tree.specs.declared.statements.Time.{Time}
 use Rattle.sql_tree.specs.declared.statements.Cause.{Cause}
-use Rattle.catalog_rules.specs.Names.{same_name, is_among, place_among}
+use Rattle.catalog_rules.specs.Names.{is_among, place_among}
 use Rattle.catalog_rules.specs.Objects.{function_in, trigger_for, parameters_of, result_of, body_of, trigger_body, columns_of}
 use Rattle.sql_locals.specs.Types.{column_type}
 use Rattle.catalog_rules.specs.Nodes.{Node, a_limit, no_sight, nodes_of, nodes_of_tree, nodes_of_trees, table_at, table_changed}

@@ -2,7 +2,7 @@
 use Rattle.std.specs.Prelude.{◌<◌, ◌≤◌, List, [], ◌∷◌, ◌++◌, IsTrue}
 use Rattle.std.specs.List.{All}
 use Rattle.sql_tree.specs.Tree.{Tree, Trees, no_tree, tree, Part, no_part, part}
-use Rattle.sql_tree.specs.Statement.{Declared, Program, program, Trigger, trigger}
+use Rattle.sql_tree.specs.Statement.{Declared, program, trigger}
 use Rattle.sql_tree.specs.Statement.{Statement, create_function, create_procedure, create_trigger, evaluate, set_all, call_procedure, block, if_steps, while_steps, return_value}
 use Rattle.sql_tree.specs.Statement.{Statements, no_statement, statement, Branches, no_branch, branch, Otherwise, no_else, else_steps}
 use Rattle.sql_tree.specs.Depth.{depth_of}

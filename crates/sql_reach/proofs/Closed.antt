@@ -1,5 +1,5 @@
 -- A statement with its locals closed in is well and as deep as it was.
-use Rattle.std.proofs.Common.{◌≡◌, ℕ, Bool, true, false, not, ◌&&◌, cond, List, [], ◌∷◌, Option, Some, None, ℤ, pos, negsuc, refl, arith}
+use Rattle.std.proofs.Common.{◌≡◌, ℕ, Bool, true, false, not, ◌&&◌, cond, List, [], ◌∷◌, Option, Some, None, pos, negsuc, refl, arith}
 use Rattle.std.specs.Prelude.{◌^◌, ◌-◌, nat_le, nat_eq, int_le, length}
 use Rattle.std.specs.List.{list_all}
 use Rattle.std.specs.Cmp.Lexicographic.{pointwise}
@@ -9,7 +9,7 @@ use Rattle.val_types.specs.declared.value.Value.TheVariants.{Null, Int, Text}
 use Rattle.sql_tree.specs.Statement.{Statement, create_table, create_function, create_procedure, create_trigger, drop_table, drop_function, drop_procedure, drop_trigger, truncate, insert_into, replace_into, update_rows, delete_rows, select, evaluate, set_all, call_procedure, begin, commit, rollback, savepoint, rollback_to, release_savepoint, block, if_steps, while_steps, return_value}
 use Rattle.sql_tree.specs.Depth.{depth_of, depth_of_tree}
 use Rattle.sql_locals.specs.Locals.{find_from, find_local, has_literal}
-use Rattle.sql_tree.specs.Well.{is_name_byte, is_name, is_literal, is_number, is_count, is_well_tree, is_whole}
+use Rattle.sql_tree.specs.Well.{is_name_byte, is_name, is_literal, is_count, is_well_tree, is_whole}
 use Rattle.sql_tree.specs.declared.expressions.Count.{Count}
 use Rattle.sql_tree.specs.declared.expressions.Count.TheVariants as counts
 use Rattle.sql_locals.specs.declared.locals.Local.{Local}

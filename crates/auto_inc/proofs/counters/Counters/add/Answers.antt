@@ -6,4 +6,4 @@ use Rattle.auto_inc.proofs.counters.Counters.add.Goals as goal
 pub invariant_of-self-2 : goal.invariant_of-self-2
 invariant_of-self-2 c =
     let free : value_for c.in_ok-table.table c.self.inside.counters.items ≡ None = rw (c.in_ok-table.ensures, c.self.view_is) c.requires in
-    rw c.in_ok-push.ensures.items (one_each_behind c.self.inside.counters.items (record { table = c.in_ok-table.table; value = c.args.value }) c.self.invariant free)
+    rw c.in_ok-push.ensures.items (one_each_behind c.self.inside.counters.items _ c.self.invariant free)
