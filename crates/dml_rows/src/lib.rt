@@ -1,15 +1,20 @@
 //! One row's change: stored and noted for taking back, or neither.
 //!
-//! - `storing`: [`insert_row`], [`update_row`] and [`delete_row`]
+//! - `storing`: [`insert_row_at`], [`update_row_at`] and [`delete_row_at`], in the table at a place
+//! - `by_name`: [`insert_row`], [`update_row`] and [`delete_row`], in the table of a name
 //! - `taking_back`: [`take_back_to`]
 //!
 //! # Proved
-//! - [`insert_row`], [`update_row`] and [`delete_row`] store exactly what the definitions say, or refuse
-//!   with exactly what is in the way; then, and where memory is wanted, the tables are as before (`stored`)
+//! - each stores exactly what the definitions say, or refuses with exactly what is in the way; then, and
+//!   where memory is wanted, the tables are as before (`stored`)
 //! - the undo list is the old one with just that change behind it on Ok, else as before (`noted`)
-//! - whatever could be taken back before a call can be taken back after it, with the new change (`back`)
+//! - on every exit tables and list go on from the old ones by the one relation of `table_rules` that
+//!   composes: the changes behind the old list lead from the old tables to the new, taking them back leads
+//!   to the old ones and needs no memory, and keys and definitions stay (`leads`)
 //! - [`take_back_to`] makes the tables those after the inverses of the changes behind the mark, the last
-//!   one first, and leaves the list up to the mark; it takes no memory
+//!   one first, and leaves the list up to the mark; it takes no memory. What leads to it from a beginning
+//!   before the mark still does (`leads`), and at the mark of the beginning tables and list are as they were
+//!   there (`home`)
 //!
 //! # Only tested
 //! That calls succeed with ample memory, in `row_callers`.

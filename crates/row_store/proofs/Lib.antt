@@ -10,4 +10,5 @@ pub mod Swapping
 pub mod Tidying
 pub mod Undoing
 pub mod Unnamed
+pub mod Walking
 pub mod Writing

@@ -111,7 +111,7 @@ not_placed : (name : List ℕ) (ss : List Shelf) → place_of name (store_of ss)
 unfolding store_of
 not_placed name ss e = sym (place_mapped table_on (has_name name) ss) ∙ e
 
-shelf_at : (name : List ℕ) (ss : List Shelf) (at : ℕ) (s : Shelf) → place_of name (store_of ss).tables ≡ Some at → s ≡ get_or ss at s → shelf_named name ss ≡ Some s
+pub shelf_at : (name : List ℕ) (ss : List Shelf) (at : ℕ) (s : Shelf) → place_of name (store_of ss).tables ≡ Some at → s ≡ get_or ss at s → shelf_named name ss ≡ Some s
 shelf_at name ss at s e is = found (is_named name) ss at s (placed name ss at e) is
 
 set_at : (name : List ℕ) (ss : List Shelf) (at : ℕ) (new : Shelf) → place_of name (store_of ss).tables ≡ Some at → slice_set ss at new ≡ swap name new ss
@@ -418,7 +418,6 @@ pub keys_of : (name : List ℕ) (ss : List Shelf) (at : ℕ) (s : Shelf) → s �
     → map (primary_key s.definition) (rows_in s.slots.items) ≡ keys_at name (store_of ss).tables
 unfolding store_of
 keys_of name ss at s is e = sym (keys_found name ss s (shelf_at name ss at s e is))
-
 
 -- another shelf of the same table
 pub same_set : (ss : List Shelf) (at : ℕ) (s new : Shelf) → s ≡ get_or ss at s → same_name s new → rows_in new.slots.items ≡ rows_in s.slots.items → (store_of (slice_set ss at new)).tables ≡ (store_of ss).tables

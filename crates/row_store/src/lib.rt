@@ -1,32 +1,49 @@
 //! The rows of tables by their keys.
 //!
-//! A contract sees what [`Tables`] stand for as the list of tables that the definitions of `table_rules`
-//! speak of, by `tables_of`. Each table has a shelf of slots that rise by key, in which a key is found by
-//! halves. The slot of a row that was taken out stays, empty, until [`Tables::tidy`], so that a change is
-//! taken back without memory. Unique keys are looked for by a walk over the rows.
+//! A contract sees [`Tables`] as plain data: the tables that the definitions of `table_rules` speak of, and
+//! for each the keys that are kept (`Store`). Each table has a shelf of slots that rise by key, in which a
+//! key is found by halves. The slot of a row that was taken out stays, empty, until [`Tables::tidy`], so
+//! that a change is taken back without memory. Unique keys are looked for by a walk over the rows.
+//!
+//! A statement asks for a table's place once ([`Tables::place`]), and calls by it for each row; a place is
+//! good while no table is made or dropped. Each such call has a form by the table's name too.
 //!
 //! - `refusal`: [`RowRefusal`]
 //! - `comparing`: keys of rows without copies of them
+//! - `held`: a row in a slot, by itself or shared
 //! - `slots`: a key with its row
 //! - `looking`: the slot of a key, and a key in the way
 //! - `shelf`: the slots of a table
 //! - `named`: the shelf of a table
-//! - `tables`: [`Tables`]
+//! - `tables`: [`Tables`], by places
+//! - `by_name`: the same by names
+//! - `reading`: rows read where they stand
+//! - `copying`: tables once more
 //! - `laws`: what holds of all that is stored
 //!
 //! # Proved
+//! - [`Tables::place`] is the place of a name; [`Tables::definition`] the definition there, of which no
+//!   other table has the name (`place`)
 //! - [`Tables::get`], [`Tables::keys`] and [`Tables::fits`] give exactly the row, the keys and the answer
 //!   of the definitions; `keys` may want memory
 //! - [`Tables::insert`], [`Tables::update`] and [`Tables::delete`] make exactly the change that the
 //!   definitions say, or refuse with exactly the first key in the way or that the row is not there; then,
-//!   and where memory is wanted, the tables are as before (`stored`). `delete` answers with the row (`row`)
+//!   and where memory is wanted, the tables are as before (`stored`). `delete` answers with a copy of the
+//!   row (`row`)
+//! - [`Tables::get_at`], [`Tables::fits_at`], [`Tables::insert_at`], [`Tables::update_at`] and
+//!   [`Tables::delete_at`] do so in the table at a place, for each name that has it; no place is asked for
+//! - [`Tables::rows`] gives the rows in their order, shared with the table, without copies of them but of
+//!   those that were taken back, or wants memory; [`Tables::copy`] gives equal tables that keep the same keys
+//! - [`Tables::key_in_way`], [`Tables::row_in_way`] and [`Tables::row_on_key`] give the number of the first
+//!   key in the way, the row that has it, and the row that has the key of a number, without memory
 //! - [`Tables::create`], [`Tables::drop_table`], [`Tables::clear`] and [`Tables::tidy`] their definitions;
-//!   only `create` wants memory, and then changes nothing
+//!   only `create` wants memory, and then changes nothing; a name that was dropped is free (`gone`)
 //! - [`Tables::take_back`] makes the inverse of a change, without memory, where that change can be made
 //!   and the key of the row that it puts back is kept
-//! - which keys are kept after each call (`kept`, `before`, `keys`): those of rows that were taken out,
-//!   until `tidy` leaves none but those of rows
-//! - a law: what is stored fits, rises by primary key and has no key in common ([`tables_are_kept`])
+//! - which keys are kept after each call (`kept`, `before`, `keys`): those that were, those of rows that are
+//!   put and taken out, and always those of rows, until `tidy` lets others go
+//! - a law: what is stored fits, rises by primary key and has no key in common, the keys of rows are kept,
+//!   and no two tables have the same name ([`tables_are_kept`])
 //!
 //! # Only tested
 //! That calls succeed with ample memory, in `row_callers`.
@@ -34,9 +51,12 @@
 
 mod by_name;
 mod comparing;
+mod copying;
+mod held;
 mod laws;
 mod looking;
 mod named;
+mod reading;
 mod refusal;
 mod shelf;
 mod slots;

@@ -1,5 +1,5 @@
 //! Looking for the slot of a key, and for a key in the way.
-ghost use Rattle.std.specs.Prelude.{◌≡◌, suc, IsTrue};
+ghost use Rattle.std.specs.Prelude.{◌≡◌, suc, find, option_copied, IsTrue};
 ghost use Rattle.std.specs.Option.{option_map};
 ghost use Rattle.std.specs.List.{list_any};
 ghost use Rattle.val_types.specs.Keys.{agree_on, primary_key};
@@ -32,7 +32,7 @@ fn agrees_with_any(key: &KeyDef, row: &Row, slots: &[Slot]) -> bool
 {
     for slot in slots {
         if let Some(other) = &slot.row {
-            if agree_on(row, other, key) {
+            if agree_on(row, other.get(), key) {
                 return true;
             }
         }
@@ -47,6 +47,20 @@ pub(crate) fn first_agreed(keys: &[KeyDef], row: &Row, slots: &[Slot]) -> Option
     for (i, key) in keys.iter().enumerate() {
         if agrees_with_any(key, row, slots) {
             return Some(i + 1);
+        }
+    }
+    None
+}
+
+/// The first row in some slots with which a row agrees on a unique key.
+pub(crate) fn agreeing<'a>(key: &KeyDef, row: &Row, slots: &'a [Slot]) -> Option<&'a Row>
+    ensures { option_copied result ≡ find (λ other. agree_on row.now other key.now) (rows_in slots.now) }
+{
+    for slot in slots {
+        if let Some(other) = slot.held() {
+            if agree_on(row, other, key) {
+                return Some(other);
+            }
         }
     }
     None

@@ -2,6 +2,7 @@
 ghost use Rattle.std.specs.Prelude.{◌≡◌, IsTrue, count_by};
 ghost use Rattle.row_store.specs.Slots.{is_bare, is_sound};
 
+use crate::held::Held;
 use crate::looking::{first_agreed, slot_for, slot_of};
 use crate::refusal::{RowRefusal, taken};
 use crate::slots::Slot;
@@ -48,7 +49,7 @@ impl Shelf {
             ≡ row_of_key self.now.definition key.now (rows_in self.now.slots.items) }
     {
         match slot_of(&self.slots, key) {
-            Ok(at) => self.slots[at].row.as_ref(),
+            Ok(at) => self.slots[at].held(),
             Err(_) => None,
         }
     }
@@ -61,14 +62,14 @@ impl Shelf {
         let mut keys = List::new(alloc);
         for slot in self.slots.as_slice() {
             if let Some(row) = &slot.row {
-                keys.push(key_of(alloc, &self.definition, row)?)?;
+                keys.push(key_of(alloc, &self.definition, row.get())?)?;
             }
         }
         Ok(keys)
     }
 
     /// Takes the row out of a slot, and leaves the slot.
-    fn empty(&mut self, at: usize) -> Option<Row>
+    fn empty(&mut self, at: usize) -> Option<Held>
         requires { at < length self.old.slots.items }
         ensures found { (key : List Value) → at ≡ place (is_slot_of key) self.old.slots.items
             → result ≡ row_of_key self.old.definition key (rows_in self.old.slots.items) }
@@ -84,7 +85,7 @@ impl Shelf {
     }
 
     /// Takes the row of a key out, and leaves its slot.
-    pub(crate) fn take(&mut self, key: &Row) -> Option<Row>
+    fn take(&mut self, key: &Row) -> Option<Held>
         ensures found { result
             ≡ row_of_key self.old.definition key.now (rows_in self.old.slots.items) }
         ensures rows { rows_in self.new.slots.items
@@ -112,7 +113,7 @@ impl Shelf {
     }
 
     /// Puts a row into the slot of its key, which stands at a place.
-    fn fill(&mut self, at: usize, row: Row)
+    fn fill(&mut self, at: usize, row: Held)
         requires slot { Finds (primary_key self.old.definition row) self.old.slots.items (Ok at) }
         requires fits { row_fits self.old.definition.columns row ≡ true }
         requires free { list_any (collide self.old.definition row) (rows_in self.old.slots.items) ≡ false }
@@ -128,7 +129,7 @@ impl Shelf {
     }
 
     /// Puts a row into the slot of its key.
-    fn put(&mut self, row: Row)
+    fn put(&mut self, row: Held)
         requires slot { has_slot (primary_key self.old.definition row) self.old ≡ true }
         requires fits { row_fits self.old.definition.columns row ≡ true }
         requires free { list_any (collide self.old.definition row) (rows_in self.old.slots.items) ≡ false }
@@ -137,13 +138,13 @@ impl Shelf {
         ensures slots { keys_in self.new.slots.items ≡ keys_in self.old.slots.items }
         ensures definition { self.new.definition ≡ self.old.definition }
     {
-        if let Ok(at) = slot_for(&self.definition, &row, &self.slots) {
+        if let Ok(at) = slot_for(&self.definition, row.get(), &self.slots) {
             self.fill(at, row);
         }
     }
 
     /// Puts a row into a new slot, at the place where that of its key belongs.
-    fn add(&mut self, alloc: Global, at: usize, row: Row) -> Result<(), NoMemory>
+    fn add(&mut self, alloc: Global, at: usize, row: Held) -> Result<(), NoMemory>
         requires place { Finds (primary_key self.old.definition row) self.old.slots.items (Err at) }
         requires fits { row_fits self.old.definition.columns row ≡ true }
         requires free { list_any (collide self.old.definition row) (rows_in self.old.slots.items) ≡ false }
@@ -154,7 +155,7 @@ impl Shelf {
         ensures slots { KeepsSlots self.old self.new }
         ensures definition { self.new.definition ≡ self.old.definition }
     {
-        let key = key_of(alloc, &self.definition, &row)?;
+        let key = key_of(alloc, &self.definition, row.get())?;
         self.slots.insert(
             at,
             Slot {
@@ -166,7 +167,7 @@ impl Shelf {
     }
 
     /// The first key of a row that another row has, by where its primary key was found.
-    fn in_way(&self, row: &Row, found: Result<usize, usize>) -> Option<usize>
+    pub(crate) fn in_way(&self, row: &Row, found: Result<usize, usize>) -> Option<usize>
         requires { Finds (primary_key self.now.definition row.now) self.now.slots.items found }
         ensures { result ≡ key_in_way self.now.definition row.now (rows_in self.now.slots.items) }
     {
@@ -189,6 +190,7 @@ impl Shelf {
         if let Some(which) = self.in_way(&row, found) {
             return Err(taken(which));
         }
+        let row = Held::new(alloc, row)?;
         match found {
             Ok(at) => self.fill(at, row),
             Err(at) => self.add(alloc, at, row)?,
@@ -243,10 +245,10 @@ impl Shelf {
     {
         match change {
             Change::Insert { row, .. } => self.take_same(&row),
-            Change::Delete { row, .. } => self.put(row),
+            Change::Delete { row, .. } => self.put(Held::own(row)),
             Change::Update { before, after, .. } => {
                 self.take_same(&after);
-                self.put(before);
+                self.put(Held::own(before));
             }
         }
     }

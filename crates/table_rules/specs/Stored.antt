@@ -1,5 +1,5 @@
 -- Rows by their keys; what storing a row comes to: a change, or what is in its way.
-use Rattle.std.specs.Prelude.{◌≡◌, ℕ, suc, Bool, true, not, nat_eq, if◌then◌else◌, List, [], ◌∷◌, map, reverse, filter, Option, Some, None, Result, Ok, Err, is_some, is_ok, false, slice_index_or}
+use Rattle.std.specs.Prelude.{◌≡◌, ℕ, suc, Bool, true, not, nat_eq, ◌&&◌, if◌then◌else◌, List, [], ◌∷◌, map, reverse, filter, Option, Some, None, Result, Ok, Err, is_some, is_ok, false, slice_index_or}
 use Rattle.std.specs.List.{list_any, find}
 use Rattle.std.specs.Option.{option_map, option_or, option_and_then, option_map_or}
 use Rattle.std.specs.Cmp.Lexicographic.{pointwise}
@@ -8,9 +8,9 @@ use Rattle.val_types.specs.declared.change.Change.{Change}
 use Rattle.val_types.specs.declared.change.Change.TheVariants.{Insert, Update, Delete}
 use Rattle.val_types.specs.declared.definitions.KeyDef.{KeyDef}
 use Rattle.val_types.specs.declared.definitions.TableDef.{TableDef}
-use Rattle.val_types.specs.Fitting.{row_fits}
+use Rattle.val_types.specs.Fitting.{row_fits, is_null}
 use Rattle.val_types.specs.Lookup.{change_first, remove_first}
-use Rattle.val_types.specs.Keys.{primary_key, same_values, agree_on, collide}
+use Rattle.val_types.specs.Keys.{values_at, primary_key, same_values, agree_on, collide}
 use Rattle.table_rules.specs.Tables.{Table}
 use Rattle.table_rules.specs.Changes.{applied, AreKept}
 use Rattle.val_types.specs.Changes.{inverse}
@@ -53,6 +53,11 @@ abbrev pub key_in_way : TableDef → List Value → List (List Value) → Option
 key_in_way definition row rows =
     if list_any (has_key definition (primary_key definition row)) rows then Some 0
     else option_map suc (first_agreed definition.uniques row rows)
+
+-- the row that has some values in the columns of a unique key, none where one of them is NULL
+abbrev pub row_of_values : KeyDef → List Value → List (List Value) → Option (List Value)
+row_of_values key values rows =
+    find (λ row. not (list_any is_null values) && same_values values (values_at key.columns row)) rows
 
 -- whether a row has a key of another one, key by key: the primary one first, then the unique ones in order of definition
 abbrev pub key_tests : TableDef → List Value → List (List Value → Bool)
@@ -130,6 +135,10 @@ fits_table name row tables = option_map_or (λ table. row_fits table.definition.
 -- the primary keys of the rows in the table of a name, in the order of the rows
 abbrev pub keys_at : List ℕ → List Table → List (List Value)
 keys_at name tables = option_map_or (λ table. map (primary_key table.definition) table.rows) (table_named name tables) []
+
+-- the rows of the table of a name
+abbrev pub rows_of : List ℕ → List Table → List (List Value)
+rows_of name tables = option_map_or (λ table. table.rows) (table_named name tables) []
 
 -- the tables without that of a name
 abbrev pub tables_beside : List ℕ → List Table → List Table

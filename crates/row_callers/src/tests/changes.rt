@@ -1,6 +1,5 @@
 //! Rows stored and taken back, by hand.
-ghost use Rattle.dml_rows.specs.Noted.{CanTakeBack, StaysReversible};
-ghost use Rattle.std.specs.Prelude.{drop};
+ghost use Rattle.table_rules.specs.Leads.{Leads};
 
 use dml_rows::{delete_row, insert_row, take_back_to, update_row};
 use row_store::{RowRefusal, Tables};
@@ -70,7 +69,7 @@ fn make_step(
     key: Option<&Row>,
     row: Row,
 ) -> Result<(), RowRefusal>
-    ensures back { StaysReversible tables.old undo.old tables.new undo.new }
+    ensures { Leads tables.old undo.old tables.new undo.new }
 {
     if !tables.fits(table, &row) {
         return Err(RowRefusal::Absent);
@@ -88,7 +87,7 @@ fn expect_step(
     undo: &mut Undo,
     step_wanted: &Step,
 ) -> Result<(), Fail>
-    ensures back { StaysReversible tables.old undo.old tables.new undo.new }
+    ensures { Leads tables.old undo.old tables.new undo.new }
 {
     let table = name(alloc)?;
     let (found, wanted) = match step_wanted {

@@ -283,6 +283,25 @@ fn keys_in_the_way(rt: HostRuntime) -> Result<(), Fail> {
 }
 
 #[test]
+fn rows_shared_while_they_change(rt: HostRuntime) -> Result<(), Fail> {
+    let alloc = rt.alloc();
+    let mut tables = stored(&rt, alloc, &[0], &BY_NUMBER)?;
+    let table = name(alloc, b"t")?;
+    assert_eq!(rt; tables.place(&table), Some(0));
+    let rows = tables.rows(0)?;
+    let same = tables.copy()?;
+    tables.clear(&table);
+    expect_keys(&rt, alloc, &tables, &[])?;
+    assert_eq!(rt; rows.len(), 4);
+    for row in rows.as_slice() {
+        assert_eq!(rt; tables.key_in_way(0, row.get()), None);
+        assert_eq!(rt; same.key_in_way(0, row.get()), Some(0));
+        assert_eq!(rt; same.row_in_way(0, row.get()), Some(row.get()));
+    }
+    Ok(())
+}
+
+#[test]
 fn texts_in_byte_order(rt: HostRuntime) -> Result<(), Fail> {
     let alloc = rt.alloc();
     let tables = stored(&rt, alloc, &[1], &BY_TEXT)?;

@@ -24,7 +24,7 @@ invariant_of-self c =
       sound =
           ap (is_sound c.args.self.now.definition) c.insert.ensures.items
           ∙ either (λ slots. is_sound c.args.self.now.definition slots ≡ true) (is_ok c.insert.result) new c.args.self.now.slots.items
-          (added_sound c.args.self.now.definition c.args.row c.args.self.now.slots.items c.args.at c.in_ok-key.key c.args.self.now.sound c.requires.place c.in_ok-key.ensures c.requires.fits c.requires.free)
+          (added_sound c.args.self.now.definition c.args.row c.args.self.now.slots.items c.args.at c.in_ok-key.key c.args.self.now.sound c.requires.place (c.in_ok-key.ensures ∙ ap (primary_key c.args.self.now.definition) c.get.ensures) c.requires.fits c.requires.free)
           c.args.self.now.sound;
       counted =
           either (λ slots. c.args.self.now.empties ≡ count_by is_bare slots) (is_ok c.insert.result) new c.args.self.now.slots.items
@@ -35,9 +35,9 @@ invariant_of-self c =
 pub returns-clause-ok : goal.returns-clause-ok
 returns-clause-ok c =
     ap rows_in c.in_ok-insert.ensures.items
-    ∙ added_rows c.args.self.now.definition c.args.row c.args.self.now.slots.items c.args.at c.in_ok-key.key c.args.self.now.sound c.requires.place c.in_ok-key.ensures c.requires.free
+    ∙ added_rows c.args.self.now.definition c.args.row c.args.self.now.slots.items c.args.at c.in_ok-key.key c.args.self.now.sound c.requires.place (c.in_ok-key.ensures ∙ ap (primary_key c.args.self.now.definition) c.get.ensures) c.requires.free
 
 pub returns-clause-slots : goal.returns-clause-slots
 returns-clause-slots c =
     λ k h. ap (λ (slots : List Slot). is_among k (keys_in slots)) c.in_ok-insert.ensures.items
-    ∙ added_keeps k c.args.self.now.definition c.args.row c.args.self.now.slots.items c.args.at c.in_ok-key.key c.requires.place c.in_ok-key.ensures h
+    ∙ added_keeps k c.args.self.now.definition c.args.row c.args.self.now.slots.items c.args.at c.in_ok-key.key c.requires.place (c.in_ok-key.ensures ∙ ap (primary_key c.args.self.now.definition) c.get.ensures) h

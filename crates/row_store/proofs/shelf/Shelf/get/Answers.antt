@@ -6,7 +6,7 @@ use Rattle.row_store.proofs.shelf.Shelf.get.Goals as goal
 pub returns-in-Ok : goal.returns-in-Ok
 returns-in-Ok c =
     let found : Finds c.args.key.now c.args.self.now.slots.items (Ok c.in-Ok.at) = rw c.deref.ensures.value at c.in-Ok.ensures in
-    c.as_ref.ensures.value ∙ found_row c.args.self.now.definition c.args.key.now c.args.self.now.slots.items c.in-Ok.at c.index.result.now c.args.self.now.sound found c.index.ensures
+    c.held.ensures ∙ found_row c.args.self.now.definition c.args.key.now c.args.self.now.slots.items c.in-Ok.at c.index.result.now c.args.self.now.sound found c.index.ensures
 
 pub returns-in-Err : goal.returns-in-Err
 returns-in-Err c =

@@ -7,11 +7,11 @@ use Rattle.row_store.proofs.shelf.Shelf.insert.Goals as goal
 
 pub fill-requires-clause-free : goal.fill-requires-clause-free
 fill-requires-clause-free c =
-    free_rows c.args.self.now.definition c.args.row (rows_in c.args.self.now.slots.items) (sym c.in_way.ensures ∙ c.in_default.is)
+    rw c.in_ok-row.ensures (free_rows c.args.self.now.definition c.args.row (rows_in c.args.self.now.slots.items) (sym c.in_way.ensures ∙ c.in_default.is))
 
 pub add-requires-clause-free : goal.add-requires-clause-free
 add-requires-clause-free c =
-    free_rows c.args.self.now.definition c.args.row (rows_in c.args.self.now.slots.items) (sym c.in_way.ensures ∙ c.in_default.is)
+    rw c.in_ok-row.ensures (free_rows c.args.self.now.definition c.args.row (rows_in c.args.self.now.slots.items) (sym c.in_way.ensures ∙ c.in_default.is))
 
 pub returns-in-Ok-clause-slot : goal.returns-in-Ok-clause-slot
 returns-in-Ok-clause-slot c =

@@ -29,9 +29,10 @@ put-requires-in-Update-clause-free c =
     let step : is_some (rows_after c.args.self.now.definition (inverse (Update c.in-Update.table c.in-Update.before c.in-Update.after)) (rows_in c.args.self.now.slots.items)) ≡ true =
     subst (λ (change : Change). is_some (rows_after c.args.self.now.definition (inverse change) (rows_in c.args.self.now.slots.items)) ≡ true) c.in-Update.is c.requires.step in
     let both : Exchanged c.args.self.now.definition c.in-Update.after c.in-Update.before (rows_in c.args.self.now.slots.items) = exchanged c.args.self.now.definition c.in-Update.after c.in-Update.before (rows_in c.args.self.now.slots.items) kept step in
-    ap (λ (d : TableDef). list_any (collide d c.in-Update.before) (rows_in c.take_same-in-Update.new.self.slots.items)) c.take_same-in-Update.ensures.definition
+    rw c.own-in-Update.ensures
+    (ap (λ (d : TableDef). list_any (collide d c.in-Update.before) (rows_in c.take_same-in-Update.new.self.slots.items)) c.take_same-in-Update.ensures.definition
     ∙ ap (λ (rows : List (List Value)). list_any (collide c.args.self.now.definition c.in-Update.before) rows) c.take_same-in-Update.ensures.rows
-    ∙ both.free
+    ∙ both.free)
 
 pub returns-clause-rows : goal.returns-clause-rows
 returns-clause-rows c =
@@ -43,5 +44,6 @@ returns-clause-rows c =
     ∙ both.made
     ∙ sym (ap (λ (rows : List (List Value)). Some rows)
     (c.put-in-Update.ensures.rows
+    ∙ ap (λ (row : List Value). with_row c.take_same-in-Update.new.self.definition row (rows_in c.take_same-in-Update.new.self.slots.items)) c.own-in-Update.ensures
     ∙ ap (λ (d : TableDef). with_row d c.in-Update.before (rows_in c.take_same-in-Update.new.self.slots.items)) c.take_same-in-Update.ensures.definition
     ∙ ap (with_row c.args.self.now.definition c.in-Update.before) c.take_same-in-Update.ensures.rows))

@@ -1,0 +1,111 @@
+//! Rows read where they stand: all of a table, and those that have a key of another.
+ghost use Rattle.std.specs.Prelude.{◌≡◌, ℕ, Some, find, option_copied, IfOk, List};
+ghost use Rattle.table_rules.specs.Tables.{Table};
+ghost use Rattle.table_rules.specs.Stored.{has_key_in_way, key_in_way, row_in_way, rows_of, table_named};
+ghost use Rattle.table_rules.specs.Stores.{place_of};
+ghost use Rattle.row_store.specs.Slots.{rows_in};
+
+use crate::looking::{agreeing, slot_for};
+use crate::shelf::Shelf;
+use crate::tables::Tables;
+use sharing::Shared;
+use std::alloc::Global;
+use val_types::{List, NoMemory, Row};
+
+impl Shelf {
+    /// The rows, each shared with the table.
+    fn rows(&self, alloc: Global) -> Result<List<Shared<Row>>, NoMemory>
+        ensures { IfOk result (λ rows. rows ≡ rows_in self.now.slots.items) }
+    {
+        let mut rows = List::with_capacity(alloc, self.slots.len())?;
+        for slot in self.slots.as_slice() {
+            if let Some(row) = &slot.row {
+                rows.push(row.share(alloc)?)?;
+            }
+        }
+        Ok(rows)
+    }
+
+    /// The first key of a row that another row has.
+    fn key_in_way(&self, row: &Row) -> Option<usize>
+        ensures { result ≡ key_in_way self.now.definition row.now (rows_in self.now.slots.items) }
+    {
+        self.in_way(row, slot_for(&self.definition, row, &self.slots))
+    }
+
+    /// The row with the primary key of a row.
+    fn row_on_primary(&self, row: &Row) -> Option<&Row>
+        ensures { option_copied result
+            ≡ find (has_key_in_way self.now.definition row.now 0) (rows_in self.now.slots.items) }
+    {
+        match slot_for(&self.definition, row, &self.slots) {
+            Ok(at) => self.slots[at].held(),
+            Err(_) => None,
+        }
+    }
+
+    /// The first row that has the key of a number in common with a row.
+    fn row_on_key(&self, row: &Row, which: usize) -> Option<&Row>
+        ensures { option_copied result
+            ≡ find (has_key_in_way self.now.definition row.now which) (rows_in self.now.slots.items) }
+    {
+        if which == 0 {
+            return self.row_on_primary(row);
+        }
+        if which > self.definition.uniques.len() {
+            return None;
+        }
+        agreeing(&self.definition.uniques[which - 1], row, &self.slots)
+    }
+}
+
+impl Tables {
+    /// The rows of the table at a place, in their order, each shared with the table, so that they stay what
+    /// they are whatever is changed; none where there is no table.
+    pub fn rows(&self, at: usize) -> Result<List<Shared<Row>>, NoMemory>
+        ensures { (name : List ℕ) → place_of name self.now.tables ≡ Some at
+            → IfOk result (λ rows. rows ≡ rows_of name self.now.tables) }
+    {
+        if at >= self.shelves.len() {
+            return Ok(List::new(self.alloc));
+        }
+        self.shelves[at].rows(self.alloc)
+    }
+
+    /// The number of the first key of a row that is in its way in the table at a place: 0 is the primary
+    /// key, then come the unique keys in order of definition.
+    pub fn key_in_way(&self, at: usize, row: &Row) -> Option<usize>
+        ensures { (name : List ℕ) → (table : Table) → place_of name self.now.tables ≡ Some at
+            → table_named name self.now.tables ≡ Some table
+            → result ≡ key_in_way table.definition row.now table.rows }
+    {
+        if at >= self.shelves.len() {
+            return None;
+        }
+        self.shelves[at].key_in_way(row)
+    }
+
+    /// The first row of the table at a place that has the key of a number in common with a row.
+    pub fn row_on_key(&self, at: usize, row: &Row, which: usize) -> Option<&Row>
+        ensures { (name : List ℕ) → (table : Table) → place_of name self.now.tables ≡ Some at
+            → table_named name self.now.tables ≡ Some table
+            → option_copied result ≡ find (has_key_in_way table.definition row.now which) table.rows }
+    {
+        if at >= self.shelves.len() {
+            return None;
+        }
+        self.shelves[at].row_on_key(row, which)
+    }
+
+    /// The first row of the table at a place that has the first key in the way of a row.
+    pub fn row_in_way(&self, at: usize, row: &Row) -> Option<&Row>
+        ensures { (name : List ℕ) → (table : Table) → place_of name self.now.tables ≡ Some at
+            → table_named name self.now.tables ≡ Some table
+            → option_copied result ≡ row_in_way table.definition row.now table.rows }
+    {
+        match self.key_in_way(at, row) {
+            Some(which) => self.row_on_key(at, row, which),
+            None => None,
+        }
+    }
+}
