@@ -1,0 +1,10 @@
+pub mod Event
+pub mod Parts
+pub mod Bitmap
+pub mod Columns
+pub mod LogName
+pub mod Bodies
+pub mod Reading
+pub mod Writing
+pub mod Laws
+pub mod Worked
