@@ -1,12 +1,9 @@
 -- A row is read column by column.
 use Rattle.std.proofs.Common.{◌≡◌, ℕ, ◌+◌, suc, ◌<◌, Bool, true, false, eqb, List, [], ◌∷◌, ◌++◌, drop, length, get_or, Option, Some, None, refl, sym, ap, ◌∙◌, arith, append_assoc, drop-cons}
 use Rattle.std.specs.Prelude.{if◌then◌else◌}
-use Rattle.std.specs.Option.{option_map}
 use Rattle.val_types.specs.declared.value.Value.{Value}
 use Rattle.val_types.specs.declared.value.Value.TheVariants.{Null}
 use Rattle.val_types.specs.declared.definitions.ColType.{ColType}
-use Rattle.val_types.specs.declared.definitions.ColType.TheVariants.{Int as IntType, BigInt, Varchar}
-use Rattle.byte_fields.specs.Field.{number_at}
 use Rattle.log_model.specs.Images.{Read, is_set, value_at, with_value, and_then, values_at, types_of}
 use Rattle.row_image.specs.Walk.{type_at, metadata_behind, column_at, behind, ahead}
 

@@ -1,4 +1,4 @@
-use Rattle.std.proofs.Common.{◌≡◌, Some, None, sym, arith}
+use Rattle.std.proofs.Common.{sym, arith}
 use Rattle.row_image.proofs.Walking.{made_some, made_none, made_all}
 use Rattle.log_model.proofs.Taking.{changes_shrink}
 use Rattle.row_image.proofs.changes.rows_of.Goals as goal
