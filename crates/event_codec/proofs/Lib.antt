@@ -1,3 +1,6 @@
-pub mod FieldLaws
-pub mod BodyLaws
+pub mod Stepping
+pub mod Lying
+pub mod PartLaws
+pub mod SessionLaws
+pub mod TableLaws
 pub mod RoundTrip

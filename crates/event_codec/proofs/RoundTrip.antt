@@ -1,19 +1,21 @@
 -- An event that is written is read again, whatever follows it; and how many bytes it takes.
-use Rattle.std.proofs.Common.{◌≡◌, ℕ, ◌+◌, ◌-◌, ◌^◌, ◌<◌, ◌≤◌, true, false, eqb, leb, ltb, List, ◌++◌, length, Option, Some, None, refl, ap, ◌∙◌, append_assoc, arith}
+use Rattle.std.proofs.Common.{◌≡◌, ℕ, ◌+◌, ◌-◌, ◌^◌, ◌<◌, ◌≤◌, true, false, eqb, leb, ltb, List, [], ◌++◌, length, Result, Ok, refl, ap, ◌∙◌, append_assoc, arith}
 use Rattle.std.specs.Prelude.{slice_index, slice_range}
 use Rattle.std.proofs.lemmas.Bool.{le-ltb, le-leb, eq-eqb}
 use Rattle.std.proofs.lemmas.List.{take_at, length-append}
+use Rattle.byte_fields.specs.Field.{number_at, number_bytes}
+use Rattle.byte_fields.proofs.FieldLaws.{field_again}
 use Rattle.event_codec.specs.declared.event.Header.{Header}
-use Rattle.event_codec.specs.declared.event.Step.{Step}
-use Rattle.event_codec.specs.Fields.{number_at, number_bytes}
-use Rattle.event_codec.specs.Event.{Seen, query, format_description, xid, status_size, size_of, stamped, HasForm, Fits, CanWrite}
-use Rattle.event_codec.specs.Query.{query_bytes}
-use Rattle.event_codec.specs.FormatDescription.{format_description_bytes}
-use Rattle.event_codec.specs.Xid.{xid_bytes}
-use Rattle.event_codec.specs.Reading.{event, reading, placed, body_of}
-use Rattle.event_codec.specs.Writing.{header_bytes, event_bytes, body_bytes, kind_of}
-use Rattle.event_codec.proofs.FieldLaws.{again-4}
-use Rattle.event_codec.proofs.BodyLaws.{xid-again, query-again, format_description-again}
+use Rattle.event_codec.specs.declared.event.RowsKind.{RowsKind}
+use Rattle.event_codec.specs.declared.event.RowsKind.TheVariants.{Write, Update, Delete}
+use Rattle.event_codec.specs.declared.fault.Fault.{Fault}
+use Rattle.event_codec.specs.Event.{Body, query, rotate, int_var, rand, user_var, format_description, xid, table_map, rows}
+use Rattle.event_codec.specs.Bodies.{rows_body}
+use Rattle.event_codec.specs.Laws.{Fits}
+use Rattle.event_codec.specs.Reading.{event, reading, read_as, headed, body_at}
+use Rattle.event_codec.specs.Writing.{rows_kind, kind_of, body_bytes, size, header_bytes, event_bytes, layout_bytes, format_description_bytes, HasForm, CanWrite}
+use Rattle.event_codec.proofs.SessionLaws.{query_again, rotate_again, int_var_again, rand_again, user_var_again, format_description_again, xid_again}
+use Rattle.event_codec.proofs.TableLaws.{table_map_again, rows_again}
 
 -- ---- lengths
 
@@ -21,20 +23,26 @@ length-header_bytes : (kind size : ℕ) (h : Header) → length (header_bytes ki
 unfolding header_bytes number_bytes
 length-header_bytes kind size h = refl
 
-length-body_bytes : (e : Seen) (now : ℕ) → HasForm e → length (body_bytes e now) + 19 ≡ size_of e
-unfolding query_bytes format_description_bytes xid_bytes number_bytes
-length-body_bytes (query stamp size thread None text) now form = omega arith
-length-body_bytes (query stamp size thread (Some step) text) now form = omega arith
-length-body_bytes (format_description stamp size version) now form = simp length-append (omega arith)
-length-body_bytes (xid stamp size number) now form = refl
+-- a body is as long at every time
+length-body_bytes : (stamp : ℕ) (b : Body) → length (body_bytes stamp b) ≡ length (body_bytes 0 b)
+unfolding format_description_bytes layout_bytes number_bytes
+length-body_bytes stamp (query q) = refl
+length-body_bytes stamp (rotate next) = refl
+length-body_bytes stamp (int_var kind number) = refl
+length-body_bytes stamp (rand first second) = refl
+length-body_bytes stamp (user_var name content) = refl
+length-body_bytes stamp (format_description version) = simp length-append
+length-body_bytes stamp (xid number) = refl
+length-body_bytes stamp (table_map m) = refl
+length-body_bytes stamp (rows r) = refl
 
 -- an event takes as many bytes as it says
-pub length-event_bytes : (e : Seen) (h : Header) → HasForm e → length (event_bytes e h) ≡ size_of e
-unfolding event_bytes
-length-event_bytes e h form =
-    let front = length-header_bytes (kind_of e) (size_of e) h in
-    let body = length-body_bytes e h.stamp form in
-    omega (arith, length-append (header_bytes (kind_of e) (size_of e) h) (body_bytes e h.stamp), front, body)
+pub length-event_bytes : (b : Body) (h : Header) → length (event_bytes b h) ≡ size b
+unfolding event_bytes size
+length-event_bytes b h =
+    let front = length-header_bytes (kind_of b) (19 + length (body_bytes 0 b)) h in
+    let body = length-body_bytes h.stamp b in
+    omega (arith, length-append (header_bytes (kind_of b) (19 + length (body_bytes 0 b)) h) (body_bytes h.stamp b), front, body)
 
 -- ---- the header
 
@@ -42,7 +50,7 @@ length-event_bytes e h form =
 reading-is : (bytes body : List ℕ) (pos kind stamp size : ℕ) → slice_index bytes 4 ≡ kind → number_at 0 4 bytes ≡ stamp
     → number_at 9 4 bytes ≡ size → number_at 13 4 bytes ≡ pos + size → slice_range bytes 19 size ≡ body
     → 19 ≤ size → pos + size ≤ 1200000000 → size ≤ length bytes
-    → reading bytes pos ≡ placed pos kind (body_of kind stamp size body)
+    → reading bytes pos ≡ read_as pos kind (headed stamp size (body_at kind body))
 unfolding reading
 reading-is bytes body pos kind stamp size kind-is stamp-is size-is next-is body-is low high whole =
     let front : ltb (length bytes) 19 ≡ false = le-ltb _ _ (omega arith) in
@@ -54,48 +62,41 @@ reading-is bytes body pos kind stamp size kind-is stamp-is size-is next-is body-
 
 -- a header and a body behind it are read as what the body says
 header-again : (kind size : ℕ) (h : Header) (body rest : List ℕ) → length body + 19 ≡ size → h.stamp < 2 ^ 32 → h.pos + size ≤ 1200000000
-    → reading (header_bytes kind size h ++ (body ++ rest)) h.pos ≡ placed h.pos kind (body_of kind h.stamp size body)
+    → reading (header_bytes kind size h ++ (body ++ rest)) h.pos ≡ read_as h.pos kind (headed h.stamp size (body_at kind body))
 unfolding header_bytes number_at number_bytes
 header-again kind size h body rest len stamp end =
-    reading-is (header_bytes kind size h ++ (body ++ rest)) body h.pos kind h.stamp size refl (again-4 h.stamp stamp)
-    (again-4 size (omega arith)) (again-4 (h.pos + size) (omega arith)) (take_at body rest (size - 19) (omega arith))
+    reading-is (header_bytes kind size h ++ (body ++ rest)) body h.pos kind h.stamp size refl (field_again 4 h.stamp [] stamp)
+    (field_again 4 size [] (omega arith)) (field_again 4 (h.pos + size) [] (omega arith)) (take_at body rest (size - 19) (omega arith))
     (omega arith) end (omega (arith, length-append body rest))
 
--- an event is read as what its body says
-event-again : (e : Seen) (h : Header) (rest : List ℕ) → CanWrite e h.pos → h.stamp < 2 ^ 32
-    → reading (event_bytes e h ++ rest) h.pos ≡ placed h.pos (kind_of e) (body_of (kind_of e) h.stamp (size_of e) (body_bytes e h.stamp))
-unfolding event_bytes
-event-again e h rest can stamp =
-    ap (λ (bytes : List ℕ). reading bytes h.pos) (append_assoc (header_bytes (kind_of e) (size_of e) h) (body_bytes e h.stamp) rest)
-    ∙ header-again (kind_of e) (size_of e) h (body_bytes e h.stamp) rest (length-body_bytes e h.stamp can.form) stamp can.end
+-- ---- bodies
 
--- ---- the three types
+rows_at : (kind : RowsKind) (body : List ℕ) → body_at (rows_kind kind) body ≡ rows_body kind body
+rows_at Write body = refl
+rows_at Update body = refl
+rows_at Delete body = refl
 
--- a QUERY that is written is read again
-pub read-query : (a b thread : ℕ) (step : Option Step) (text : List ℕ) (h : Header) (rest : List ℕ) → CanWrite (query a b thread step text) h.pos
-    → Fits (query a b thread step text) → h.stamp < 2 ^ 32
-    → reading (event_bytes (query a b thread step text) h ++ rest) h.pos ≡ event (query h.stamp (35 + status_size step + length text) thread step text)
-read-query a b thread step text h rest can fits stamp =
-    event-again (query a b thread step text) h rest can stamp
-    ∙ ap (placed h.pos 2) (query-again h.stamp (35 + status_size step + length text) thread step text fits.0 can.form fits.1)
-
--- a FORMAT_DESCRIPTION that is written is read again
-pub read-format_description : (a b : ℕ) (version : List ℕ) (h : Header) (rest : List ℕ) → CanWrite (format_description a b version) h.pos
-    → h.stamp < 2 ^ 32
-    → reading (event_bytes (format_description a b version) h ++ rest) h.pos ≡ event (format_description h.stamp 119 version)
-read-format_description a b version h rest can stamp =
-    event-again (format_description a b version) h rest can stamp
-    ∙ ap (placed h.pos 15) (format_description-again h.stamp 119 h.stamp version can.form)
-
--- an XID that is written is read again
-pub read-xid : (a b number : ℕ) (h : Header) (rest : List ℕ) → CanWrite (xid a b number) h.pos → number < 2 ^ 64 → h.stamp < 2 ^ 32
-    → reading (event_bytes (xid a b number) h ++ rest) h.pos ≡ event (xid h.stamp 27 number)
-read-xid a b number h rest can fits stamp =
-    event-again (xid a b number) h rest can stamp ∙ ap (placed h.pos 16) (xid-again h.stamp 27 number fits)
+-- a body that is written is read again
+body-again : (stamp : ℕ) (b : Body) → HasForm b → Fits b → stamp < 2 ^ 32 → length (body_bytes 0 b) ≤ 1200000000
+    → body_at (kind_of b) (body_bytes stamp b) ≡ Ok b
+body-again stamp (query q) form fits now small = query_again q fits.0 form fits.1
+body-again stamp (rotate next) form fits now small = rotate_again next form
+body-again stamp (int_var kind number) form fits now small = int_var_again kind number form
+body-again stamp (rand first second) form fits now small = rand_again first second form.0 form.1
+body-again stamp (user_var name content) form fits now small = user_var_again name content fits small
+body-again stamp (format_description version) form fits now small = format_description_again stamp version now form
+body-again stamp (xid number) form fits now small = xid_again number fits
+body-again stamp (table_map m) form fits now small = table_map_again m form small
+body-again stamp (rows r) form fits now small = rows_at r.kind (body_bytes stamp (rows r)) ∙ rows_again r form.0 form.1 small
 
 -- an event that is written is read again
-pub read-again : (e : Seen) (h : Header) (rest : List ℕ) → CanWrite e h.pos → Fits e → h.stamp < 2 ^ 32
-    → reading (event_bytes e h ++ rest) h.pos ≡ event (stamped h.stamp e)
-read-again (query a b thread step text) h rest can fits stamp = read-query a b thread step text h rest can fits stamp
-read-again (format_description a b version) h rest can fits stamp = read-format_description a b version h rest can stamp
-read-again (xid a b number) h rest can fits stamp = read-xid a b number h rest can fits stamp
+pub read-again : (b : Body) (h : Header) (rest : List ℕ) → CanWrite b h.pos → Fits b → h.stamp < 2 ^ 32
+    → reading (event_bytes b h ++ rest) h.pos ≡ event (record { stamp = h.stamp; size = size b; body = b })
+unfolding event_bytes size
+read-again b h rest can fits stamp =
+    let n : ℕ = 19 + length (body_bytes 0 b) in
+    let len = length-body_bytes h.stamp b in
+    let end = can.end in
+    ap (λ (bytes : List ℕ). reading bytes h.pos) (append_assoc (header_bytes (kind_of b) n h) (body_bytes h.stamp b) rest)
+    ∙ header-again (kind_of b) n h (body_bytes h.stamp b) rest (omega (arith, len)) stamp end
+    ∙ ap (λ (r : Result Body Fault). read_as h.pos (kind_of b) (headed h.stamp n r)) (body-again h.stamp b can.form fits stamp (omega (arith, end)))

@@ -1,8 +1,10 @@
-pub mod Fields
 pub mod Event
-pub mod Query
-pub mod FormatDescription
-pub mod Xid
+pub mod Parts
+pub mod Bitmap
+pub mod Columns
+pub mod LogName
+pub mod Bodies
 pub mod Reading
 pub mod Writing
 pub mod Laws
+pub mod Worked

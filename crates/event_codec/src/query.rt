@@ -1,42 +1,43 @@
 //! The body of a QUERY: a statement's text and the part of its session that it needs.
-ghost use Rattle.std.specs.Prelude.{◌≡◌, ◌++◌, length, OnOk, OnErr};
-ghost use Rattle.event_codec.specs.Event.{seen_result, status_size};
-ghost use Rattle.event_codec.specs.Fields.{BeginsWith};
-ghost use Rattle.event_codec.specs.Query.{step_of, status_of, text_of, text_view, query_body, step_bytes, query_bytes};
+ghost use Rattle.std.specs.Prelude.{◌≡◌, ◌≤◌, ◌+◌, ◌++◌, length, OnOk, OnErr};
+ghost use Rattle.byte_fields.specs.Field.{BeginsWith};
+ghost use Rattle.event_codec.specs.Event.{query_of};
+ghost use Rattle.event_codec.specs.Bodies.{only, step_at, status_of, query_body};
+ghost use Rattle.event_codec.specs.Reading.{event_seen, headed};
+ghost use Rattle.event_codec.specs.Writing.{step_bytes, query_bytes};
 
 use crate::event::{Event, QueryView, Step};
 use crate::fault::Fault;
-use crate::fields::{put_u16, put_u32, u16_at, u32_at};
+use crate::parts::{four, one, some, two};
+use crate::schema::{SCHEMA, is_schema};
+use byte_fields::{bytes_u16, bytes_u32};
 use val_types::{Bytes, NoMemory};
 
-/// A QUERY's number among the types.
-pub const QUERY_TYPE: u8 = 2;
-
-/// The status variable with a session's increment and offset, the one that this log knows.
+/// The code of the status variable with a session's increment and offset, the one that this log knows.
 const STEP_CODE: u8 = 3;
 
-/// The one schema of this log.
-const SCHEMA: [u8; 2] = *b"db";
+/// A step behind which nothing stands.
+fn alone(step: Step, rest: &[u8]) -> Result<Option<Step>, Fault>
+    ensures { result ≡ only step rest.now }
+{
+    match rest {
+        [] => Ok(Some(step)),
+        [STEP_CODE, ..] => Err(Fault::Damaged),
+        [_, ..] => Err(Fault::Foreign),
+    }
+}
 
 /// The increment and the offset behind their code.
+#[tactic(auto, unfolding(crate::specs::Bodies::step_at))]
 fn read_step(values: &[u8]) -> Result<Option<Step>, Fault>
-    ensures { result ≡ step_of values.now }
+    ensures { result ≡ step_at values.now }
 {
-    if values.len() < 4 {
-        return Err(Fault::Damaged);
-    }
-    let increment = u16_at(values, 0);
-    let offset = u16_at(values, 2);
+    let (increment, rest) = two(values)?;
+    let (offset, rest) = two(rest)?;
     if increment == 0 || offset == 0 {
         return Err(Fault::Damaged);
     }
-    if values.len() == 4 {
-        Ok(Some(Step { increment, offset }))
-    } else if values[4] == STEP_CODE {
-        Err(Fault::Damaged)
-    } else {
-        Err(Fault::Foreign)
-    }
+    alone(Step { increment, offset }, rest)
 }
 
 /// The status variables.
@@ -50,38 +51,26 @@ fn read_status(status: &[u8]) -> Result<Option<Step>, Fault>
     }
 }
 
-/// The text behind the schema and its 0.
-fn read_text(schema_length: usize, error: u16, rest: &[u8]) -> Result<&[u8], Fault>
-    ensures { text_view result ≡ text_of schema_length error rest.now }
+/// The QUERY with this body.
+#[tactic(auto, unfolding(crate::specs::Bodies::query_body))]
+pub fn read_query(stamp: u32, length: u64, body: &[u8]) -> Result<Event<'_>, Fault>
+    ensures { event_seen result ≡ headed stamp length (query_body body.now) }
 {
-    if rest.len() <= schema_length || rest[schema_length] != 0 {
+    let (thread, rest) = four(body)?;
+    let (_, rest) = four(rest)?;
+    let (schema_length, rest) = one(rest)?;
+    let (error, rest) = two(rest)?;
+    let (status_length, rest) = two(rest)?;
+    let (status, rest) = some(u64::from(status_length), rest)?;
+    let step = read_status(status)?;
+    let (schema, rest) = some(u64::from(schema_length), rest)?;
+    let (zero, text) = one(rest)?;
+    if zero != 0 {
         return Err(Fault::Damaged);
     }
-    if error != 0 || &rest[..schema_length] != SCHEMA.as_slice() {
+    if error != 0 || !is_schema(schema) {
         return Err(Fault::Foreign);
     }
-    Ok(&rest[schema_length + 1..])
-}
-
-/// The QUERY with this body.
-#[tactic(auto, unfolding(crate::specs::Query::query_body))]
-pub fn read_query(stamp: u32, length: u32, body: &[u8]) -> Result<Event<'_>, Fault>
-    ensures { seen_result result ≡ query_body stamp length body.now }
-{
-    if body.len() < 13 {
-        return Err(Fault::Damaged);
-    }
-    let thread = u32_at(body, 0);
-    let schema_length = usize::from(body[8]);
-    let error = u16_at(body, 9);
-    let status_length = usize::from(u16_at(body, 11));
-    let (_, behind) = body.split_at(13);
-    if behind.len() < status_length {
-        return Err(Fault::Damaged);
-    }
-    let (status, rest) = behind.split_at(status_length);
-    let step = read_status(status)?;
-    let text = read_text(schema_length, error, rest)?;
     Ok(Event::Query(QueryView {
         stamp,
         length,
@@ -92,10 +81,10 @@ pub fn read_query(stamp: u32, length: u32, body: &[u8]) -> Result<Event<'_>, Fau
 }
 
 /// How many bytes the status variables take.
-#[tactic(auto, unfolding(crate::specs::Fields::number_bytes))]
-pub fn status_length(step: Option<Step>) -> u16
-    ensures size { result ≡ status_size step }
-    ensures written { result ≡ length (step_bytes step) }
+#[tactic(auto, unfolding(byte_fields::specs::Field::number_bytes))]
+fn step_size(step: Option<Step>) -> u16
+    ensures exact { result ≡ length (step_bytes step) }
+    ensures few { result ≤ 5 }
 {
     match step {
         None => 0,
@@ -104,7 +93,7 @@ pub fn status_length(step: Option<Step>) -> u16
 }
 
 /// Puts the status variables at the end.
-#[tactic(auto, using(crate::proofs::FieldLaws::begins_more))]
+#[tactic(auto, using(byte_fields::proofs::FieldLaws::begins_more))]
 fn put_step(step: Option<Step>, out: &mut Bytes) -> Result<(), NoMemory>
     ensures ok { OnOk result (out.new ≡ out.old ++ step_bytes step) }
     ensures err { OnErr result (BeginsWith out.new out.old) }
@@ -113,21 +102,30 @@ fn put_step(step: Option<Step>, out: &mut Bytes) -> Result<(), NoMemory>
         return Ok(());
     };
     out.push(STEP_CODE)?;
-    put_u16(increment, out)?;
-    put_u16(offset, out)
+    out.extend_from_slice(&bytes_u16(u64::from(increment)))?;
+    out.extend_from_slice(&bytes_u16(u64::from(offset)))
+}
+
+/// How many bytes a QUERY takes.
+#[tactic(auto, unfolding(crate::specs::Writing::query_bytes, byte_fields::specs::Field::number_bytes))]
+pub fn query_size(v: &QueryView) -> u64
+    requires { 19 + length (query_bytes (query_of v.now)) ≤ 1200000000 }
+    ensures { result ≡ 19 + length (query_bytes (query_of v.now)) }
+{
+    35 + u64::from(step_size(v.step)) + v.text.len() as u64
 }
 
 /// Puts the body of a QUERY at the end.
-#[tactic(auto, using(crate::proofs::FieldLaws::begins_more), unfolding(crate::specs::Query::query_bytes))]
+#[tactic(auto, using(byte_fields::proofs::FieldLaws::begins_more), unfolding(crate::specs::Writing::query_bytes))]
 pub fn put_query(v: &QueryView, out: &mut Bytes) -> Result<(), NoMemory>
-    ensures ok { OnOk result (out.new ≡ out.old ++ query_bytes v.now.thread v.now.step v.now.text.now) }
+    ensures ok { OnOk result (out.new ≡ out.old ++ query_bytes (query_of v.now)) }
     ensures err { OnErr result (BeginsWith out.new out.old) }
 {
-    put_u32(v.thread, out)?;
-    put_u32(0, out)?;
-    out.push(2)?;
-    put_u16(0, out)?;
-    put_u16(status_length(v.step), out)?;
+    out.extend_from_slice(&bytes_u32(u64::from(v.thread)))?;
+    out.extend_from_slice(&bytes_u32(0))?;
+    out.push(SCHEMA.len() as u8)?;
+    out.extend_from_slice(&bytes_u16(0))?;
+    out.extend_from_slice(&bytes_u16(u64::from(step_size(v.step))))?;
     put_step(v.step, out)?;
     out.extend_from_slice(&SCHEMA)?;
     out.push(0)?;

@@ -3,11 +3,11 @@ use Rattle.std.proofs.Common.{◌≡◌, ℕ, ◌+◌, ◌-◌, ◌^◌, ◌<◌
 use Rattle.std.proofs.Math.Seq.{drop-append_seam, drop-length}
 use Rattle.std.proofs.lemmas.List.{drop-append-le}
 use Rattle.std.proofs.lemmas.Bool.Decides.{nat_tests}
-use Rattle.event_codec.specs.declared.event.Header.{Header}
-use Rattle.event_codec.specs.Event.{xid, format_description, CanWrite}
-use Rattle.event_codec.specs.Writing.{event_bytes}
-use Rattle.event_codec.proofs.RoundTrip.{length-event_bytes, read-query, read-xid}
-use Rattle.event_codec.specs.Reading.{reading}
+use Rattle.first_codec.specs.declared.event.Header.{Header}
+use Rattle.first_codec.specs.Event.{xid, format_description, CanWrite}
+use Rattle.first_codec.specs.Writing.{event_bytes}
+use Rattle.first_codec.proofs.RoundTrip.{length-event_bytes, read-query, read-xid}
+use Rattle.first_codec.specs.Reading.{reading}
 use Rattle.repl_run.specs.Insert.{insert_of}
 use Rattle.repl_run.specs.Log.{SourceState, statement, header, transaction, server_version, magic, head, opened, source_after, with_transaction}
 use Rattle.repl_run.specs.Machine.{row_of, put, is_taken, accepted_insert}

@@ -2,14 +2,14 @@
 use Rattle.std.proofs.Common.{◌≡◌, ℕ, ◌+◌, ◌≤◌, Bool, true, false, not, ◌&&◌, ◌==◌, cond, nat_lt, nat_le, List, length, take, drop, Some, Result, Ok, Err, refl, sym, ap, ◌∙◌, arith}
 use Rattle.std.specs.Prelude.{slice_index, slice_range}
 use Rattle.std.proofs.lemmas.Bool.Decides.{nat_tests}
-use Rattle.event_codec.specs.declared.fault.Fault.{Fault}
-use Rattle.event_codec.specs.declared.fault.Fault.TheVariants.{Damaged, Foreign}
-use Rattle.event_codec.specs.Event.{Seen, query, format_description, xid}
-use Rattle.event_codec.specs.Query.{query_body, status_of, text_of, ◌>>=◌}
-use Rattle.event_codec.specs.FormatDescription.{format_description_body}
-use Rattle.event_codec.specs.Xid.{xid_body}
-use Rattle.event_codec.specs.Reading.{Reading, event, short, damaged, foreign, reading, placed, body_of, has_sound_header}
-use Rattle.event_codec.specs.Fields.{number_at}
+use Rattle.first_codec.specs.declared.fault.Fault.{Fault}
+use Rattle.first_codec.specs.declared.fault.Fault.TheVariants.{Damaged, Foreign}
+use Rattle.first_codec.specs.Event.{Seen, query, format_description, xid}
+use Rattle.first_codec.specs.Query.{query_body, status_of, text_of, ◌>>=◌}
+use Rattle.first_codec.specs.FormatDescription.{format_description_body}
+use Rattle.first_codec.specs.Xid.{xid_body}
+use Rattle.first_codec.specs.Reading.{Reading, event, short, damaged, foreign, reading, placed, body_of, has_sound_header}
+use Rattle.first_codec.specs.Fields.{number_at}
 use Rattle.repl_run.specs.Carried.{query_of, xid_size, IsEvent}
 
 -- how many bytes an event has

@@ -2,8 +2,8 @@
 use Rattle.std.specs.Prelude.{ℕ, ◌+◌, ◌<◌, ◌≤◌, zero, suc, nat_lt, if◌then◌else◌, List, [], ◌∷◌, length, drop, codes, Option, Some, None}
 use Rattle.std.specs.Option.{option_and_then}
 use Rattle.std.specs.Str.{bytes_eq}
-use Rattle.event_codec.specs.Event.{query, xid}
-use Rattle.event_codec.specs.Reading.{Reading, event, reading}
+use Rattle.first_codec.specs.Event.{query, xid}
+use Rattle.first_codec.specs.Reading.{Reading, event, reading}
 use Rattle.repl_run.specs.Insert.{insert_of}
 use Rattle.repl_run.specs.TableRows.{TableRows, has_id, put_row}
 

@@ -1,9 +1,9 @@
 -- The source's log: its head, and a transaction for each accepted statement.
 use Rattle.std.specs.Prelude.{ℕ, ◌+◌, List, [], ◌∷◌, ◌++◌, length, codes, replicate, Option, None, Some}
 use Rattle.port_traits.specs.declared.identity.Draw.{Draw}
-use Rattle.event_codec.specs.declared.event.Header.{Header}
-use Rattle.event_codec.specs.Event.{Seen, query, format_description, xid}
-use Rattle.event_codec.specs.Writing.{event_bytes}
+use Rattle.first_codec.specs.declared.event.Header.{Header}
+use Rattle.first_codec.specs.Event.{Seen, query, format_description, xid}
+use Rattle.first_codec.specs.Writing.{event_bytes}
 use Rattle.repl_run.specs.Machine.{put, accepted}
 
 -- the bytes that each log begins with

@@ -1,12 +1,12 @@
 //! A replica that carries out a log: group after group, by the texts that it holds.
 ghost use Rattle.std.specs.Prelude.{◌≡◌, ◌<◌, ◌≤◌, ◌+◌, length, IfOk, OnOk, OnErr, IfSome};
 ghost use Rattle.std.specs.Option.{option_map};
-ghost use Rattle.event_codec.specs.Reading.{reading};
+ghost use Rattle.first_codec.specs.Reading.{reading};
 ghost use Rattle.repl_run.specs.Carried.{query_of, xid_size, group_with, group_behind, group_of, carried_log, IsEvent};
 
 use crate::growing::Growing;
 use crate::insert::insert_of;
-use event_codec::{Event, Read, read_event};
+use first_codec::{Event, Read, read_event};
 use std::alloc::Global;
 use val_types::{List, NoMemory, Row};
 

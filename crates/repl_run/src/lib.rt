@@ -18,7 +18,7 @@
 //! - `answers`: answers and the lines that show them
 //! - `laws`: what follows of the machine
 //!
-//! It stands on `event_codec`, `port_traits` and `val_types`; `repl_cli` gives it the real edges.
+//! It stands on `first_codec`, `port_traits` and `val_types`; `repl_cli` gives it the real edges.
 //!
 //! # Proved
 //! Over any input, output and environments that keep the contracts of `port_traits`:

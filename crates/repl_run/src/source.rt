@@ -1,15 +1,15 @@
 //! The source of the first path: one session, one table and one log in memory.
 ghost use Rattle.std.specs.Prelude.{◌≡◌, ◌+◌, ◌^◌, ◌<◌, ◌≤◌, ◌++◌, length, false, IfOk, OnOk, OnErr};
-ghost use Rattle.event_codec.specs.Event.{xid};
-ghost use Rattle.event_codec.specs.Writing.{event_bytes};
-ghost use Rattle.event_codec.specs.Fields.{BeginsWith};
+ghost use Rattle.first_codec.specs.Event.{xid};
+ghost use Rattle.first_codec.specs.Writing.{event_bytes};
+ghost use Rattle.first_codec.specs.Fields.{BeginsWith};
 ghost use Rattle.repl_run.specs.Machine.{is_taken, answer_to};
 ghost use Rattle.repl_run.specs.Log.{time_of, opened, source_after, with_transaction, transaction, statement, head, header};
 
 use crate::answers::{Answer, DUPLICATE_ENTRY, PARSE_ERROR};
 use crate::insert::insert_of;
 use crate::table::Rows;
-use event_codec::{Event, Header, QueryView, write_event};
+use first_codec::{Event, Header, QueryView, write_event};
 use port_traits::{Draw, Identity};
 use std::alloc::Global;
 use std::marker::Model;

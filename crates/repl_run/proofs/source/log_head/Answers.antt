@@ -1,6 +1,6 @@
 use Rattle.std.proofs.Common.{◌++◌, ap, ◌∙◌}
-use Rattle.event_codec.specs.Event.{format_description}
-use Rattle.event_codec.specs.Writing.{event_bytes}
+use Rattle.first_codec.specs.Event.{format_description}
+use Rattle.first_codec.specs.Writing.{event_bytes}
 use Rattle.repl_run.specs.Log.{header, server_version}
 use Rattle.repl_run.proofs.source.log_head.Goals as goal
 

@@ -1,0 +1,4 @@
+pub mod Field
+pub mod LengthEncoded
+pub mod Unroll
+pub mod Laws
