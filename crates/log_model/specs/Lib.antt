@@ -1,2 +1,5 @@
 pub mod Images
+pub mod Events
+pub mod Groups
+pub mod Spelling
 pub mod Worked
