@@ -1,6 +1,6 @@
 -- An event lies within its bytes.
-use Rattle.std.proofs.Common.{◌≡◌, ℕ, ◌≤◌, arith, Bool, true, false, leb, ltb, eqb, List, length, Result, Ok, Err, refl}
-use Rattle.std.specs.Prelude.{◌==◌, ◌&&◌, ◌+◌, not, nat_le, if◌then◌else◌, slice_index, slice_range}
+use Rattle.std.proofs.Common.{◌≡◌, ℕ, arith, Bool, true, false, leb, ltb, eqb, List, length, Result, Ok, Err, refl}
+use Rattle.std.specs.Prelude.{◌&&◌, ◌+◌, not, if◌then◌else◌, slice_index, slice_range}
 use Rattle.std.proofs.lemmas.Bool.{leb-true, ltb-false, eqb-true}
 use Rattle.byte_fields.specs.Field.{number_at}
 use Rattle.event_codec.specs.declared.fault.Fault.{Fault}

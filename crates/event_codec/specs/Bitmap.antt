@@ -1,5 +1,5 @@
 -- A bit for each column, eight in a byte, the first column's the lowest.
-use Rattle.std.specs.Prelude.{ℕ, zero, suc, ◌+◌, ◌-◌, ◌/◌, ◌%◌, ◌^◌, ◌==◌, ◌&&◌, nat_le, if◌then◌else◌, Bool, true, List, [], ◌∷◌, take, drop, Result, Ok}
+use Rattle.std.specs.Prelude.{ℕ, zero, suc, ◌+◌, ◌-◌, ◌/◌, ◌%◌, ◌^◌, ◌==◌, ◌&&◌, nat_le, if◌then◌else◌, Bool, true, List, [], ◌∷◌, Result, Ok}
 use Rattle.event_codec.specs.declared.fault.Fault.{Fault}
 use Rattle.event_codec.specs.Parts.{◌>>=◌, part}
 

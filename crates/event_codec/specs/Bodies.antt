@@ -1,7 +1,7 @@
 -- What a body says, a definition a type. A body is read from left to right: where it is outside its form it is damaged, and
 -- values that this log does not know are looked at last. A value that decides the form of what stands behind it is looked at
 -- where it stands: a status variable's code, a column's type, the length of a rows event's extra bytes.
-use Rattle.std.specs.Prelude.{ℕ, ◌+◌, ◌%◌, ◌==◌, ◌||◌, ◌&&◌, not, nat_le, if◌then◌else◌, Bool, true, List, [], ◌∷◌, length, codes, Option, Some, None, Result, Ok, Err}
+use Rattle.std.specs.Prelude.{ℕ, ◌%◌, ◌==◌, ◌||◌, ◌&&◌, not, nat_le, if◌then◌else◌, Bool, true, List, [], ◌∷◌, length, codes, Option, Some, None, Result, Ok, Err}
 use Rattle.std.specs.Str.{bytes_eq}
 use Rattle.std.specs.Int.{w64, cast_signed}
 use Rattle.val_types.specs.declared.value.Value.{Value}
@@ -16,9 +16,9 @@ use Rattle.event_codec.specs.declared.fault.Fault.{Fault}
 use Rattle.event_codec.specs.declared.fault.Fault.TheVariants.{Damaged, Foreign}
 use Rattle.event_codec.specs.Parts.{◌>>=◌, formed, known, number, part, text, lenenc}
 use Rattle.event_codec.specs.Bitmap.{present}
-use Rattle.event_codec.specs.Columns.{Columns, columns_at}
+use Rattle.event_codec.specs.Columns.{columns_at}
 use Rattle.event_codec.specs.LogName.{log_number}
-use Rattle.event_codec.specs.Event.{Body, query, rotate, int_var, rand, user_var, format_description, xid, table_map, rows, Query, Map, Rows}
+use Rattle.event_codec.specs.Event.{Body, query, rotate, int_var, rand, user_var, format_description, xid, table_map, rows}
 
 -- the one schema of this log
 abbrev pub is_schema : List ℕ → Bool

@@ -1,5 +1,5 @@
 -- Events as plain data, apart from the bytes that they were read from.
-use Rattle.std.specs.Prelude.{◌≡◌, ◌<◌, ◌≤◌, ◌^◌, ℕ, ℤ, ◌*◌, Bool, true, List, length, Option, IfSome}
+use Rattle.std.specs.Prelude.{ℕ, Bool, List, Option}
 use Rattle.val_types.specs.declared.value.Value.{Value}
 use Rattle.val_types.specs.declared.value.Value.TheVariants.{Null, Int, Text}
 use Rattle.event_codec.specs.declared.event.Event.{Event}

@@ -1,5 +1,5 @@
 -- Laws of reading and writing.
-use Rattle.std.specs.Prelude.{◌≡◌, ◌<◌, ◌≤◌, ◌^◌, ◌+◌, ◌++◌, ℕ, List, length, IfSome}
+use Rattle.std.specs.Prelude.{◌≡◌, ◌<◌, ◌^◌, ◌++◌, ℕ, List, length, IfSome}
 use Rattle.std.specs.Prelude.{FitsSigned}
 use Rattle.std.specs.Int.{w64}
 use Rattle.val_types.specs.declared.value.Value.{Value}
@@ -7,7 +7,7 @@ use Rattle.val_types.specs.declared.value.Value.TheVariants.{Null, Int, Text}
 use Rattle.event_codec.specs.declared.event.Header.{Header}
 use Rattle.event_codec.specs.Event.{Body, query, rotate, int_var, rand, user_var, format_description, xid, table_map, rows}
 use Rattle.event_codec.specs.Reading.{reading, event, Within}
-use Rattle.event_codec.specs.Writing.{event_bytes, size, HasForm, CanWrite}
+use Rattle.event_codec.specs.Writing.{event_bytes, size, CanWrite}
 
 -- an integer has 64 bits
 abbrev pub FitsValue : Value → Type 0

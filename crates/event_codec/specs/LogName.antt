@@ -1,5 +1,5 @@
 -- A log's name: `binlog.` and six decimal digits.
-use Rattle.std.specs.Prelude.{ℕ, ◌+◌, ◌-◌, ◌*◌, ◌/◌, ◌%◌, ◌==◌, ◌&&◌, nat_le, Bool, List, [], ◌∷◌, ◌++◌, length, take, drop, codes, Result, Ok, Err}
+use Rattle.std.specs.Prelude.{ℕ, ◌+◌, ◌-◌, ◌*◌, ◌/◌, ◌%◌, ◌==◌, ◌&&◌, nat_le, List, [], ◌∷◌, ◌++◌, length, take, drop, codes, Result, Ok}
 use Rattle.std.specs.Str.{bytes_eq}
 use Rattle.event_codec.specs.declared.fault.Fault.{Fault}
 use Rattle.event_codec.specs.Parts.{◌>>=◌, known}
@@ -21,8 +21,12 @@ log_number name = known (length name == 13 && bytes_eq (take 7 name) (codes "bin
 abbrev pub last_digit : ℕ → ℕ
 last_digit n = 0x30 + n % 10
 
+-- the last six digits
+abbrev pub digits : ℕ → List ℕ
+digits n =
+    last_digit (n / 100000) ∷ last_digit (n / 10000) ∷ last_digit (n / 1000) ∷ last_digit (n / 100) ∷ last_digit (n / 10)
+    ∷ last_digit n ∷ []
+
 -- the name with a number
 unfoldable pub log_name : ℕ → List ℕ
-log_name n =
-    codes "binlog." ++ (last_digit (n / 100000) ∷ last_digit (n / 10000) ∷ last_digit (n / 1000) ∷ last_digit (n / 100)
-    ∷ last_digit (n / 10) ∷ last_digit n ∷ [])
+log_name n = codes "binlog." ++ digits n

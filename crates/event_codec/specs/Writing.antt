@@ -1,5 +1,5 @@
 -- The bytes of an event.
-use Rattle.std.specs.Prelude.{◌≡◌, ◌<◌, ◌≤◌, ◌^◌, ℕ, ◌+◌, ◌*◌, Bool, true, if◌then◌else◌, List, [], ◌∷◌, ◌++◌, length, codes, Option, Some, None, IfSome}
+use Rattle.std.specs.Prelude.{◌≡◌, ◌<◌, ◌≤◌, ◌^◌, ℕ, ◌+◌, ◌*◌, true, if◌then◌else◌, List, [], ◌∷◌, ◌++◌, length, codes, Option, Some, None, IfSome}
 use Rattle.std.specs.Int.{w64, cast_unsigned}
 use Rattle.val_types.specs.declared.value.Value.{Value}
 use Rattle.val_types.specs.declared.value.Value.TheVariants.{Null, Int, Text}
@@ -68,19 +68,28 @@ value_bytes (Text bytes) = 0 ∷ typed_bytes 0 bytes
 unfoldable pub user_var_bytes : List ℕ → Value → List ℕ
 user_var_bytes name content = number_bytes 4 (length name) ++ (name ++ value_bytes content)
 
--- at the time of its header
+-- a time, and the layout of events
+unfoldable pub layout_bytes : ℕ → List ℕ
+layout_bytes stamp = number_bytes 4 stamp ++ (19 ∷ (post_header_lengths ++ (0 ∷ number_bytes 4 0)))
+
+-- made at the time of its header
 unfoldable pub format_description_bytes : ℕ → List ℕ → List ℕ
-format_description_bytes stamp version =
-    number_bytes 2 4 ++ (version ++ (number_bytes 4 stamp ++ (19 ∷ (post_header_lengths ++ (0 ∷ number_bytes 4 0)))))
+format_description_bytes stamp version = number_bytes 2 4 ++ (version ++ layout_bytes stamp)
 
 -- a byte of length, and so many bytes
 abbrev pub text_bytes : List ℕ → List ℕ
 text_bytes text = length text ∷ text
 
+-- how many columns there are, their types, metadata with its length, and bits
+abbrev pub columns_bytes : Map → List ℕ
+columns_bytes m = lenenc_bytes (length m.kinds) ++ (m.kinds ++ (lenenc_bytes (length m.metadata) ++ (m.metadata ++ m.nulls)))
+
+-- the id, no flags, the schema and the name, each with a 0 behind it
+unfoldable pub names_bytes : Map → List ℕ
+names_bytes m = number_bytes 6 m.id ++ (number_bytes 2 0 ++ (text_bytes (codes "db") ++ (0 ∷ (text_bytes m.name ++ (0 ∷ [])))))
+
 unfoldable pub table_map_bytes : Map → List ℕ
-table_map_bytes m =
-    number_bytes 6 m.id ++ (number_bytes 2 0 ++ (text_bytes (codes "db") ++ (0 ∷ (text_bytes m.name ++ (0 ∷ (lenenc_bytes (length m.kinds)
-    ++ (m.kinds ++ (lenenc_bytes (length m.metadata) ++ (m.metadata ++ m.nulls)))))))))
+table_map_bytes m = names_bytes m ++ columns_bytes m
 
 -- one bitmap, or two for UPDATE_ROWS
 abbrev pub present_bytes : RowsKind → ℕ → List ℕ

@@ -1,10 +1,12 @@
 //! A bit for each column, eight in a byte.
-ghost use Rattle.std.specs.Prelude.{◌≡◌, ◌==◌, ◌%◌, ◌+◌};
-ghost use Rattle.event_codec.specs.Bitmap.{bitmap_size, mask, all_present, present};
+ghost use Rattle.std.specs.Prelude.{◌≡◌, ◌==◌, ◌%◌, ◌+◌, ◌++◌, OnOk, OnErr};
+ghost use Rattle.byte_fields.specs.Field.{BeginsWith};
+ghost use Rattle.event_codec.specs.Bitmap.{bitmap_size, mask, all_present, present, present_bits};
 ghost use Rattle.event_codec.specs.Parts.{flag_seen};
 
 use crate::fault::Fault;
 use crate::parts::some;
+use val_types::{Bytes, NoMemory};
 
 /// How many bytes the bits of so many columns take.
 pub fn bitmap_size(columns: u64) -> u64
@@ -58,4 +60,18 @@ pub fn read_present(columns: u64, bytes: &[u8]) -> Result<(bool, &[u8]), Fault>
 {
     let (bits, rest) = some(bitmap_size(columns), bytes)?;
     Ok((all_present(columns, bits), rest))
+}
+
+/// Puts a bitmap with the bit of each column at the end.
+#[tactic(auto, using(crate::proofs::Stepping::bits_step))]
+pub fn put_present(columns: u64, out: &mut Bytes) -> Result<(), NoMemory>
+    ensures ok { OnOk result (out.new ≡ out.old ++ present_bits (bitmap_size columns) columns) }
+    ensures err { OnErr result (BeginsWith out.new out.old) }
+{
+    let mut left = columns;
+    for _byte in 0..bitmap_size(columns) {
+        out.push(mask(left))?;
+        left = left.saturating_sub(8);
+    }
+    Ok(())
 }

@@ -1,11 +1,15 @@
 //! The body of a FORMAT_DESCRIPTION: the layout of the log's events.
-ghost use Rattle.std.specs.Prelude.{◌≡◌};
+ghost use Rattle.std.specs.Prelude.{◌≡◌, ◌++◌, OnOk, OnErr};
+ghost use Rattle.byte_fields.specs.Field.{BeginsWith};
 ghost use Rattle.event_codec.specs.Bodies.{post_header_lengths, format_description_body};
 ghost use Rattle.event_codec.specs.Reading.{event_seen, headed};
+ghost use Rattle.event_codec.specs.Writing.{format_description_bytes, layout_bytes};
 
 use crate::event::Event;
 use crate::fault::Fault;
 use crate::parts::{four, one, some, two};
+use byte_fields::{bytes_u16, bytes_u32};
+use val_types::{Bytes, NoMemory};
 
 /// How long the fixed part behind the header is, for each type from 1 on.
 pub const POST_HEADER_LENGTHS: [u8; 38] = [
@@ -37,4 +41,28 @@ pub fn read_format_description(stamp: u32, length: u64, body: &[u8]) -> Result<E
         length,
         version,
     })
+}
+
+/// Puts a time and the layout of events at the end.
+#[tactic(auto, using(byte_fields::proofs::FieldLaws::begins_more), unfolding(crate::specs::Writing::layout_bytes))]
+fn put_layout(stamp: u32, out: &mut Bytes) -> Result<(), NoMemory>
+    ensures ok { OnOk result (out.new ≡ out.old ++ layout_bytes stamp) }
+    ensures err { OnErr result (BeginsWith out.new out.old) }
+{
+    out.extend_from_slice(&bytes_u32(u64::from(stamp)))?;
+    out.push(19)?;
+    out.extend_from_slice(&POST_HEADER_LENGTHS)?;
+    out.push(0)?;
+    out.extend_from_slice(&bytes_u32(0))
+}
+
+/// Puts the body of a FORMAT_DESCRIPTION at the end, made at a time.
+#[tactic(auto, using(byte_fields::proofs::FieldLaws::begins_more), unfolding(crate::specs::Writing::format_description_bytes))]
+pub fn put_format_description(stamp: u32, version: &[u8], out: &mut Bytes) -> Result<(), NoMemory>
+    ensures ok { OnOk result (out.new ≡ out.old ++ format_description_bytes stamp version.now) }
+    ensures err { OnErr result (BeginsWith out.new out.old) }
+{
+    out.extend_from_slice(&bytes_u16(4))?;
+    out.extend_from_slice(version)?;
+    put_layout(stamp, out)
 }

@@ -1,11 +1,15 @@
 //! The bodies of INTVAR, RAND and XID, which are numbers.
-ghost use Rattle.std.specs.Prelude.{◌≡◌};
+ghost use Rattle.std.specs.Prelude.{◌≡◌, ◌∷◌, ◌++◌, OnOk, OnErr};
+ghost use Rattle.byte_fields.specs.Field.{BeginsWith, number_bytes};
 ghost use Rattle.event_codec.specs.Bodies.{int_var_kind, int_var_body, rand_body, xid_body};
 ghost use Rattle.event_codec.specs.Reading.{event_seen, headed};
+ghost use Rattle.event_codec.specs.Writing.{int_var_code};
 
 use crate::event::{Event, IntVarKind};
 use crate::fault::Fault;
 use crate::parts::{eight, one};
+use byte_fields::bytes_u64;
+use val_types::{Bytes, NoMemory};
 
 /// The greatest BIGINT.
 const GREATEST: u64 = 9_223_372_036_854_775_807;
@@ -78,4 +82,34 @@ pub fn read_xid(stamp: u32, length: u64, body: &[u8]) -> Result<Event<'_>, Fault
         length,
         number,
     })
+}
+
+/// The code of an INTVAR's kind.
+fn code_of_kind(kind: IntVarKind) -> u8
+    ensures { result ≡ int_var_code kind }
+{
+    match kind {
+        IntVarKind::LastInsertId => 1,
+        IntVarKind::InsertId => 2,
+    }
+}
+
+/// Puts the body of an INTVAR at the end.
+#[tactic(auto, using(byte_fields::proofs::FieldLaws::begins_more))]
+pub fn put_int_var(kind: IntVarKind, value: u64, out: &mut Bytes) -> Result<(), NoMemory>
+    ensures ok { OnOk result (out.new ≡ out.old ++ (int_var_code kind ∷ number_bytes 8 value)) }
+    ensures err { OnErr result (BeginsWith out.new out.old) }
+{
+    out.push(code_of_kind(kind))?;
+    out.extend_from_slice(&bytes_u64(value))
+}
+
+/// Puts the body of a RAND at the end.
+#[tactic(auto, using(byte_fields::proofs::FieldLaws::begins_more))]
+pub fn put_rand(first: u32, second: u32, out: &mut Bytes) -> Result<(), NoMemory>
+    ensures ok { OnOk result (out.new ≡ out.old ++ (number_bytes 8 first ++ number_bytes 8 second)) }
+    ensures err { OnErr result (BeginsWith out.new out.old) }
+{
+    out.extend_from_slice(&bytes_u64(u64::from(first)))?;
+    out.extend_from_slice(&bytes_u64(u64::from(second)))
 }

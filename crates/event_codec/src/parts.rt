@@ -1,9 +1,13 @@
 //! Parts of a body: what was read, and the bytes behind it.
-ghost use Rattle.std.specs.Prelude.{◌≡◌};
+ghost use Rattle.std.specs.Prelude.{◌≡◌, ◌<◌, ◌++◌, length, OnOk, OnErr};
+ghost use Rattle.byte_fields.specs.Field.{BeginsWith};
+ghost use Rattle.byte_fields.specs.LengthEncoded.{lenenc_bytes};
 ghost use Rattle.event_codec.specs.Parts.{number, part, text, lenenc, number_seen, bytes_seen};
+ghost use Rattle.event_codec.specs.Writing.{text_bytes};
 
 use crate::fault::Fault;
-use byte_fields::{take_lenenc, u16_at, u32_at, u48_at, u64_at};
+use byte_fields::{bytes_lenenc, take_lenenc, u16_at, u32_at, u48_at, u64_at};
+use val_types::{Bytes, NoMemory};
 
 /// A number of one byte.
 #[tactic(auto, unfolding(byte_fields::specs::Field::number_at))]
@@ -84,4 +88,31 @@ pub fn encoded(bytes: &[u8]) -> Result<(u64, &[u8]), Fault>
         Ok((number, next)) => Ok((number, &bytes[next..])),
         Err(_) => Err(Fault::Damaged),
     }
+}
+
+/// Puts a text behind a byte with its length at the end.
+#[tactic(auto, using(byte_fields::proofs::FieldLaws::begins_more))]
+pub fn put_short_text(text: &[u8], out: &mut Bytes) -> Result<(), NoMemory>
+    requires { length text.now < 256 }
+    ensures ok { OnOk result (out.new ≡ out.old ++ text_bytes text.now) }
+    ensures err { OnErr result (BeginsWith out.new out.old) }
+{
+    out.push(text.len() as u8)?;
+    out.extend_from_slice(text)
+}
+
+/// Puts a length-encoded integer at the end, in its shortest spelling.
+pub fn put_encoded(number: u64, out: &mut Bytes) -> Result<(), NoMemory>
+    ensures ok { OnOk result (out.new ≡ out.old ++ lenenc_bytes number) }
+    ensures err { OnErr result (out.new ≡ out.old) }
+{
+    let (bytes, count) = bytes_lenenc(number);
+    out.extend_from_slice(&bytes[..count])
+}
+
+/// How many bytes a length-encoded integer takes.
+pub fn encoded_size(number: u64) -> u64
+    ensures { result ≡ length (lenenc_bytes number) }
+{
+    bytes_lenenc(number).1 as u64
 }

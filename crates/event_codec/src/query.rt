@@ -1,5 +1,5 @@
 //! The body of a QUERY: a statement's text and the part of its session that it needs.
-ghost use Rattle.std.specs.Prelude.{◌≡◌, ◌++◌, OnOk, OnErr};
+ghost use Rattle.std.specs.Prelude.{◌≡◌, ◌≤◌, ◌+◌, ◌++◌, length, OnOk, OnErr};
 ghost use Rattle.byte_fields.specs.Field.{BeginsWith};
 ghost use Rattle.event_codec.specs.Event.{query_of};
 ghost use Rattle.event_codec.specs.Bodies.{only, step_at, status_of, query_body};
@@ -78,4 +78,56 @@ pub fn read_query(stamp: u32, length: u64, body: &[u8]) -> Result<Event<'_>, Fau
         step,
         text,
     }))
+}
+
+/// How many bytes the status variables take.
+#[tactic(auto, unfolding(byte_fields::specs::Field::number_bytes))]
+fn step_size(step: Option<Step>) -> u16
+    ensures exact { result ≡ length (step_bytes step) }
+    ensures few { result ≤ 5 }
+{
+    match step {
+        None => 0,
+        Some(_) => 5,
+    }
+}
+
+/// Puts the status variables at the end.
+#[tactic(auto, using(byte_fields::proofs::FieldLaws::begins_more))]
+fn put_step(step: Option<Step>, out: &mut Bytes) -> Result<(), NoMemory>
+    ensures ok { OnOk result (out.new ≡ out.old ++ step_bytes step) }
+    ensures err { OnErr result (BeginsWith out.new out.old) }
+{
+    let Some(Step { increment, offset }) = step else {
+        return Ok(());
+    };
+    out.push(STEP_CODE)?;
+    out.extend_from_slice(&bytes_u16(u64::from(increment)))?;
+    out.extend_from_slice(&bytes_u16(u64::from(offset)))
+}
+
+/// How many bytes a QUERY takes.
+#[tactic(auto, unfolding(crate::specs::Writing::query_bytes, byte_fields::specs::Field::number_bytes))]
+pub fn query_size(v: &QueryView) -> u64
+    requires { 19 + length (query_bytes (query_of v.now)) ≤ 1200000000 }
+    ensures { result ≡ 19 + length (query_bytes (query_of v.now)) }
+{
+    35 + u64::from(step_size(v.step)) + v.text.len() as u64
+}
+
+/// Puts the body of a QUERY at the end.
+#[tactic(auto, using(byte_fields::proofs::FieldLaws::begins_more), unfolding(crate::specs::Writing::query_bytes))]
+pub fn put_query(v: &QueryView, out: &mut Bytes) -> Result<(), NoMemory>
+    ensures ok { OnOk result (out.new ≡ out.old ++ query_bytes (query_of v.now)) }
+    ensures err { OnErr result (BeginsWith out.new out.old) }
+{
+    out.extend_from_slice(&bytes_u32(u64::from(v.thread)))?;
+    out.extend_from_slice(&bytes_u32(0))?;
+    out.push(SCHEMA.len() as u8)?;
+    out.extend_from_slice(&bytes_u16(0))?;
+    out.extend_from_slice(&bytes_u16(u64::from(step_size(v.step))))?;
+    put_step(v.step, out)?;
+    out.extend_from_slice(&SCHEMA)?;
+    out.push(0)?;
+    out.extend_from_slice(v.text)
 }

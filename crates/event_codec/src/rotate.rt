@@ -1,12 +1,16 @@
 //! The body of a ROTATE: the name of the next log.
-ghost use Rattle.std.specs.Prelude.{◌≡◌, ◌≤◌, IfOk};
+ghost use Rattle.std.specs.Prelude.{◌≡◌, ◌≤◌, ◌++◌, IfOk, OnOk, OnErr};
+ghost use Rattle.byte_fields.specs.Field.{BeginsWith};
 ghost use Rattle.event_codec.specs.Bodies.{rotate_body};
-ghost use Rattle.event_codec.specs.LogName.{digit_value, log_number};
+ghost use Rattle.event_codec.specs.LogName.{digit_value, digits, last_digit, log_name, log_number};
 ghost use Rattle.event_codec.specs.Reading.{event_seen, headed};
+ghost use Rattle.event_codec.specs.Writing.{rotate_bytes};
 
 use crate::event::Event;
 use crate::fault::Fault;
 use crate::parts::eight;
+use byte_fields::bytes_u64;
+use val_types::{Bytes, NoMemory};
 
 /// What the name of a log begins with.
 const LOG: [u8; 7] = *b"binlog.";
@@ -53,4 +57,45 @@ pub fn read_rotate(stamp: u32, length: u64, body: &[u8]) -> Result<Event<'_>, Fa
         length,
         next,
     })
+}
+
+/// The last decimal digit of a number.
+fn last_digit(number: u32) -> u8
+    ensures { result ≡ last_digit number }
+{
+    b'0' + (number % 10) as u8
+}
+
+/// The last six decimal digits of a number.
+fn digits(number: u32) -> [u8; 6]
+    ensures { result ≡ digits number }
+{
+    [
+        last_digit(number / 100_000),
+        last_digit(number / 10_000),
+        last_digit(number / 1_000),
+        last_digit(number / 100),
+        last_digit(number / 10),
+        last_digit(number),
+    ]
+}
+
+/// Puts the name of the log with a number at the end.
+#[tactic(auto, using(byte_fields::proofs::FieldLaws::begins_more), unfolding(crate::specs::LogName::log_name))]
+fn put_log_name(number: u32, out: &mut Bytes) -> Result<(), NoMemory>
+    ensures ok { OnOk result (out.new ≡ out.old ++ log_name number) }
+    ensures err { OnErr result (BeginsWith out.new out.old) }
+{
+    out.extend_from_slice(&LOG)?;
+    out.extend_from_slice(&digits(number))
+}
+
+/// Puts the body of a ROTATE at the end.
+#[tactic(auto, using(byte_fields::proofs::FieldLaws::begins_more), unfolding(crate::specs::Writing::rotate_bytes))]
+pub fn put_rotate(next: u32, out: &mut Bytes) -> Result<(), NoMemory>
+    ensures ok { OnOk result (out.new ≡ out.old ++ rotate_bytes next) }
+    ensures err { OnErr result (BeginsWith out.new out.old) }
+{
+    out.extend_from_slice(&bytes_u64(4))?;
+    put_log_name(next, out)
 }

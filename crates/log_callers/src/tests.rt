@@ -1,0 +1,335 @@
+//! A small log with events of all types: written, read, and read with each byte changed. The bytes are
+//! worked out by hand from the layouts of the events.
+ghost use Rattle.std.specs.Prelude.{◌≡◌, ◌≤◌, length};
+
+use event_codec::{
+    Event, Header, IntVarKind, MapView, QueryView, Read, RowsKind, RowsView, Step, UserVarView,
+    VarValue, read_event, write_event,
+};
+use std::alloc::Global;
+use std::test::Fail;
+use val_types::{Bytes, NoMemory};
+
+static LOG: [u8; 638] = [
+    0xfe, 0x62, 0x69, 0x6e,
+    // FORMAT_DESCRIPTION, from 4
+    0x00, 0xf1, 0x53, 0x65, 0x0f, 0x01, 0x00, 0x00, 0x00, 0x77, 0x00, 0x00, 0x00, 0x7b, 0x00, 0x00,
+    0x00, 0x00, 0x00, 0x04, 0x00, 0x35, 0x2e, 0x37, 0x2e, 0x34, 0x34, 0x2d, 0x6c, 0x6f, 0x67, 0x00,
+    0x00, 0x00, 0x00, 0x00, 0x00, 0x00, 0x00, 0x00, 0x00, 0x00, 0x00, 0x00, 0x00, 0x00, 0x00, 0x00,
+    0x00, 0x00, 0x00, 0x00, 0x00, 0x00, 0x00, 0x00, 0x00, 0x00, 0x00, 0x00, 0x00, 0x00, 0x00, 0x00,
+    0x00, 0x00, 0x00, 0x00, 0x00, 0x00, 0x00, 0x00, 0xf1, 0x53, 0x65, 0x13, 0x38, 0x0d, 0x00, 0x08,
+    0x00, 0x12, 0x00, 0x04, 0x04, 0x04, 0x04, 0x12, 0x00, 0x00, 0x5f, 0x00, 0x04, 0x1a, 0x08, 0x00,
+    0x00, 0x00, 0x08, 0x08, 0x08, 0x02, 0x00, 0x00, 0x00, 0x0a, 0x0a, 0x0a, 0x2a, 0x2a, 0x00, 0x12,
+    0x34, 0x00, 0x00, 0x00, 0x00, 0x00, 0x00,
+    // QUERY `BEGIN` of thread 1, from 123
+    0x01, 0xf1, 0x53, 0x65, 0x02, 0x01, 0x00, 0x00, 0x00, 0x28, 0x00, 0x00, 0x00, 0xa3, 0x00, 0x00,
+    0x00, 0x00, 0x00, 0x01, 0x00, 0x00, 0x00, 0x00, 0x00, 0x00, 0x00, 0x02, 0x00, 0x00, 0x00, 0x00,
+    0x64, 0x62, 0x00, 0x42, 0x45, 0x47, 0x49, 0x4e,
+    // INTVAR LAST_INSERT_ID 5, from 163
+    0x01, 0xf1, 0x53, 0x65, 0x05, 0x01, 0x00, 0x00, 0x00, 0x1c, 0x00, 0x00, 0x00, 0xbf, 0x00, 0x00,
+    0x00, 0x00, 0x00, 0x01, 0x05, 0x00, 0x00, 0x00, 0x00, 0x00, 0x00, 0x00,
+    // INTVAR INSERT_ID 2, from 191
+    0x01, 0xf1, 0x53, 0x65, 0x05, 0x01, 0x00, 0x00, 0x00, 0x1c, 0x00, 0x00, 0x00, 0xdb, 0x00, 0x00,
+    0x00, 0x00, 0x00, 0x02, 0x02, 0x00, 0x00, 0x00, 0x00, 0x00, 0x00, 0x00,
+    // RAND 1 2, from 219
+    0x01, 0xf1, 0x53, 0x65, 0x0d, 0x01, 0x00, 0x00, 0x00, 0x23, 0x00, 0x00, 0x00, 0xfe, 0x00, 0x00,
+    0x00, 0x00, 0x00, 0x01, 0x00, 0x00, 0x00, 0x00, 0x00, 0x00, 0x00, 0x02, 0x00, 0x00, 0x00, 0x00,
+    0x00, 0x00, 0x00,
+    // USER_VAR x NULL, from 254
+    0x01, 0xf1, 0x53, 0x65, 0x0e, 0x01, 0x00, 0x00, 0x00, 0x19, 0x00, 0x00, 0x00, 0x17, 0x01, 0x00,
+    0x00, 0x00, 0x00, 0x01, 0x00, 0x00, 0x00, 0x78, 0x01,
+    // USER_VAR y -2, from 279
+    0x01, 0xf1, 0x53, 0x65, 0x0e, 0x01, 0x00, 0x00, 0x00, 0x2b, 0x00, 0x00, 0x00, 0x42, 0x01, 0x00,
+    0x00, 0x00, 0x00, 0x01, 0x00, 0x00, 0x00, 0x79, 0x00, 0x02, 0x3f, 0x00, 0x00, 0x00, 0x08, 0x00,
+    0x00, 0x00, 0xfe, 0xff, 0xff, 0xff, 0xff, 0xff, 0xff, 0xff, 0x00,
+    // USER_VAR z 'a', from 322
+    0x01, 0xf1, 0x53, 0x65, 0x0e, 0x01, 0x00, 0x00, 0x00, 0x24, 0x00, 0x00, 0x00, 0x66, 0x01, 0x00,
+    0x00, 0x00, 0x00, 0x01, 0x00, 0x00, 0x00, 0x7a, 0x00, 0x00, 0x3f, 0x00, 0x00, 0x00, 0x01, 0x00,
+    0x00, 0x00, 0x61, 0x00,
+    // QUERY `DO 1` of thread 2, increment 10, offset 20, from 358
+    0x01, 0xf1, 0x53, 0x65, 0x02, 0x01, 0x00, 0x00, 0x00, 0x2c, 0x00, 0x00, 0x00, 0x92, 0x01, 0x00,
+    0x00, 0x00, 0x00, 0x02, 0x00, 0x00, 0x00, 0x00, 0x00, 0x00, 0x00, 0x02, 0x00, 0x00, 0x05, 0x00,
+    0x03, 0x0a, 0x00, 0x14, 0x00, 0x64, 0x62, 0x00, 0x44, 0x4f, 0x20, 0x31,
+    // TABLE_MAP 1 of `t`, from 402
+    0x02, 0xf1, 0x53, 0x65, 0x13, 0x01, 0x00, 0x00, 0x00, 0x27, 0x00, 0x00, 0x00, 0xb9, 0x01, 0x00,
+    0x00, 0x00, 0x00, 0x01, 0x00, 0x00, 0x00, 0x00, 0x00, 0x00, 0x00, 0x02, 0x64, 0x62, 0x00, 0x01,
+    0x74, 0x00, 0x02, 0x03, 0x03, 0x00, 0x02,
+    // WRITE_ROWS 1, from 441
+    0x02, 0xf1, 0x53, 0x65, 0x1e, 0x01, 0x00, 0x00, 0x00, 0x28, 0x00, 0x00, 0x00, 0xe1, 0x01, 0x00,
+    0x00, 0x00, 0x00, 0x01, 0x00, 0x00, 0x00, 0x00, 0x00, 0x00, 0x00, 0x02, 0x00, 0x02, 0x03, 0x00,
+    0x01, 0x00, 0x00, 0x00, 0x01, 0x00, 0x00, 0x00,
+    // UPDATE_ROWS 1, from 481
+    0x02, 0xf1, 0x53, 0x65, 0x1f, 0x01, 0x00, 0x00, 0x00, 0x32, 0x00, 0x00, 0x00, 0x13, 0x02, 0x00,
+    0x00, 0x00, 0x00, 0x01, 0x00, 0x00, 0x00, 0x00, 0x00, 0x00, 0x00, 0x02, 0x00, 0x02, 0x03, 0x03,
+    0x00, 0x01, 0x00, 0x00, 0x00, 0x01, 0x00, 0x00, 0x00, 0x00, 0x01, 0x00, 0x00, 0x00, 0x02, 0x00,
+    0x00, 0x00,
+    // DELETE_ROWS 1 at the end of its statement, from 531
+    0x02, 0xf1, 0x53, 0x65, 0x20, 0x01, 0x00, 0x00, 0x00, 0x28, 0x00, 0x00, 0x00, 0x3b, 0x02, 0x00,
+    0x00, 0x00, 0x00, 0x01, 0x00, 0x00, 0x00, 0x00, 0x00, 0x01, 0x00, 0x02, 0x00, 0x02, 0x03, 0x00,
+    0x01, 0x00, 0x00, 0x00, 0x02, 0x00, 0x00, 0x00,
+    // XID 1, from 571
+    0x02, 0xf1, 0x53, 0x65, 0x10, 0x01, 0x00, 0x00, 0x00, 0x1b, 0x00, 0x00, 0x00, 0x56, 0x02, 0x00,
+    0x00, 0x00, 0x00, 0x01, 0x00, 0x00, 0x00, 0x00, 0x00, 0x00, 0x00,
+    // ROTATE to log 2, from 598
+    0x03, 0xf1, 0x53, 0x65, 0x04, 0x01, 0x00, 0x00, 0x00, 0x28, 0x00, 0x00, 0x00, 0x7e, 0x02, 0x00,
+    0x00, 0x00, 0x00, 0x04, 0x00, 0x00, 0x00, 0x00, 0x00, 0x00, 0x00, 0x62, 0x69, 0x6e, 0x6c, 0x6f,
+    0x67, 0x2e, 0x30, 0x30, 0x30, 0x30, 0x30, 0x32,
+];
+
+/// The version of the server in its 50 bytes.
+static VERSION: [u8; 50] =
+    *b"5.7.44-log\0\0\0\0\0\0\0\0\0\0\0\0\0\0\0\0\0\0\0\0\0\0\0\0\0\0\0\0\0\0\0\0\0\0\0\0\0\0\0\0";
+
+fn header(stamp: u32, pos: u64) -> Header
+    ensures { result.pos ≡ pos }
+{
+    Header {
+        stamp,
+        server_id: 1,
+        pos,
+    }
+}
+
+/// Writes the first event and what begins a transaction.
+fn put_head(out: &mut Bytes) -> Result<(), NoMemory> {
+    let start = Event::FormatDescription {
+        stamp: 0,
+        length: 0,
+        version: &VERSION,
+    };
+    write_event(&start, &header(1_700_000_000, 4), out)?;
+    let begin = Event::Query(QueryView {
+        stamp: 0,
+        length: 0,
+        thread: 1,
+        step: None,
+        text: b"BEGIN",
+    });
+    write_event(&begin, &header(1_700_000_001, 123), out)
+}
+
+/// Writes what the statement needs of its session as numbers.
+fn put_numbers(out: &mut Bytes) -> Result<(), NoMemory> {
+    let last = Event::IntVar {
+        stamp: 0,
+        length: 0,
+        kind: IntVarKind::LastInsertId,
+        value: 5,
+    };
+    write_event(&last, &header(1_700_000_001, 163), out)?;
+    let first = Event::IntVar {
+        stamp: 0,
+        length: 0,
+        kind: IntVarKind::InsertId,
+        value: 2,
+    };
+    write_event(&first, &header(1_700_000_001, 191), out)?;
+    let seeds = Event::Rand {
+        stamp: 0,
+        length: 0,
+        first: 1,
+        second: 2,
+    };
+    write_event(&seeds, &header(1_700_000_001, 219), out)
+}
+
+/// Writes its user variables.
+fn put_variables(out: &mut Bytes) -> Result<(), NoMemory> {
+    let null = Event::UserVar(UserVarView {
+        stamp: 0,
+        length: 0,
+        name: b"x",
+        value: VarValue::Null,
+    });
+    write_event(&null, &header(1_700_000_001, 254), out)?;
+    let integer = Event::UserVar(UserVarView {
+        stamp: 0,
+        length: 0,
+        name: b"y",
+        value: VarValue::Int(-2),
+    });
+    write_event(&integer, &header(1_700_000_001, 279), out)?;
+    let text = Event::UserVar(UserVarView {
+        stamp: 0,
+        length: 0,
+        name: b"z",
+        value: VarValue::Text(b"a"),
+    });
+    write_event(&text, &header(1_700_000_001, 322), out)
+}
+
+/// Writes the statement.
+fn put_statement(out: &mut Bytes) -> Result<(), NoMemory> {
+    let statement = Event::Query(QueryView {
+        stamp: 0,
+        length: 0,
+        thread: 2,
+        step: Some(Step {
+            increment: 10,
+            offset: 20,
+        }),
+        text: b"DO 1",
+    });
+    write_event(&statement, &header(1_700_000_001, 358), out)
+}
+
+/// Writes the map of a table `t` of two numbers, of which the second may be NULL.
+fn put_map(out: &mut Bytes) -> Result<(), NoMemory> {
+    let map = Event::TableMap(MapView {
+        stamp: 0,
+        length: 0,
+        id: 1,
+        name: b"t",
+        kinds: &[3, 3],
+        metadata: &[],
+        nulls: &[2],
+    });
+    write_event(&map, &header(1_700_000_002, 402), out)
+}
+
+/// Writes rows of the table.
+fn put_rows(
+    kind: RowsKind,
+    ends: bool,
+    rows: &[u8],
+    pos: u64,
+    out: &mut Bytes,
+) -> Result<(), NoMemory>
+    requires some { 1 ≤ length rows.now }
+    requires few { length rows.now ≤ 100 }
+    requires pos { pos ≤ 1000 }
+{
+    let event = Event::Rows(RowsView {
+        stamp: 0,
+        length: 0,
+        kind,
+        id: 1,
+        ends,
+        columns: 2,
+        rows,
+    });
+    write_event(&event, &header(1_700_000_002, pos), out)
+}
+
+/// Writes the end of the transaction and of the log.
+fn put_end(out: &mut Bytes) -> Result<(), NoMemory> {
+    let commit = Event::Xid {
+        stamp: 0,
+        length: 0,
+        number: 1,
+    };
+    write_event(&commit, &header(1_700_000_002, 571), out)?;
+    let next = Event::Rotate {
+        stamp: 0,
+        length: 0,
+        next: 2,
+    };
+    write_event(&next, &header(1_700_000_003, 598), out)
+}
+
+#[test]
+fn writes_a_log_of_all_types(rt: HostRuntime) -> Result<(), Fail> {
+    let mut log = Bytes::from_slice(rt.alloc(), &LOG[..4])?;
+    put_head(&mut log)?;
+    put_numbers(&mut log)?;
+    put_variables(&mut log)?;
+    put_statement(&mut log)?;
+    put_map(&mut log)?;
+    put_rows(RowsKind::Write, false, &LOG[472..481], 441, &mut log)?;
+    put_rows(RowsKind::Update, false, &LOG[513..531], 481, &mut log)?;
+    put_rows(RowsKind::Delete, true, &LOG[562..571], 531, &mut log)?;
+    put_end(&mut log)?;
+    assert_eq!(rt; log.as_slice(), LOG.as_slice());
+    Ok(())
+}
+
+/// A letter for what stands there: an event, fewer bytes, damage, or what is not known.
+fn letter(read: &Read, pos: u64) -> u8 {
+    match read {
+        Read::Event(_) => b'e',
+        Read::Short { .. } => b's',
+        Read::Damaged { pos: at } => { if *at == pos { b'd' } else { b'?' } }
+        Read::Foreign { pos: at, .. } => { if *at == pos { b'f' } else { b'?' } }
+    }
+}
+
+/// What stands at a place of a log.
+fn letter_at(log: &[u8], pos: u64) -> u8 {
+    if pos > log.len() as u64 {
+        return b'?';
+    }
+    letter(&read_event(&log[pos as usize..], pos), pos)
+}
+
+/// The answers for an event's header with one of its bytes set to ff.
+static HEADER: [u8; 19] = *b"eeeefeeeeddddddddee";
+
+/// Where each event begins, and the answers for its body with one of its bytes set to ff.
+static BODIES: [(u64, &[u8]); 15] = [
+    (
+        4,
+        b"ffeeeeeeeeeeeeeeeeeeeeeeeeeeeeeeeeeeeeeeeeeeeeeeeeeeeeeeffffffffffffffffffffffffffffffffffffffffeeee",
+    ),
+    (123, b"eeeeeeeedffddffdeeeee"),
+    (163, b"deeeeeeef"),
+    (191, b"deeeeeeef"),
+    (219, b"eeeeeeeeeeeeeeee"),
+    (254, b"dddded"),
+    (279, b"ddddedfffffddddeeeeeeeef"),
+    (322, b"ddddedfffffddddef"),
+    (358, b"eeeeeeeedffddfeeeeffdeeee"),
+    (402, b"eeeeeeeedffddeddffde"),
+    (441, b"eeeeeeeeffdeeeeeeeeee"),
+    (481, b"eeeeeeeeffdeeeeeeeeeeeeeeeeeeee"),
+    (531, b"eeeeeeeeffdeeeeeeeeee"),
+    (571, b"eeeeeeee"),
+    (598, b"fffffffffffffffffffff"),
+];
+
+/// The answers with one byte after the other from a place on set to ff, where an event begins at `pos`.
+fn answers(
+    alloc: Global,
+    log: &mut Bytes,
+    pos: u64,
+    from: usize,
+    count: usize,
+) -> Result<Bytes, NoMemory> {
+    let mut letters = Bytes::new(alloc);
+    for i in 0..count {
+        let place = from.saturating_add(i);
+        if place < log.len() {
+            let old = log[place];
+            log.set(place, 0xff);
+            letters.push(letter_at(log.as_slice(), pos))?;
+            log.set(place, old);
+        }
+    }
+    Ok(letters)
+}
+
+#[test]
+fn reads_each_event_with_each_byte_changed(rt: HostRuntime) -> Result<(), Fail> {
+    let mut log = Bytes::from_slice(rt.alloc(), &LOG)?;
+    for (pos, body) in &BODIES {
+        assert_eq!(rt; letter_at(log.as_slice(), *pos), b'e', "at {pos}");
+        let start = *pos as usize;
+        let head = answers(rt.alloc(), &mut log, *pos, start, 19)?;
+        assert_eq!(rt; head.as_slice(), HEADER.as_slice(), "header at {pos}");
+        let behind = start.saturating_add(19);
+        let rest = answers(rt.alloc(), &mut log, *pos, behind, body.len())?;
+        assert_eq!(rt; rest.as_slice(), *body, "body at {pos}");
+    }
+    Ok(())
+}
+
+#[test]
+fn reads_an_event_that_is_cut(rt: HostRuntime) -> Result<(), Fail> {
+    let cut = [(18, 19), (19, 27), (26, 27)];
+    for (length, expected) in cut {
+        let Read::Short { need } = read_event(&LOG[571..571 + length], 571) else {
+            return Err(Fail::from("not short"));
+        };
+        assert_eq!(rt; need, expected);
+    }
+    Ok(())
+}
