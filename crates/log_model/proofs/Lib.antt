@@ -6,3 +6,4 @@ pub mod Running
 pub mod Parsing
 pub mod Fronts
 pub mod Scanning
+pub mod ReadAgain

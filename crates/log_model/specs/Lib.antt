@@ -2,4 +2,5 @@ pub mod Images
 pub mod Events
 pub mod Groups
 pub mod Spelling
+pub mod Written
 pub mod Worked

@@ -1,12 +1,9 @@
 -- Groups as they are spelled, apart from how they are read.
-use Rattle.std.specs.Prelude.{◌≡◌, ℕ, ◌+◌, ◌<◌, ◌^◌, true, false, List, [], ◌∷◌, ◌++◌, map, codes, Option, Some, None}
+use Rattle.std.specs.Prelude.{◌≡◌, ℕ, true, false, List, [], ◌∷◌, ◌++◌, map, codes, Option, Some, None}
 use Rattle.val_types.specs.declared.value.Value.{Value}
-use Rattle.event_codec.specs.declared.event.Header.{Header}
 use Rattle.event_codec.specs.declared.event.IntVarKind.TheVariants.{LastInsertId, InsertId}
-use Rattle.event_codec.specs.Event.{Body, query, int_var, rand, rotate, user_var, format_description, xid, table_map, rows, Query, Map, Rows, Seen}
-use Rattle.event_codec.specs.Laws.{Fits}
+use Rattle.event_codec.specs.Event.{Body, query, int_var, rand, rotate, user_var, format_description, xid, table_map, rows, Query, Map, Rows}
 use Rattle.event_codec.specs.Reading.{Stop, short, damaged, foreign}
-use Rattle.event_codec.specs.Writing.{event_bytes, size, CanWrite}
 use Rattle.log_model.specs.Events.{Placed}
 use Rattle.log_model.specs.Groups.{Stage, first, between, Move, go, close, refuse, move, find, txn, group, Statement, statement_of, end_of, group_of, not_whole}
 use Rattle.log_model.specs.Images.{are_rows}
@@ -65,43 +62,6 @@ IsItem (rows_item (m ∷ ms) rs) = AreNew (m ∷ []) ms × EndWell (m ∷ ms) rs
 abbrev pub AreItems : List Spelled → Type 0
 AreItems [] = Unit {0}
 AreItems (i ∷ is) = IsItem i × AreItems is
-
--- ---- bytes
-
--- an event to be written: its timestamp and what it says
-pub record Stamped : Type 0 where
-  pub stamp : ℕ
-  pub body : Body
-
-abbrev pub body_of : Stamped → Body
-body_of e = e.body
-
--- as it is read
-abbrev pub seen_of : Stamped → Seen
-seen_of e = record { stamp = e.stamp; size = size e.body; body = e.body }
-
-abbrev pub header_of : (server pos : ℕ) → Stamped → Header
-header_of server pos e = record { stamp = e.stamp; server_id = server; pos = pos }
-
--- events one after the other, from a place on
-abbrev pub placed : (pos : ℕ) → List Stamped → List Placed
-placed pos [] = []
-placed pos (e ∷ es) = record { pos = pos; event = seen_of e } ∷ placed (pos + size e.body) es
-
--- their bytes
-abbrev pub bytes_of : (server pos : ℕ) → List Stamped → List ℕ
-bytes_of server pos [] = []
-bytes_of server pos (e ∷ es) = event_bytes e.body (header_of server pos e) ++ bytes_of server (pos + size e.body) es
-
--- where they end
-abbrev pub end_from : (pos : ℕ) → List Stamped → ℕ
-end_from pos [] = pos
-end_from pos (e ∷ es) = end_from (pos + size e.body) es
-
--- each can be written at its place
-abbrev pub CanWriteAll : (pos : ℕ) → List Stamped → Type 0
-CanWriteAll pos [] = Unit {0}
-CanWriteAll pos (e ∷ es) = CanWrite e.body pos × Fits e.body × (e.stamp < 2 ^ 32) × CanWriteAll (pos + size e.body) es
 
 -- ---- stages over lists
 

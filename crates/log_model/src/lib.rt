@@ -5,6 +5,7 @@ mod event_laws;
 mod group_laws;
 mod image_laws;
 mod worked_images;
+mod writing_laws;
 
 pub use event_laws::{events_end, events_go_on};
 pub use group_laws::{
@@ -12,3 +13,4 @@ pub use group_laws::{
 };
 pub use image_laws::{changes_are_read_again, rows_are_read_again};
 pub use worked_images::rows_by_hand;
+pub use writing_laws::{events_are_read_again, events_have_length, transaction_is_read_again};
