@@ -3,4 +3,6 @@ pub mod Events
 pub mod Groups
 pub mod Spelling
 pub mod Written
+pub mod Items
+pub mod Log
 pub mod Worked
