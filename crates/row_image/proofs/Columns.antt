@@ -1,12 +1,9 @@
 -- A row is read column by column.
 use Rattle.std.proofs.Common.{◌≡◌, ℕ, ◌+◌, suc, ◌<◌, Bool, true, false, eqb, List, [], ◌∷◌, ◌++◌, drop, length, get_or, Option, Some, None, refl, sym, ap, ◌∙◌, arith, append_assoc, drop-cons}
 use Rattle.std.specs.Prelude.{if◌then◌else◌}
-use Rattle.std.specs.Option.{option_map}
 use Rattle.val_types.specs.declared.value.Value.{Value}
 use Rattle.val_types.specs.declared.value.Value.TheVariants.{Null}
 use Rattle.val_types.specs.declared.definitions.ColType.{ColType}
-use Rattle.val_types.specs.declared.definitions.ColType.TheVariants.{Int as IntType, BigInt, Varchar}
-use Rattle.byte_fields.specs.Field.{number_at}
 use Rattle.log_model.specs.Images.{Read, is_set, value_at, with_value, and_then, values_at, types_of}
 use Rattle.row_image.specs.Walk.{type_at, metadata_behind, column_at, behind, ahead}
 
@@ -94,3 +91,16 @@ value_step row kinds metadata nulls bytes i kind low is =
 pub ahead_nothing : (r : Read (List Value)) → ahead [] r ≡ r
 ahead_nothing None = refl
 ahead_nothing (Some x) = refl
+
+-- the same, as a loop finds it
+pub made_value : (row new : List Value) (kinds metadata later nulls bytes next : List ℕ) (i j : ℕ) (type : ColType) (v w : Value) (whole : Read (List Value))
+    → j ≡ i → i < length kinds → type ≡ type_at (get_or kinds i 0) metadata → Some (v, next) ≡ column_at type nulls j bytes → w ≡ v → new ≡ row ++ (w ∷ [])
+    → later ≡ metadata_behind (get_or kinds i 0) metadata
+    → ahead row (values_at (types_of (drop i kinds) metadata) nulls i bytes) ≡ whole
+    → ahead new (values_at (types_of (drop (i + 1) kinds) later) nulls (i + 1) next) ≡ whole
+made_value row new kinds metadata later nulls bytes next i j type v w whole same low type-is found kept grown later-is before =
+    let found' : column_at (type_at (get_or kinds i 0) metadata) nulls i bytes ≡ Some (v, next) =
+    ap (λ (t : ColType). column_at t nulls i bytes) (sym type-is) ∙ ap (λ (n : ℕ). column_at type nulls n bytes) (sym same) ∙ sym found in
+    let more : Value → List ℕ → Read (List Value) =
+    λ x rest. ahead (row ++ (x ∷ [])) (values_at (types_of (drop (i + 1) kinds) (metadata_behind (get_or kinds i 0) metadata)) nulls (i + 1) rest) in
+    rw (grown, kept, later-is) (sym (ap (and_then more) found') ∙ sym (value_step row kinds metadata nulls bytes i (get_or kinds i 0) low refl) ∙ before)

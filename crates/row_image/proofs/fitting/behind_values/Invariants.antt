@@ -7,4 +7,5 @@ abbrev pub invariant-loop-kind : goal.invariant-loop-kind
 invariant-loop-kind l = record {
   at : l.column ≡ l.kind-index;
   same : behind (values_at (types_of (drop l.kind-index l.map.kinds.now) l.metadata) l.nulls l.kind-index l.rest)
-    ≡ behind (values_at (types_of l.map.kinds.now l.map.metadata.now) l.nulls 0 l.fn.bytes) }
+      ≡ behind (values_at (types_of l.map.kinds.now l.map.metadata.now) l.nulls 0 l.fn.bytes);
+}
