@@ -21,7 +21,7 @@ use sql_tree::{Aggregate, Expr, Select, Selection, Source};
 use val_types::{Bytes, ColumnDef, List, TableDef};
 
 /// Whether a name is among some.
-fn is_among(names: &[Bytes], name: &Bytes) -> bool
+pub fn is_among(names: &[Bytes], name: &Bytes) -> bool
     ensures { result ≡ is_among names.now name.now }
 {
     for own in names {
@@ -33,7 +33,7 @@ fn is_among(names: &[Bytes], name: &Bytes) -> bool
 }
 
 /// Whether a name stands twice.
-fn has_twice(names: &[Bytes]) -> bool
+pub fn has_twice(names: &[Bytes]) -> bool
     ensures { result ≡ has_twice names.now }
 {
     for (i, name) in names.iter().enumerate() {

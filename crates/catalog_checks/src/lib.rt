@@ -10,6 +10,7 @@
 //! of `catalog_rules`.
 //!
 //! # Proved
+//! - [`is_among`] and [`has_twice`] look for a name among some, and for one that stands twice
 //! - [`statement_refusal`] and [`expression_refusal`] answer just the error that the definitions say, for any locals in scope and
 //!   any rows of NEW and OLD, and take no memory
 #![tactic(auto)]
@@ -23,5 +24,6 @@ mod sight;
 mod statements;
 
 pub use checks::Checks;
+pub use inserting::{has_twice, is_among};
 pub use refusing::{expression_refusal, statement_refusal};
 pub use sight::Sight;
