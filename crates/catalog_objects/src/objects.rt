@@ -2,12 +2,13 @@
 ghost use Rattle.std.specs.Prelude.{◌≡◌, ◌++◌, ◌∷◌, [], true, false, if◌then◌else◌, None, map, IfOk, OnOk, OnErr, slice_get};
 ghost use Rattle.std.specs.Option.{option_copied, option_map, option_map_or};
 ghost use Rattle.sql_tree.specs.StatementView.{view, view_program, view_trigger};
-ghost use Rattle.catalog_rules.specs.Objects.{table_in, function_in, procedure_in, trigger_in, trigger_for};
+ghost use Rattle.catalog_rules.specs.Objects.{count_of_programs, count_of_tables, table_in, function_in, procedure_in, trigger_in, trigger_for};
 ghost use Rattle.catalog_rules.specs.Creating.{catalog_after};
 ghost use Rattle.catalog_objects.specs.Keys.{objects_of};
 ghost use Rattle.catalog_objects.specs.Lookups.{object_of, waiting_for, is_drop, is_free, is_event_free};
 
 use crate::going::{keep_objects, keep_triggers};
+use crate::counting::{count_programs, count_tables};
 use crate::looking::{all_shared, all_waiting, object_of, place_of, place_waiting, put_last, put_named, put_waiting, trigger_for};
 use crate::object::{FUNCTION, Object, PROCEDURE, TABLE, TRIGGER, routine_if, table_if, trigger_if};
 use sharing::Shared;
@@ -103,6 +104,20 @@ impl Objects {
         ensures { option_copied result ≡ slice_get self.now at }
     {
         self.made.get(at)
+    }
+
+    /// How many tables there are, by a walk.
+    pub fn count_tables(&self) -> usize
+        ensures { result ≡ count_of_tables (objects_of self.now) }
+    {
+        count_tables(&self.made)
+    }
+
+    /// How many functions, procedures and triggers there are, by a walk.
+    pub fn count_programs(&self) -> usize
+        ensures { result ≡ count_of_programs (objects_of self.now) }
+    {
+        count_programs(&self.made)
     }
 
     /// The same objects. None of them is copied.

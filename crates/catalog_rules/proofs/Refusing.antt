@@ -53,7 +53,7 @@ found_name (reaction r ∷ os) t d e = found_name os t d e
 -- ---- parts of statements
 
 -- asked where any table may be read
-abbrev asking : List Object → Scope → Asked
+abbrev pub asking : List Object → Scope → Asked
 asking catalog scope = record { catalog = catalog; scope = scope; target = None }
 
 -- there the ranks of nodes are those of their errors

@@ -1,0 +1,128 @@
+//! The catalog.
+ghost use Rattle.std.specs.Prelude.{◌≡◌, [], None, if◌then◌else◌, IfOk};
+ghost use Rattle.std.specs.Option.{option_copied, option_map};
+ghost use Rattle.sql_tree.specs.View.{view_tree};
+ghost use Rattle.sql_tree.specs.StatementView.{view, view_program, view_trigger};
+ghost use Rattle.catalog_rules.specs.Objects.{table_in, function_in, procedure_in, trigger_for};
+ghost use Rattle.catalog_rules.specs.Checks.{expression_refusal, statement_refusal};
+ghost use Rattle.catalog_objects.specs.Keys.{objects_of};
+
+ghost use Rattle.catalog_checks.specs.Asking.{scope_with};
+ghost use Rattle.catalog.specs.Answers.{Lets};
+
+use catalog_checks::{expression_refusal, statement_refusal};
+use catalog_objects::Objects;
+use sql_locals::Locals;
+use sql_tree::{Cause, Expr, Routine, Stmt, Time, TriggerDef};
+use std::alloc::Global;
+use std::marker::Model;
+use val_types::{Bytes, NoMemory, SqlError, SqlRefusal, TableDef};
+
+/// The objects of a database, which contracts see as their list in order of creation.
+#[derive(Drop)]
+pub struct Catalog {
+    objects: Objects,
+}
+
+impl Model for Catalog {
+    ghost use Rattle.std.specs.Prelude.{List};
+    ghost use Rattle.catalog_objects.specs.declared.object.Object.{Object};
+
+    ghost Value = { List Object };
+
+    ghost use Rattle.sql_tree.specs.contracts.statements.Stmt as stmt;
+    ghost use Rattle.std.specs.Coded.{codes};
+
+    ghost coded = { Prim.hlevel (codes, stmt.the_row.coded) };
+
+    ghost view = { λ c. c.objects };
+}
+
+/// What a check answers.
+fn answer(refusal: Option<SqlError>) -> Result<(), SqlRefusal>
+    ensures { Lets result refusal }
+{
+    match refusal {
+        None => Ok(()),
+        Some(code) => Err(SqlRefusal::Sql(code)),
+    }
+}
+
+impl Catalog {
+    /// No object.
+    pub fn new(alloc: Global) -> Catalog
+        ensures { result ≡ [] }
+    {
+        Catalog {
+            objects: Objects::new(alloc),
+        }
+    }
+
+    /// The table of a name.
+    pub fn table(&self, name: &Bytes) -> Option<&TableDef>
+        ensures { option_copied result ≡ table_in (objects_of self.now) name.now }
+    {
+        self.objects.table(name)
+    }
+
+    /// The function of a name, or the procedure.
+    pub fn routine(&self, name: &Bytes, function: bool) -> Option<&Routine>
+        ensures { option_map view_program (option_copied result) ≡ (if function then function_in (objects_of self.now) name.now else procedure_in (objects_of self.now) name.now) }
+    {
+        if function {
+            self.objects.function(name)
+        } else {
+            self.objects.procedure(name)
+        }
+    }
+
+    /// The trigger for an event of a table.
+    pub fn trigger(&self, table: &Bytes, time: Time, event: Cause) -> Option<&TriggerDef>
+        ensures { option_map view_trigger (option_copied result) ≡ trigger_for (objects_of self.now) table.now time event }
+    {
+        self.objects.trigger(table, time, event)
+    }
+
+    /// The same catalog. No object is copied.
+    pub fn copy(&self) -> Result<Catalog, NoMemory>
+        ensures { IfOk result (λ copy. copy ≡ self.now) }
+    {
+        Ok(Catalog {
+            objects: self.objects.copy()?,
+        })
+    }
+
+    /// The catalog checks of a statement of a session or a procedure, where some locals are in scope: the error that comes
+    /// first refuses it. Takes no memory.
+    pub fn check<'a>(&'a self, s: &Stmt, locals: &'a Locals) -> Result<(), SqlRefusal>
+        ensures { Lets result (statement_refusal (objects_of self.now) (scope_with locals.now None None) (view s.now)) }
+    {
+        answer(statement_refusal(&self.objects, locals, None, None, s))
+    }
+
+    /// The same of a statement of a trigger or function, where rows of tables stand as NEW and OLD.
+    pub fn check_in<'a>(
+        &'a self,
+        s: &Stmt,
+        locals: &'a Locals,
+        new_row: Option<&'a TableDef>,
+        old_row: Option<&'a TableDef>,
+    ) -> Result<(), SqlRefusal>
+        ensures { Lets result (statement_refusal (objects_of self.now) (scope_with locals.now (option_copied new_row.entry) (option_copied old_row.entry)) (view s.now)) }
+    {
+        answer(statement_refusal(&self.objects, locals, new_row, old_row, s))
+    }
+
+    /// The same of an expression of a body: a condition, a DEFAULT, or what is returned.
+    pub fn check_expr<'a>(
+        &'a self,
+        e: &Expr,
+        locals: &'a Locals,
+        new_row: Option<&'a TableDef>,
+        old_row: Option<&'a TableDef>,
+    ) -> Result<(), SqlRefusal>
+        ensures { Lets result (expression_refusal (objects_of self.now) (scope_with locals.now (option_copied new_row.entry) (option_copied old_row.entry)) (view_tree e.now)) }
+    {
+        answer(expression_refusal(&self.objects, locals, new_row, old_row, e))
+    }
+}

@@ -1,0 +1,9 @@
+use Rattle.std.proofs.Common.{◌≡◌, ◌≤◌, ◌+◌, ◌*◌, map, drop, length, not, ◌&&◌, false}
+use Rattle.std.specs.Prelude.{sum, filter}
+use Rattle.std.specs.List.{list_any}
+use Rattle.sql_tree.specs.declared.statements.Column.{Column}
+use Rattle.catalog_rules.specs.Creating.{begins_key, has_ill_preset, is_ill_type, is_varchar, keys_of, width_of}
+use Rattle.table_creation.proofs.columns.has_counted_text.Given as goal
+
+abbrev pub invariant-loop-column : goal.invariant-loop-column
+invariant-loop-column l = list_any (λ (c : Column). c.auto_increment && is_varchar c.kind) (drop l.column-index l.columns) ≡ list_any (λ (c : Column). c.auto_increment && is_varchar c.kind) l.columns
