@@ -1,8 +1,7 @@
 //! Each public call once with ample memory: what is made, how deep it is, and that a text gives it.
 use sql_tree::{
-    Assignment, Cause, Expr, OrderItem, Routine, Select, Selection, SqlType, Stmt,
-    Target, Time, TriggerDef, depth, expr_depth, is_name, select_depth, well, well_expr,
-    well_select, well_step,
+    Assignment, Cause, Expr, OrderItem, Routine, Select, Selection, SqlType, Stmt, Target, Time,
+    TriggerDef, depth, expr_depth, is_name, select_depth, well, well_expr, well_select, well_step,
 };
 use std::alloc::Global;
 use std::test::Fail;
