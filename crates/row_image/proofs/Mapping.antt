@@ -1,5 +1,5 @@
 -- The columns of a table, one after the other, as its map has them.
-use Rattle.std.proofs.Common.{◌≡◌, ℕ, suc, ◌+◌, ◌<◌, List, [], ◌∷◌, ◌++◌, map, drop, length, get_or, refl, ap, sym, ◌∙◌, arith, append_assoc, drop-cons}
+use Rattle.std.proofs.Common.{◌≡◌, ℕ, suc, ◌+◌, ◌<◌, List, ◌∷◌, ◌++◌, map, drop, length, get_or, refl, arith, drop-cons}
 use Rattle.std.specs.Prelude.{flat_map}
 use Rattle.val_types.specs.declared.definitions.ColumnDef.{ColumnDef}
 use Rattle.log_model.specs.Items.{kind_of, type_code, type_metadata}
