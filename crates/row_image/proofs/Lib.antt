@@ -1,3 +1,4 @@
 pub mod Columns
 pub mod Walking
 pub mod Packing
+pub mod Mapping

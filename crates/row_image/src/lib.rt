@@ -7,6 +7,7 @@
 //! - `fitting`: [`rows_fit`], without taking memory
 //! - `changes`: [`rows_of`]
 //! - `row`: [`put_row`] and [`put_change`], with `bits` for the bits of NULLs and `value` for values
+//! - `map`: [`codes_of`] and [`metadata_of`], what a map says of a table's columns
 //! - `column`: a column's type in a map, and its value in a row
 //!
 //! # Proved
@@ -17,6 +18,8 @@
 //! - [`put_row`] and [`put_change`] put exactly the bytes of the definitions `row_bytes` and
 //!   `change_bytes` at the end, or answer want of memory, where the bytes still begin as they were; that
 //!   these bytes are read again is a law of `log_model`.
+//! - [`codes_of`] and [`metadata_of`] give exactly the types and the metadata of a table's map, or want
+//!   of memory.
 //!
 //! # Only tested
 //! That calls succeed with ample memory, in `log_callers`.
@@ -26,9 +29,11 @@ mod bits;
 mod changes;
 mod column;
 mod fitting;
+mod map;
 mod row;
 mod value;
 
 pub use changes::rows_of;
 pub use fitting::rows_fit;
+pub use map::{codes_of, metadata_of};
 pub use row::{put_change, put_row};
