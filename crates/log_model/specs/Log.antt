@@ -1,12 +1,12 @@
 -- The bytes of a log: what entries append behind a place.
-use Rattle.std.specs.Prelude.{◌≡◌, false, ℕ, ◌+◌, ◌==◌, if◌then◌else◌, List, [], ◌∷◌, ◌++◌, codes, flat_map, replicate, take, None, length}
+use Rattle.std.specs.Prelude.{◌≡◌, ◌<◌, ◌^◌, false, ℕ, ◌+◌, ◌==◌, if◌then◌else◌, List, [], ◌∷◌, ◌++◌, codes, flat_map, replicate, take, None, length}
 use Rattle.event_codec.specs.Event.{query, rotate, format_description, xid, Query}
 use Rattle.log_entries.specs.declared.entries.Item.{Item}
 use Rattle.log_entries.specs.declared.entries.Entry.{Entry}
 use Rattle.log_entries.specs.declared.entries.Entry.TheVariants.{Transaction, Definition, LogStart}
 use Rattle.std.specs.Str.{bytes_eq}
 use Rattle.event_codec.specs.Writing.{size}
-use Rattle.log_model.specs.Groups.{ddl, txn, group, group_at}
+use Rattle.log_model.specs.Groups.{start, next_log, ddl, txn, group, group_at}
 use Rattle.log_model.specs.Items.{query_of, item_events, AreCarried}
 use Rattle.log_model.specs.Written.{Stamped, bytes_of, placed, total, CanWriteAll}
 
@@ -38,9 +38,13 @@ version = codes "5.7.44-log" ++ replicate 40 0
 abbrev pub magic : List ℕ
 magic = 0xfe ∷ 0x62 ∷ 0x69 ∷ 0x6e ∷ []
 
+-- the first event of a log
+abbrev pub description : (stamp : ℕ) → List Stamped
+description stamp = record { stamp = stamp; body = format_description version } ∷ []
+
 -- how a log begins
 abbrev pub head : (stamp server : ℕ) → List ℕ
-head stamp server = magic ++ bytes_of server 4 (record { stamp = stamp; body = format_description version } ∷ [])
+head stamp server = magic ++ bytes_of server 4 (description stamp)
 
 -- ---- places
 
@@ -151,3 +155,12 @@ EntriesHaveLength =
 -- a head has 123 bytes, behind which a writer stands
 abbrev pub HeadsHaveLength : Type 0
 HeadsHaveLength = (stamp server : ℕ) → length (head stamp server) ≡ 123
+
+-- the first event of a log is read as its start, and the name of the next log as that
+abbrev pub LogStartIsRead : Type 0
+LogStartIsRead =
+    ((stamp server : ℕ) (rest : List ℕ) → stamp < 2 ^ 32
+    → group_at (record { bytes = bytes_of server 4 (description stamp) ++ rest; pos = 4 }) ≡ group (record { form = start; begin = 4; end = 123 }))
+    × ((stamp next server pos : ℕ) (rest : List ℕ) → CanWriteAll pos (rotation stamp next)
+    → group_at (record { bytes = bytes_of server pos (rotation stamp next) ++ rest; pos = pos })
+    ≡ group (record { form = next_log next; begin = pos; end = pos + 40 }))

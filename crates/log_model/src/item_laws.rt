@@ -1,6 +1,6 @@
 //! Laws of items and entries that are written: each function proves one, and does nothing.
 ghost use Rattle.log_model.specs.Items.{ChangesAreCarried, ItemIsSpelled};
-ghost use Rattle.log_model.specs.Log.{DefinitionIsOneGroup, EntriesHaveLength, HeadsHaveLength, LogGoesOn, TransactionIsOneGroup};
+ghost use Rattle.log_model.specs.Log.{DefinitionIsOneGroup, EntriesHaveLength, HeadsHaveLength, LogGoesOn, LogStartIsRead, TransactionIsOneGroup};
 
 /// What an item is written as is an item.
 pub fn item_is_spelled()
@@ -35,4 +35,9 @@ pub fn entries_have_length()
 /// The head of a log has 123 bytes.
 pub fn heads_have_length()
     ensures { HeadsHaveLength }
+{}
+
+/// The first event of a log is read as its start, and the name of the next log as that.
+pub fn log_start_is_read()
+    ensures { LogStartIsRead }
 {}

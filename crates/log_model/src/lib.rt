@@ -24,7 +24,8 @@
 //!   (`read_is_spelled`, `whole_is_items`)
 //! - an item is written as an item (`item_is_spelled`), the changes of one that is logged by its rows are
 //!   read again in their order (`changes_are_carried`), and a transaction or a definition that is logged is
-//!   read as one group, whatever follows it (`transaction_is_one_group`, `definition_is_one_group`)
+//!   read as one group, whatever follows it (`transaction_is_one_group`, `definition_is_one_group`), and so are
+//!   the first event of a log and the name of the next (`log_start_is_read`)
 //! - entries behind others are logged behind what those append, and a log grows by the bytes that its
 //!   places say (`log_goes_on`, `entries_have_length`, `heads_have_length`)
 //! - no group is whole just where the bytes end within an event behind a front (`not_whole_is_front`),
@@ -47,7 +48,7 @@ pub use group_laws::{
 pub use image_laws::{changes_are_read_again, rows_are_read_again};
 pub use item_laws::{
     changes_are_carried, definition_is_one_group, entries_have_length, heads_have_length,
-    item_is_spelled, log_goes_on, transaction_is_one_group,
+    item_is_spelled, log_goes_on, log_start_is_read, transaction_is_one_group,
 };
 pub use worked::{first_log_by_hand, log_starts, row_inserted, rows_items_by_hand, texts_by_hand};
 pub use worked_images::rows_by_hand;
