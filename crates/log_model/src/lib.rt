@@ -50,6 +50,8 @@ pub use item_laws::{
     changes_are_carried, definition_is_one_group, entries_have_length, heads_have_length,
     item_is_spelled, log_goes_on, log_start_is_read, transaction_is_one_group,
 };
-pub use worked::{first_log_by_hand, log_starts, row_inserted, rows_items_by_hand, texts_by_hand};
+pub use worked::{
+    first_log_by_hand, log_starts, row_inserted, rows_cut, rows_items_by_hand, texts_by_hand,
+};
 pub use worked_images::rows_by_hand;
 pub use writing_laws::{events_are_read_again, events_have_length, transaction_is_read_again};
