@@ -7,3 +7,6 @@ pub mod Parsing
 pub mod Fronts
 pub mod Scanning
 pub mod ReadAgain
+pub mod Carrying
+pub mod OneGroup
+pub mod Growing

@@ -161,7 +161,7 @@ of_text bs t = (text_item t.last_id t.generated t.seeds t.variables t.statement,
 
 -- ---- rows
 
-well_more : (ms : List Map) (r : Rows) (rs : List Rows) → FitsOne (find r.id ms) r → r.ends ≡ false → EndWell ms rs → EndWell ms (r ∷ rs)
+pub well_more : (ms : List Map) (r : Rows) (rs : List Rows) → FitsOne (find r.id ms) r → r.ends ≡ false → EndWell ms rs → EndWell ms (r ∷ rs)
 well_more ms r [] fits last well = absurd well
 well_more ms r (s ∷ rs) fits last well = (fits, last, well)
 

@@ -1,5 +1,5 @@
 -- The events of an item: a statement's text behind the variables that it needs; or maps of tables and the rows of its changes.
-use Rattle.std.specs.Prelude.{ℕ, ◌+◌, ◌==◌, ◌&&◌, not, nat_le, nat_eq, Bool, true, false, if◌then◌else◌, List, [], ◌∷◌, ◌++◌, map, filter, flat_map, length, Option, Some, None}
+use Rattle.std.specs.Prelude.{◌≡◌, ◌≤◌, ◌<◌, ◌^◌, ℕ, ◌+◌, ◌==◌, ◌&&◌, not, nat_le, nat_eq, Bool, true, false, if◌then◌else◌, List, [], ◌∷◌, ◌++◌, map, filter, flat_map, length, Option, Some, None}
 use Rattle.std.specs.Option.{option_map}
 use Rattle.std.specs.Cmp.Lexicographic.{pointwise}
 use Rattle.std.specs.Int.{w64, cast_unsigned}
@@ -18,8 +18,9 @@ use Rattle.event_codec.specs.Event.{Body, Query, Map, Rows}
 use Rattle.event_codec.specs.Writing.{rows_kind}
 use Rattle.log_entries.specs.declared.carried.Carried.{Carried}
 use Rattle.log_entries.specs.declared.entries.Item.{Item}
-use Rattle.log_model.specs.Images.{bits_bytes, change_bytes}
-use Rattle.log_model.specs.Spelling.{Spelled, text_item, rows_item, bodies_of}
+use Rattle.log_model.specs.Groups.{find}
+use Rattle.log_model.specs.Images.{bits_bytes, change_bytes, changes_of, IsChange}
+use Rattle.log_model.specs.Spelling.{Spelled, text_item, rows_item, bodies_of, IsItem}
 use Rattle.log_model.specs.Written.{Stamped, total}
 
 -- ---- a text
@@ -164,3 +165,54 @@ item_events i = at_time i.carried.stamp (bodies_of (spelled i))
 -- how many bytes they have
 abbrev pub item_size : Item → ℕ
 item_size i = total (item_events i)
+
+-- ---- what can be carried
+
+abbrev pub types_in : List TableDef → (name : List ℕ) → List ColType
+types_in defs name = map kind_of (columns_in defs name)
+
+-- the greatest length of a text fits two bytes
+abbrev pub AreTypes : List ColType → Type 0
+AreTypes [] = Unit {0}
+AreTypes (IntType ∷ kinds) = AreTypes kinds
+AreTypes (BigInt ∷ kinds) = AreTypes kinds
+AreTypes (Varchar most ∷ kinds) = (most < 2 ^ 16) × AreTypes kinds
+
+-- a change whose table has columns, and whose rows are of these
+pub record CanCarry (defs : List TableDef) (c : Change) : Type 0 where
+  pub some : 1 ≤ length (types_in defs (table_of c))
+  pub types : AreTypes (types_in defs (table_of c))
+  pub rows : IsChange (rows_kind_of c) (table_of c) (types_in defs (table_of c)) c
+
+abbrev pub CanCarryAll : List TableDef → List Change → Type 0
+CanCarryAll defs [] = Unit {0}
+CanCarryAll defs (c ∷ cs) = CanCarry defs c × CanCarryAll defs cs
+
+-- an item by its text; or by its rows, of which there is one
+abbrev pub IsCarried : Bool → Item → Type 0
+IsCarried false i = Unit {0}
+IsCarried true i = (1 ≤ length i.changes) × CanCarryAll i.defs i.changes
+
+abbrev pub AreCarried : List Item → Type 0
+AreCarried [] = Unit {0}
+AreCarried (i ∷ is) = IsCarried i.rows i × AreCarried is
+
+-- ---- laws
+
+-- what an item is written as is an item
+abbrev pub ItemIsSpelled : Type 0
+ItemIsSpelled = (i : Item) → IsCarried i.rows i → IsItem (spelled i)
+
+-- the changes that rows are by the map with their id
+abbrev pub changes_by : Option Map → Rows → List Change
+changes_by None r = []
+changes_by (Some m) r = changes_of m r
+
+-- those of an item that is read
+abbrev pub changes_read : Spelled → List Change
+changes_read (text_item last_id generated seeds variables q) = []
+changes_read (rows_item ms rs) = flat_map (λ r. changes_by (find r.id ms) r) rs
+
+-- the changes of a rows item are read again, in their order
+abbrev pub ChangesAreCarried : Type 0
+ChangesAreCarried = (defs : List TableDef) (cs : List Change) → 1 ≤ length cs → CanCarryAll defs cs → changes_read (changes_item defs cs) ≡ cs

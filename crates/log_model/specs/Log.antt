@@ -1,11 +1,14 @@
 -- The bytes of a log: what entries append behind a place.
-use Rattle.std.specs.Prelude.{ℕ, ◌+◌, ◌==◌, if◌then◌else◌, List, [], ◌∷◌, ◌++◌, codes, flat_map, replicate, take, None}
+use Rattle.std.specs.Prelude.{◌≡◌, ◌<◌, ◌^◌, false, ℕ, ◌+◌, ◌==◌, if◌then◌else◌, List, [], ◌∷◌, ◌++◌, codes, flat_map, replicate, take, None, length}
 use Rattle.event_codec.specs.Event.{query, rotate, format_description, xid, Query}
 use Rattle.log_entries.specs.declared.entries.Item.{Item}
 use Rattle.log_entries.specs.declared.entries.Entry.{Entry}
 use Rattle.log_entries.specs.declared.entries.Entry.TheVariants.{Transaction, Definition, LogStart}
-use Rattle.log_model.specs.Items.{query_of, item_events}
-use Rattle.log_model.specs.Written.{Stamped, bytes_of, total}
+use Rattle.std.specs.Str.{bytes_eq}
+use Rattle.event_codec.specs.Writing.{size}
+use Rattle.log_model.specs.Groups.{start, next_log, ddl, txn, group, group_at}
+use Rattle.log_model.specs.Items.{query_of, item_events, AreCarried}
+use Rattle.log_model.specs.Written.{Stamped, bytes_of, placed, total, CanWriteAll}
 
 -- ---- events of entries
 
@@ -35,9 +38,13 @@ version = codes "5.7.44-log" ++ replicate 40 0
 abbrev pub magic : List ℕ
 magic = 0xfe ∷ 0x62 ∷ 0x69 ∷ 0x6e ∷ []
 
+-- the first event of a log
+abbrev pub description : (stamp : ℕ) → List Stamped
+description stamp = record { stamp = stamp; body = format_description version } ∷ []
+
 -- how a log begins
 abbrev pub head : (stamp server : ℕ) → List ℕ
-head stamp server = magic ++ bytes_of server 4 (record { stamp = stamp; body = format_description version } ∷ [])
+head stamp server = magic ++ bytes_of server 4 (description stamp)
 
 -- ---- places
 
@@ -90,6 +97,11 @@ abbrev pub written_to : List (Entry Item) → (number : ℕ) → LogPlace → Lo
 written_to [] number p = p
 written_to (e ∷ es) number p = written_to es (counted e number) (behind e number p)
 
+-- how many transactions there are behind entries
+abbrev pub counted_all : List (Entry Item) → ℕ → ℕ
+counted_all [] number = number
+counted_all (e ∷ es) number = counted_all es (counted e number)
+
 -- where a reader stands behind entries, who begins at a place
 abbrev pub end_from : LogPlace → List (Entry Item) → (number : ℕ) → LogPlace → LogPlace
 end_from reader [] number p = reader
@@ -98,3 +110,57 @@ end_from reader (e ∷ es) number p = end_from (read_to e number p) es (counted 
 -- and behind the first so many of them
 abbrev pub end : LogPlace → List (Entry Item) → (count number : ℕ) → LogPlace → LogPlace
 end reader es count number p = end_from reader (take count es) number p
+
+-- ---- laws
+
+-- a transaction that is logged is read as one, whatever follows it
+abbrev pub TransactionIsOneGroup : Type 0
+TransactionIsOneGroup =
+    (stamp number server pos : ℕ) (i : Item) (is : List Item) (rest : List ℕ) → AreCarried (i ∷ is) → CanWriteAll pos (transaction stamp number (i ∷ is))
+    → group_at (record { bytes = bytes_of server pos (transaction stamp number (i ∷ is)) ++ rest; pos = pos })
+    ≡ group (record {
+      form = txn (record {
+        stamp = i.carried.stamp;
+        size = size (query (begin_query i.carried.connection));
+        query = begin_query i.carried.connection;
+      }) (placed (pos + size (query (begin_query i.carried.connection))) (flat_map item_events (i ∷ is))) number;
+      begin = pos;
+      end = pos + total (transaction stamp number (i ∷ is));
+    })
+
+-- and so is a definition, whose text is not BEGIN
+abbrev pub DefinitionIsOneGroup : Type 0
+DefinitionIsOneGroup =
+    (stamp server pos : ℕ) (i : Item) (rest : List ℕ) → bytes_eq i.text (codes "BEGIN") ≡ false → CanWriteAll pos (definition stamp i)
+    → group_at (record { bytes = bytes_of server pos (definition stamp i) ++ rest; pos = pos })
+    ≡ group (record {
+      form = ddl (record { stamp = stamp; size = size (query (query_of i.text i.carried)); query = query_of i.text i.carried });
+      begin = pos;
+      end = pos + total (definition stamp i);
+    })
+
+-- entries behind others are logged behind what those append
+abbrev pub LogGoesOn : Type 0
+LogGoesOn = (front back : List (Entry Item)) (number : ℕ) (p : LogPlace)
+    → log (front ++ back) number p ≡ log front number p ++ log back (counted_all front number) (written_to front number p)
+
+-- a transaction or a definition moves a place by the bytes that it appends
+abbrev pub EntriesHaveLength : Type 0
+EntriesHaveLength =
+    ((stamp server number : ℕ) (is : List Item) (p : LogPlace)
+    → behind (Transaction stamp server is) number p ≡ moved p (length (entry_bytes (Transaction stamp server is) number p)))
+    × ((stamp server number : ℕ) (i : Item) (p : LogPlace)
+    → behind (Definition stamp server i) number p ≡ moved p (length (entry_bytes (Definition stamp server i) number p)))
+
+-- a head has 123 bytes, behind which a writer stands
+abbrev pub HeadsHaveLength : Type 0
+HeadsHaveLength = (stamp server : ℕ) → length (head stamp server) ≡ 123
+
+-- the first event of a log is read as its start, and the name of the next log as that
+abbrev pub LogStartIsRead : Type 0
+LogStartIsRead =
+    ((stamp server : ℕ) (rest : List ℕ) → stamp < 2 ^ 32
+    → group_at (record { bytes = bytes_of server 4 (description stamp) ++ rest; pos = 4 }) ≡ group (record { form = start; begin = 4; end = 123 }))
+    × ((stamp next server pos : ℕ) (rest : List ℕ) → CanWriteAll pos (rotation stamp next)
+    → group_at (record { bytes = bytes_of server pos (rotation stamp next) ++ rest; pos = pos })
+    ≡ group (record { form = next_log next; begin = pos; end = pos + 40 }))

@@ -1,10 +1,10 @@
 -- Small tables, items and logs, of which worked examples are made.
-use Rattle.std.specs.Prelude.{ℕ, ℤ, pos, Bool, true, false, List, [], ◌∷◌, codes, map, Option, None}
+use Rattle.std.specs.Prelude.{ℕ, ℤ, pos, Bool, true, false, List, [], ◌∷◌, codes, map, Option, None, replicate, length}
 use Rattle.val_types.specs.declared.value.Value.{Value}
-use Rattle.val_types.specs.declared.value.Value.TheVariants.{Int}
+use Rattle.val_types.specs.declared.value.Value.TheVariants.{Int, Text}
 use Rattle.val_types.specs.declared.change.Change.{Change}
 use Rattle.val_types.specs.declared.change.Change.TheVariants.{Insert}
-use Rattle.val_types.specs.declared.definitions.ColType.TheVariants.{Int as IntType}
+use Rattle.val_types.specs.declared.definitions.ColType.TheVariants.{Int as IntType, Varchar}
 use Rattle.val_types.specs.declared.definitions.ColumnDef.{ColumnDef}
 use Rattle.val_types.specs.declared.definitions.TableDef.{TableDef}
 use Rattle.event_codec.specs.Event.{Map}
@@ -14,6 +14,7 @@ use Rattle.log_entries.specs.declared.entries.Item.{Item}
 use Rattle.log_entries.specs.declared.entries.Entry.{Entry}
 use Rattle.log_entries.specs.declared.entries.Entry.TheVariants.{Transaction, Definition, LogStart}
 use Rattle.log_model.specs.Written.{Stamped}
+use Rattle.log_model.specs.Items.{pieces_of}
 use Rattle.log_model.specs.Log.{LogPlace, log}
 
 -- ---- a table of two numbers
@@ -117,3 +118,23 @@ abbrev pub with_trigger : Item
 with_trigger =
     by_rows (plainly 1700000006 1) (table_named (codes "t") (codes "v") true ∷ table_named (codes "l") (codes "w") false ∷ [])
     (Insert (codes "t") (Int (pos 2) ∷ Int (pos 2) ∷ []) ∷ Insert (codes "l") (Int (pos 2) ∷ Int (pos 2) ∷ []) ∷ [])
+
+-- ---- rows that are cut
+
+-- a table of one text
+abbrev pub texts : TableDef
+texts = record {
+  name = codes "x";
+  columns = record { name = codes "w"; kind = Varchar 6000; nullable = true; preset = None } ∷ [];
+  primary = [];
+  uniques = [];
+  auto = None;
+}
+
+-- a row of so many bytes and three more, which say that it is no NULL and how long it is
+abbrev pub text_row : ℕ → Change
+text_row count = Insert (codes "x") (Text (replicate count 0x61) ∷ [])
+
+-- how many bytes the rows of each event have
+abbrev pub rows_sizes : List Change → List ℕ
+rows_sizes cs = map (λ p. length p.rows) (pieces_of (texts ∷ []) cs)

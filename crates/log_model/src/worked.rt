@@ -9,7 +9,7 @@ ghost use Rattle.log_model.specs.Groups.{ddl, group, group_at, not_whole, txn, G
 ghost use Rattle.log_model.specs.Items.{changes_item, item_events, item_size, text_of};
 ghost use Rattle.log_model.specs.Log.{LogPlace, definition, end, head, log, transaction, written_to};
 ghost use Rattle.log_model.specs.Spelling.{bodies_of, rows_item, text_item};
-ghost use Rattle.log_model.specs.Worked.{bodies_in, by_text, creating, first_entries, first_log, inserting, needing, nowhere, pairs, plainly, sizes_in, stepping, table_named, with_trigger};
+ghost use Rattle.log_model.specs.Worked.{bodies_in, by_text, creating, first_entries, first_log, inserting, needing, nowhere, pairs, plainly, rows_sizes, text_row, sizes_in, stepping, table_named, with_trigger};
 
 /// A log that begins has 123 bytes; the header of its first event.
 #[tactic(auto, unfolding(event_codec::specs::Writing::event_bytes, event_codec::specs::Writing::header_bytes, event_codec::specs::Writing::size, event_codec::specs::Writing::format_description_bytes, event_codec::specs::Writing::layout_bytes, byte_fields::specs::Field::number_bytes))]
@@ -52,4 +52,12 @@ pub fn texts_by_hand()
 #[tactic(auto, unfolding(crate::specs::Images::row_bytes, byte_fields::specs::Field::number_bytes))]
 pub fn rows_items_by_hand()
     ensures events { changes_item with_trigger.defs with_trigger.changes ≡ rows_item (pairs 1 ∷ record { id = 2; name = codes "l"; kinds = 3 ∷ 3 ∷ []; metadata = []; nulls = 0 ∷ [] } ∷ []) (record { kind = Write; id = 1; ends = false; columns = 2; rows = 0 ∷ 2 ∷ 0 ∷ 0 ∷ 0 ∷ 2 ∷ 0 ∷ 0 ∷ 0 ∷ [] } ∷ record { kind = Write; id = 2; ends = true; columns = 2; rows = 0 ∷ 2 ∷ 0 ∷ 0 ∷ 0 ∷ 2 ∷ 0 ∷ 0 ∷ 0 ∷ [] } ∷ []) }
+{}
+
+/// An event has as many rows as fit into 8,192 bytes of them; rows of another kind begin another one.
+#[tactic(auto, unfolding(crate::specs::Images::row_bytes, byte_fields::specs::Field::number_bytes))]
+pub fn rows_cut()
+    ensures fitting { rows_sizes (text_row 4093 ∷ text_row 4093 ∷ text_row 1 ∷ []) ≡ 8192 ∷ 4 ∷ [] }
+    ensures one_too_many { rows_sizes (text_row 4093 ∷ text_row 4094 ∷ text_row 1 ∷ []) ≡ 4096 ∷ 4101 ∷ [] }
+    ensures kinds { rows_sizes (text_row 1 ∷ Remove (codes "x") (Null ∷ []) ∷ text_row 2 ∷ text_row 3 ∷ []) ≡ 4 ∷ 1 ∷ 11 ∷ [] }
 {}
