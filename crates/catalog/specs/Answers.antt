@@ -1,8 +1,8 @@
 -- What calls of a catalog answer.
-use Rattle.std.specs.Prelude.{◌≡◌, ℕ, List, Option, Some, None, Result, Ok, Err}
+use Rattle.std.specs.Prelude.{◌≡◌, ℕ, Bool, true, false, List, Option, Some, None, Result, Ok, Err}
 use Rattle.val_types.specs.declared.refusal.SqlRefusal.{SqlRefusal}
 use Rattle.val_types.specs.declared.refusal.SqlRefusal.TheVariants.{Sql, NoMemory}
-use Rattle.sql_tree.specs.Statement.{Statement}
+use Rattle.sql_tree.specs.Statement.{Statement, create_table, create_function, create_procedure, create_trigger}
 use Rattle.catalog_rules.specs.Objects.{Object}
 use Rattle.catalog_rules.specs.Creating.{ddl_refusal, catalog_after}
 
@@ -19,3 +19,11 @@ abbrev pub Makes : Result (Unit {0}) SqlRefusal → Statement → List Object �
 Makes (Ok done) s old new = (ddl_refusal old s ≡ None) × (new ≡ catalog_after s old)
 Makes (Err (Sql code)) s old new = (ddl_refusal old s ≡ Some code) × (new ≡ old)
 Makes (Err NoMemory) s old new = new ≡ old
+
+-- whether a statement is a CREATE
+abbrev pub is_create : Statement → Bool
+is_create (create_table t) = true
+is_create (create_function p) = true
+is_create (create_procedure p) = true
+is_create (create_trigger t) = true
+is_create s = false

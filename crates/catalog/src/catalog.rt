@@ -1,5 +1,5 @@
 //! The catalog.
-ghost use Rattle.std.specs.Prelude.{◌≡◌, [], None, if◌then◌else◌, IfOk};
+ghost use Rattle.std.specs.Prelude.{◌≡◌, [], true, false, None, if◌then◌else◌, IfOk};
 ghost use Rattle.std.specs.Option.{option_copied, option_map};
 ghost use Rattle.sql_tree.specs.View.{view_tree};
 ghost use Rattle.sql_tree.specs.StatementView.{view, view_program, view_trigger};
@@ -8,19 +8,26 @@ ghost use Rattle.catalog_rules.specs.Checks.{expression_refusal, statement_refus
 ghost use Rattle.catalog_objects.specs.Keys.{objects_of};
 
 ghost use Rattle.catalog_checks.specs.Asking.{scope_with};
-ghost use Rattle.catalog.specs.Answers.{Lets};
+ghost use Rattle.catalog.specs.Answers.{Lets, Makes, is_create};
+ghost use Rattle.sql_tree.specs.Statement.{create_table};
+ghost use Rattle.catalog_rules.specs.Creating.{ddl_refusal};
+ghost use Rattle.catalog_objects.specs.Lookups.{is_drop};
 
 use catalog_checks::{expression_refusal, statement_refusal};
-use catalog_objects::Objects;
+use crate::refusing::{creation_refusal, removal_refusal};
+use catalog_objects::{Object, Objects};
+use sharing::Shared;
 use sql_locals::Locals;
-use sql_tree::{Cause, Expr, Routine, Stmt, Time, TriggerDef};
+use sql_tree::{Cause, CreateTable, Expr, Routine, Stmt, Time, TriggerDef};
 use std::alloc::Global;
 use std::marker::Model;
+use table_creation::definition_of;
 use val_types::{Bytes, NoMemory, SqlError, SqlRefusal, TableDef};
 
 /// The objects of a database, which contracts see as their list in order of creation.
 #[derive(Drop)]
 pub struct Catalog {
+    alloc: Global,
     objects: Objects,
 }
 
@@ -54,6 +61,7 @@ impl Catalog {
         ensures { result ≡ [] }
     {
         Catalog {
+            alloc,
             objects: Objects::new(alloc),
         }
     }
@@ -88,6 +96,7 @@ impl Catalog {
         ensures { IfOk result (λ copy. copy ≡ self.now) }
     {
         Ok(Catalog {
+            alloc: self.alloc,
             objects: self.objects.copy()?,
         })
     }
@@ -124,5 +133,41 @@ impl Catalog {
         ensures { Lets result (expression_refusal (objects_of self.now) (scope_with locals.now (option_copied new_row.entry) (option_copied old_row.entry)) (view_tree e.now)) }
     {
         answer(expression_refusal(&self.objects, locals, new_row, old_row, e))
+    }
+
+    /// CREATE TABLE: the error of the first check that refuses it, or the catalog with its table behind the others.
+    pub fn add_table(&mut self, t: &CreateTable) -> Result<(), SqlRefusal>
+        ensures { Makes result (create_table t.now) (objects_of self.old) (objects_of self.new) }
+    {
+        if let Some(code) = creation_refusal(&self.objects, t) {
+            return Err(SqlRefusal::Sql(code));
+        }
+        let definition = definition_of(self.alloc, t)?;
+        let table = Shared::new(self.alloc, definition)?;
+        self.objects.add(Object::Table(table))?;
+        Ok(())
+    }
+
+    /// What refuses a DROP or TRUNCATE: 1051 no such table, 1305 no such function or procedure, 1360 no such trigger, for
+    /// TRUNCATE 1146. Nothing refuses another statement that is no CREATE.
+    pub fn check_removal(&self, s: &Stmt) -> Result<(), SqlRefusal>
+        requires { is_create (view s.now) ≡ false }
+        ensures { Lets result (ddl_refusal (objects_of self.now) (view s.now)) }
+    {
+        answer(removal_refusal(&self.objects, s))
+    }
+
+    /// DROP: the catalog without its object, with a table also without its triggers; an object that is not there is refused.
+    /// Takes no memory.
+    pub fn remove(&mut self, s: &Stmt) -> Result<(), SqlRefusal>
+        requires { is_drop (view s.now) ≡ true }
+        ensures made { Makes result (view s.now) (objects_of self.old) (objects_of self.new) }
+        ensures refused { Lets result (ddl_refusal (objects_of self.old) (view s.now)) }
+    {
+        if let Some(code) = removal_refusal(&self.objects, s) {
+            return Err(SqlRefusal::Sql(code));
+        }
+        self.objects.remove(s);
+        Ok(())
     }
 }

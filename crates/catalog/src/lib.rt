@@ -14,5 +14,6 @@
 #![tactic(auto)]
 
 mod catalog;
+mod refusing;
 
 pub use catalog::Catalog;

@@ -14,7 +14,6 @@ use Rattle.std.specs.Option.{option_map}
 use Rattle.std.specs.Prelude.{◌==◌, nat_eq}
 use Rattle.sql_tree.specs.declared.expressions.Expr.{Expr}
 use Rattle.sql_tree.specs.declared.statements.Routine.{Routine}
-use Rattle.sql_tree.specs.declared.statements.Parameter.{Parameter}
 use Rattle.sql_tree.specs.Statement.{Program}
 use Rattle.sql_tree.specs.View.{view_trees, view_aggregate, view_aggregates, aggregate_before}
 use Rattle.sql_tree.specs.StatementView.{view_program}
@@ -80,6 +79,7 @@ none_out d given k (c ∷ cs) h =
     never : (b : Bool) → (b && false) ≡ false
     never true = refl
     never false = refl
+
     more : (a b : Bool) → b ≡ true → (a || b) ≡ true
     more true b e = refl
     more false b e = e

@@ -9,7 +9,10 @@ ghost use Rattle.catalog_rules.specs.Checks.{is_known_name};
 ghost use Rattle.catalog_rules.specs.Ranks.{is_target, changing, read_rank, function_rank, procedure_rank, count_rank, count_if_rank, limit_rank, target_rank};
 ghost use Rattle.catalog_checks.specs.Asking.{asked_of, called_rank, names_of, sight_of};
 
-use crate::ranks::{NO_COLUMN, NO_LOCAL, NO_ROUTINE, NO_TABLE, NO_VARIABLE, NOTHING, OTHER_COUNT, READS_TARGET, unless};
+use crate::ranks::{
+    NO_COLUMN, NO_LOCAL, NO_ROUTINE, NO_TABLE, NO_VARIABLE, NOTHING, OTHER_COUNT, READS_TARGET,
+    unless,
+};
 use crate::sight::{Sight, has_table, is_in_view, row_has_column};
 use catalog_objects::Objects;
 use sql_locals::Locals;
@@ -123,8 +126,10 @@ impl<'a> Checks<'a> {
     pub(crate) fn read(&self, table: &Bytes) -> u8
         ensures { result ≡ read_rank (asked_of self.now) table.now }
     {
-        unless(has_table(self.objects, table), NO_TABLE)
-            .min(unless(!self.is_target(table), READS_TARGET))
+        unless(has_table(self.objects, table), NO_TABLE).min(unless(
+            !self.is_target(table),
+            READS_TARGET,
+        ))
     }
 
     /// What refuses a call of a function.

@@ -33,10 +33,7 @@ pub(crate) fn expr(checks: &Checks<'_>, e: &Expr, sight: &Sight<'_>) -> u8
         ),
         Expr::NewColumn(column) => unless(row_has_column(column, checks.new_row), NO_COLUMN),
         Expr::OldColumn(column) => unless(row_has_column(column, checks.old_row), NO_COLUMN),
-        Expr::Values(column) => unless(
-            is_known_inserted(checks.objects, sight, column),
-            NO_COLUMN,
-        ),
+        Expr::Values(column) => unless(is_known_inserted(checks.objects, sight, column), NO_COLUMN),
         Expr::SystemVariable(name) => unless(is_readable(name), NO_VARIABLE),
         Expr::Unary(_, a) | Expr::FloorRand(a) => expr(checks, a.get(), sight),
         Expr::Binary(_, a, b) => expr(checks, a.get(), sight).min(expr(checks, b.get(), sight)),
@@ -51,9 +48,10 @@ pub(crate) fn expr(checks: &Checks<'_>, e: &Expr, sight: &Sight<'_>) -> u8
         Expr::In { left, items, .. } => {
             expr(checks, left.get(), sight).min(exprs(checks, items, sight))
         }
-        Expr::Case { arms: choices, otherwise } => {
-            arms(checks, choices, sight).min(part(checks, otherwise, sight))
-        }
+        Expr::Case {
+            arms: choices,
+            otherwise,
+        } => { arms(checks, choices, sight).min(part(checks, otherwise, sight)) }
         Expr::Subquery(query) | Expr::Exists(query) => select(checks, query.get(), sight),
         Expr::Call { name, arguments } => checks
             .function(name, count_of(arguments))
@@ -106,8 +104,9 @@ pub(crate) fn select(checks: &Checks<'_>, query: &Select, sight: &Sight<'_>) -> 
 {
     match &query.from {
         None => only(selection(checks, &query.what, sight)),
-        Some(from) => selection(checks, &query.what, &Sight::Row(&from.table, &*sight))
-            .min(origin(checks, from, sight)),
+        Some(from) => selection(checks, &query.what, &Sight::Row(&from.table, &*sight)).min(origin(
+            checks, from, sight,
+        )),
     }
 }
 

@@ -164,18 +164,30 @@ fn all_given(checks: &Checks<'_>, source: &Source, definition: &TableDef) -> u8
 }
 
 /// What refuses an INSERT that names columns.
-fn some_given(checks: &Checks<'_>, names: &List<Bytes>, source: &Source, definition: &TableDef) -> u8
+fn some_given(
+    checks: &Checks<'_>,
+    names: &List<Bytes>,
+    source: &Source,
+    definition: &TableDef,
+) -> u8
     ensures { result ≡ given_rank (asked_of checks.now) (Some names.now) (view_supply source.now) definition.now }
 {
     let given = names.as_slice();
     let width = unless(has_width(checks.objects, given.len(), source), OTHER_WIDTH);
     let rest = width.min(unless(!leaves_out(definition, given), LEFT_OUT));
-    unless(!has_unknown(definition, given), NO_COLUMN)
-        .min(unless(!has_twice(given), COLUMN_TWICE).min(rest))
+    unless(!has_unknown(definition, given), NO_COLUMN).min(unless(
+        !has_twice(given),
+        COLUMN_TWICE,
+    ).min(rest))
 }
 
 /// What refuses the columns and the numbers of values.
-pub(crate) fn insert(checks: &Checks<'_>, table: &Bytes, names: &Option<List<Bytes>>, source: &Source) -> u8
+pub(crate) fn insert(
+    checks: &Checks<'_>,
+    table: &Bytes,
+    names: &Option<List<Bytes>>,
+    source: &Source,
+) -> u8
     ensures { result ≡ insert_rank (asked_of checks.now) table.now names.now (view_supply source.now) }
 {
     match checks.objects.table(table) {

@@ -77,7 +77,12 @@ pub(crate) fn is_in_view(objects: &Objects, column: &Bytes, sight: &Sight<'_>) -
 }
 
 /// Whether the innermost table in view of a name has a column.
-pub(crate) fn is_known_column(objects: &Objects, sight: &Sight<'_>, table: &Bytes, column: &Bytes) -> bool
+pub(crate) fn is_known_column(
+    objects: &Objects,
+    sight: &Sight<'_>,
+    table: &Bytes,
+    column: &Bytes,
+) -> bool
     ensures { result ≡ is_known_column (objects_of objects.now) (sight_of sight.now) table.now column.now }
 {
     match sight {

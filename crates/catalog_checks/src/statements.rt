@@ -53,7 +53,10 @@ fn sets(checks: &Checks<'_>, table: &Bytes, list: &List<ColumnSet>, sight: &Sigh
 {
     let mut rank = NOTHING;
     for set in list.as_slice() {
-        let column = unless(table_has_column(checks.objects, &set.column, table), NO_COLUMN);
+        let column = unless(
+            table_has_column(checks.objects, &set.column, table),
+            NO_COLUMN,
+        );
         rank = column.min(expr(checks, &set.value, sight)).min(rank);
     }
     rank
@@ -177,9 +180,10 @@ pub(crate) fn statement(checks: &Checks<'_>, s: &Stmt) -> u8
         Stmt::If { arms, otherwise } => {
             branches(checks, arms).min(otherwise_rank(checks, otherwise))
         }
-        Stmt::While { condition, steps: body } => {
-            expr(checks, condition, &Sight::Nothing).min(steps(checks, body))
-        }
+        Stmt::While {
+            condition,
+            steps: body,
+        } => { expr(checks, condition, &Sight::Nothing).min(steps(checks, body)) }
         Stmt::Return(e) => expr(checks, e, &Sight::Nothing),
     }
 }

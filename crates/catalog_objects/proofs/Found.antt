@@ -1,9 +1,8 @@
 -- What is found by keys is what the definitions of catalogs find by a walk.
-use Rattle.std.proofs.Common.{◌≡◌, ℕ, Bool, true, false, ◌&&◌, List, [], ◌∷◌, map, Option, Some, None, cond, refl, sym, ap, ◌∙◌, Ordering, Less, Equal, Greater}
-use Rattle.std.specs.Prelude.{if◌then◌else◌, nat_eq}
+use Rattle.std.proofs.Common.{◌≡◌, ℕ, Bool, true, false, ◌&&◌, List, [], ◌∷◌, Option, Some, None, cond, refl, sym, ap, ◌∙◌, Ordering, Less, Equal, Greater}
 use Rattle.std.specs.Option.{option_map}
 use Rattle.std.specs.Ordering.{is_eq, ordering_then, nat_cmp}
-use Rattle.std.specs.Cmp.Lexicographic.{pointwise, slice_cmp}
+use Rattle.std.specs.Cmp.Lexicographic.{slice_cmp}
 use Rattle.std.proofs.lemmas.Map.Text.{is_eq-slice_cmp}
 use Rattle.sql_tree.specs.StatementView.{view_program, view_trigger}
 use Rattle.sql_tree.specs.declared.statements.Routine.{Routine}
@@ -19,7 +18,7 @@ use Rattle.catalog_objects.proofs.Parts.{trigger_named as named}
 use Rattle.catalog_rules.specs.Objects.{waits_for, table_in, function_in, procedure_in, trigger_in, trigger_for, same_time, same_event}
 use Rattle.catalog_objects.specs.declared.object.Object.{Object}
 use Rattle.catalog_objects.specs.declared.object.Object.TheVariants as kinds
-use Rattle.catalog_objects.specs.Keys.{objects_of, time_number, cause_number, trigger_if, triggers_in}
+use Rattle.catalog_objects.specs.Keys.{objects_of, time_number, cause_number, triggers_in}
 use Rattle.sql_tree.specs.Statement.{Program, Trigger}
 use Rattle.catalog_objects.specs.Lookups.{object_of, waiting_for, table_if, routine_if, trigger_if_some}
 
@@ -115,7 +114,7 @@ pub waits_tied : (table own : List ℕ) (time own_time : Time) (event own_event 
     ≡ (same_name table own && same_time time own_time && same_event event own_event)
 waits_tied table own time own_time event own_event =
     let former : is_eq (ordering_then (slice_cmp nat_cmp table own) (nat_cmp (time_number time) (time_number own_time))) ≡ (is_eq (slice_cmp nat_cmp table own) && is_eq (nat_cmp (time_number time) (time_number own_time))) =
-        all_tied _ _ in
+    all_tied _ _ in
     all_tied _ _
     ∙ ap (λ (b : Bool). b && is_eq (nat_cmp (cause_number event) (cause_number own_event))) former
     ∙ both_same _ _ _ _ _ _ (same_tied table own) (times_tied time own_time) (events_tied event own_event)

@@ -1,6 +1,6 @@
 -- What a DROP leaves, and what one more object makes, in each of the lists of a catalog.
-use Rattle.std.proofs.Common.{◌≡◌, ℕ, Bool, true, false, not, List, [], ◌∷◌, ◌++◌, map, Option, Some, None, cond, refl, sym, ap, ◌∙◌}
-use Rattle.std.specs.Prelude.{filter, filter_map}
+use Rattle.std.proofs.Common.{◌≡◌, Bool, true, false, not, List, [], ◌∷◌, ◌++◌, None, cond, refl, ap, ◌∙◌}
+use Rattle.std.specs.Prelude.{filter}
 use Rattle.std.proofs.lemmas.List.Elements.{filter_map-append}
 use Rattle.sql_tree.specs.Statement.{Statement, drop_table, drop_function, drop_procedure, drop_trigger}
 use Rattle.sql_tree.specs.declared.statements.TriggerDef.{TriggerDef}
@@ -9,8 +9,8 @@ use Rattle.catalog_rules.specs.Creating.{goes_with_table, is_function_named, is_
 use Rattle.catalog_objects.specs.declared.object.Object.{Object}
 use Rattle.catalog_objects.specs.declared.object.Object.TheVariants as kinds
 use Rattle.catalog_objects.specs.Keys.{seen, objects_of, key_of, key_order, event_of, event_order, trigger_if, triggers_in}
-use Rattle.catalog_objects.specs.Rising.{find_by, has_key, put, IsIndexed}
-use Rattle.catalog_objects.specs.Lookups.{goes_with, stays_with, trigger_stays, is_drop, AreFound, is_free, is_event_free, waiting_with}
+use Rattle.catalog_objects.specs.Rising.{find_by, has_key, put}
+use Rattle.catalog_objects.specs.Lookups.{stays_with, trigger_stays, is_drop, AreFound, is_free, is_event_free, waiting_with}
 use Rattle.catalog_objects.proofs.Rising.{indexed_kept, indexed_more}
 use Rattle.catalog_objects.proofs.Orders.{keys_total, keys_exact, events_total, events_exact}
 
@@ -73,7 +73,7 @@ pub found_more : (o : Object) (objects named : List Object) (waiting : List Trig
     → AreFound (objects ++ o ∷ []) (put key_order key_of o named) waiting
 found_more o objects named waiting other none was =
     let same : triggers_in (objects ++ o ∷ []) ≡ triggers_in objects =
-        triggers_behind o objects ∙ rw other (same_behind (triggers_in objects)) in
+    triggers_behind o objects ∙ rw other (same_behind (triggers_in objects)) in
     record {
       names = indexed_more key_of keys_total keys_exact o objects named none was.names;
       events = rw same was.events;

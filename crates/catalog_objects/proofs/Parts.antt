@@ -1,5 +1,5 @@
 -- The parts of programs, as they are seen.
-use Rattle.std.proofs.Common.{◌≡◌, rules, List, ℕ, ap}
+use Rattle.std.proofs.Common.{◌≡◌, rules, ap}
 use Rattle.sql_tree.specs.Statement.{program, trigger}
 use Rattle.sql_tree.specs.StatementView.{view, view_program, view_trigger}
 use Rattle.sql_tree.specs.declared.statements.Stmt.{the_lemmas}

@@ -1,5 +1,5 @@
 -- What a catalog finds by its keys.
-use Rattle.std.specs.Prelude.{◌≡◌, ℕ, Bool, true, false, not, if◌then◌else◌, List, Option, Some, None}
+use Rattle.std.specs.Prelude.{◌≡◌, ℕ, Bool, true, false, not, List, Option, Some, None}
 use Rattle.sql_tree.specs.declared.statements.Routine.{Routine}
 use Rattle.sql_tree.specs.declared.statements.TriggerDef.{TriggerDef}
 use Rattle.sql_tree.specs.declared.statements.Time.{Time}
@@ -9,7 +9,7 @@ use Rattle.sql_tree.specs.Statement.{Statement, drop_table, drop_function, drop_
 use Rattle.catalog_rules.specs.Creating.{goes_with_table, is_function_named, is_procedure_named, is_trigger_named}
 use Rattle.catalog_objects.specs.declared.object.Object.{Object}
 use Rattle.catalog_objects.specs.declared.object.Object.TheVariants.{Table, Function, Procedure, Trigger}
-use Rattle.catalog_objects.specs.Keys.{seen, Key, key_of, key_order, Event, event_of, event_order, time_number, cause_number, trigger_if, triggers_in}
+use Rattle.catalog_objects.specs.Keys.{seen, key_of, key_order, event_of, event_order, time_number, cause_number, trigger_if, triggers_in}
 use Rattle.catalog_objects.specs.Rising.{find_by, has_key, put, IsIndexed}
 
 -- the object of a kind and name, and the trigger for an event

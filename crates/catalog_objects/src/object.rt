@@ -19,8 +19,11 @@ pub enum Object {
 }
 
 pub(crate) const TABLE: u8 = 0;
+
 pub(crate) const FUNCTION: u8 = 1;
+
 pub(crate) const PROCEDURE: u8 = 2;
+
 pub(crate) const TRIGGER: u8 = 3;
 
 impl Object {

@@ -7,10 +7,15 @@ ghost use Rattle.catalog_rules.specs.Creating.{catalog_after};
 ghost use Rattle.catalog_objects.specs.Keys.{objects_of};
 ghost use Rattle.catalog_objects.specs.Lookups.{object_of, waiting_for, is_drop, is_free, is_event_free};
 
-use crate::going::{keep_objects, keep_triggers};
 use crate::counting::{count_programs, count_tables};
-use crate::looking::{all_shared, all_waiting, object_of, place_of, place_waiting, put_last, put_named, put_waiting, trigger_for};
-use crate::object::{FUNCTION, Object, PROCEDURE, TABLE, TRIGGER, routine_if, table_if, trigger_if};
+use crate::going::{keep_objects, keep_triggers};
+use crate::looking::{
+    all_shared, all_waiting, object_of, place_of, place_waiting, put_last, put_named, put_waiting,
+    trigger_for,
+};
+use crate::object::{
+    FUNCTION, Object, PROCEDURE, TABLE, TRIGGER, routine_if, table_if, trigger_if,
+};
 use sharing::Shared;
 use sql_tree::{Cause, Routine, Stmt, Time, TriggerDef};
 use std::alloc::Global;

@@ -1,11 +1,10 @@
 -- One walk over the trees finds the error that comes first among all nodes.
 use Rattle.std.proofs.Common.{◌≡◌, ℕ, suc, Bool, true, false, not, ◌||◌, cond, min, List, [], ◌∷◌, ◌++◌, Option, Some, None, refl, sym, ap, ◌∙◌, arith}
-use Rattle.std.specs.Prelude.{flat_map, length, ◌==◌, is_some, slice_get, find}
-use Rattle.std.specs.List.{list_any, filter_map, enumerate_from}
+use Rattle.std.specs.Prelude.{flat_map, length, ◌==◌, slice_get, find}
+use Rattle.std.specs.List.{list_any}
 use Rattle.std.specs.Option.{option_map_or}
 use Rattle.std.proofs.lemmas.List.Folds.{list_any-append}
 use Rattle.std.proofs.lemmas.Grind.{flat_map-append}
-use Rattle.val_types.specs.declared.definitions.TableDef.{TableDef}
 use Rattle.sql_tree.specs.Tree.{Tree, literal, name, column, new_column, old_column, user_variable, system_variable, unary, binary, is_in, choice, subquery, exists, call, built_in, values_of, name_const, floor_rand}
 use Rattle.sql_tree.specs.Tree.{Trees, no_tree, tree, Arms, no_arm, arm, Part, no_part, part, Query, query, Selected, items, all_columns, aggregates}
 use Rattle.sql_tree.specs.Tree.{Aggregates, no_aggregate, count_all, aggregate, Origin, no_origin, from_table, Orders, no_order, order_by}
@@ -13,13 +12,13 @@ use Rattle.sql_tree.specs.Statement.{Program}
 use Rattle.sql_tree.specs.declared.expressions.Limit.{Limit}
 use Rattle.sql_tree.specs.declared.expressions.Count.{Count}
 use Rattle.sql_tree.specs.declared.expressions.Count.TheVariants as counts
-use Rattle.catalog_rules.specs.Names.{same_name, is_among}
-use Rattle.catalog_rules.specs.Objects.{table_in, function_in, procedure_in, parameters_of}
+use Rattle.catalog_rules.specs.Names.{is_among}
+use Rattle.catalog_rules.specs.Objects.{function_in, procedure_in, parameters_of}
 use Rattle.catalog_rules.specs.Bodies.{readable_variables, has_code}
-use Rattle.catalog_rules.specs.Nodes.{Sight, in_sight, sight_in, Node, a_name, a_column, a_new_column, an_old_column, an_inserted_value, a_user_variable, a_system_variable, a_built_in, a_random_number, a_function_call, a_table_read, a_limit, a_statement, count_of_trees, limit_nodes, count_nodes}
+use Rattle.catalog_rules.specs.Nodes.{Sight, in_sight, sight_in, Node, a_name, a_column, a_new_column, an_old_column, an_inserted_value, a_system_variable, a_function_call, a_table_read, a_limit, count_of_trees, limit_nodes, count_nodes}
 use Rattle.catalog_rules.specs.Nodes.{nodes_of_tree, nodes_of_trees, nodes_of_arms, nodes_of_part, nodes_of_query, nodes_of_selected, nodes_of_aggregates, nodes_of_origin, nodes_of_orders, table_read_at}
-use Rattle.catalog_rules.specs.Checks.{unless, node_codes, call_codes, procedure_codes, limit_codes, check_order, tables_read, is_known_name, is_known_column, is_known_inserted, row_has_column, Scope}
-use Rattle.catalog_rules.specs.Ranks.{place_met, rank_of, no_rank, rank_unless, code_of, Asked, is_target, has_table, read_rank, function_rank, procedure_rank, count_rank, count_if_rank, limit_rank, tree_rank, trees_rank, arms_rank, part_rank, query_rank, selected_rank, aggregates_rank, origin_rank, orders_rank}
+use Rattle.catalog_rules.specs.Checks.{unless, node_codes, call_codes, procedure_codes, limit_codes, check_order, tables_read, is_known_name, is_known_column, is_known_inserted, row_has_column}
+use Rattle.catalog_rules.specs.Ranks.{place_met, rank_of, rank_unless, Asked, is_target, has_table, read_rank, function_rank, procedure_rank, count_rank, count_if_rank, limit_rank, tree_rank, trees_rank, arms_rank, part_rank, query_rank, selected_rank, aggregates_rank, origin_rank, orders_rank}
 
 -- ---- ranks of lists of errors
 
@@ -214,7 +213,7 @@ module _ (asked : Asked) where
     origin_law (from_table t w os l) sight =
         first (a_table_read t) (nodes_of_part w (in_sight t sight) ++ nodes_of_orders os (in_sight t sight) ++ limit_nodes l) _ _ (read_is t)
         (three (nodes_of_part w (in_sight t sight)) (nodes_of_orders os (in_sight t sight)) (limit_nodes l) _ _ _
-          (part_law w (in_sight t sight)) (orders_law os (in_sight t sight)) (limit_law l))
+        (part_law w (in_sight t sight)) (orders_law os (in_sight t sight)) (limit_law l))
 
     pub orders_law : (os : Orders) (sight : Sight) → orders_rank asked os sight ≡ ranks asked (nodes_of_orders os sight)
     orders_law no_order sight = refl
@@ -233,9 +232,9 @@ module _ (asked : Asked) where
       → ranks asked (n ∷ ns) ≡ min (codes_rank asked (n ∷ ns)) (rank_unless (not (list_any (is_target asked.target) (tables_read (n ∷ ns)))) 8)
   other n ns same none later =
       let left : ranks asked (n ∷ ns) ≡ min (rank_of (node_codes asked.catalog asked.scope n)) (ranks asked ns) =
-          rank_append (asked_codes asked n) (flat_map (asked_codes asked) ns) ∙ ap (λ (codes : List ℕ). min (rank_of codes) (ranks asked ns)) same in
+      rank_append (asked_codes asked n) (flat_map (asked_codes asked) ns) ∙ ap (λ (codes : List ℕ). min (rank_of codes) (ranks asked ns)) same in
       let right : codes_rank asked (n ∷ ns) ≡ min (rank_of (node_codes asked.catalog asked.scope n)) (codes_rank asked ns) =
-          rank_append (node_codes asked.catalog asked.scope n) (flat_map (node_codes asked.catalog asked.scope) ns) in
+      rank_append (node_codes asked.catalog asked.scope n) (flat_map (node_codes asked.catalog asked.scope) ns) in
       rw none (omega arith)
 
   -- the ranks of nodes are those of their errors, and 1093 where the table is read
@@ -243,12 +242,12 @@ module _ (asked : Asked) where
   split [] = refl
   split (a_table_read t ∷ ns) =
       let left : ranks asked (a_table_read t ∷ ns) ≡ min (rank_of (asked_codes asked (a_table_read t))) (ranks asked ns) =
-          rank_append (asked_codes asked (a_table_read t)) (flat_map (asked_codes asked) ns) in
+      rank_append (asked_codes asked (a_table_read t)) (flat_map (asked_codes asked) ns) in
       let right : codes_rank asked (a_table_read t ∷ ns) ≡ min (rank_of (unless (has_table asked.catalog t) 1146)) (codes_rank asked ns) =
-          rank_append (unless (has_table asked.catalog t) 1146) (flat_map (node_codes asked.catalog asked.scope) ns) in
+      rank_append (unless (has_table asked.catalog t) 1146) (flat_map (node_codes asked.catalog asked.scope) ns) in
       let here : rank_of (asked_codes asked (a_table_read t)) ≡ min (rank_of (unless (has_table asked.catalog t) 1146)) (rank_unless (not (is_target asked.target t)) 8) =
-          rank_append (unless (has_table asked.catalog t) 1146) (unless (not (is_target asked.target t)) 1093)
-          ∙ ap (λ (k : ℕ). min (rank_of (unless (has_table asked.catalog t) 1146)) k) (rank_1093 (not (is_target asked.target t))) in
+      rank_append (unless (has_table asked.catalog t) 1146) (unless (not (is_target asked.target t)) 1093)
+      ∙ ap (λ (k : ℕ). min (rank_of (unless (has_table asked.catalog t) 1146)) k) (rank_1093 (not (is_target asked.target t))) in
       left ∙ ap (λ (k : ℕ). min k (ranks asked ns)) here
       ∙ reads_step (is_target asked.target t) (list_any (is_target asked.target) (tables_read ns)) (rank_of (unless (has_table asked.catalog t) 1146)) (codes_rank asked ns) (ranks asked ns) (split ns)
       ∙ ap (λ (k : ℕ). min k (rank_unless (not (is_target asked.target t || list_any (is_target asked.target) (tables_read ns))) 8)) (sym right)

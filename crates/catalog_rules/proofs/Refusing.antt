@@ -1,24 +1,23 @@
 -- One walk over a statement finds the error that comes first.
-use Rattle.std.proofs.Common.{◌≡◌, ℕ, suc, Bool, true, false, not, ◌||◌, ◌&&◌, cond, min, List, [], ◌∷◌, ◌++◌, Option, Some, None, refl, sym, ap, ◌∙◌, arith}
-use Rattle.std.specs.Prelude.{flat_map, length, ◌==◌, is_some, slice_get, find, nat_eq}
+use Rattle.std.proofs.Common.{◌≡◌, ℕ, Bool, true, false, not, ◌||◌, ◌&&◌, cond, min, List, [], ◌∷◌, ◌++◌, Option, Some, None, refl, sym, ap, ◌∙◌, arith}
+use Rattle.std.specs.Prelude.{flat_map, length, nat_eq}
 use Rattle.std.specs.List.{list_any, enumerate_from}
 use Rattle.std.specs.Option.{option_map_or}
-use Rattle.std.specs.Cmp.Lexicographic.{pointwise}
 use Rattle.std.proofs.lemmas.Grind.{flat_map-append}
 use Rattle.std.proofs.lemmas.Bool.Decides.{nat_tests}
 use Rattle.val_types.specs.declared.definitions.TableDef.{TableDef}
 use Rattle.sql_tree.specs.Tree.{Tree, Trees, Part, Orders}
 use Rattle.sql_tree.specs.Statement.{Supply, rows, rows_of, Declared}
-use Rattle.sql_tree.specs.Statement.{Statement, create_table, create_function, create_procedure, create_trigger, drop_table, drop_function, drop_procedure, drop_trigger, truncate, insert_into, replace_into, update_rows, delete_rows, select, evaluate, set_all, call_procedure, begin, commit, rollback, savepoint, rollback_to, release_savepoint, block, if_steps, while_steps, return_value}
+use Rattle.sql_tree.specs.Statement.{Statement, insert_into, replace_into, update_rows, delete_rows, select, evaluate, set_all, call_procedure, block, if_steps, while_steps, return_value}
 use Rattle.sql_tree.specs.Statement.{Statements, no_statement, statement, Branches, no_branch, branch, Otherwise, no_else, else_steps}
 use Rattle.sql_tree.specs.declared.expressions.Count.{Count}
 use Rattle.sql_tree.specs.declared.statements.Target.{Target}
-use Rattle.catalog_rules.specs.Names.{same_name, is_among, has_twice, first_made}
-use Rattle.catalog_rules.specs.Objects.{Object, table, function, procedure, reaction, table_in, as_table}
+use Rattle.catalog_rules.specs.Names.{same_name, is_among, has_twice}
+use Rattle.catalog_rules.specs.Objects.{Object, table, function, procedure, reaction, table_in}
 use Rattle.catalog_rules.specs.Bodies.{session_variables}
 use Rattle.catalog_rules.specs.Nodes.{Sight, no_sight, in_sight, sight_of_update, Node, a_statement, count_of_trees, count_nodes, nodes_of, nodes_of_tree, nodes_of_trees, nodes_of_part, nodes_of_query, nodes_of_orders, nodes_of_sets, nodes_of_rows, nodes_of_supply, nodes_of_assignments, nodes_of_declared, nodes_of_steps, nodes_of_branches, nodes_of_otherwise}
-use Rattle.catalog_rules.specs.Checks.{Scope, unless, check_order, node_codes, statement_codes, insert_codes, columns_codes, set_codes, change_codes, assigned_codes, procedure_codes, table_has_column, given_columns, has_column, has_width, reads_its_target, is_left_out, tables_read, statement_refusal, expression_refusal, first_code}
-use Rattle.catalog_rules.specs.Ranks.{rank_of, no_rank, rank_unless, code_of, Asked, changing, has_table, count_if_rank, tree_rank, trees_rank, part_rank, query_rank, orders_rank, procedure_rank, rows_rank, supply_rank, sets_rank, given_rank, insert_rank, target_rank, assignments_rank, declared_rank, changed_rank, statement_rank, steps_rank, branches_rank, otherwise_rank}
+use Rattle.catalog_rules.specs.Checks.{Scope, unless, check_order, node_codes, statement_codes, insert_codes, columns_codes, set_codes, change_codes, assigned_codes, table_has_column, given_columns, has_column, has_width, reads_its_target, is_left_out, tables_read, statement_refusal, expression_refusal}
+use Rattle.catalog_rules.specs.Ranks.{rank_of, rank_unless, code_of, Asked, changing, has_table, tree_rank, rows_rank, supply_rank, sets_rank, given_rank, insert_rank, target_rank, assignments_rank, declared_rank, changed_rank, statement_rank, steps_rank, branches_rank, otherwise_rank}
 use Rattle.catalog_rules.proofs.Ranking.{rank_append, rank_most, rank_1146, rank_1054, rank_1110, rank_1136, rank_1093, rank_1193, rank_1364, first_met, ranks, codes_rank, ranks_append, two, split, tree_law, trees_law, part_law, query_law, orders_law, count_if_law, procedure_law}
 
 -- ---- the table that was found has the name
@@ -79,10 +78,10 @@ sets_law : (asked : Asked) (t : List ℕ) (ss : List (List ℕ × Tree)) (sight 
 sets_law asked t [] sight = refl
 sets_law asked t (s ∷ ss) sight =
     let codes : rank_of (set_codes asked.catalog t (s ∷ ss)) ≡ min (rank_of (unless (table_has_column asked.catalog s.0 t) 1054)) (rank_of (set_codes asked.catalog t ss)) =
-        rank_append (unless (table_has_column asked.catalog s.0 t) 1054) (set_codes asked.catalog t ss) in
+    rank_append (unless (table_has_column asked.catalog s.0 t) 1054) (set_codes asked.catalog t ss) in
     let code : rank_of (unless (table_has_column asked.catalog s.0 t) 1054) ≡ rank_unless (table_has_column asked.catalog s.0 t) 1 = rank_1054 (table_has_column asked.catalog s.0 t) in
     let nodes : ranks asked (nodes_of_sets (s ∷ ss) sight) ≡ min (ranks asked (nodes_of_tree s.1 sight)) (ranks asked (nodes_of_sets ss sight)) =
-        ranks_append asked (nodes_of_tree s.1 sight) (nodes_of_sets ss sight) in
+    ranks_append asked (nodes_of_tree s.1 sight) (nodes_of_sets ss sight) in
     let value : tree_rank asked s.1 sight ≡ ranks asked (nodes_of_tree s.1 sight) = tree_law asked s.1 sight in
     let rest : sets_rank asked t ss sight ≡ min (rank_of (set_codes asked.catalog t ss)) (ranks asked (nodes_of_sets ss sight)) = sets_law asked t ss sight in
     omega arith
@@ -102,10 +101,10 @@ assignments_law : (asked : Asked) (as' : List (Target × Tree))
 assignments_law asked [] = refl
 assignments_law asked (a ∷ as') =
     let codes : rank_of (flat_map (assigned_codes asked.scope) (a ∷ as')) ≡ min (rank_of (assigned_codes asked.scope a)) (rank_of (flat_map (assigned_codes asked.scope) as')) =
-        rank_append (assigned_codes asked.scope a) (flat_map (assigned_codes asked.scope) as') in
+    rank_append (assigned_codes asked.scope a) (flat_map (assigned_codes asked.scope) as') in
     let code : target_rank asked a.0 ≡ rank_of (assigned_codes asked.scope a) = target_law asked a.0 a.1 in
     let nodes : ranks asked (nodes_of_assignments (a ∷ as') no_sight) ≡ min (ranks asked (nodes_of_tree a.1 no_sight)) (ranks asked (nodes_of_assignments as' no_sight)) =
-        ranks_append asked (nodes_of_tree a.1 no_sight) (nodes_of_assignments as' no_sight) in
+    ranks_append asked (nodes_of_tree a.1 no_sight) (nodes_of_assignments as' no_sight) in
     let value : tree_rank asked a.1 no_sight ≡ ranks asked (nodes_of_tree a.1 no_sight) = tree_law asked a.1 no_sight in
     let rest : assignments_rank asked as' ≡ min (rank_of (flat_map (assigned_codes asked.scope) as')) (ranks asked (nodes_of_assignments as' no_sight)) = assignments_law asked as' in
     omega arith
@@ -146,7 +145,7 @@ insert_step asked t names from None k e = omega arith
 insert_step asked t names from (Some d) k e =
     let law : rank_of (columns_codes asked.catalog names from d) ≡ min (given_rank asked names from d) (rank_unless (not (reads_its_target d.name from)) 8) = given_law asked names from d in
     let same : rank_unless (not (reads_its_target t from)) 8 ≡ rank_unless (not (reads_its_target d.name from)) 8 =
-        ap (λ (n : List ℕ). rank_unless (not (reads_its_target n from)) 8) (found_name asked.catalog t d e) in
+    ap (λ (n : List ℕ). rank_unless (not (reads_its_target n from)) 8) (found_name asked.catalog t d e) in
     omega arith
 
 -- what refuses the rows of an INSERT or REPLACE
@@ -161,8 +160,8 @@ insert_law catalog scope t names from =
 
 changed_law : (catalog : List Object) (scope : Scope) (t : List ℕ) (w : Part) (os : Orders) (l : Option Count)
     → changed_rank (asking catalog scope) t w os l ≡ min (rank_unless (has_table catalog t) 0)
-      (min (min (ranks (changing t (asking catalog scope)) (nodes_of_part w (in_sight t no_sight))) (ranks (changing t (asking catalog scope)) (nodes_of_orders os (in_sight t no_sight))))
-        (ranks (changing t (asking catalog scope)) (count_nodes l)))
+    (min (min (ranks (changing t (asking catalog scope)) (nodes_of_part w (in_sight t no_sight))) (ranks (changing t (asking catalog scope)) (nodes_of_orders os (in_sight t no_sight))))
+    (ranks (changing t (asking catalog scope)) (count_nodes l)))
 changed_law catalog scope t w os l =
     let part' = part_law (changing t (asking catalog scope)) w (in_sight t no_sight) in
     let orders = orders_law (changing t (asking catalog scope)) os (in_sight t no_sight) in
@@ -232,13 +231,13 @@ module _ (catalog : List Object) (scope : Scope) where
       let of_orders : ℕ = ranks c (nodes_of_orders os sight) in
       let of_count : ℕ = ranks c (count_nodes l) in
       let joined : ranks c nodes ≡ min (min (min of_sets of_part) of_orders) of_count =
-          ranks_append c (nodes_of_sets ss sight ++ nodes_of_part w sight ++ nodes_of_orders os sight) (count_nodes l)
-          ∙ ap (λ (k : ℕ). min k of_count) (ranks_append c (nodes_of_sets ss sight ++ nodes_of_part w sight) (nodes_of_orders os sight)
-            ∙ ap (λ (k : ℕ). min k of_orders) (ranks_append c (nodes_of_sets ss sight) (nodes_of_part w sight))) in
+      ranks_append c (nodes_of_sets ss sight ++ nodes_of_part w sight ++ nodes_of_orders os sight) (count_nodes l)
+      ∙ ap (λ (k : ℕ). min k of_count) (ranks_append c (nodes_of_sets ss sight ++ nodes_of_part w sight) (nodes_of_orders os sight)
+      ∙ ap (λ (k : ℕ). min k of_orders) (ranks_append c (nodes_of_sets ss sight) (nodes_of_part w sight))) in
       let all : min of_sets (min (min of_part of_orders) of_count) ≡ min (codes_rank asked nodes) read =
-          sym (gather of_sets of_part of_orders of_count) ∙ sym joined ∙ split c nodes in
+      sym (gather of_sets of_part of_orders of_count) ∙ sym joined ∙ split c nodes in
       let own_codes : rank_of (statement_codes catalog scope s) ≡ min set (min there read) =
-          rank_append (set_codes catalog t ss) (change_codes catalog t s) ∙ ap (λ (k : ℕ). min set k) (change_codes_law catalog t s) in
+      rank_append (set_codes catalog t ss) (change_codes catalog t s) ∙ ap (λ (k : ℕ). min set k) (change_codes_law catalog t s) in
       (λ i. min (sets_law c t ss sight i) (changed_law catalog scope t w os l i))
       ∙ shuffle set of_sets there (min (min of_part of_orders) of_count)
       ∙ ap (λ (k : ℕ). min (min set there) k) all

@@ -2,7 +2,7 @@
 --
 -- A rank is the place of an error in the order of checks, 10 where there is none. What is asked of the nodes as one list is
 -- asked here of the trees, a part after the other; the laws say that it comes to the same.
-use Rattle.std.specs.Prelude.{ℕ, suc, Bool, true, false, not, ◌&&◌, ◌||◌, min, cond, if◌then◌else◌, List, [], ◌∷◌, length, Option, Some, None, is_some, slice_get, ◌==◌}
+use Rattle.std.specs.Prelude.{ℕ, suc, Bool, false, not, ◌||◌, min, cond, if◌then◌else◌, List, [], ◌∷◌, length, Option, Some, None, is_some, slice_get, ◌==◌}
 use Rattle.std.specs.List.{list_any, enumerate_from}
 use Rattle.std.specs.Option.{option_map_or}
 use Rattle.val_types.specs.declared.definitions.TableDef.{TableDef}
@@ -19,8 +19,8 @@ use Rattle.sql_tree.specs.declared.statements.Target.{Target}
 use Rattle.catalog_rules.specs.Names.{same_name, is_among, has_twice}
 use Rattle.catalog_rules.specs.Objects.{Object, table_in, function_in, procedure_in, parameters_of}
 use Rattle.catalog_rules.specs.Bodies.{session_variables, readable_variables, has_code}
-use Rattle.catalog_rules.specs.Nodes.{Sight, no_sight, in_sight, sight_in, sight_of_update, Node, count_of_trees}
-use Rattle.catalog_rules.specs.Checks.{Scope, check_order, node_codes, is_known_name, is_known_column, is_known_inserted, row_has_column, given_columns, has_column, has_width, is_left_out, table_has_column}
+use Rattle.catalog_rules.specs.Nodes.{Sight, no_sight, in_sight, sight_in, sight_of_update, count_of_trees}
+use Rattle.catalog_rules.specs.Checks.{Scope, check_order, is_known_name, is_known_column, is_known_inserted, row_has_column, given_columns, has_column, has_width, is_left_out, table_has_column}
 
 -- ---- ranks
 

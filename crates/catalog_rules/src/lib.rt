@@ -3,12 +3,15 @@
 //! The definitions stand in specs/: `Names` (lists of names), `Objects` (a catalog and looking up in it), `Defined` (the
 //! definition that CREATE TABLE makes, and back), `Bodies` (what may stand in a stored program), `Creating` (CREATE, DROP
 //! and TRUNCATE: their checks in order, and the catalog after them), `Nodes` (all that a statement names, as one list),
-//! `Checks` (the catalog checks of a statement, in their order), `Bases` (a catalog with the rows of its tables).
+//! `Checks` (the catalog checks of a statement, in their order), `Ranks` (the same in one walk over the trees, which keeps how
+//! early the first error comes), `Bases` (a catalog with the rows of its tables).
 //!
 //! - `worked`: statements by hand, which the checker computes
 //!
 //! # Proved
-//! The worked examples: which statement is refused with which error.
+//! - the worked examples: which statement is refused with which error
+//! - the walk of `Ranks` finds just the error that `Checks` says, of a statement (`refusal_law` in proofs/Refusing) and of an
+//!   expression of a body (`expression_law`)
 #![tactic(auto)]
 
 mod worked;

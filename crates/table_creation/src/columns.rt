@@ -129,13 +129,7 @@ fn width_of(kind: SqlType) -> u64
     match kind {
         SqlType::Int => 4,
         SqlType::BigInt => 8,
-        SqlType::Varchar(most) => {
-            if most <= 255 {
-                most + 1
-            } else {
-                most + 2
-            }
-        }
+        SqlType::Varchar(most) => { if most <= 255 { most + 1 } else { most + 2 } }
     }
 }
 

@@ -7,7 +7,9 @@ ghost use Rattle.catalog_rules.specs.Defined.{names_of_columns};
 ghost use Rattle.catalog_objects.specs.Keys.{objects_of};
 ghost use Rattle.catalog_rules.specs.Creating.{begins_key, counted_columns, first_refusal, keys_of, is_past_table_limits, table_checks};
 
-use crate::columns::{has_counted_behind, has_counted_text, has_ill_preset, has_ill_type, has_two_counted, is_wide};
+use crate::columns::{
+    has_counted_behind, has_counted_text, has_ill_preset, has_ill_type, has_two_counted, is_wide,
+};
 use crate::keys::{has_columns_twice, has_keys_twice, key_twice, key_unknown, key_wide};
 use catalog_objects::Objects;
 use sql_tree::CreateTable;

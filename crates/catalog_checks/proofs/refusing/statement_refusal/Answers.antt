@@ -1,4 +1,4 @@
-use Rattle.std.proofs.Common.{ap, ◌∙◌, sym, ℕ}
+use Rattle.std.proofs.Common.{ap, ◌∙◌, sym}
 use Rattle.std.specs.Option.{option_copied}
 use Rattle.sql_tree.specs.StatementView.{view}
 use Rattle.catalog_objects.specs.Keys.{objects_of}

@@ -1,7 +1,7 @@
 use Rattle.std.proofs.Common.{◌≡◌, ◌≤◌, min, drop}
-use Rattle.sql_tree.specs.StatementView.{view_rows, view_sets, view_assignments, view_declarations}
-use Rattle.catalog_rules.specs.Ranks.{rows_rank, sets_rank, assignments_rank, declared_rank}
-use Rattle.catalog_checks.specs.Asking.{asked_of, sight_of}
+use Rattle.sql_tree.specs.StatementView.{view_assignments}
+use Rattle.catalog_rules.specs.Ranks.{assignments_rank}
+use Rattle.catalog_checks.specs.Asking.{asked_of}
 use Rattle.catalog_checks.proofs.statements.assignments.Given as goal
 
 abbrev pub invariant-loop-assignment : goal.invariant-loop-assignment

@@ -8,7 +8,7 @@ pub returns : goal.returns
 returns c =
     let asked = asked_of c.args.checks.now in
     let rows : c.condition-rows.result ≡ condition_rank c.args.table.now (view_part c.args.filter.now) (view_orders c.args.items.now) (changing c.args.table.now asked) =
-        c.condition-rows.ensures ∙ ap (condition_rank c.args.table.now (view_part c.args.filter.now) (view_orders c.args.items.now)) c.changing.ensures in
+    c.condition-rows.ensures ∙ ap (condition_rank c.args.table.now (view_part c.args.filter.now) (view_orders c.args.items.now)) c.changing.ensures in
     let there : c.unless.result ≡ rank_unless (has_table asked.catalog c.args.table.now) 0 = search rules in
     let count : c.count_if.result ≡ count_if_rank asked c.args.limit.now = search rules in
     let is : c.min-2.result ≡ min c.unless.result (min c.condition-rows.result c.count_if.result) = search rules in

@@ -1,7 +1,7 @@
 use Rattle.std.proofs.Common.{◌≡◌, ◌≤◌, min, drop}
-use Rattle.sql_tree.specs.StatementView.{view_rows, view_sets, view_assignments, view_declarations}
-use Rattle.catalog_rules.specs.Ranks.{rows_rank, sets_rank, assignments_rank, declared_rank}
-use Rattle.catalog_checks.specs.Asking.{asked_of, sight_of}
+use Rattle.sql_tree.specs.StatementView.{view_rows}
+use Rattle.catalog_rules.specs.Ranks.{rows_rank}
+use Rattle.catalog_checks.specs.Asking.{asked_of}
 use Rattle.catalog_checks.proofs.statements.rows.Given as goal
 
 abbrev pub invariant-loop-row : goal.invariant-loop-row

@@ -1,6 +1,6 @@
 use Rattle.std.proofs.Common.{◌≡◌, ◌≤◌, min, drop}
-use Rattle.sql_tree.specs.StatementView.{view_rows, view_sets, view_assignments, view_declarations}
-use Rattle.catalog_rules.specs.Ranks.{rows_rank, sets_rank, assignments_rank, declared_rank}
+use Rattle.sql_tree.specs.StatementView.{view_sets}
+use Rattle.catalog_rules.specs.Ranks.{sets_rank}
 use Rattle.catalog_checks.specs.Asking.{asked_of, sight_of}
 use Rattle.catalog_checks.proofs.statements.sets.Given as goal
 

@@ -11,7 +11,7 @@ returns c =
     let u = c.args.u.now in
     let asked = asked_of c.args.checks.now in
     let sets : c.row_sets.result ≡ sets_rank (changing u.table asked) u.table (view_sets u.sets) (in_sight u.table no_sight) =
-        c.row_sets.ensures ∙ ap (λ (a : Asked). sets_rank a u.table (view_sets u.sets) (in_sight u.table no_sight)) c.changing.ensures in
+    c.row_sets.ensures ∙ ap (λ (a : Asked). sets_rank a u.table (view_sets u.sets) (in_sight u.table no_sight)) c.changing.ensures in
     let changed : c.changed.result ≡ changed_rank asked u.table (view_part u.filter) (view_orders u.order) u.limit = c.changed.ensures in
     let is : c.min.result ≡ min c.row_sets.result c.changed.result = search rules in
     is ∙ (λ i. min (sets i) (changed i))

@@ -1,5 +1,4 @@
-use Rattle.std.proofs.Common.{◌≡◌, true, false, ap, ◌∙◌, rules, arith}
-use Rattle.std.specs.Prelude.{Some}
+use Rattle.std.proofs.Common.{◌≡◌, true, false, rules, arith}
 use Rattle.catalog_objects.specs.Keys.{Key, key_of, key_order}
 use Rattle.catalog_objects.specs.Rising.{has_key}
 use Rattle.catalog_objects.proofs.Orders.{keys_total, keys_exact}

@@ -1,8 +1,8 @@
-use Rattle.std.proofs.Common.{◌≡◌, ℕ, ◌≤◌, List, length, ap, ◌∙◌, sym, arith, rules}
-use Rattle.std.specs.Prelude.{Option, Some}
+use Rattle.std.proofs.Common.{◌≡◌, ℕ, ◌≤◌, length, ap, ◌∙◌, sym, arith, rules}
+use Rattle.std.specs.Prelude.{Option}
 use Rattle.std.specs.List.{insert}
 use Rattle.sql_tree.specs.declared.statements.TriggerDef.{TriggerDef}
-use Rattle.catalog_objects.specs.Keys.{Event, event_of, event_order}
+use Rattle.catalog_objects.specs.Keys.{event_of, event_order}
 use Rattle.catalog_objects.specs.Rising.{is_not_before, place}
 use Rattle.catalog_objects.specs.Lookups.{waiting_with}
 use Rattle.catalog_objects.proofs.Orders.{events_total, events_exact}
@@ -13,7 +13,7 @@ pub put_in-requires-clause-within : goal.put_in-requires-clause-within
 put_in-requires-clause-within c =
     let at : c.place_waiting-at.result ≡ place (is_not_before event_order event_of (event_of c.in-Some.trigger)) c.args.waiting.now.items = search rules in
     let most : place (is_not_before event_order event_of (event_of c.in-Some.trigger)) c.args.waiting.now.items ≤ length c.args.waiting.now.items =
-        place_at_most (is_not_before event_order event_of (event_of c.in-Some.trigger)) c.args.waiting.now.items in
+    place_at_most (is_not_before event_order event_of (event_of c.in-Some.trigger)) c.args.waiting.now.items in
     omega arith
 
 pub returns-in-Some : goal.returns-in-Some

@@ -1,8 +1,7 @@
-use Rattle.std.proofs.Common.{◌≡◌, ◌≤◌, ◌+◌, ◌*◌, map, drop, length, not, ◌&&◌, false}
-use Rattle.std.specs.Prelude.{sum, filter}
+use Rattle.std.proofs.Common.{◌≡◌, drop, ◌&&◌}
 use Rattle.std.specs.List.{list_any}
 use Rattle.sql_tree.specs.declared.statements.Column.{Column}
-use Rattle.catalog_rules.specs.Creating.{begins_key, has_ill_preset, is_ill_type, is_varchar, keys_of, width_of}
+use Rattle.catalog_rules.specs.Creating.{is_varchar}
 use Rattle.table_creation.proofs.columns.has_counted_text.Given as goal
 
 abbrev pub invariant-loop-column : goal.invariant-loop-column

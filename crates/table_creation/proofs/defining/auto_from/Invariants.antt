@@ -1,9 +1,5 @@
-use Rattle.std.proofs.Common.{◌≡◌, ◌++◌, map, drop, take, false}
-use Rattle.std.specs.List.{list_any}
-use Rattle.sql_tree.specs.declared.statements.Column.{Column}
-use Rattle.catalog_rules.specs.Defined.{defined_column, defined_key, places_of}
-use Rattle.catalog_rules.specs.Creating.{is_ill_type}
-use Rattle.table_creation.specs.Placed.{place_from, auto_from}
+use Rattle.std.proofs.Common.{◌≡◌, drop}
+use Rattle.table_creation.specs.Placed.{auto_from}
 use Rattle.table_creation.proofs.defining.auto_from.Given as goal
 
 abbrev pub invariant-loop-column : goal.invariant-loop-column

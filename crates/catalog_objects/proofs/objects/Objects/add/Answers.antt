@@ -1,5 +1,4 @@
-use Rattle.std.proofs.Common.{◌≡◌, ◌++◌, ◌∷◌, [], List, ap, ◌∙◌, subst, sym, rules}
-use Rattle.sql_tree.specs.declared.statements.TriggerDef.{TriggerDef}
+use Rattle.std.proofs.Common.{◌≡◌, ◌++◌, ◌∷◌, [], List, subst, sym, rules}
 use Rattle.catalog_objects.specs.declared.object.Object.{Object}
 use Rattle.catalog_objects.specs.Keys.{key_of, key_order, trigger_if}
 use Rattle.catalog_objects.specs.Rising.{put}

@@ -1,11 +1,9 @@
 use Rattle.std.proofs.Common.{ap, ◌∙◌}
 use Rattle.std.specs.Prelude.{Option}
 use Rattle.std.specs.Option.{option_map}
-use Rattle.sql_tree.specs.StatementView.{view_program, view_trigger}
+use Rattle.sql_tree.specs.StatementView.{view_program}
 use Rattle.sql_tree.specs.declared.statements.Routine.{Routine}
-use Rattle.sql_tree.specs.declared.statements.TriggerDef.{TriggerDef}
-use Rattle.catalog_objects.specs.declared.object.Object.{Object}
-use Rattle.catalog_objects.specs.Lookups.{table_if, routine_if, trigger_if_some}
+use Rattle.catalog_objects.specs.Lookups.{routine_if}
 use Rattle.catalog_objects.proofs.Found.{procedure_found as found}
 use Rattle.catalog_objects.proofs.objects.Objects.procedure.Goals as goal
 

@@ -1,4 +1,4 @@
-use Rattle.std.proofs.Common.{◌≡◌, ap, ◌∙◌, List}
+use Rattle.std.proofs.Common.{ap, ◌∙◌, List}
 use Rattle.std.specs.Prelude.{filter}
 use Rattle.sql_tree.specs.StatementView.{view}
 use Rattle.catalog_objects.specs.declared.object.Object.{Object}

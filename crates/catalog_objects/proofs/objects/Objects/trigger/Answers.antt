@@ -1,4 +1,4 @@
-use Rattle.std.proofs.Common.{◌≡◌, ap, ◌∙◌, List}
+use Rattle.std.proofs.Common.{ap, ◌∙◌, List}
 use Rattle.std.specs.Prelude.{Option}
 use Rattle.std.specs.Option.{option_map}
 use Rattle.sql_tree.specs.StatementView.{view_trigger}
@@ -14,6 +14,6 @@ returns c =
     let event : Event = record { table = c.args.table.now; time = time_number c.args.time; event = cause_number c.args.event } in
     ap (λ (t : Option TriggerDef). option_map view_trigger t)
     (c.trigger_for.ensures ∙ ap (λ (ts : List TriggerDef). waiting_for ts c.args.table.now c.args.time c.args.event) c.deref.ensures.value
-      ∙ c.self.invariant.events.same event
-      ∙ ap (λ (os : List Object). waiting_for (triggers_in os) c.args.table.now c.args.time c.args.event) c.self.view_is)
+    ∙ c.self.invariant.events.same event
+    ∙ ap (λ (os : List Object). waiting_for (triggers_in os) c.args.table.now c.args.time c.args.event) c.self.view_is)
     ∙ waiting_found c.args.self.now c.args.table.now c.args.time c.args.event

@@ -1,0 +1,8 @@
+use Rattle.std.proofs.Common.{◌∙◌}
+use Rattle.sql_tree.specs.Statement.{create_table}
+use Rattle.catalog_objects.specs.Keys.{objects_of}
+use Rattle.catalog.proofs.Added.{ddl_is}
+use Rattle.catalog.proofs.refusing.creation_refusal.Goals as goal
+
+pub returns : goal.returns
+returns c = c.table_refusal.ensures ∙ ddl_is (objects_of c.args.objects.now) (create_table c.args.t.now)
