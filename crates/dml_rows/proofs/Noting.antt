@@ -1,5 +1,5 @@
 -- The change that storing a row makes, and changes noted and taken back.
-use Rattle.std.proofs.Common.{◌≡◌, ℕ, ◌+◌, ◌<◌, ◌≤◌, List, [], ◌∷◌, ◌++◌, map, length, take, drop, true, false, Option, Some, None, Result, Ok, Err, ◌⊎◌, inl, inr, length-append, refl, sym, ap, subst, ◌∙◌, arith}
+use Rattle.std.proofs.Common.{◌≡◌, ℕ, ◌+◌, ◌<◌, ◌≤◌, List, [], ◌∷◌, ◌++◌, length, take, drop, true, Option, Some, None, Result, Ok, Err, ◌⊎◌, inl, inr, length-append, refl, sym, ap, subst, ◌∙◌, arith}
 use Rattle.std.specs.Prelude.{is_some, slice_get}
 use Rattle.std.specs.Option.{option_map, option_and_then}
 use Rattle.std.proofs.Math.ListN.{drop_of_length-le}
@@ -21,7 +21,7 @@ use Rattle.table_rules.proofs.Leading.{leads_nowhere, one_change_leads, no_chang
 use Rattle.row_store.specs.declared.refusal.RowRefusal.{RowRefusal}
 use Rattle.row_store.specs.declared.refusal.RowRefusal.TheVariants.{Taken, Absent, NoMemory}
 use Rattle.row_store.specs.Stores.{Stores}
-use Rattle.dml_rows.specs.Noted.{changes_of, Notes, StaysReversible}
+use Rattle.dml_rows.specs.Noted.{changes_of, StaysReversible}
 
 -- ---- the change that was made
 

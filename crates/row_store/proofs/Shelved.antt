@@ -1,5 +1,5 @@
 -- What is done with the shelf at a place, seen as what it makes of what is stored.
-use Rattle.std.proofs.Common.{◌≡◌, ℕ, zero, suc, ◌<◌, ◌≤◌, List, [], ◌∷◌, ◌++◌, map, length, get_or, Bool, true, false, not, ◌&&◌, ◌||◌, cond, Option, Some, None, Result, Ok, Err, OnOk, refl, sym, ap, subst, ◌∙◌, arith}
+use Rattle.std.proofs.Common.{◌≡◌, ℕ, zero, suc, ◌<◌, ◌≤◌, List, [], ◌∷◌, ◌++◌, map, length, get_or, Bool, true, false, not, cond, Option, Some, None, Result, Ok, Err, OnOk, refl, sym, ap, subst, ◌∙◌, arith}
 use Rattle.std.specs.Prelude.{nat_eq, is_some, find, position, slice_get, slice_set}
 use Rattle.std.specs.List.{list_any, remove}
 use Rattle.std.specs.Option.{option_map, option_map_or}
@@ -12,10 +12,10 @@ use Rattle.val_types.specs.Changes.{table_of, inverse}
 use Rattle.val_types.specs.Fitting.{row_fits}
 use Rattle.val_types.specs.Keys.{primary_key}
 use Rattle.val_types.specs.Lookup.{remove_first}
-use Rattle.val_types.proofs.Lookup.{found, replaced, removed, missing, place_mapped}
+use Rattle.val_types.proofs.Lookup.{found, replaced, removed, place_mapped}
 use Rattle.table_rules.specs.Tables.{Table}
 use Rattle.table_rules.specs.Changes.{rows_after, applied}
-use Rattle.table_rules.specs.Stored.{has_name, table_named, row_of_key, row_at, rows_beside, row_absent, insertion, replacement, deletion, carried_out, row_put, tables_beside, tables_cleared, keys_at}
+use Rattle.table_rules.specs.Stored.{has_name, table_named, row_of_key, row_at, insertion, replacement, deletion, row_put, tables_beside, tables_cleared, keys_at}
 use Rattle.table_rules.specs.Stores.{Store, place_of, definitions_of, names_differ, fits_at, is_among, kept_among, keeps, keeps_put, KeepsAll, KeepsSame, KeepsBeside, KeepsRows, IsWhole}
 use Rattle.table_rules.proofs.Storing.{key_is}
 use Rattle.table_rules.proofs.Places.{name_is, name_self, place, at_place}
@@ -25,9 +25,9 @@ use Rattle.row_store.specs.declared.shelf.Shelf.{Shelf}
 use Rattle.row_store.specs.Slots.{rows_in, keys_in}
 use Rattle.row_store.specs.Shelves.{table_on, tables_on, definitions_on, keys_on, store_of, is_named, has_slot, has_slot_for, has_slot_to_put, KeepsSlots, Inserted, Replaced, Deleted}
 use Rattle.row_store.specs.Stores.{Stores}
-use Rattle.row_store.proofs.Swapping.{kept_on, shelf_named, swap, same_name, keeps_swap, keeps_rows, equal_swap, same_rows, kept_found, dropped, none_dropped, none_cleared, cleared_swap, shelves_kept}
+use Rattle.row_store.proofs.Swapping.{kept_on, shelf_named, swap, same_name, keeps_swap, keeps_rows, equal_swap, same_rows, kept_found, dropped, cleared_swap, shelves_kept}
 use Rattle.row_store.proofs.Storing.{table_found, no_table, same_table, shelf_applied, shelf_same, insert_stored, update_stored, delete_stored, delete_absent, row_found, no_row_found, keys_found}
-use Rattle.row_store.proofs.Beside.{here_kept, on_ok, beside_swap, beside_removed, inverse_name, step_here, no_step, slot_here, kept_before, table_added, set_same}
+use Rattle.row_store.proofs.Beside.{here_kept, on_ok, beside_swap, beside_removed, inverse_name, step_here, slot_here, kept_before, table_added, set_same}
 use Rattle.row_store.proofs.Writing.{among_of_row}
 
 -- ---- names and definitions

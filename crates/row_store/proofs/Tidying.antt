@@ -1,23 +1,16 @@
 -- Slots without rows dropped.
-use Rattle.std.proofs.Common.{◌≡◌, ℕ, List, [], ◌∷◌, ◌++◌, Bool, true, false, ◌||◌, cond, Option, Some, None, refl, sym, ap, subst, ◌∙◌}
+use Rattle.std.proofs.Common.{◌≡◌, List, [], ◌∷◌, ◌++◌, Bool, true, false, cond, Option, Some, None, refl, sym, ap, subst}
 use Rattle.std.specs.Prelude.{is_some, filter, option_to_list}
 use Rattle.std.specs.List.{list_all}
-use Rattle.std.specs.Option.{option_map_or}
 use Rattle.std.specs.Ordering.{is_lt}
 use Rattle.std.proofs.lemmas.Bool.{and_parts, and_from}
 use Rattle.val_types.specs.declared.value.Value.{Value}
 use Rattle.val_types.specs.declared.definitions.TableDef.{TableDef}
 use Rattle.val_types.specs.Order.{key_order}
-use Rattle.val_types.specs.Keys.{primary_key}
-use Rattle.table_rules.specs.Tables.{Table}
-use Rattle.table_rules.specs.Stored.{table_named, row_of_key}
 use Rattle.table_rules.proofs.Taking.{Kept}
 use Rattle.row_store.specs.declared.slots.Slot.{Slot}
-use Rattle.row_store.specs.declared.shelf.Shelf.{Shelf}
-use Rattle.table_rules.specs.Stores.{is_among}
-use Rattle.row_store.specs.Slots.{rows_in, keys_in, all_above, keys_rise, has_own_key, is_sound, is_full, is_slot_of}
-use Rattle.row_store.specs.Shelves.{table_on, tables_on, is_named, has_slot_for}
-use Rattle.row_store.proofs.Emptying.{sound, is_sound_from, row_in, row_of_slot}
+use Rattle.row_store.specs.Slots.{rows_in, keys_in, all_above, keys_rise, has_own_key, is_sound, is_full}
+use Rattle.row_store.proofs.Emptying.{sound, is_sound_from}
 
 full_step : (o : Option (List Value)) (key : List Value) (ss more : List Slot) → rows_in more ≡ rows_in ss
     → rows_in (cond (is_some o) (record { key = key; row = o } ∷ more) more) ≡ option_to_list o ++ rows_in ss

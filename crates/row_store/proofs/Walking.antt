@@ -7,10 +7,10 @@ use Rattle.std.specs.Option.{option_and_then, option_map_or}
 use Rattle.val_types.specs.declared.value.Value.{Value}
 use Rattle.val_types.specs.declared.definitions.KeyDef.{KeyDef}
 use Rattle.val_types.specs.declared.definitions.TableDef.{TableDef}
-use Rattle.val_types.specs.Keys.{primary_key, agree_on}
+use Rattle.val_types.specs.Keys.{agree_on}
 use Rattle.table_rules.specs.Tables.{Table}
 use Rattle.table_rules.specs.Stored.{table_named, has_key_in_way, key_in_way, row_in_way, rows_of}
-use Rattle.table_rules.specs.Stores.{Store, place_of, names_differ}
+use Rattle.table_rules.specs.Stores.{place_of, names_differ}
 use Rattle.table_rules.proofs.InWay.{row_in_way_has_key}
 use Rattle.row_store.specs.declared.slots.Slot.{Slot}
 use Rattle.row_store.specs.declared.shelf.Shelf.{Shelf}

@@ -7,7 +7,7 @@ use Rattle.val_types.specs.declared.value.Value.{Value}
 use Rattle.val_types.specs.declared.definitions.KeyDef.{KeyDef}
 use Rattle.val_types.specs.declared.definitions.TableDef.{TableDef}
 use Rattle.val_types.specs.Keys.{primary_key, agree_on}
-use Rattle.table_rules.specs.Stored.{has_key, first_agreed, key_in_way, key_tests, row_by_tests, row_in_way, RowInWay}
+use Rattle.table_rules.specs.Stored.{has_key, first_agreed, key_in_way, key_tests, row_by_tests, RowInWay}
 
 abbrev Test : Type 0
 Test = List Value → Bool

@@ -1,19 +1,16 @@
 -- What leads on, and what can be taken back where it led.
-use Rattle.std.proofs.Common.{◌≡◌, ℕ, ◌+◌, ◌-◌, ◌<◌, ◌≤◌, List, [], ◌∷◌, ◌++◌, map, reverse, length, take, drop, Bool, true, false, ◌&&◌, Option, Some, None, ◌⊎◌, inl, inr, refl, sym, ap, subst, ◌∙◌, arith}
+use Rattle.std.proofs.Common.{◌≡◌, ℕ, ◌+◌, ◌-◌, ◌<◌, ◌≤◌, List, [], ◌∷◌, ◌++◌, map, reverse, length, take, drop, true, ◌&&◌, Option, Some, None, ◌⊎◌, inl, inr, refl, sym, ap, ◌∙◌, arith}
 use Rattle.std.specs.Prelude.{is_some}
 use Rattle.std.specs.Option.{option_and_then}
-use Rattle.std.specs.List.{list_all}
 use Rattle.std.proofs.Math.Seq.{drop-append_seam, drop-append-add, take-append_seam, take-append-add}
 use Rattle.std.proofs.lemmas.List.{reverse-append, map-append, append_assoc, append-nil, drop-append-le, take-append-drop}
 use Rattle.std.proofs.lemmas.List.Folds.{list_all-append}
 use Rattle.std.proofs.lemmas.Bool.{and_parts, and_from, cases_lt}
-use Rattle.val_types.specs.declared.value.Value.{Value}
-use Rattle.val_types.specs.declared.definitions.TableDef.{TableDef}
 use Rattle.val_types.specs.declared.change.Change.{Change}
 use Rattle.val_types.specs.declared.change.Change.TheVariants.{Insert, Update, Delete}
 use Rattle.val_types.specs.Changes.{inverse}
 use Rattle.table_rules.specs.Tables.{Table}
-use Rattle.table_rules.specs.Changes.{applied, AreKept}
+use Rattle.table_rules.specs.Changes.{applied}
 use Rattle.table_rules.specs.Stored.{all_applied, all_inverse}
 use Rattle.table_rules.specs.Stores.{Store, definitions_of, keeps_put, KeepsAll, keeps_inverses, can_take_back}
 use Rattle.table_rules.specs.Leads.{Leads, LeadsNowhere, LeadsOn, OneChangeLeads, NoChangeLeads, StillTakenBack, NotedTakenBack, LastTakenBack, NoneTakenBack, LeadsBack, LeadsHome}

@@ -1,5 +1,5 @@
 -- Tables by their places.
-use Rattle.std.proofs.Common.{◌≡◌, ℕ, zero, suc, ◌+◌, List, [], ◌∷◌, map, length, Bool, true, false, not, nat_lt, cond, Option, Some, None, Result, Ok, Err, refl, sym, ap, ◌∙◌, arith}
+use Rattle.std.proofs.Common.{◌≡◌, ℕ, zero, suc, ◌+◌, List, [], ◌∷◌, map, length, Bool, true, false, not, nat_lt, cond, Option, Some, None, Err, refl, sym, ap, ◌∙◌, arith}
 use Rattle.std.specs.List.{position_or_len}
 use Rattle.std.proofs.lemmas.Bool.Decides.{nat_tests}
 use Rattle.std.specs.Prelude.{nat_eq, find, position, slice_get}
@@ -13,7 +13,7 @@ use Rattle.val_types.specs.Keys.{primary_key}
 use Rattle.val_types.proofs.Lookup.{place_mapped, missing, unchanged, all_left}
 use Rattle.table_rules.specs.Tables.{Table}
 use Rattle.table_rules.specs.Stored.{has_name, table_named, row_of_key, row_at, row_absent, where_found, insertion_in, replacement_in, deletion_in, insertion, replacement, deletion, keys_at, fits_table, tables_beside, tables_cleared}
-use Rattle.table_rules.specs.Stores.{place_of, definitions_of, PlaceIsOfName, PlaceHasName, FitsByPlace, PlacesStay}
+use Rattle.table_rules.specs.Stores.{place_of, PlaceIsOfName, PlaceHasName, FitsByPlace, PlacesStay}
 
 -- ---- names
 

@@ -4,7 +4,7 @@ use Rattle.val_types.specs.declared.change.Change.{Change}
 use Rattle.val_types.specs.Changes.{inverse}
 use Rattle.table_rules.specs.Changes.{applied, AreKept}
 use Rattle.table_rules.specs.Stored.{all_applied, all_inverse}
-use Rattle.table_rules.specs.Stores.{Store, definitions_of, keeps_put, KeepsAll, KeepsSame, keeps_inverses, can_take_back}
+use Rattle.table_rules.specs.Stores.{Store, definitions_of, keeps_put, KeepsAll, keeps_inverses, can_take_back}
 
 -- Changes were noted behind those that were, and they lead from the old tables to the new; taking them back leads to the old
 -- ones and needs no memory, keys that were kept are kept still, and the tables are of the same definitions.

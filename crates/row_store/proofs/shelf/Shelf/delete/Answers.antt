@@ -1,4 +1,4 @@
-use Rattle.std.proofs.Common.{rules, ◌≡◌, None, sym, ◌∙◌}
+use Rattle.std.proofs.Common.{rules, ◌≡◌, None, ◌∙◌}
 use Rattle.table_rules.specs.Stored.{row_of_key}
 use Rattle.row_store.specs.Slots.{rows_in}
 use Rattle.row_store.proofs.Emptying.{all_stay}

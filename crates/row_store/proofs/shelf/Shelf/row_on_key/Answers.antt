@@ -1,4 +1,4 @@
-use Rattle.std.proofs.Common.{◌≡◌, ◌-◌, ◌<◌, ◌≤◌, suc, List, length, ap, sym, ◌∙◌, arith}
+use Rattle.std.proofs.Common.{◌≡◌, ◌-◌, ◌<◌, suc, List, length, ap, ◌∙◌, arith}
 use Rattle.std.specs.Prelude.{find}
 use Rattle.val_types.specs.Keys.{agree_on}
 use Rattle.row_store.specs.declared.slots.Slot.{Slot}

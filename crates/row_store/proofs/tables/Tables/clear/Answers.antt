@@ -1,4 +1,4 @@
-use Rattle.std.proofs.Common.{◌≡◌, Some, None, sym, ◌∙◌, ◌<◌, length, arith}
+use Rattle.std.proofs.Common.{◌≡◌, Some, sym, ◌∙◌, ◌<◌, length, arith}
 use Rattle.table_rules.specs.Stores.{place_of}
 use Rattle.row_store.specs.Shelves.{store_of}
 use Rattle.row_store.proofs.Shelved.{place_within, names_set, cleared_at, beside_at}

@@ -1,8 +1,5 @@
-use Rattle.std.proofs.Common.{◌≡◌, ◌≤◌, List, [], ◌++◌, map, length, drop, ap, sym, ◌∙◌, arith}
-use Rattle.std.proofs.Math.ListN.{drop_of_length-le}
-use Rattle.std.proofs.lemmas.List.{append-nil}
-use Rattle.row_store.specs.declared.shelf.Shelf.{Shelf}
-use Rattle.row_store.proofs.Walking.{seen, Seen, same_seen, names_seen, all_seen}
+use Rattle.std.proofs.Common.{◌≡◌, ◌≤◌, ◌++◌, map, length, drop, ◌∙◌, arith}
+use Rattle.row_store.proofs.Walking.{seen, same_seen, names_seen, all_seen}
 use Rattle.row_store.proofs.tables.Tables.copy.Goals as goal
 
 pub invariant_of-result : goal.invariant_of-result

@@ -1,6 +1,6 @@
 use Rattle.std.proofs.Common.{◌≡◌, None, ap, ◌∙◌}
 use Rattle.table_rules.specs.Stored.{table_named}
-use Rattle.table_rules.specs.Stores.{names_differ, KeepsAll}
+use Rattle.table_rules.specs.Stores.{names_differ}
 use Rattle.row_store.specs.Shelves.{definitions_on, store_of}
 use Rattle.row_store.proofs.Shelved.{names_more, created, keeps_more}
 use Rattle.row_store.proofs.tables.Tables.create.Goals as goal

@@ -1,4 +1,4 @@
-use Rattle.std.proofs.Common.{◌≡◌, ◌<◌, ◌≤◌, length, arith}
+use Rattle.std.proofs.Common.{◌<◌, ◌≤◌, length, arith}
 use Rattle.row_store.proofs.Shelved.{none_past, names_set, stored_delete, keeps_set, slots_kept, rows_keep, before_kept}
 use Rattle.row_store.proofs.tables.Tables.delete_at.Goals as goal
 

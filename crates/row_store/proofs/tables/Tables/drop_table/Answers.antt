@@ -1,5 +1,4 @@
-use Rattle.std.proofs.Common.{◌≡◌, Some, None, sym, ap, ◌∙◌, ◌<◌, length, arith}
-use Rattle.std.specs.Prelude.{position}
+use Rattle.std.proofs.Common.{◌≡◌, Some, sym, ap, ◌∙◌, ◌<◌, length, arith}
 use Rattle.table_rules.specs.Stores.{names_differ, place_of}
 use Rattle.row_store.specs.Shelves.{definitions_on, store_of}
 use Rattle.row_store.proofs.Shelved.{place_within, names_left, dropped_at, gone_at, beside_dropped}

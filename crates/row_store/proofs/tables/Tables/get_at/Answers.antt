@@ -1,6 +1,4 @@
-use Rattle.std.proofs.Common.{◌≡◌, ◌≤◌, length, Some, ap, ◌∙◌, arith}
-use Rattle.table_rules.specs.Stores.{place_of}
-use Rattle.row_store.specs.Shelves.{store_of}
+use Rattle.std.proofs.Common.{◌≤◌, length, ◌∙◌, arith}
 use Rattle.row_store.proofs.Shelved.{got_row, none_past}
 use Rattle.row_store.proofs.tables.Tables.get_at.Goals as goal
 

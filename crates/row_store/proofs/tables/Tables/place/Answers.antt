@@ -1,4 +1,4 @@
-use Rattle.std.proofs.Common.{◌≡◌, ap, ◌∙◌}
+use Rattle.std.proofs.Common.{ap, ◌∙◌}
 use Rattle.std.specs.Prelude.{position}
 use Rattle.row_store.specs.Shelves.{is_named}
 use Rattle.row_store.proofs.Shelved.{place_is}

@@ -1,4 +1,4 @@
-use Rattle.std.proofs.Common.{◌≡◌, Some, None, sym, ap, ◌∙◌}
+use Rattle.std.proofs.Common.{Some, None, sym, ◌∙◌}
 use Rattle.row_store.proofs.Walking.{in_way_by}
 use Rattle.row_store.proofs.tables.Tables.row_in_way.Goals as goal
 

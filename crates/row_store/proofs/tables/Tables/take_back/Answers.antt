@@ -1,5 +1,5 @@
-use Rattle.std.proofs.Common.{◌≡◌, ◌<◌, List, length, true, Some, None, sym, ap, ◌∙◌, arith}
-use Rattle.std.specs.Prelude.{ℕ, is_some}
+use Rattle.std.proofs.Common.{◌≡◌, ◌<◌, length, true, Some, None, sym, ◌∙◌, arith}
+use Rattle.std.specs.Prelude.{is_some}
 use Rattle.val_types.specs.Changes.{inverse, table_of}
 use Rattle.table_rules.specs.Changes.{applied}
 use Rattle.table_rules.specs.Stores.{place_of, keeps_put}

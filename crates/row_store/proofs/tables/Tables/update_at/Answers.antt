@@ -1,7 +1,7 @@
-use Rattle.std.proofs.Common.{◌≡◌, ◌<◌, ◌≤◌, length, true, sym, ◌∙◌, arith, OnOk}
+use Rattle.std.proofs.Common.{◌≡◌, ◌<◌, ◌≤◌, length, true, sym, ◌∙◌, arith}
 use Rattle.val_types.specs.Fitting.{row_fits}
 use Rattle.val_types.specs.Keys.{primary_key}
-use Rattle.table_rules.specs.Stores.{fits_at, KeepsAll}
+use Rattle.table_rules.specs.Stores.{fits_at}
 use Rattle.row_store.specs.Shelves.{store_of, has_slot}
 use Rattle.row_store.proofs.Beside.{on_ok}
 use Rattle.row_store.proofs.Shelved.{none_past, fits_shelf_at, names_set, stored_update, kept_here, keeps_set, rows_keep, before_kept}
