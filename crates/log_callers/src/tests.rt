@@ -1,5 +1,5 @@
-//! A small log with events of all types: written, read, and read with each byte changed. The bytes are
-//! worked out by hand from the layouts of the events.
+//! A small log with events of all types: written, read, and read with each byte changed. An independent
+//! program wrote the bytes from the layouts of the events; their checksums are of the standard CRC-32.
 ghost use Rattle.std.specs.Prelude.{◌≡◌, ◌≤◌, length};
 
 use event_codec::{
