@@ -6,15 +6,14 @@ ghost use Rattle.sql_tree.specs.StatementView.{view, view_program, view_trigger}
 ghost use Rattle.catalog_rules.specs.Objects.{table_in, function_in, procedure_in, trigger_for};
 ghost use Rattle.catalog_rules.specs.Checks.{expression_refusal, statement_refusal};
 ghost use Rattle.catalog_objects.specs.Keys.{objects_of};
-
 ghost use Rattle.catalog_checks.specs.Asking.{scope_with};
 ghost use Rattle.catalog.specs.Answers.{Lets, Makes, is_create};
 ghost use Rattle.sql_tree.specs.Statement.{create_table};
 ghost use Rattle.catalog_rules.specs.Creating.{ddl_refusal};
 ghost use Rattle.catalog_objects.specs.Lookups.{is_drop};
 
-use catalog_checks::{expression_refusal, statement_refusal};
 use crate::refusing::{creation_refusal, removal_refusal};
+use catalog_checks::{expression_refusal, statement_refusal};
 use catalog_objects::{Object, Objects};
 use sharing::Shared;
 use sql_locals::Locals;

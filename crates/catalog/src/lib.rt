@@ -1,6 +1,7 @@
 //! The catalog: tables, functions, procedures and triggers in order of creation, and the checks of statements against them.
 //!
 //! - `catalog`: [`Catalog`]
+//! - `refusing`: what refuses CREATE TABLE, DROP and TRUNCATE
 //!
 //! A contract sees a [`Catalog`] as the list of what it holds, and by `objects_of` of `catalog_objects` as the catalog that
 //! definitions speak of.
@@ -9,7 +10,10 @@
 //! - [`Catalog::table`], [`Catalog::routine`] and [`Catalog::trigger`] find just what the definitions find
 //! - [`Catalog::check`] and [`Catalog::check_in`] refuse a statement, and [`Catalog::check_expr`] an expression of a body, with
 //!   just the error that the definition says comes first, and let others through
-//! - [`Catalog::remove`] makes just the catalog after a DROP; an object that is not there is refused, and nothing changes
+//! - [`Catalog::add_table`] makes just the catalog after a CREATE TABLE, or refuses it with just the error of its first check;
+//!   then, and where memory is wanted, nothing changes
+//! - [`Catalog::remove`] makes just the catalog after a DROP, without memory; an object that is not there is refused, and
+//!   nothing changes. [`Catalog::check_removal`] answers what refuses a DROP or TRUNCATE
 //! - [`Catalog::copy`] is equal, or wants memory
 #![tactic(auto)]
 

@@ -1,4 +1,14 @@
-//! CREATE TABLE.
+//! CREATE TABLE: what refuses it, and the definition that it makes.
+//!
+//! - `keys`, `columns`: what is asked of the keys and the columns, each one equation
+//! - `refusing`: [`table_refusal`]
+//! - `defining`: [`definition_of`]
+//!
+//! # Proved
+//! - [`table_refusal`] answers just the error of the first check, in their order, that refuses a CREATE TABLE
+//! - [`definition_of`] makes just the definition that the rules say, where the columns are few and of types that have a size, as
+//!   those are that nothing refuses; or it wants memory
+//! - [`is_ill_type`] answers whether a VARCHAR has 0 bytes or more than 65,535
 #![tactic(auto)]
 
 mod columns;

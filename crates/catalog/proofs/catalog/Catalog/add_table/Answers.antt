@@ -1,4 +1,4 @@
-use Rattle.std.proofs.Common.{◌≡◌, None, rules, subst, sym, ◌∙◌, ap}
+use Rattle.std.proofs.Common.{◌≡◌, None, rules, subst, sym}
 use Rattle.sql_tree.specs.Statement.{create_table}
 use Rattle.val_types.specs.declared.definitions.TableDef.{TableDef}
 use Rattle.catalog_rules.specs.Creating.{ddl_refusal}
