@@ -1,24 +1,36 @@
 //! The items of a transaction that is not yet committed.
-ghost use Rattle.std.specs.Prelude.{◌≡◌, ◌≤◌, ◌++◌, ◌∷◌, [], length, take, OnErr, OnOk};
+ghost use Rattle.std.specs.Prelude.{◌≡◌, ◌≤◌, ◌++◌, ◌∷◌, [], length, take, IfOk, OnErr, OnOk};
+ghost use Rattle.log_model.specs.Items.{AreCarried};
+ghost use Rattle.log_model.specs.Log.{transaction};
+ghost use Rattle.log_model.specs.Written.{bytes_of, CanWriteAll};
+ghost use Rattle.row_events.specs.Sizes.{bounded};
+ghost use Rattle.binlog_cache.specs.Sums.{all_sizes, items_of, AreSummed};
 
+use crate::encoding::encode_items;
+use crate::kept::Kept;
+use event_codec::Header;
+use item_events::item_size;
 use log_entries::Item;
 use std::alloc::Global;
 use std::marker::Model;
-use val_types::{List, NoMemory};
+use val_types::{Bytes, List, NoMemory};
 
 /// The items of a transaction, in the order in which their statements ran. Contracts see it as their list.
 #[derive(Drop)]
 pub struct Cache {
-    items: List<Item>,
+    kept: List<Kept>,
 }
 
 impl Model for Cache {
     ghost use Rattle.std.specs.Prelude.{List};
     ghost use Rattle.log_entries.specs.declared.entries.Item.{Item as CachedItem};
+    ghost use Rattle.binlog_cache.specs.Sums.{items_of, AreSummed};
 
     ghost Value = { List CachedItem };
 
-    ghost view = { λ c. c.items };
+    ghost view = { λ c. items_of c.kept };
+
+    ghost invariant = { λ c. AreSummed 0 c.kept };
 }
 
 impl Cache {
@@ -27,7 +39,7 @@ impl Cache {
         ensures { result ≡ [] }
     {
         Cache {
-            items: List::new(alloc),
+            kept: List::new(alloc),
         }
     }
 
@@ -36,14 +48,23 @@ impl Cache {
         ensures ok { OnOk result (self.new ≡ self.old ++ item ∷ []) }
         ensures err { OnErr result (self.new ≡ self.old) }
     {
-        self.items.push(item)
+        let until = last_sum(&self.kept).saturating_add(item_size(&item));
+        self.kept.push(Kept { item, until })?;
+        Ok(())
+    }
+
+    /// How many bytes the items have in a log, or the greatest number of 64 bits where they have more.
+    pub fn bytes(&self) -> u64
+        ensures { result ≡ bounded (all_sizes self.now) }
+    {
+        last_sum(&self.kept)
     }
 
     /// How many items there are: the mark of a savepoint.
     pub fn mark(&self) -> u64
         ensures { result ≡ length self.now }
     {
-        self.items.len() as u64
+        self.kept.len() as u64
     }
 
     /// Takes the items behind a mark off.
@@ -51,6 +72,27 @@ impl Cache {
         requires { mark ≤ length self.old }
         ensures { self.new ≡ take mark self.old }
     {
-        self.items.truncate(mark as usize);
+        self.kept.truncate(mark as usize);
+    }
+
+    /// The bytes of the transaction of these items from a header's place on: BEGIN, the items, and XID
+    /// with a number and the header's timestamp. No item has no bytes.
+    pub fn encode(&self, alloc: Global, xid: u64, header: &Header) -> Result<Bytes, NoMemory>
+        requires carried { AreCarried self.now }
+        requires events { CanWriteAll header.now.pos (transaction header.now.stamp xid self.now) }
+        ensures { IfOk result (λ bytes. bytes ≡ bytes_of header.now.server_id header.now.pos (transaction header.now.stamp xid self.now)) }
+    {
+        encode_items(alloc, &self.kept, xid, header)
+    }
+}
+
+/// How many bytes items have that are kept with their sums.
+fn last_sum(kept: &List<Kept>) -> u64
+    requires { AreSummed 0 kept.now }
+    ensures { result ≡ bounded (all_sizes (items_of kept.now)) }
+{
+    match kept.as_slice() {
+        [.., last] => last.until,
+        [] => 0,
     }
 }

@@ -4,17 +4,24 @@
 //! log, is said in `log_entries` and `log_model`; a source stands on this crate.
 //!
 //! - `cache`: [`Cache`], which contracts see as the list of its items
+//! - `kept`: an item with the bytes of all items up to it
+//! - `encoding`: the bytes of a transaction
 //!
 //! # Proved
 //! - [`Cache::add`] puts an item behind the others, or wants memory and leaves them; [`Cache::mark`] is
 //!   their count, and [`Cache::cut`] leaves those before a mark.
+//! - [`Cache::bytes`] is how many bytes the items have in a log, or the greatest number of 64 bits,
+//!   always.
+//! - [`Cache::encode`] gives exactly the bytes of the transaction of the items, or want of memory. It
+//!   asks that items by their rows have what those need, and that each event can be written at its
+//!   place.
 //!
 //! # Only tested
-//! Nothing yet: that items are added with ample memory is shown where transactions are.
-//!
-//! The bytes of a transaction, and how many its items have, are not yet written here.
+//! That calls succeed with ample memory, and the bytes of a small transaction, in `item_callers`.
 #![tactic(auto)]
 
 mod cache;
+mod encoding;
+mod kept;
 
 pub use cache::Cache;

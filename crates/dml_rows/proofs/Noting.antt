@@ -4,7 +4,7 @@ use Rattle.std.specs.Prelude.{is_some, slice_get}
 use Rattle.std.specs.Option.{option_map, option_and_then}
 use Rattle.std.proofs.Math.ListN.{drop_of_length-le}
 use Rattle.std.proofs.Math.Seq.{drop-append_seam, take-append_seam}
-use Rattle.std.proofs.lemmas.List.{drop-append-le, take-append-le}
+use Rattle.std.proofs.lemmas.List.{drop-append-le, take-append-le, take_all}
 use Rattle.std.proofs.lemmas.Bool.{cases_lt}
 use Rattle.val_types.specs.declared.value.Value.{Value}
 use Rattle.val_types.specs.declared.definitions.TableDef.{TableDef}
@@ -13,11 +13,13 @@ use Rattle.val_types.specs.declared.change.Change.TheVariants.{Insert, Update, D
 use Rattle.val_types.specs.Changes.{inverse}
 use Rattle.table_rules.specs.Tables.{Table}
 use Rattle.table_rules.specs.Changes.{applied}
-use Rattle.table_rules.specs.Stored.{table_named, row_of_key, row_at, rows_beside, key_in_way, Obstacle, where_found, unless_taken, insertion_in, replacement_in, deletion_in, insertion, replacement, deletion, carried_out, all_applied, all_inverse}
+use Rattle.table_rules.specs.Stored.{table_named, row_of_key, row_at, rows_beside, key_in_way, Obstacle, where_found, unless_taken, insertion_in, replacement_in, insertion, replacement, deletion, carried_out, all_applied, all_inverse}
 use Rattle.table_rules.specs.Stores.{Store, place_of, definitions_of, keeps, keeps_put, KeepsAll, KeepsSame, IsWhole, can_take_back}
 use Rattle.table_rules.specs.Leads.{Leads}
+use Rattle.table_rules.proofs.Equations.{insertion_by, replacement_by, deletion_by_row, applied_none, applied_one}
+use Rattle.table_rules.proofs.Storing.{some_same}
 use Rattle.table_rules.proofs.Places.{place_has_name}
-use Rattle.table_rules.proofs.Leading.{leads_nowhere, one_change_leads, no_change_leads, leads_back, none_taken_back, last_step, back_last, rest_taken_back}
+use Rattle.table_rules.proofs.Leading.{leads_nowhere, one_change_leads, no_change_leads, leads_back, leads_home, none_taken_back, last_step, back_last, rest_taken_back}
 use Rattle.row_store.specs.declared.refusal.RowRefusal.{RowRefusal}
 use Rattle.row_store.specs.declared.refusal.RowRefusal.TheVariants.{Taken, Absent, NoMemory}
 use Rattle.row_store.specs.Stores.{Stores}
@@ -35,7 +37,9 @@ insertion_ok None name row ts after e = cc
 insertion_ok (Some t) name row ts after e = unless_ok (key_in_way t.definition row t.rows) (Insert name row) ts after e
 
 pub inserted : (name : List ℕ) (row : List Value) (ts after : List Table) → carried_out (insertion name row ts) ts ≡ Some after → insertion name row ts ≡ Ok (Insert name row)
-inserted name row ts after e = insertion_ok (table_named name ts) name row ts after e
+inserted name row ts after e =
+    let is = insertion_by name row ts (table_named name ts) refl in
+    is ∙ insertion_ok (table_named name ts) name row ts after (ap (λ (step : Result Change Obstacle). carried_out step ts) (sym is) ∙ e)
 
 replacement_row : (o : Option (List Value)) (name : List ℕ) (key row before : List Value) (t : Table) (ts after : List Table) → o ≡ Some before
     → carried_out (where_found o (λ r. unless_taken (key_in_way t.definition row (rows_beside t.definition key t.rows)) (Update name r row))) ts ≡ Some after
@@ -52,15 +56,9 @@ replacement_ok (Some t) name key row before ts after is e = replacement_row (row
 
 pub replaced : (name : List ℕ) (key row before : List Value) (ts after : List Table) → row_at name key ts ≡ Some before
     → carried_out (replacement name key row ts) ts ≡ Some after → replacement name key row ts ≡ Ok (Update name before row)
-replaced name key row before ts after is e = replacement_ok (table_named name ts) name key row before ts after is e
-
-deletion_found : (o : Option Table) (name : List ℕ) (key : List Value) (r : Option (List Value)) → option_and_then (λ (t : Table). row_of_key t.definition key t.rows) o ≡ r
-    → where_found o (deletion_in name key) ≡ where_found r (λ row. Ok (Delete name row))
-deletion_found None name key r e = ap (λ (s : Option (List Value)). where_found s (λ row. Ok (Delete name row))) e
-deletion_found (Some t) name key r e = ap (λ (s : Option (List Value)). where_found s (λ row. Ok (Delete name row))) e
-
-pub deleted : (name : List ℕ) (key : List Value) (ts : List Table) (r : Option (List Value)) → row_at name key ts ≡ r → deletion name key ts ≡ where_found r (λ row. Ok (Delete name row))
-deleted name key ts r e = deletion_found (table_named name ts) name key r e
+replaced name key row before ts after there e =
+    let is = replacement_by name key row ts (table_named name ts) refl in
+    is ∙ replacement_ok (table_named name ts) name key row before ts after there (ap (λ (step : Result Change Obstacle). carried_out step ts) (sym is) ∙ e)
 
 -- ---- refusals
 
@@ -114,7 +112,7 @@ pub delete_leads : (old new : Store) (noted now : List Change) (name : List ℕ)
 delete_leads old new noted now name key row whole there made kept keys is =
     subst (λ (cs : List Change). Leads old noted new cs) (sym is)
     (one_change_leads old new noted (Delete name row) whole.rows
-    (carried (deletion name key old.tables) (Delete name row) old.tables new.tables (deleted name key old.tables (Some row) there) made) kept keys)
+    (carried (deletion name key old.tables) (Delete name row) old.tables new.tables (deletion_by_row name key old.tables (Some row) there) made) kept keys)
 
 -- what was noted is the change of storing the row
 pub insert_notes : (old new : List Table) (noted now : List Change) (name : List ℕ) (row : List Value) → carried_out (insertion name row old) old ≡ Some new → now ≡ noted ++ Insert name row ∷ []
@@ -127,7 +125,7 @@ update_notes old new noted now name key before row there made is = is ∙ ap (λ
 
 pub delete_notes : (old : List Table) (noted now : List Change) (name : List ℕ) (key row : List Value) → row_at name key old ≡ Some row
     → now ≡ noted ++ Delete name row ∷ [] → now ≡ noted ++ changes_of (deletion name key old)
-delete_notes old noted now name key row there is = is ∙ ap (λ (s : Result Change Obstacle). noted ++ changes_of s) (sym (deleted name key old (Some row) there))
+delete_notes old noted now name key row there is = is ∙ ap (λ (s : Result Change Obstacle). noted ++ changes_of s) (sym (deletion_by_row name key old (Some row) there))
 
 -- what was refused leads on, with more keys at most
 pub refused_leads : (refusal : RowRefusal) (step : Result Change Obstacle) (old new : Store) (noted now : List Change) → Stores {A = Unit {0}} (Err refusal) step old.tables new.tables → KeepsAll old new → now ≡ noted
@@ -137,6 +135,10 @@ refused_leads refusal step old new noted now p keys is =
 
 pub nothing_leads : (store : Store) (noted now : List Change) → now ≡ noted → Leads store noted store now
 nothing_leads store noted now is = subst (λ (cs : List Change). Leads store noted store cs) (sym is) (leads_nowhere store noted)
+
+-- where no change was made and none noted
+pub unchanged_leads : (old new : Store) (noted now : List Change) → new.tables ≡ old.tables → KeepsAll old new → now ≡ noted → Leads old noted new now
+unchanged_leads old new noted now tables keys is = subst (λ (cs : List Change). Leads old noted new cs) (sym is) (no_change_leads old new noted tables keys)
 
 -- ---- taking back to a mark
 
@@ -188,6 +190,23 @@ taken_one mark first store after all changes mid last so is h made same whole =
       leads = λ start noted leads past. leads_back start store after noted changes mid (length mid) whole.rows (so.leads start noted leads past) (omega arith)
           (ap (λ (cs : List Change). all_applied (all_inverse (drop (length mid) cs)) store.tables) is
           ∙ ap (λ (cs : List Change). all_applied (all_inverse cs) store.tables) (drop-append_seam mid (last ∷ []))
-          ∙ ap (option_and_then (all_applied [])) made)
+          ∙ applied_one (inverse last) store.tables
+          ∙ made)
           (sym (ap (take (length mid)) is ∙ take-append_seam mid (last ∷ []))) keys;
     }
+
+-- where none is left behind the mark, all were taken back
+pub taken_all : (mark : ℕ) (first store : Store) (all changes : List Change) → TakenSoFar mark first all store changes → length changes ≤ mark
+    → all_applied (all_inverse (drop mark all)) first.tables ≡ Some store.tables
+taken_all mark first store all changes so past =
+    sym so.back ∙ ap (λ (cs : List Change). all_applied (all_inverse cs) store.tables) (drop_of_length-le changes past) ∙ applied_none store.tables
+
+-- and where the mark is where something began, that is where all is again
+pub taken_home : (mark : ℕ) (first store : Store) (all changes : List Change) → TakenSoFar mark first all store changes → length changes ≤ mark
+    → (start : Store) (noted : List Change) → Leads start noted first all → mark ≡ length noted → (store.tables ≡ start.tables) × (changes ≡ noted)
+taken_home mark first store all changes so past start noted leads e =
+    let home = leads_home start first noted all leads in (
+      some_same store.tables start.tables
+          (sym (taken_all mark first store all changes so past) ∙ ap (λ (k : ℕ). all_applied (all_inverse (drop k all)) first.tables) e ∙ home.0),
+      sym (take_all mark changes past) ∙ so.front ∙ ap (λ (k : ℕ). take k all) e ∙ home.1,
+    )

@@ -12,6 +12,7 @@ use undo_log::Undo;
 use val_types::{Bytes, Row};
 
 /// Inserts a row.
+#[tactic(auto, using(crate::proofs::Noting::nothing_leads))]
 pub fn insert_row(
     alloc: Global,
     tables: &mut Tables,
@@ -32,6 +33,7 @@ pub fn insert_row(
 }
 
 /// Replaces the row of a key.
+#[tactic(auto, using(crate::proofs::Noting::nothing_leads))]
 pub fn update_row(
     alloc: Global,
     tables: &mut Tables,
@@ -54,6 +56,7 @@ pub fn update_row(
 }
 
 /// Deletes the row of a key.
+#[tactic(auto, using(crate::proofs::Noting::nothing_leads))]
 pub fn delete_row(
     alloc: Global,
     tables: &mut Tables,

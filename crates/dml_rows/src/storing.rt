@@ -13,6 +13,7 @@ use undo_log::Undo;
 use val_types::{Change, Duplicate, Row};
 
 /// Inserts a row into the table at a place.
+#[tactic(auto, using(crate::proofs::Noting::nothing_leads, crate::proofs::Noting::unchanged_leads))]
 pub fn insert_row_at(
     alloc: Global,
     tables: &mut Tables,
@@ -45,6 +46,7 @@ pub fn insert_row_at(
 }
 
 /// Replaces the row of a key in the table at a place.
+#[tactic(auto, using(crate::proofs::Noting::nothing_leads, crate::proofs::Noting::unchanged_leads))]
 pub fn update_row_at(
     alloc: Global,
     tables: &mut Tables,
@@ -83,6 +85,7 @@ pub fn update_row_at(
 }
 
 /// Deletes the row of a key from the table at a place.
+#[tactic(auto, using(crate::proofs::Noting::nothing_leads, crate::proofs::Noting::unchanged_leads))]
 pub fn delete_row_at(
     alloc: Global,
     tables: &mut Tables,

@@ -38,10 +38,12 @@ mod random;
 mod texts;
 mod truths;
 
+pub use arithmetic::absolute;
 pub use comparing::{compare, equal};
 pub use functions::builtin;
 pub use identifiers::uuid_text;
 pub use moments::time_text;
 pub use operators::{binary, unary};
 pub use random::{floor_rand, rand_step};
+pub use texts::{concat, length, substring};
 pub use truths::{decided, holds, truth, truth_value, value_of_truth};

@@ -10,7 +10,7 @@ use std::alloc::Global;
 use std::test::Fail;
 use val_types::{Bytes, NoMemory};
 
-static LOG: [u8; 638] = [
+pub(crate) static LOG: [u8; 638] = [
     0xfe, 0x62, 0x69, 0x6e,
     // FORMAT_DESCRIPTION, from 4
     0x00, 0xf1, 0x53, 0x65, 0x0f, 0x01, 0x00, 0x00, 0x00, 0x77, 0x00, 0x00, 0x00, 0x7b, 0x00, 0x00,
@@ -262,10 +262,10 @@ fn letter_at(log: &[u8], pos: u64) -> u8 {
 }
 
 /// The answers for an event's header with one of its bytes set to ff.
-static HEADER: [u8; 19] = *b"eeeefeeeeddddddddee";
+pub(crate) static HEADER: [u8; 19] = *b"eeeefeeeeddddddddee";
 
 /// Where each event begins, and the answers for its body with one of its bytes set to ff.
-static BODIES: [(u64, &[u8]); 15] = [
+pub(crate) static BODIES: [(u64, &[u8]); 15] = [
     (
         4,
         b"ffeeeeeeeeeeeeeeeeeeeeeeeeeeeeeeeeeeeeeeeeeeeeeeeeeeeeeeffffffffffffffffffffffffffffffffffffffffeeee",

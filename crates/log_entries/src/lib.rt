@@ -11,7 +11,7 @@
 //! The definitions in specs/ say what a variable of a name is (`Variables`) and what entries make of a base (`Entries`).
 //!
 //! # Proved
-//! - [`Vars::get`] and [`Vars::set`] are the variable of a name and the variables with one set; want of memory leaves them as
+//! - [`Vars::len`] and [`Vars::at`] are the count of variables and the one at a place; [`Vars::get`] and [`Vars::set`] are the variable of a name and the variables with one set; want of memory leaves them as
 //!   they were; a copy of variables is equal, or memory is wanted; no name stands twice
 //! - entries behind others are applied to what those leave (`entries_go_on`)
 //!

@@ -1,5 +1,7 @@
 //! User variables.
-ghost use Rattle.std.specs.Prelude.{◌≡◌, [], nat_eq, IfOk, OnErr, OnOk, option_copied};
+ghost use Rattle.std.specs.Prelude.{◌≡◌, [], length, nat_eq, slice_get, IfOk, OnErr, OnOk, option_copied};
+ghost use Rattle.std.specs.Option.{option_map};
+ghost use Rattle.std.specs.Map.Iter.{deref_pair};
 ghost use Rattle.std.specs.Cmp.Lexicographic.{pointwise};
 ghost use Rattle.std.specs.Map.{lookup};
 ghost use Rattle.log_entries.specs.Variables.{variable_set};
@@ -42,6 +44,20 @@ impl Vars {
         ensures { option_copied result ≡ lookup (pointwise nat_eq name.now) self.now }
     {
         self.map.get(name)
+    }
+
+    /// How many variables there are.
+    pub fn len(&self) -> usize
+        ensures { result ≡ length self.now }
+    {
+        self.map.len()
+    }
+
+    /// The name and the value of the variable at a place counted from 0, None past the end.
+    pub fn at(&self, place: usize) -> Option<(&Bytes, &Value)>
+        ensures { option_map deref_pair result ≡ slice_get self.now place }
+    {
+        self.map.get_index(place)
     }
 
     /// Sets a variable; one that is there keeps its place.

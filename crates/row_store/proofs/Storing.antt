@@ -12,7 +12,8 @@ use Rattle.val_types.specs.Keys.{primary_key, collide}
 use Rattle.table_rules.specs.Tables.{Table}
 use Rattle.table_rules.specs.Changes.{without, with_row, put, rows_after, table_after, applied}
 use Rattle.val_types.specs.Changes.{table_of}
-use Rattle.table_rules.specs.Stored.{table_named, row_of_key, row_at, rows_beside, key_in_way, Obstacle, row_absent, where_found, unless_taken, insertion_in, replacement_in, deletion_in, insertion, replacement, deletion, carried_out, fits_table, keys_at}
+use Rattle.table_rules.specs.Stored.{table_named, row_of_key, row_at, rows_beside, key_in_way, Obstacle, row_absent, where_found, unless_taken, insertion, replacement, deletion, carried_out, fits_table, keys_at}
+use Rattle.table_rules.proofs.Equations.{insertion_by, replacement_by, deletion_by, none_inserted, none_replaced, none_deleted}
 use Rattle.table_rules.proofs.Storing.{keys_in_way, without_is_beside}
 use Rattle.row_store.specs.declared.refusal.RowRefusal.{RowRefusal}
 use Rattle.row_store.specs.declared.refusal.RowRefusal.TheVariants.{Taken, Absent, NoMemory}
@@ -64,7 +65,7 @@ put_made d row rows fits free =
 insertion_is : (name : List ℕ) (row : List Value) (ss : List Shelf) (old : Shelf) (o : Option ℕ) → shelf_named name ss ≡ Some old → key_in_way old.definition row (rows_in old.slots.items) ≡ o
     → insertion name row (tables_on ss) ≡ unless_taken o (Insert name row)
 insertion_is name row ss old o found way =
-    ap (λ (t : Option Table). where_found t (insertion_in name row)) (table_found name ss old found)
+    insertion_by name row (tables_on ss) (Some (table_on old)) (table_found name ss old found)
     ∙ ap (λ (k : Option ℕ). unless_taken k (Insert name row)) way
 
 pub insert_stored : (r : Result (Unit {0}) RowRefusal) (name : List ℕ) (row : List Value) (ss : List Shelf) (old new : Shelf)
@@ -80,7 +81,7 @@ insert_stored (Err Absent) name row ss old new found same fits p = absurd p
 insert_stored (Err NoMemory) name row ss old new found same fits p = shelf_same name ss old new found same p
 
 pub nothing_inserted : (name : List ℕ) (row : List Value) (ss : List Shelf) → shelf_named name ss ≡ None → insertion name row (tables_on ss) ≡ Err row_absent
-nothing_inserted name row ss e = ap (λ (t : Option Table). where_found t (insertion_in name row)) (no_table name ss e)
+nothing_inserted name row ss e = none_inserted name row (tables_on ss) (no_table name ss e)
 
 -- ---- replacing
 
@@ -92,14 +93,14 @@ replacement_is : (name : List ℕ) (key row before : List Value) (ss : List Shel
     → row_of_key old.definition key (rows_in old.slots.items) ≡ Some before → key_in_way old.definition row (rows_beside old.definition key (rows_in old.slots.items)) ≡ o
     → replacement name key row (tables_on ss) ≡ unless_taken o (Update name before row)
 replacement_is name key row before ss old o found is way =
-    ap (λ (t : Option Table). where_found t (replacement_in name key row)) (table_found name ss old found)
+    replacement_by name key row (tables_on ss) (Some (table_on old)) (table_found name ss old found)
     ∙ ap (λ (r : Option (List Value)). where_found r (λ before. unless_taken (key_in_way old.definition row (rows_beside old.definition key (rows_in old.slots.items))) (Update name before row))) is
     ∙ ap (λ (k : Option ℕ). unless_taken k (Update name before row)) way
 
 replacement_absent : (name : List ℕ) (key row : List Value) (ss : List Shelf) (old : Shelf) → shelf_named name ss ≡ Some old → row_of_key old.definition key (rows_in old.slots.items) ≡ None
     → replacement name key row (tables_on ss) ≡ Err row_absent
 replacement_absent name key row ss old found none =
-    ap (λ (t : Option Table). where_found t (replacement_in name key row)) (table_found name ss old found)
+    replacement_by name key row (tables_on ss) (Some (table_on old)) (table_found name ss old found)
     ∙ ap (λ (r : Option (List Value)). where_found r (λ before. unless_taken (key_in_way old.definition row (rows_beside old.definition key (rows_in old.slots.items))) (Update name before row))) none
 
 pub update_stored : (r : Result (Unit {0}) RowRefusal) (name : List ℕ) (key row : List Value) (ss : List Shelf) (old new : Shelf)
@@ -123,7 +124,7 @@ update_stored (Err Absent) name key row ss old new found same fits p =
 update_stored (Err NoMemory) name key row ss old new found same fits p = shelf_same name ss old new found same p
 
 pub nothing_replaced : (name : List ℕ) (key row : List Value) (ss : List Shelf) → shelf_named name ss ≡ None → replacement name key row (tables_on ss) ≡ Err row_absent
-nothing_replaced name key row ss e = ap (λ (t : Option Table). where_found t (replacement_in name key row)) (no_table name ss e)
+nothing_replaced name key row ss e = none_replaced name key row (tables_on ss) (no_table name ss e)
 
 -- ---- deleting
 
@@ -136,7 +137,7 @@ no_row_found name key ss e = ap (option_and_then (λ (t : Table). row_of_key t.d
 deletion_is : (name : List ℕ) (key : List Value) (ss : List Shelf) (old : Shelf) (o : Option (List Value)) → shelf_named name ss ≡ Some old → row_of_key old.definition key (rows_in old.slots.items) ≡ o
     → deletion name key (tables_on ss) ≡ where_found o (λ row. Ok (Delete name row))
 deletion_is name key ss old o found is =
-    ap (λ (t : Option Table). where_found t (deletion_in name key)) (table_found name ss old found)
+    deletion_by name key (tables_on ss) (Some (table_on old)) (table_found name ss old found)
     ∙ ap (λ (r : Option (List Value)). where_found r (λ row. Ok (Delete name row))) is
 
 pub delete_stored : (name : List ℕ) (key row : List Value) (ss : List Shelf) (old new : Shelf) → shelf_named name ss ≡ Some old → same_name old new
@@ -152,7 +153,7 @@ pub delete_absent : (name : List ℕ) (key : List Value) (ss : List Shelf) (old 
 delete_absent name key ss old found none = deletion_is name key ss old None found none
 
 pub nothing_deleted : (name : List ℕ) (key : List Value) (ss : List Shelf) → shelf_named name ss ≡ None → deletion name key (tables_on ss) ≡ Err row_absent
-nothing_deleted name key ss e = ap (λ (t : Option Table). where_found t (deletion_in name key)) (no_table name ss e)
+nothing_deleted name key ss e = none_deleted name key (tables_on ss) (no_table name ss e)
 
 -- ---- what callers ask
 

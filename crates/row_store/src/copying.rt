@@ -32,7 +32,7 @@ impl Shelf {
             slots.push(slot.copy(alloc)?)?;
         }
         Ok(Shelf {
-            definition: self.definition.duplicate(alloc)?,
+            definition: self.definition.share()?,
             slots,
             empties: self.empties,
         })

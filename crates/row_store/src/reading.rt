@@ -30,7 +30,7 @@ impl Shelf {
     fn key_in_way(&self, row: &Row) -> Option<usize>
         ensures { result ≡ key_in_way self.now.definition row.now (rows_in self.now.slots.items) }
     {
-        self.in_way(row, slot_for(&self.definition, row, &self.slots))
+        self.in_way(row, slot_for(self.definition.get(), row, &self.slots))
     }
 
     /// The row with the primary key of a row.
@@ -38,7 +38,7 @@ impl Shelf {
         ensures { option_copied result
             ≡ find (has_key_in_way self.now.definition row.now 0) (rows_in self.now.slots.items) }
     {
-        match slot_for(&self.definition, row, &self.slots) {
+        match slot_for(self.definition.get(), row, &self.slots) {
             Ok(at) => self.slots[at].held(),
             Err(_) => None,
         }
@@ -52,10 +52,10 @@ impl Shelf {
         if which == 0 {
             return self.row_on_primary(row);
         }
-        if which > self.definition.uniques.len() {
+        if which > self.definition.get().uniques.len() {
             return None;
         }
-        agreeing(&self.definition.uniques[which - 1], row, &self.slots)
+        agreeing(&self.definition.get().uniques[which - 1], row, &self.slots)
     }
 }
 

@@ -6,13 +6,14 @@ use crate::held::Held;
 use crate::looking::{first_agreed, slot_for, slot_of};
 use crate::refusal::{RowRefusal, taken};
 use crate::slots::Slot;
+use sharing::Shared;
 use std::alloc::Global;
 use val_types::{Change, Duplicate, List, NoMemory, Row, TableDef, key_of};
 
 /// A table: its definition, its slots in the order of their keys, and how many of them are empty.
 #[derive(Drop)]
 pub struct Shelf {
-    pub definition: TableDef,
+    pub definition: Shared<TableDef>,
     pub slots: Vec<Slot>,
     pub empties: usize,
     pub ghost sound: { IsTrue (is_sound definition slots.items) },
@@ -32,7 +33,7 @@ impl Shelf {
     ghost use Rattle.row_store.specs.Shelves.{has_slot, has_slot_to_put, Deleted, Inserted, KeepsSlots, Replaced};
 
     /// A table without rows.
-    pub(crate) fn new(alloc: Global, definition: TableDef) -> Shelf
+    pub(crate) fn new(alloc: Global, definition: Shared<TableDef>) -> Shelf
         ensures definition { result.definition ≡ definition }
         ensures rows { rows_in result.slots.items ≡ [] }
     {
@@ -62,7 +63,7 @@ impl Shelf {
         let mut keys = List::new(alloc);
         for slot in self.slots.as_slice() {
             if let Some(row) = &slot.row {
-                keys.push(key_of(alloc, &self.definition, row.get())?)?;
+                keys.push(key_of(alloc, self.definition.get(), row.get())?)?;
             }
         }
         Ok(keys)
@@ -107,7 +108,7 @@ impl Shelf {
         ensures slots { keys_in self.new.slots.items ≡ keys_in self.old.slots.items }
         ensures definition { self.new.definition ≡ self.old.definition }
     {
-        if let Ok(at) = slot_for(&self.definition, row, &self.slots) {
+        if let Ok(at) = slot_for(self.definition.get(), row, &self.slots) {
             let _ = self.empty(at);
         }
     }
@@ -138,7 +139,7 @@ impl Shelf {
         ensures slots { keys_in self.new.slots.items ≡ keys_in self.old.slots.items }
         ensures definition { self.new.definition ≡ self.old.definition }
     {
-        if let Ok(at) = slot_for(&self.definition, row.get(), &self.slots) {
+        if let Ok(at) = slot_for(self.definition.get(), row.get(), &self.slots) {
             self.fill(at, row);
         }
     }
@@ -155,7 +156,7 @@ impl Shelf {
         ensures slots { KeepsSlots self.old self.new }
         ensures definition { self.new.definition ≡ self.old.definition }
     {
-        let key = key_of(alloc, &self.definition, row.get())?;
+        let key = key_of(alloc, self.definition.get(), row.get())?;
         self.slots.insert(
             at,
             Slot {
@@ -173,7 +174,7 @@ impl Shelf {
     {
         match found {
             Ok(at) if self.slots[at].row.is_some() => Some(0),
-            _ => first_agreed(self.definition.uniques.as_slice(), row, &self.slots),
+            _ => first_agreed(self.definition.get().uniques.as_slice(), row, &self.slots),
         }
     }
 
@@ -186,7 +187,7 @@ impl Shelf {
         ensures slots { KeepsSlots self.old self.new }
         ensures definition { self.new.definition ≡ self.old.definition }
     {
-        let found = slot_for(&self.definition, &row, &self.slots);
+        let found = slot_for(self.definition.get(), &row, &self.slots);
         if let Some(which) = self.in_way(&row, found) {
             return Err(taken(which));
         }

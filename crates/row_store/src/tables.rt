@@ -3,6 +3,7 @@
 use crate::named::shelf_of;
 use crate::refusal::RowRefusal;
 use crate::shelf::Shelf;
+use sharing::Shared;
 use std::alloc::Global;
 use std::marker::Model;
 use val_types::{Bytes, Change, Duplicate, NoMemory, Row, TableDef, row_fits};
@@ -63,6 +64,16 @@ impl Tables {
         if at >= self.shelves.len() {
             return None;
         }
+        Some(self.shelves[at].definition.get())
+    }
+
+    /// The same definition, for those who hold it on while rows change.
+    pub fn shared_definition(&self, at: usize) -> Option<&Shared<TableDef>>
+        ensures { option_copied result ≡ slice_get (definitions_of self.now.tables) at }
+    {
+        if at >= self.shelves.len() {
+            return None;
+        }
         Some(&self.shelves[at].definition)
     }
 
@@ -84,7 +95,7 @@ impl Tables {
         if at >= self.shelves.len() {
             return true;
         }
-        row_fits(&self.shelves[at].definition.columns, row)
+        row_fits(&self.shelves[at].definition.get().columns, row)
     }
 
     /// Inserts a row into the table at a place. The primary key is looked at first, then the unique keys in
@@ -155,7 +166,8 @@ impl Tables {
         ensures err { OnErr result (self.new ≡ self.old) }
         ensures keys { KeepsAll self.old self.new }
     {
-        let shelf = Shelf::new(self.alloc, definition.duplicate(self.alloc)?);
+        let definition = Shared::new(self.alloc, definition.duplicate(self.alloc)?)?;
+        let shelf = Shelf::new(self.alloc, definition);
         self.shelves.push(shelf)?;
         Ok(())
     }

@@ -4,7 +4,7 @@
 //! aggregates is the part of the crate that runs statements.
 //!
 //! - `keyed`: [`Keyed`], a row with what it is ordered by
-//! - `ordering`: [`order`], ORDER BY
+//! - `ordering`: [`order`], ORDER BY, and [`compare`], how two rows stand by their items
 //! - `limiting`: [`limit`], LIMIT and OFFSET
 //! - `aggregates`: [`aggregate`], COUNT, SUM, MIN and MAX
 //!
@@ -26,4 +26,4 @@ mod ordering;
 pub use aggregates::aggregate;
 pub use keyed::Keyed;
 pub use limiting::limit;
-pub use ordering::order;
+pub use ordering::{compare, order};

@@ -30,7 +30,7 @@ fn compare_at(down: bool, place: usize, a: &[Value], b: &[Value]) -> Ordering
 }
 
 /// How two rows stand by the values of their items.
-fn compare(down: &[bool], a: &[Value], b: &[Value]) -> Ordering
+pub fn compare(down: &[bool], a: &[Value], b: &[Value]) -> Ordering
     ensures { result ≡ by_items down.now a.now b.now }
 {
     for i in 0..down.len() {

@@ -10,6 +10,7 @@ use Rattle.val_types.specs.declared.change.Change.{Change}
 use Rattle.val_types.specs.declared.value.Value.{Value}
 use Rattle.table_rules.specs.Tables.{Table}
 use Rattle.table_rules.specs.Stored.{all_applied}
+use Rattle.table_rules.proofs.Equations.{all_applied_behind}
 use Rattle.catalog_rules.specs.Bases.{Base, defined}
 use Rattle.log_entries.specs.declared.entries.Entry.{Entry}
 use Rattle.log_entries.specs.declared.entries.Item.{Item}
@@ -36,7 +37,7 @@ use Rattle.session_model.specs.Running.{Began, Call, Fuel, Turn, Given, is_other
 use Rattle.session_model.specs.Commands.{answered, unless_refused, begin_turn, commit_turn, rollback_turn, is_save_of, saves_but, changes_of_own, saved, save_turn, cut_back, back_to_save, back_in, back_turn, release_in, with_answer, counters_after, definition_item, defined_turn, made_turn, unless_answered, define_turn, definition_turn, is_still_refused, assign_unless, first_refused, set_by, set_expressions, set_turn, code_answer, is_too_long, call_turn, plain_turn}
 use Rattle.session_model.specs.Machine.{Whole, whole, statement_turn, text_turn, at_work, with_count, session_slots, step}
 use Rattle.session_model.specs.Holding.{changes_of, define, changes_in, holds_lock, SavesFrom, Owns, SharedHolds, transaction_of, RunsBegin, RunsGoOn}
-use Rattle.session_model.proofs.Saving.{made_behind_others, front_made, cut_changes, saves_more, saves_set, saves_without, saves_cut, found_holds}
+use Rattle.session_model.proofs.Saving.{none_made, front_made, cut_changes, saves_more, saves_set, saves_without, saves_cut, found_holds}
 
 -- ---- the lock
 
@@ -170,7 +171,7 @@ committed_left call context shared t i is h o e =
     let q = held_not_other call.number shared.writer l in
     subst (λ (b : Bool). Left call.number shared (cond b (all_committed shared) (record (all_committed shared) { writer = None })) None (Transaction context.stamp call.identity.server_id (i ∷ is) ∷ [])) (sym q)
     (record {
-      holds = record { free = λ _. refl; makes = refl };
+      holds = record { free = λ _. refl; makes = none_made _ };
       own = closed_owns call.number (record (all_committed shared) { writer = None }) refl;
       entries = entry_made context.stamp call.identity.server_id (i ∷ is) shared.base shared.changes (o.own l ∙ ap changes_in e) h.makes;
       frame = inr (q, refl);
@@ -197,7 +198,7 @@ one_item item cs e = append-nil (changes_of item) ∙ e
 -- the tables that a session sees beside no other
 made_more : (changes cs : List Change) (ts us : List Table) → is_some (all_applied changes ts) ≡ true → all_applied cs (tables_with changes ts) ≡ Some us
     → all_applied (changes ++ cs) ts ≡ Some us
-made_more changes cs ts us h e = made_behind_others changes cs ts ∙ (ap (λ (o : Option (List Table)). option_and_then (all_applied cs) o) (made_tables changes ts h) ∙ e)
+made_more changes cs ts us h e = all_applied_behind changes cs ts ∙ (ap (λ (o : Option (List Table)). option_and_then (all_applied cs) o) (made_tables changes ts h) ∙ e)
 
 some_there : {A : Type 0} (o : Option A) (a : A) → o ≡ Some a → is_some o ≡ true
 some_there o a e = ap is_some e
@@ -206,7 +207,7 @@ kept_alone : (call : Call Whole) (context : Context) (item : Whole) (scene : Sce
     → changes_of item ≡ cs → scene.changes ≡ cs → is_some (all_applied cs shared.base.tables) ≡ true
     → Left call.number shared (all_committed (record shared { changes = scene.changes })) None (Transaction context.stamp call.identity.server_id (item ∷ []) ∷ [])
 kept_alone call context item scene shared cs h none q e f m = record {
-  holds = record { free = λ _. refl; makes = refl };
+  holds = record { free = λ _. refl; makes = none_made _ };
   own = record { own = λ _. refl; none = λ _. refl; saves = omega arith };
   entries = entry_made context.stamp call.identity.server_id (item ∷ []) shared.base scene.changes (f ∙ sym (one_item item cs e)) (ap (λ (ds : List Change). is_some (all_applied ds shared.base.tables)) f ∙ m);
   frame = inr (q, q);
@@ -342,7 +343,7 @@ module _ (call : Call Whole) (noted : (item : Item) (began : Began) → call.not
       differ : {b : Bool} → b ≡ false → b ≡ true → ⊥
       differ p r = cc
   dropped_by false q = record {
-    holds = record { free = λ _. refl; makes = refl };
+    holds = record { free = λ _. refl; makes = none_made _ };
     own = closed_owns call.number (record shared { changes = []; writer = None }) refl;
     entries = refl;
     frame = inr (q, refl);
@@ -453,7 +454,7 @@ module _ (call : Call Whole) (noted : (item : Item) (began : Began) → call.not
       let none = no_changes call.number t.shared None l.holds l.own q refl in
       let new : Shared = record (t.shared) { base = base; counters = counters_after s t.shared.counters; committed = t.shared.committed + 1 } in
       record {
-        holds = record { free = l.holds.free; makes = ap (λ (cs : List Change). is_some (all_applied cs base.tables)) none };
+        holds = record { free = l.holds.free; makes = ap (λ (cs : List Change). is_some (all_applied cs base.tables)) none ∙ none_made base.tables };
         own = subst (λ (u : Option (Open Whole)). Owns call.number new u) (sym over) (closed_owns call.number new none);
         entries = go_on changes_of define t.committed (Definition t.session.vars.context.stamp call.identity.server_id (definition_item call text s t.session.vars.context t.shared) ∷ []) shared.base
             ∙ (ap (λ (made : Option Base). option_and_then (after changes_of define (Definition t.session.vars.context.stamp call.identity.server_id (definition_item call text s t.session.vars.context t.shared) ∷ [])) made) l.entries
@@ -625,6 +626,6 @@ runs_begin base counters committed =
     let shared : Shared = record { base = base; counters = counters; changes = []; writer = None; committed = committed } in
     record {
       entries = refl;
-      shared = record { free = λ _. refl; makes = refl };
+      shared = record { free = λ _. refl; makes = none_made _ };
       each = λ n. subst (λ (s : Option (Session Whole)). Owns n shared (transaction_of s)) (sym (none_there session_slots n)) (closed_owns n shared refl);
     }

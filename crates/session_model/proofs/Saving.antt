@@ -9,6 +9,7 @@ use Rattle.val_types.specs.declared.change.Change.{Change}
 use Rattle.table_rules.specs.Tables.{Table}
 use Rattle.table_rules.specs.Changes.{applied}
 use Rattle.table_rules.specs.Stored.{all_applied}
+use Rattle.table_rules.proofs.Equations.{applied_none, applied_front}
 use Rattle.session_model.specs.Sessions.{Save}
 use Rattle.session_model.specs.Commands.{is_save_of, saves_but, saves_up_to}
 use Rattle.session_model.specs.Machine.{Whole}
@@ -16,15 +17,9 @@ use Rattle.session_model.specs.Holding.{changes_of, changes_in, SavesFrom}
 
 -- ---- changes
 
-more_by : (first bs : List Change) (o : Option (List Table)) → ((ts : List Table) → all_applied (first ++ bs) ts ≡ option_and_then (all_applied bs) (all_applied first ts))
-    → option_and_then (all_applied (first ++ bs)) o ≡ option_and_then (all_applied bs) (option_and_then (all_applied first) o)
-more_by first bs None rest = refl
-more_by first bs (Some ts) rest = rest ts
-
--- changes behind others are made to what those leave
-pub made_behind_others : (first bs : List Change) (ts : List Table) → all_applied (first ++ bs) ts ≡ option_and_then (all_applied bs) (all_applied first ts)
-made_behind_others [] bs ts = refl
-made_behind_others (c ∷ cs) bs ts = more_by cs bs (applied c ts) (made_behind_others cs bs)
+-- no change can always be made
+pub none_made : (ts : List Table) → is_some (all_applied [] ts) ≡ true
+none_made ts = ap is_some (applied_none ts)
 
 front_by : (cs : List Change) (n : ℕ) (o : Option (List Table)) → ((ts : List Table) → is_some (all_applied cs ts) ≡ true → is_some (all_applied (take n cs) ts) ≡ true)
     → is_some (option_and_then (all_applied cs) o) ≡ true → is_some (option_and_then (all_applied (take n cs)) o) ≡ true
@@ -33,9 +28,10 @@ front_by cs n (Some ts) rest h = rest ts h
 
 -- the first of some changes can be made where all can
 pub front_made : (n : ℕ) (cs : List Change) (ts : List Table) → is_some (all_applied cs ts) ≡ true → is_some (all_applied (take n cs) ts) ≡ true
-front_made zero cs ts h = refl
-front_made (suc n) [] ts h = refl
-front_made (suc n) (c ∷ cs) ts h = front_by cs n (applied c ts) (front_made n cs) h
+front_made zero cs ts h = none_made ts
+front_made (suc n) [] ts h = none_made ts
+front_made (suc n) (c ∷ cs) ts h =
+    ap is_some (applied_front c (take n cs) ts) ∙ front_by cs n (applied c ts) (front_made n cs) (ap is_some (sym (applied_front c cs ts)) ∙ h)
 
 -- ---- changes of items
 

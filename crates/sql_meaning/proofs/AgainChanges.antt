@@ -1,6 +1,6 @@
 -- INSERT, REPLACE, UPDATE and DELETE are done again with more levels of nesting and more turns.
 use Rattle.std.proofs.Common.{ℕ, ◌+◌, List, [], ◌∷◌, zip, Bool, cond, Option, Some, None, ℤ}
-use Rattle.std.specs.Prelude.{find, unwrap_or, slice_get, slice_index_or, slice_set, is_none, not}
+use Rattle.std.specs.Prelude.{find, unwrap_or, slice_get, slice_index_or, slice_set, is_none, not, ◌&&◌}
 use Rattle.std.specs.Option.{option_map}
 use Rattle.val_types.specs.declared.value.Value.{Value}
 use Rattle.val_types.specs.declared.value.Value.TheVariants.{Null, Int, Text}
@@ -8,7 +8,7 @@ use Rattle.val_types.specs.declared.change.Change.TheVariants as changes
 use Rattle.val_types.specs.declared.definitions.ColType.{ColType}
 use Rattle.val_types.specs.declared.definitions.ColumnDef.{ColumnDef}
 use Rattle.val_types.specs.declared.definitions.TableDef.{TableDef}
-use Rattle.val_types.specs.Fitting.{fitting, greatest_of}
+use Rattle.val_types.specs.Fitting.{fitting, greatest_of, row_fits}
 use Rattle.val_types.specs.Keys.{primary_key, same_values}
 use Rattle.auto_inc.specs.Generating.{Sequence, after_generated, after_explicit}
 use Rattle.table_rules.specs.Tables.{Table}
@@ -24,7 +24,7 @@ use Rattle.catalog_rules.specs.Objects.{columns_of}
 use Rattle.sql_meaning.specs.Scenes.{Action, ◌>>=◌, pure, answered, needed, require, each, kept_by, counted, carried_on, make, table_now, counter_now, raise_counter, fail}
 use Rattle.sql_meaning.specs.Frames.{Frame, sees, Setting, Running, Below}
 use Rattle.sql_meaning.specs.Values.{value, values, is_kept, order_values, rows_of_query}
-use Rattle.sql_meaning.specs.Changing.{fitted, type_at, put_at, asks, asked_place, has_missing, none_missing, before_row, after_row, delete_row, assign_column, store_update, update_row, Inserting, nothing_inserted, Manner, refusing, ignoring, replacing, updating, generated_next, Counted, generate_at, given_value, count_row, put_row, clear_way, passed_by, updating_frame, settle, place_row, left_out_row, insert_row, insert_supply, insert_into_table, chosen_rows, update_table, delete_from_table}
+use Rattle.sql_meaning.specs.Changing.{fitted, type_at, put_at, asks, asked_place, has_missing, none_missing, before_row, after_row, delete_row, assign_column, take_out, put_in_place, is_there, store_update, update_row, Inserting, nothing_inserted, Manner, refusing, ignoring, replacing, updating, generated_next, Counted, generate_at, given_value, count_row, put_row, clear_way, passed_by, updating_frame, settle, place_row, left_out_row, insert_row, insert_supply, insert_into_table, chosen_rows, update_table, delete_from_table}
 use Rattle.sql_meaning.proofs.Again.{Again, bind_again, pure_again, fail_again, answered_again, needed_again, require_again, if_again, each_again, kept_again, counted_again, carried_again, make_again, table_again, counter_again, raise_again}
 use Rattle.sql_meaning.proofs.AgainValues.{AgainBelow, around, value_again, values_again, is_kept_again, order_again, query_again}
 
@@ -50,6 +50,19 @@ module _ (extra : ℕ) where
   missing_again : (definition : TableDef) (row : List Value) (asked : Option ℕ) → Again extra (none_missing definition row asked) (none_missing definition row asked)
   missing_again definition row asked = require_again extra 1048 (not (has_missing definition row asked))
 
+  take_out_again : (name : List ℕ) (row : List Value) → Again extra (take_out name row) (take_out name row)
+  take_out_again name row =
+      bind_again extra (table_now name) (table_now name) _ _ (table_again extra name) (λ table.
+      bind_again extra (require 1032 _) (require 1032 _) _ _ (require_again extra 1032 (is_there table.definition row table.rows)) (λ _.
+      make_again extra 1032 (changes.Delete name row)))
+
+  put_in_place_again : (name : List ℕ) (old new : List Value) → Again extra (put_in_place name old new) (put_in_place name old new)
+  put_in_place_again name old new =
+      bind_again extra (table_now name) (table_now name) _ _ (table_again extra name) (λ table.
+      bind_again extra (require 1032 _) (require 1032 _) _ _ (require_again extra 1032 (row_fits table.definition.columns new && is_there table.definition old table.rows)) (λ _.
+      bind_again extra (require 1062 _) (require 1062 _) _ _ (require_again extra 1062 (is_none (key_in_way table.definition new (rows_beside table.definition (primary_key table.definition old) table.rows)))) (λ _.
+      make_again extra 1032 (changes.Update name old new))))
+
   module _ (setting : Setting) (running : Running) (below below' : Below) (h : AgainBelow extra below below') where
     before_again : (event : Cause) (definition : TableDef) (new old : Option (List Value)) → Again extra (before_row (around setting below running) event definition new old) (before_row (around setting below' running) event definition new old)
     before_again event definition new old = h.fires running times.Before event definition new old
@@ -60,7 +73,7 @@ module _ (extra : ℕ) where
     delete_again : (definition : TableDef) (row : List Value) → Again extra (delete_row (around setting below running) definition row) (delete_row (around setting below' running) definition row)
     delete_again definition row =
         bind_again extra (before_row (around setting below running) causes.Delete definition None (Some row)) (before_row (around setting below' running) causes.Delete definition None (Some row)) _ _ (before_again causes.Delete definition None (Some row)) (λ _.
-        bind_again extra (make 1032 (changes.Delete definition.name row)) (make 1032 (changes.Delete definition.name row)) _ _ (make_again extra 1032 (changes.Delete definition.name row)) (λ _.
+        bind_again extra (take_out definition.name row) (take_out definition.name row) _ _ (take_out_again definition.name row) (λ _.
         after_again causes.Delete definition None (Some row)))
 
     assign_again : (frame : Frame) (definition : TableDef) (row : List Value) (set : List ℕ × Tree) → Again extra (assign_column (around setting below running) frame definition row set) (assign_column (around setting below' running) frame definition row set)
@@ -72,9 +85,7 @@ module _ (extra : ℕ) where
     store_again : (definition : TableDef) (old new : List Value) → Again extra (store_update definition old new) (store_update definition old new)
     store_again definition old new =
         if_again extra (same_values new old) _ _ _ _ (pure_again extra 0)
-        (bind_again extra (table_now definition.name) (table_now definition.name) _ _ (table_again extra definition.name) (λ table.
-        bind_again extra (require 1062 _) (require 1062 _) _ _ (require_again extra 1062 (is_none (key_in_way definition new (rows_beside definition (primary_key definition old) table.rows)))) (λ _.
-        bind_again extra (make 1032 (changes.Update definition.name old new)) (make 1032 (changes.Update definition.name old new)) _ _ (make_again extra 1032 (changes.Update definition.name old new)) (λ _. pure_again extra 1))))
+        (bind_again extra (put_in_place definition.name old new) (put_in_place definition.name old new) _ _ (put_in_place_again definition.name old new) (λ _. pure_again extra 1))
 
     update_again : (frame : Frame) (definition : TableDef) (sets : List (List ℕ × Tree)) (old : List Value) → Again extra (update_row (around setting below running) frame definition sets old) (update_row (around setting below' running) frame definition sets old)
     update_again frame definition sets old =

@@ -1,6 +1,6 @@
 -- What INSERT, REPLACE, UPDATE and DELETE do leads on.
 use Rattle.std.proofs.Common.{ℕ, ◌+◌, List, [], ◌∷◌, zip, Bool, cond, Option, Some, None, ℤ}
-use Rattle.std.specs.Prelude.{find, unwrap_or, slice_get, slice_index_or, slice_set, is_none, not}
+use Rattle.std.specs.Prelude.{find, unwrap_or, slice_get, slice_index_or, slice_set, is_none, not, ◌&&◌}
 use Rattle.std.specs.Option.{option_map}
 use Rattle.val_types.specs.declared.value.Value.{Value}
 use Rattle.val_types.specs.declared.value.Value.TheVariants.{Null, Int, Text}
@@ -8,7 +8,7 @@ use Rattle.val_types.specs.declared.change.Change.TheVariants as changes
 use Rattle.val_types.specs.declared.definitions.ColType.{ColType}
 use Rattle.val_types.specs.declared.definitions.ColumnDef.{ColumnDef}
 use Rattle.val_types.specs.declared.definitions.TableDef.{TableDef}
-use Rattle.val_types.specs.Fitting.{fitting, greatest_of}
+use Rattle.val_types.specs.Fitting.{fitting, greatest_of, row_fits}
 use Rattle.val_types.specs.Keys.{primary_key, same_values}
 use Rattle.auto_inc.specs.Generating.{Sequence, after_generated, after_explicit}
 use Rattle.table_rules.specs.Tables.{Table}
@@ -24,7 +24,7 @@ use Rattle.catalog_rules.specs.Objects.{columns_of}
 use Rattle.sql_meaning.specs.Scenes.{Action, ◌>>=◌, pure, answered, needed, require, each, kept_by, counted, carried_on, make, table_now, counter_now, raise_counter}
 use Rattle.sql_meaning.specs.Frames.{Running, Below, World, Frame, sees}
 use Rattle.sql_meaning.specs.Values.{value, values, is_kept, order_values, rows_of_query}
-use Rattle.sql_meaning.specs.Changing.{fitted, type_at, put_at, asks, asked_place, has_missing, none_missing, before_row, after_row, delete_row, assign_column, store_update, update_row, Inserting, nothing_inserted, Manner, refusing, ignoring, replacing, updating, generated_next, Counted, generate_at, given_value, count_row, put_row, clear_way, passed_by, updating_frame, settle, place_row, left_out_row, insert_row, insert_supply, insert_into_table, chosen_rows, update_table, delete_from_table}
+use Rattle.sql_meaning.specs.Changing.{fitted, type_at, put_at, asks, asked_place, has_missing, none_missing, before_row, after_row, delete_row, assign_column, take_out, put_in_place, is_there, store_update, update_row, Inserting, nothing_inserted, Manner, refusing, ignoring, replacing, updating, generated_next, Counted, generate_at, given_value, count_row, put_row, clear_way, passed_by, updating_frame, settle, place_row, left_out_row, insert_row, insert_supply, insert_into_table, chosen_rows, update_table, delete_from_table}
 use Rattle.sql_meaning.proofs.Steps.{leading, IsLed, bind_moved, pure_moved, fail_moved, answered_moved, needed_moved, require_moved, if_moved, each_moved, kept_moved, counted_moved, carried_moved, make_led, table_moved, counter_moved, raise_moved}
 use Rattle.sql_meaning.specs.Leading.{Leads}
 use Rattle.sql_meaning.proofs.Moved.{CallsMoved, value_moved, values_moved, is_kept_moved, order_moved, query_moved}
@@ -55,6 +55,19 @@ generated_row row sequence place v = record { row = slice_set row place (Int v);
 abbrev given_row : List Value → Sequence → ℤ → Counted
 given_row row sequence v = record { row = row; sequence = after_explicit v sequence; generated = None }
 
+take_out_led : (name : List ℕ) (row : List Value) → IsLed (take_out name row)
+take_out_led name row =
+    bind_moved leading (table_now name) _ (table_moved leading name) (λ table.
+    bind_moved leading (require 1032 _) _ (require_moved leading 1032 (is_there table.definition row table.rows)) (λ _.
+    make_led 1032 (changes.Delete name row)))
+
+put_in_place_led : (name : List ℕ) (old new : List Value) → IsLed (put_in_place name old new)
+put_in_place_led name old new =
+    bind_moved leading (table_now name) _ (table_moved leading name) (λ table.
+    bind_moved leading (require 1032 _) _ (require_moved leading 1032 (row_fits table.definition.columns new && is_there table.definition old table.rows)) (λ _.
+    bind_moved leading (require 1062 _) _ (require_moved leading 1062 (is_none (key_in_way table.definition new (rows_beside table.definition (primary_key table.definition old) table.rows)))) (λ _.
+    make_led 1032 (changes.Update name old new))))
+
 module _ (world : World) (below : LedBelow world.below) where
   before_led : (event : Cause) (definition : TableDef) (new old : Option (List Value)) → IsLed (before_row world event definition new old)
   before_led event definition new old = below.fires world.running times.Before event definition new old
@@ -65,7 +78,7 @@ module _ (world : World) (below : LedBelow world.below) where
   delete_led : (definition : TableDef) (row : List Value) → IsLed (delete_row world definition row)
   delete_led definition row =
       bind_moved leading (before_row world causes.Delete definition None (Some row)) _ (before_led causes.Delete definition None (Some row)) (λ _.
-      bind_moved leading (make 1032 (changes.Delete definition.name row)) _ (make_led 1032 (changes.Delete definition.name row)) (λ _.
+      bind_moved leading (take_out definition.name row) _ (take_out_led definition.name row) (λ _.
       after_led causes.Delete definition None (Some row)))
 
   assign_led : (frame : Frame) (definition : TableDef) (row : List Value) (set : List ℕ × Tree) → IsLed (assign_column world frame definition row set)
@@ -77,9 +90,7 @@ module _ (world : World) (below : LedBelow world.below) where
   store_led : (definition : TableDef) (old new : List Value) → IsLed (store_update definition old new)
   store_led definition old new =
       if_moved leading (same_values new old) _ _ (pure_moved leading 0)
-      (bind_moved leading (table_now definition.name) _ (table_moved leading definition.name) (λ table.
-      bind_moved leading (require 1062 _) _ (require_moved leading 1062 (is_none (key_in_way definition new (rows_beside definition (primary_key definition old) table.rows)))) (λ _.
-      bind_moved leading (make 1032 (changes.Update definition.name old new)) _ (make_led 1032 (changes.Update definition.name old new)) (λ _. pure_moved leading 1))))
+      (bind_moved leading (put_in_place definition.name old new) _ (put_in_place_led definition.name old new) (λ _. pure_moved leading 1))
 
   update_led : (frame : Frame) (definition : TableDef) (sets : List (List ℕ × Tree)) (old : List Value) → IsLed (update_row world frame definition sets old)
   update_led frame definition sets old =

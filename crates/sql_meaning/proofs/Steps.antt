@@ -5,31 +5,22 @@ use Rattle.val_types.specs.declared.change.Change.{Change}
 use Rattle.table_rules.specs.Tables.{Table}
 use Rattle.table_rules.specs.Changes.{applied}
 use Rattle.table_rules.specs.Stored.{all_applied, table_named}
+use Rattle.table_rules.proofs.Equations.{applied_none, applied_one, all_applied_behind}
 use Rattle.sql_meaning.specs.Scenes.{Scene, Ending, done, failed, Action, then_do, ◌>>=◌, pure, fail, answered, needed, require, each, kept_by, counted, carried_on, noted, make, table_now, counter_now, raise_counter, draw, next_uuid, turn_spent, spend_turn, undone_from, undone}
 use Rattle.sql_meaning.specs.Leading.{scene_after, Leads, StaysAsItWas, EndsWell}
 
 -- ---- scenes that lead to one another
 
-behind_first : (first : Option (List Table)) (xs ys : List Change)
-    → ((ts : List Table) → all_applied (xs ++ ys) ts ≡ option_and_then (all_applied ys) (all_applied xs ts))
-    → option_and_then (all_applied (xs ++ ys)) first ≡ option_and_then (all_applied ys) (option_and_then (all_applied xs) first)
-behind_first None xs ys rest = refl
-behind_first (Some ts) xs ys rest = rest ts
-
-applied-append : (xs ys : List Change) (ts : List Table) → all_applied (xs ++ ys) ts ≡ option_and_then (all_applied ys) (all_applied xs ts)
-applied-append [] ys ts = refl
-applied-append (x ∷ xs) ys ts = behind_first (applied x ts) xs ys (applied-append xs ys)
-
 pub leads_on : (a b c : Scene) → Leads a b → Leads b c → Leads a c
 leads_on a b c p q = record {
   more = p.more ++ q.more;
   added = q.added ∙ ap (λ cs. cs ++ q.more) p.added ∙ append_assoc a.changes p.more q.more;
-  made = applied-append p.more q.more a.tables ∙ ap (option_and_then (all_applied q.more)) p.made ∙ q.made;
+  made = all_applied_behind p.more q.more a.tables ∙ ap (option_and_then (all_applied q.more)) p.made ∙ q.made;
 }
 
 -- the same tables and changes
 pub leads_same : (a b : Scene) → b.tables ≡ a.tables → b.changes ≡ a.changes → Leads a b
-leads_same a b tables changes = record { more = []; added = changes ∙ sym (append-nil a.changes); made = ap Some (sym tables) }
+leads_same a b tables changes = record { more = []; added = changes ∙ sym (append-nil a.changes); made = applied_none a.tables ∙ ap Some (sym tables) }
 
 -- ---- what holds of actions, whether they end with a value or with an error
 
@@ -132,7 +123,7 @@ module _ {R : Scene → Scene → Type 0} (law : IsMove R) where
 make_found : (code : ℕ) (change : Change) (scene : Scene) (o : Option (List Table)) → applied change scene.tables ≡ o
     → Leads scene (scene_after (elim o as (λ _. Ending (Unit {0})) [ None ↦ failed code scene | Some tables ↦ done tt (noted change scene tables) ]))
 make_found code change scene None e = leads_same scene scene refl refl
-make_found code change scene (Some tables) e = record { more = change ∷ []; added = refl; made = ap (option_and_then (all_applied [])) e }
+make_found code change scene (Some tables) e = record { more = change ∷ []; added = refl; made = applied_one change scene.tables ∙ e }
 
 pub make_led : (code : ℕ) (change : Change) → IsLed (make code change)
 make_led code change = record { moves = λ scene. make_found code change scene (applied change scene.tables) refl }

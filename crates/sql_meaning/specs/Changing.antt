@@ -8,11 +8,11 @@ use Rattle.val_types.specs.declared.change.Change.TheVariants as changes
 use Rattle.val_types.specs.declared.definitions.ColType.{ColType}
 use Rattle.val_types.specs.declared.definitions.ColumnDef.{ColumnDef}
 use Rattle.val_types.specs.declared.definitions.TableDef.{TableDef}
-use Rattle.val_types.specs.Fitting.{fitting, greatest_of, is_null}
+use Rattle.val_types.specs.Fitting.{fitting, greatest_of, is_null, row_fits}
 use Rattle.val_types.specs.Keys.{primary_key, same_values}
 use Rattle.auto_inc.specs.Generating.{Sequence, next_value, after_generated, after_explicit}
 use Rattle.table_rules.specs.Tables.{Table}
-use Rattle.table_rules.specs.Stored.{rows_beside, key_in_way, key_tests, row_in_way}
+use Rattle.table_rules.specs.Stored.{row_of_key, rows_beside, key_in_way, key_tests, row_in_way}
 use Rattle.sql_tree.specs.Tree.{Tree, Part, Orders}
 use Rattle.sql_tree.specs.Statement.{Supply, rows, rows_of}
 use Rattle.sql_tree.specs.declared.expressions.Count.{Count}
@@ -80,13 +80,32 @@ before_row world event definition new old = world.below.fire world.running times
 abbrev pub after_row : World → Cause → TableDef → Option (List Value) → Option (List Value) → Action (Unit {0})
 after_row world event definition new old = world.below.fire world.running times.After event definition new old >>= λ _. pure tt
 
+-- ---- one row taken out or replaced where it stands
+
+-- whether just this row stands at its key
+abbrev pub is_there : TableDef → List Value → List (List Value) → Bool
+is_there definition row rs = option_map_or (λ standing. same_values standing row) (row_of_key definition (primary_key definition row) rs) false
+
+-- a row taken out; 1032 where it does not stand there
+abbrev pub take_out : List ℕ → List Value → Action (Unit {0})
+take_out name row =
+    table_now name >>= λ table. require 1032 (is_there table.definition row table.rows) >>= λ _. make 1032 (changes.Delete name row)
+
+-- a row put in the place of another: 1032 where that does not stand there, 1062 where a key of the new one is that of a third
+abbrev pub put_in_place : List ℕ → List Value → List Value → Action (Unit {0})
+put_in_place name old new =
+    table_now name >>= λ table.
+    require 1032 (row_fits table.definition.columns new && is_there table.definition old table.rows) >>= λ _.
+    require 1062 (is_none (key_in_way table.definition new (rows_beside table.definition (primary_key table.definition old) table.rows))) >>= λ _.
+    make 1032 (changes.Update name old new)
+
 -- ---- one row deleted
 
 -- BEFORE DELETE, the row taken out, AFTER DELETE
 abbrev pub delete_row : World → TableDef → List Value → Action (Unit {0})
 delete_row world definition row =
     before_row world causes.Delete definition None (Some row) >>= λ _.
-    make 1032 (changes.Delete definition.name row) >>= λ _.
+    take_out definition.name row >>= λ _.
     after_row world causes.Delete definition None (Some row)
 
 -- ---- one row updated
@@ -97,14 +116,10 @@ assign_column world frame definition row set =
     value world (sees definition row frame) set.1 >>= λ v.
     needed 1054 (place_among (columns_of definition) set.0) >>= λ place. put_at definition row (place, v)
 
--- the row stored, unless it is as it was; 1062 where a key of it is that of another row
+-- the row stored, unless it is as it was
 abbrev pub store_update : TableDef → List Value → List Value → Action ℕ
 store_update definition old new =
-    if same_values new old then pure 0
-    else
-    table_now definition.name >>= λ table.
-    require 1062 (is_none (key_in_way definition new (rows_beside definition (primary_key definition old) table.rows))) >>= λ _.
-    make 1032 (changes.Update definition.name old new) >>= λ _. pure 1
+    if same_values new old then pure 0 else (put_in_place definition.name old new >>= λ _. pure 1)
 
 -- the assignments left to right, BEFORE UPDATE, NOT NULL, the duplicate test, the row, AFTER UPDATE; 1 where it is a change
 abbrev pub update_row : World → Frame → TableDef → List (List ℕ × Tree) → List Value → Action ℕ

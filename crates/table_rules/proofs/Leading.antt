@@ -15,7 +15,8 @@ use Rattle.table_rules.specs.Stored.{all_applied, all_inverse}
 use Rattle.table_rules.specs.Stores.{Store, definitions_of, keeps_put, KeepsAll, keeps_inverses, can_take_back}
 use Rattle.table_rules.specs.Leads.{Leads, LeadsNowhere, LeadsOn, OneChangeLeads, NoChangeLeads, StillTakenBack, NotedTakenBack, LastTakenBack, NoneTakenBack, LeadsBack, LeadsHome}
 use Rattle.table_rules.proofs.Taking.{tables_reversible}
-use Rattle.table_rules.proofs.Storing.{all_applied_behind, all_inverse_front, definitions_kept, turn_back}
+use Rattle.table_rules.proofs.Equations.{applied_none, applied_front, applied_one, all_applied_behind}
+use Rattle.table_rules.proofs.Storing.{some_same, all_inverse_front, definitions_kept, turn_back}
 
 -- ---- inverses
 
@@ -61,8 +62,8 @@ pub leads_nowhere : LeadsNowhere
 leads_nowhere store noted = record {
   more = [];
   added = sym (append-nil noted);
-  made = refl;
-  back = refl;
+  made = applied_none store.tables;
+  back = applied_none store.tables;
   kept = refl;
   keys = λ name row h. h;
   same = refl;
@@ -93,8 +94,8 @@ pub one_change_leads : OneChangeLeads
 one_change_leads old new noted change all made kept keys = record {
   more = change ∷ [];
   added = refl;
-  made = ap (option_and_then (all_applied [])) made;
-  back = ap (option_and_then (all_applied [])) (tables_reversible change old.tables new.tables all made).0;
+  made = applied_one change old.tables ∙ made;
+  back = applied_one (inverse change) new.tables ∙ (tables_reversible change old.tables new.tables all made).0;
   kept = and_from (keeps_put new (inverse change)) true kept refl;
   keys = keys;
   same = definitions_kept change old.tables new.tables made;
@@ -104,8 +105,8 @@ pub no_change_leads : NoChangeLeads
 no_change_leads old new noted tables keys = record {
   more = [];
   added = sym (append-nil noted);
-  made = ap (λ (ts : List Table). Some ts) (sym tables);
-  back = ap (λ (ts : List Table). Some ts) tables;
+  made = applied_none old.tables ∙ ap (λ (ts : List Table). Some ts) (sym tables);
+  back = applied_none new.tables ∙ ap (λ (ts : List Table). Some ts) tables;
   kept = refl;
   keys = keys;
   same = ap definitions_of tables;
@@ -130,7 +131,7 @@ unfolding can_take_back
 can_parts store xs can = and_parts (is_some (all_applied (all_inverse xs) store.tables)) (keeps_inverses store xs) can
 
 pub none_taken_back : NoneTakenBack
-none_taken_back store = can_from store [] refl refl
+none_taken_back store = can_from store [] (ap is_some (applied_none store.tables)) refl
 
 last_of : (store : Store) (xs ys : List Change) → can_take_back store (xs ++ ys) ≡ true → can_take_back store ys ≡ true
 last_of store xs ys can =
@@ -181,11 +182,11 @@ pub last_step : (store : Store) (xs : List Change) (last : Change) → can_take_
     → (is_some (applied (inverse last) store.tables) ≡ true) × (keeps_put store (inverse last) ≡ true)
 last_step store xs last can =
     let parts = can_parts store (last ∷ []) (last_of store xs (last ∷ []) can) in
-    (first_some (all_applied []) (applied (inverse last) store.tables) parts.0, (and_parts (keeps_put store (inverse last)) true parts.1).0)
+    (ap is_some (sym (applied_one (inverse last) store.tables)) ∙ parts.0, (and_parts (keeps_put store (inverse last)) true parts.1).0)
 
 -- taking the last back, and then the others
 pub back_last : (xs : List Change) (last : Change) (ts : List Table) → all_applied (all_inverse (xs ++ last ∷ [])) ts ≡ option_and_then (all_applied (all_inverse xs)) (applied (inverse last) ts)
-back_last xs last ts = ap (λ (cs : List Change). all_applied cs ts) (all_inverse_both xs (last ∷ []))
+back_last xs last ts = ap (λ (cs : List Change). all_applied cs ts) (all_inverse_both xs (last ∷ [])) ∙ applied_front (inverse last) (all_inverse xs) ts
 
 -- then the others can be taken back
 pub rest_taken_back : (old new : Store) (xs : List Change) (last : Change) → applied (inverse last) old.tables ≡ Some new.tables → KeepsAll old new → can_take_back old (xs ++ last ∷ []) ≡ true
@@ -197,9 +198,9 @@ rest_taken_back old new xs last made keys can =
     (kept_more old new xs keys (and_parts (keeps_inverses old xs) (keeps_inverses old (last ∷ [])) (sym (kept_both old xs (last ∷ [])) ∙ parts.1)).0)
 
 all_definitions : (xs : List Change) (ts after : List Table) → all_applied xs ts ≡ Some after → definitions_of after ≡ definitions_of ts
-all_definitions [] ts after e = let same : ts ≡ after = cc in ap definitions_of (sym same)
+all_definitions [] ts after e = ap definitions_of (sym (some_same ts after (sym (applied_none ts) ∙ e)))
 all_definitions (x ∷ xs) ts after e =
-    let mid = then_some (all_applied xs) (applied x ts) after e in
+    let mid = then_some (all_applied xs) (applied x ts) after (sym (applied_front x xs ts) ∙ e) in
     all_definitions xs mid.0 after mid.2 ∙ definitions_kept x ts mid.0 mid.1
 
 pub leads_back : LeadsBack

@@ -1,3 +1,4 @@
+pub mod Equations
 pub mod InWay
 pub mod Leading
 pub mod Places

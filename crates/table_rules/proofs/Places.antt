@@ -12,8 +12,9 @@ use Rattle.val_types.specs.Fitting.{row_fits}
 use Rattle.val_types.specs.Keys.{primary_key}
 use Rattle.val_types.proofs.Lookup.{place_mapped, missing, unchanged, all_left}
 use Rattle.table_rules.specs.Tables.{Table}
-use Rattle.table_rules.specs.Stored.{has_name, table_named, row_of_key, row_at, row_absent, where_found, insertion_in, replacement_in, deletion_in, insertion, replacement, deletion, keys_at, fits_table, tables_beside, tables_cleared}
+use Rattle.table_rules.specs.Stored.{has_name, table_named, row_of_key, row_at, row_absent, insertion, replacement, deletion, keys_at, fits_table, tables_beside, tables_cleared}
 use Rattle.table_rules.specs.Stores.{place_of, PlaceIsOfName, PlaceHasName, FitsByPlace, PlacesStay}
+use Rattle.table_rules.proofs.Equations.{none_inserted, none_replaced, none_deleted}
 
 -- ---- names
 
@@ -104,13 +105,13 @@ pub none_named : (name : List ℕ) (ts : List Table) → place_of name ts ≡ No
 none_named name ts e = missing (has_name name) ts e
 
 pub nothing_inserted : (name : List ℕ) (row : List Value) (ts : List Table) → place_of name ts ≡ None → insertion name row ts ≡ Err row_absent
-nothing_inserted name row ts e = ap (λ (t : Option Table). where_found t (insertion_in name row)) (none_named name ts e)
+nothing_inserted name row ts e = none_inserted name row ts (none_named name ts e)
 
 pub nothing_replaced : (name : List ℕ) (key row : List Value) (ts : List Table) → place_of name ts ≡ None → replacement name key row ts ≡ Err row_absent
-nothing_replaced name key row ts e = ap (λ (t : Option Table). where_found t (replacement_in name key row)) (none_named name ts e)
+nothing_replaced name key row ts e = none_replaced name key row ts (none_named name ts e)
 
 pub nothing_deleted : (name : List ℕ) (key : List Value) (ts : List Table) → place_of name ts ≡ None → deletion name key ts ≡ Err row_absent
-nothing_deleted name key ts e = ap (λ (t : Option Table). where_found t (deletion_in name key)) (none_named name ts e)
+nothing_deleted name key ts e = none_deleted name key ts (none_named name ts e)
 
 pub no_row : (name : List ℕ) (key : List Value) (ts : List Table) → place_of name ts ≡ None → row_at name key ts ≡ None
 no_row name key ts e = ap (option_and_then (λ (t : Table). row_of_key t.definition key t.rows)) (none_named name ts e)

@@ -19,6 +19,7 @@ use Rattle.table_rules.specs.Tables.{Table, IsKept}
 use Rattle.table_rules.specs.Changes.{without, with_row, put, rows_after, table_after, applied, AreKept}
 use Rattle.val_types.specs.Changes.{table_of, inverse}
 use Rattle.table_rules.specs.Stored.{table_named, has_key, row_of_key, rows_beside, first_agreed, key_in_way, where_found, unless_taken, all_applied, all_inverse, KeysInWay, InsertsWhereApplied, ReplacesWhereApplied, DeletesWhatIsThere, DefinitionsStay, AllTurnBack}
+use Rattle.table_rules.proofs.Equations.{insertion_by, replacement_by, applied_none, applied_front, applied_one, all_applied_behind}
 use Rattle.table_rules.proofs.Taking.{Behind, Kept, as_kept, same_is, same_self, tables_reversible}
 
 -- ---- keys in the way
@@ -120,7 +121,7 @@ inserts_in name row None fits = refl
 inserts_in name row (Some t) fits = put_unless t.definition row t.rows (Insert name row) fits
 
 pub inserts_where : InsertsWhereApplied
-inserts_where name row ts fits = inserts_in name row (table_named name ts) fits ∙ sym (applied_where (Insert name row) ts)
+inserts_where name row ts fits = ap is_ok (insertion_by name row ts (table_named name ts) refl) ∙ inserts_in name row (table_named name ts) fits ∙ sym (applied_where (Insert name row) ts)
 
 -- ---- replacing
 
@@ -194,7 +195,8 @@ replaces_in name key before row (Some t) kept fits found = replaces_table name k
 
 pub replaces_where : ReplacesWhereApplied
 replaces_where name key before row ts all fits found =
-    replaces_in name key before row (table_named name ts) (λ t e. named_kept name ts t all e) fits found
+    ap is_ok (replacement_by name key row ts (table_named name ts) refl)
+    ∙ replaces_in name key before row (table_named name ts) (λ t e. named_kept name ts t all e) fits found
     ∙ sym (applied_where (Update name before row) ts)
 
 -- ---- taking out
@@ -253,29 +255,22 @@ then_some : {A B : Type 0} (f : A → Option B) (o : Option A) (y : B) → optio
 then_some f (Some z) y e = (z, refl, e)
 then_some f None y e = cc
 
-behind_step : (xs ys : List Change) (o : Option (List Table))
-    → ((ts : List Table) → all_applied (xs ++ ys) ts ≡ option_and_then (all_applied ys) (all_applied xs ts))
-    → option_and_then (all_applied (xs ++ ys)) o ≡ option_and_then (all_applied ys) (option_and_then (all_applied xs) o)
-behind_step xs ys None later = refl
-behind_step xs ys (Some ts) later = later ts
-
--- changes behind others are made to what the others leave
-pub all_applied_behind : (xs ys : List Change) (ts : List Table) → all_applied (xs ++ ys) ts ≡ option_and_then (all_applied ys) (all_applied xs ts)
-all_applied_behind [] ys ts = refl
-all_applied_behind (x ∷ xs) ys ts = behind_step xs ys (applied x ts) (all_applied_behind xs ys)
+pub some_same : {A : Type 0} (a b : A) → Some a ≡ Some b → a ≡ b
+some_same a b e = cc
 
 pub all_inverse_front : (x : Change) (xs : List Change) → all_inverse (x ∷ xs) ≡ all_inverse xs ++ inverse x ∷ []
 all_inverse_front x xs = ap (map inverse) (reverse-append (x ∷ []) xs) ∙ map-append inverse (reverse xs) (x ∷ [])
 
 pub turn_back : AllTurnBack
-turn_back [] ts after all e = let same : ts ≡ after = cc in (ap Some (sym same), subst (λ (us : List Table). AreKept us) same all)
+turn_back [] ts after all e = let same : ts ≡ after = some_same ts after (sym (applied_none ts) ∙ e) in (applied_none after ∙ ap Some (sym same), subst (λ (us : List Table). AreKept us) same all)
 turn_back (x ∷ xs) ts after all e =
-    let mid = then_some (all_applied xs) (applied x ts) after e in
+    let mid = then_some (all_applied xs) (applied x ts) after (sym (applied_front x xs ts) ∙ e) in
     let first = tables_reversible x ts mid.0 all mid.1 in
     let rest = turn_back xs mid.0 after first.1 mid.2 in (
       ap (λ (cs : List Change). all_applied cs after) (all_inverse_front x xs)
           ∙ all_applied_behind (all_inverse xs) (inverse x ∷ []) after
           ∙ ap (option_and_then (all_applied (inverse x ∷ []))) rest.0
-          ∙ ap (option_and_then (all_applied [])) first.0,
+          ∙ applied_one (inverse x) mid.0
+          ∙ first.0,
       rest.1,
     )

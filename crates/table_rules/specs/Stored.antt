@@ -103,13 +103,13 @@ abbrev pub deletion_in : List ℕ → List Value → Table → Result Change Obs
 deletion_in name key table = where_found (row_of_key table.definition key table.rows) (λ row. Ok (Delete name row))
 
 -- the same in the table of a name
-abbrev pub insertion : List ℕ → List Value → List Table → Result Change Obstacle
+unfoldable pub insertion : List ℕ → List Value → List Table → Result Change Obstacle
 insertion name row tables = where_found (table_named name tables) (insertion_in name row)
 
-abbrev pub replacement : List ℕ → List Value → List Value → List Table → Result Change Obstacle
+unfoldable pub replacement : List ℕ → List Value → List Value → List Table → Result Change Obstacle
 replacement name key row tables = where_found (table_named name tables) (replacement_in name key row)
 
-abbrev pub deletion : List ℕ → List Value → List Table → Result Change Obstacle
+unfoldable pub deletion : List ℕ → List Value → List Table → Result Change Obstacle
 deletion name key tables = where_found (table_named name tables) (deletion_in name key)
 
 -- the tables after what storing a row comes to, None where something is in the way
@@ -118,7 +118,7 @@ carried_out (Ok change) tables = applied change tables
 carried_out (Err obstacle) tables = None
 
 -- the tables after some changes, one after the other
-abbrev pub all_applied : List Change → List Table → Option (List Table)
+unfoldable pub all_applied : List Change → List Table → Option (List Table)
 all_applied [] tables = Some tables
 all_applied (change ∷ changes) tables = option_and_then (all_applied changes) (applied change tables)
 

@@ -19,6 +19,7 @@ pub fn keys_in_the_way()
 {}
 
 /// What storing a row comes to, and what a change makes of the tables.
+#[tactic(auto, unfolding(crate::specs::Stored::insertion, crate::specs::Stored::replacement, crate::specs::Stored::deletion))]
 pub fn changes_of_pens()
     ensures its_own_keys { replacement (codes "pens") (Int (pos 2) ∷ []) blue some_pens ≡ Ok (Update (codes "pens") blue blue) }
     ensures key_of_another { replacement (codes "pens") (Int (pos 2) ∷ []) red some_pens ≡ Err (key_taken 0) }

@@ -61,6 +61,7 @@ static STEPS: [Step; 9] = [
 ];
 
 /// Does a step with a row that fits.
+#[tactic(auto, using(table_rules::proofs::Leading::leading))]
 fn make_step(
     alloc: Global,
     tables: &mut Tables,
@@ -80,6 +81,7 @@ fn make_step(
     }
 }
 
+#[tactic(auto, using(table_rules::proofs::Leading::leading))]
 fn expect_step(
     rt: &impl Abort,
     alloc: Global,

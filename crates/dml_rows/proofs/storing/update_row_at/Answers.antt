@@ -1,8 +1,9 @@
-use Rattle.std.proofs.Common.{rules, ◌≡◌, ℕ, List, [], ◌∷◌, ◌++◌, Some, subst}
+use Rattle.std.proofs.Common.{rules, ◌≡◌, ℕ, List, [], ◌∷◌, ◌++◌, Some, None, refl, subst}
 use Rattle.std.specs.Prelude.{slice_get}
 use Rattle.val_types.specs.declared.change.Change.TheVariants.{Update}
 use Rattle.table_rules.specs.Stored.{row_at}
 use Rattle.table_rules.specs.Stores.{place_of, definitions_of}
+use Rattle.table_rules.proofs.Equations.{not_replaced}
 use Rattle.dml_rows.proofs.Noting.{name_there, update_leads, update_notes}
 use Rattle.dml_rows.proofs.storing.update_row_at.Goals as goal
 
@@ -25,3 +26,8 @@ returns-in-Ok-clause-leads c =
     let at : place_of d.name c.args.tables.now.tables ≡ Some c.args.at = search rules in
     let there : row_at d.name c.args.key.now c.args.tables.now.tables ≡ Some before = search rules in
     update_leads c.args.tables.now c.update_at.new.self c.args.undo.now c.push.new.self d.name c.args.key.now before c.args.row c.definition.ensures.whole there (c.in-Ok.ensures.stored d.name at) (c.in-Ok.ensures.before d.name before there) c.in-Ok.ensures.keys noted
+
+pub returns-in-None-clause-stored : goal.returns-in-None-clause-stored
+returns-in-None-clause-stored c =
+    λ name at.
+    (let none : row_at name c.args.key.now c.args.tables.now.tables ≡ None = search rules in (not_replaced name c.args.key.now c.args.row c.args.tables.now.tables none, refl))

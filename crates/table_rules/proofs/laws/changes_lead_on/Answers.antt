@@ -1,5 +1,8 @@
-use Rattle.table_rules.proofs.Leading.{leads_on, one_change_leads, no_change_leads}
+use Rattle.table_rules.proofs.Leading.{leads_nowhere, leads_on, one_change_leads, no_change_leads}
 use Rattle.table_rules.proofs.laws.changes_lead_on.Goals as goal
+
+pub returns-clause-nowhere : goal.returns-clause-nowhere
+returns-clause-nowhere c = leads_nowhere
 
 pub returns-clause-one : goal.returns-clause-one
 returns-clause-one c = one_change_leads

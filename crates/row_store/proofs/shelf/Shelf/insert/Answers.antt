@@ -16,5 +16,5 @@ add-requires-clause-free c =
 pub returns-in-Ok-clause-slot : goal.returns-in-Ok-clause-slot
 returns-in-Ok-clause-slot c =
     let key = primary_key c.args.self.now.definition c.args.row in
-    let found : Finds key c.args.self.now.slots.items (Ok c.in-Ok.at) = rw c.deref.ensures.value at c.in-Ok.ensures in
+    let found : Finds key c.args.self.now.slots.items (Ok c.in-Ok.at) = rw (c.get.ensures, c.deref.ensures.value) at c.in-Ok.ensures in
     ap (is_among key) c.fill.ensures.slots ∙ slot_within key c.args.self.now.slots.items c.in-Ok.at found

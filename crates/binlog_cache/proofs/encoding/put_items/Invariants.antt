@@ -1,0 +1,12 @@
+use Rattle.std.proofs.Common.{drop}
+use Rattle.log_model.specs.Items.{AreCarried}
+use Rattle.row_events.specs.Writing.{GoesOn}
+use Rattle.binlog_cache.specs.Sums.{items_of}
+use Rattle.binlog_cache.proofs.Parts.{events_of}
+use Rattle.binlog_cache.proofs.encoding.put_items.Given as goal
+
+abbrev pub invariant-loop-place : goal.invariant-loop-place
+invariant-loop-place l = record {
+  carried : AreCarried (items_of (drop l.place l.kept));
+  goes : GoesOn (events_of l.kept) (events_of (drop l.place l.kept)) l.fn.h l.here l.fn.out l.out;
+}

@@ -1,0 +1,4 @@
+pub mod Writing
+pub mod Tables
+pub mod Runs
+pub mod Sizes

@@ -1,0 +1,7 @@
+pub mod Steps
+pub mod Viewed
+pub mod Meanings
+pub mod Loops
+pub mod Branching
+pub mod Scanning
+pub mod Forming

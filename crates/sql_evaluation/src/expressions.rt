@@ -1,0 +1,115 @@
+//! The value of an expression.
+ghost use Rattle.std.specs.Prelude.{◌≡◌, ◌<◌};
+ghost use Rattle.sql_tree.specs.View.{view_tree};
+ghost use Rattle.sql_stage.specs.Stage.{EndsAs, LeadsOn, scene_of};
+ghost use Rattle.sql_evaluation.specs.Seen.{Calls, CallsLead, value_in};
+
+use crate::choices::{case_value, first_known, first_of_two, if_value};
+use crate::functions::{
+    abs_value, call_value, concat_value, floor_rand_value, length_value, substring_value,
+};
+use crate::lookup::copied;
+use crate::operators::{binary_value, membership, unary_value};
+use crate::queries::{exists_value, subquery_value};
+use crate::session_values::{
+    capped, connection_id, last_insert_id, now, row_count, sys_date, system_variable,
+    unix_timestamp, user, user_variable, uuid,
+};
+use crate::views::Views;
+use crate::world::Around;
+use sql_stage::{Running, Stage};
+use sql_tree::Expr;
+use std::alloc::Global;
+use val_types::{Bytes, List, SqlRefusal, Value};
+
+/// The value of an expression. Where it is deeper than the levels that are left, memory is short: each
+/// level takes a part of the stack.
+#[tactic(auto, using(crate::proofs::Steps::steps, crate::proofs::Steps::anywhere_here))]
+pub fn value<F: Fn(&mut Stage, &Running, &Bytes, List<Value>) -> Result<Value, SqlRefusal>>(
+    alloc: Global,
+    run: &F,
+    around: &Around<'_>,
+    levels: u16,
+    stage: &mut Stage,
+    e: &Expr,
+    views: &Views,
+) -> Result<Value, SqlRefusal>
+    requires calls { F.IsAlwaysCallable run.now }
+    requires called { Calls (F.post run.now) around.now }
+    requires call_leads { CallsLead (F.post run.now) }
+    ensures gives { EndsAs result (scene_of stage.new) (value_in around.now views.now (view_tree e.now) (scene_of stage.old)) }
+    ensures leads { LeadsOn stage.old stage.new }
+{
+    if levels == 0 {
+        return Err(SqlRefusal::NoMemory);
+    }
+    let evaluate = |s: &mut Stage, inner: &Expr, vs: &Views| -> Result<Value, SqlRefusal>
+        requires left { 0 < levels }
+        requires calls { F.IsAlwaysCallable run.now }
+        requires called { Calls (F.post run.now) around.now }
+        requires call_leads { CallsLead (F.post run.now) }
+        ensures gives { EndsAs result (scene_of s.new) (value_in around.entry.now vs.now (view_tree inner.now) (scene_of s.old)) }
+        ensures leads { LeadsOn s.old s.new }
+    { value(alloc, run, around, levels - 1, s, inner, vs) };
+    match e {
+        Expr::Literal(value) => capped(alloc, value),
+        Expr::NameConst(_, value) => capped(alloc, value),
+        Expr::Name(_) => copied(alloc, around, views, e),
+        Expr::Column(_, _) => copied(alloc, around, views, e),
+        Expr::NewColumn(_) => copied(alloc, around, views, e),
+        Expr::OldColumn(_) => copied(alloc, around, views, e),
+        Expr::Values(_) => copied(alloc, around, views, e),
+        Expr::UserVariable(name) => user_variable(alloc, around, name),
+        Expr::SystemVariable(name) => system_variable(around, name),
+        Expr::Unary(op, a) => unary_value(&evaluate, around, stage, *op, a.get(), views),
+        Expr::Binary(op, a, b) => {
+            binary_value(&evaluate, around, stage, *op, a.get(), b.get(), views)
+        }
+        Expr::In {
+            negated,
+            left,
+            items,
+        } => membership(&evaluate, around, stage, *negated, left.get(), items, views),
+        Expr::Case { arms, otherwise } => {
+            case_value(&evaluate, around, stage, arms, otherwise, views)
+        }
+        Expr::Subquery(select) => {
+            subquery_value(alloc, &evaluate, around, stage, select.get(), views)
+        }
+        Expr::Exists(select) => exists_value(alloc, &evaluate, around, stage, select.get(), views),
+        Expr::Call { name, arguments } => {
+            call_value(alloc, run, &evaluate, around, stage, name, arguments, views)
+        }
+        Expr::FloorRand(a) => floor_rand_value(&evaluate, around, stage, a.get(), views),
+        Expr::Abs(a) => abs_value(&evaluate, around, stage, a.get(), views),
+        Expr::Coalesce(arguments) => first_known(&evaluate, around, stage, arguments, views),
+        Expr::If(c, a, b) => {
+            if_value(&evaluate, around, stage, c.get(), a.get(), b.get(), views)
+        }
+        Expr::IfNull(a, b) => first_of_two(&evaluate, around, stage, a.get(), b.get(), views),
+        Expr::Concat(arguments) => {
+            concat_value(alloc, &evaluate, around, stage, arguments, views)
+        }
+        Expr::Length(a) => length_value(&evaluate, around, stage, a.get(), views),
+        Expr::Substring(a, b, c) => {
+            substring_value(
+                alloc,
+                &evaluate,
+                around,
+                stage,
+                a.get(),
+                b.get(),
+                c.get(),
+                views,
+            )
+        }
+        Expr::Now => now(alloc, around),
+        Expr::UnixTimestamp => unix_timestamp(around),
+        Expr::SysDate => sys_date(alloc, around),
+        Expr::User => user(alloc, around),
+        Expr::Uuid => uuid(alloc, around, stage),
+        Expr::ConnectionId => connection_id(around),
+        Expr::LastInsertId => last_insert_id(around),
+        Expr::RowCount => row_count(around),
+    }
+}

@@ -1,0 +1,56 @@
+//! The values of expressions and the rows of SELECTs.
+//!
+//! An expression is evaluated in what is [`Around`] it, with the rows in view ([`Views`]), on a `Stage` of
+//! `sql_stage`, which contracts see as the scene of the definitions in `sql_meaning`. Each kind of expression is a
+//! function that takes the evaluation of its parts as a closure; [`value`] ties them in one cycle of two. What a call
+//! of a stored function does is handed in (`run`), so that programs stand above this crate, as changes do.
+//!
+//! - `world`, `views`: what is round an expression, and the rows that it sees
+//! - `expressions`: [`value`]
+//! - `operators`: unary and binary operators, IN; `choices`: CASE, IF, IFNULL, COALESCE, conditions
+//! - `functions`: the other built-in functions, and calls of stored ones; `session_values`: what the session gives
+//! - `lookup`: what names mean; `value_lists`: lists of expressions
+//! - `queries`: SELECT with WHERE, EXISTS and scalar subqueries; `sorting`: ORDER BY and LIMIT; `aggregates`
+//!
+//! The definitions in specs/ say what the code's values stand for (`Seen`).
+//!
+//! # Proved
+//! - [`value`] gives the value that the definition gives, or its error's number, with the scene behind it, for every
+//!   expression and state; or memory is short, as where an expression is deeper than the levels that it was given
+//!   (`gives`)
+//! - on every way out the stage leads on from the one before: changes that calls made lead from the old rows to the
+//!   new and can be taken back, no counter is lower, no turn came back (`leads`)
+//! - [`rows_of_query`] and each kind of expression by itself the same, for every evaluation that is handed in
+//!
+//! # Only tested
+//! Nothing yet: statements are run where changes are.
+#![tactic(auto, using(crate::proofs::Steps::steps))]
+
+mod aggregates;
+mod choices;
+mod expressions;
+mod functions;
+mod lookup;
+mod operators;
+mod queries;
+mod session_values;
+mod sorting;
+mod value_lists;
+mod views;
+mod world;
+
+pub use choices::{case_value, first_known, first_of_two, if_value};
+pub use expressions::value;
+pub use functions::{
+    abs_value, call_value, concat_value, floor_rand_value, length_value, substring_value,
+};
+pub use lookup::copied;
+pub use operators::{binary_value, membership, unary_value};
+pub use queries::{exists_value, rows_of_query, subquery_value};
+pub use session_values::{
+    capped, connection_id, last_insert_id, now, row_count, sys_date, system_variable,
+    unix_timestamp, user, user_variable, uuid,
+};
+pub use value_lists::values;
+pub use views::{Views, seeing};
+pub use world::{Around, View};

@@ -1,0 +1,4 @@
+pub mod Raised
+pub mod Leading
+pub mod Snapshots
+pub mod Stored

@@ -1,0 +1,22 @@
+//! What evaluating and changing works on: rows, the changes that can be taken back, counters, seeds.
+//!
+//! The evaluators of expressions and of changes hand one [`Stage`] on; contracts see it as the scene of the
+//! definitions (`scene_of`). This crate stands on the rows and the counters, the evaluators stand on it.
+//!
+//! - `stage`: [`Stage`] and [`Snapshot`], a table as it stood when a statement began to read it
+//! - `running`: [`Running`], what is under way around an expression
+//!
+//! # Proved
+//! - [`Stage::table`] gives the table of a name as it stands, without a copy of a row or a definition, or 1146
+//! - [`Stage::draw`] and [`Stage::next_uuid`] are the definitions' draw of RAND() and their next UUID
+//! - each leads from the stage before to the one after (`LeadsOn`): the changes behind the old ones lead from the
+//!   old rows to the new, and taking them back leads to the old ones and needs no memory; no counter is lower
+#![tactic(auto, using(crate::proofs::Leading::leading, crate::proofs::Leading::stage_moves), unfolding(crate::specs::Stage::scene_of))]
+
+mod counting;
+mod running;
+mod stage;
+mod storing;
+
+pub use running::Running;
+pub use stage::{Snapshot, Stage};
