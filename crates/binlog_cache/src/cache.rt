@@ -15,6 +15,9 @@ use std::alloc::Global;
 use std::marker::Model;
 use val_types::{Bytes, List, NoMemory};
 
+/// How many bytes BEGIN and XID have beside the items.
+const ENDS: u64 = 67;
+
 /// The items of a transaction, in the order in which their statements ran. Contracts see it as their list.
 #[derive(Drop)]
 pub struct Cache {
@@ -82,7 +85,8 @@ impl Cache {
         requires events { CanWriteAll header.now.pos (transaction header.now.stamp xid self.now) }
         ensures { IfOk result (λ bytes. bytes ≡ bytes_of header.now.server_id header.now.pos (transaction header.now.stamp xid self.now)) }
     {
-        encode_items(alloc, &self.kept, xid, header)
+        let room = last_sum(&self.kept).saturating_add(ENDS);
+        encode_items(alloc, &self.kept, room, xid, header)
     }
 }
 

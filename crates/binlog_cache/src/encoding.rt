@@ -76,10 +76,11 @@ fn put_xid(number: u64, h: Header, out: &mut Bytes) -> Result<Header, NoMemory>
     put(&event, h, out)
 }
 
-/// The bytes of the transaction of items from a header's place on.
+/// The bytes of the transaction of items from a header's place on, for which so much room is made first.
 pub fn encode_items(
     alloc: Global,
     kept: &List<Kept>,
+    room: u64,
     number: u64,
     header: &Header,
 ) -> Result<Bytes, NoMemory>
@@ -87,10 +88,10 @@ pub fn encode_items(
     requires events { CanWriteAll header.now.pos (transaction header.now.stamp number (items_of kept.now)) }
     ensures { IfOk result (λ bytes. bytes ≡ bytes_of header.now.server_id header.now.pos (transaction header.now.stamp number (items_of kept.now))) }
 {
-    let mut out = Bytes::new(alloc);
     if kept.len() == 0 {
-        return Ok(out);
+        return Ok(Bytes::new(alloc));
     }
+    let mut out = Bytes::with_capacity(alloc, room as usize)?;
     let here = put_begin(&kept[0].item.carried, *header, &mut out)?;
     let here = put_items(alloc, kept, here, &mut out)?;
     put_xid(number, here, &mut out)?;
