@@ -15,16 +15,12 @@ use Rattle.catalog_objects.specs.declared.object.Object.TheVariants as kinds
 use Rattle.catalog_objects.specs.Keys.{seen, objects_of}
 use Rattle.catalog_objects.specs.Lookups.{object_of, is_free}
 use Rattle.catalog_objects.proofs.Found.{same_tied}
-
--- what refuses a statement is its first check
-pub ddl_is : (catalog : List rules.Object) (s : Statement) → first_refusal (ddl_checks catalog s) ≡ ddl_refusal catalog s
-unfolding ddl_refusal
-ddl_is catalog s = refl
+use Rattle.program_creation.proofs.RefusedFirst.{ddl_is}
 
 -- ---- names that are free
 
-free_step : (b c : Bool) (o : Object) (rest : Option Object) (d : TableDef) (more : Option TableDef) → b ≡ c
-    → elim (cond c (Some d) None) as (λ _. Option TableDef) [ None ↦ more | Some e ↦ Some e ] ≡ None → (more ≡ None → rest ≡ None) → cond b (Some o) rest ≡ None
+pub free_step : {D : Type 0} (b c : Bool) (o : Object) (rest : Option Object) (d : D) (more : Option D) → b ≡ c
+    → elim (cond c (Some d) None) as (λ _. Option D) [ None ↦ more | Some e ↦ Some e ] ≡ None → (more ≡ None → rest ≡ None) → cond b (Some o) rest ≡ None
 free_step true true o rest d more e none later = cc
 free_step true false o rest d more e none later = cc
 free_step false true o rest d more e none later = cc
@@ -40,21 +36,21 @@ table_free (kinds.Trigger t ∷ os) name none = table_free os name none
 
 -- ---- checks that did not refuse
 
-passed : (b : Bool) (code : ℕ) (rest : Option ℕ) → (if b then Some code else rest) ≡ None → (b ≡ false) × (rest ≡ None)
+pub passed : (b : Bool) (code : ℕ) (rest : Option ℕ) → (if b then Some code else rest) ≡ None → (b ≡ false) × (rest ≡ None)
 passed true code rest e = cc
 passed false code rest e = (refl, e)
 
 -- nor did those behind some
-behind : (n : ℕ) (checks : List Check) → first_refusal checks ≡ None → first_refusal (drop n checks) ≡ None
+pub behind : (n : ℕ) (checks : List Check) → first_refusal checks ≡ None → first_refusal (drop n checks) ≡ None
 behind zero checks e = e
 behind (suc n) [] e = refl
 behind (suc n) (check ∷ checks) e = behind n checks (passed check.1 check.0 (first_refusal checks) e).1
 
-no_some : (o : Option TableDef) → is_some o ≡ false → o ≡ None
+pub no_some : {D : Type 0} (o : Option D) → is_some o ≡ false → o ≡ None
 no_some None e = refl
 no_some (Some d) e = cc
 
-neither : (a b : Bool) → (a || b) ≡ false → (a ≡ false) × (b ≡ false)
+pub neither : (a b : Bool) → (a || b) ≡ false → (a ≡ false) × (b ≡ false)
 neither true b e = cc
 neither false b e = (refl, e)
 

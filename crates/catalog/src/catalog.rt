@@ -8,20 +8,21 @@ ghost use Rattle.catalog_rules.specs.Checks.{expression_refusal, statement_refus
 ghost use Rattle.catalog_objects.specs.Keys.{objects_of};
 ghost use Rattle.catalog_checks.specs.Asking.{scope_with};
 ghost use Rattle.catalog.specs.Answers.{Lets, Makes, is_create};
-ghost use Rattle.sql_tree.specs.Statement.{create_table};
+ghost use Rattle.sql_tree.specs.Statement.{create_function, create_procedure, create_table, create_trigger};
 ghost use Rattle.catalog_rules.specs.Creating.{ddl_refusal};
 ghost use Rattle.catalog_objects.specs.Lookups.{is_drop};
 
 use crate::refusing::{creation_refusal, removal_refusal};
 use catalog_checks::{expression_refusal, statement_refusal};
 use catalog_objects::{Object, Objects};
+use program_creation::{function_refusal, procedure_refusal, trigger_refusal};
 use sharing::Shared;
 use sql_locals::Locals;
 use sql_tree::{Cause, CreateTable, Expr, Routine, Stmt, Time, TriggerDef};
 use std::alloc::Global;
 use std::marker::Model;
 use table_creation::definition_of;
-use val_types::{Bytes, NoMemory, SqlError, SqlRefusal, TableDef};
+use val_types::{Boxed, Bytes, NoMemory, SqlError, SqlRefusal, TableDef};
 
 /// The objects of a database, which contracts see as their list in order of creation.
 #[derive(Drop)]
@@ -63,6 +64,13 @@ impl Catalog {
             alloc,
             objects: Objects::new(alloc),
         }
+    }
+
+    /// The objects.
+    pub fn objects(&self) -> &Objects
+        ensures { result.now ≡ self.now }
+    {
+        &self.objects
     }
 
     /// The table of a name.
@@ -144,6 +152,42 @@ impl Catalog {
         let definition = definition_of(self.alloc, t)?;
         let table = Shared::new(self.alloc, definition)?;
         self.objects.add(Object::Table(table))?;
+        Ok(())
+    }
+
+    /// CREATE FUNCTION: the error of the first check that refuses it, or the catalog with it behind the others.
+    pub fn add_function(&mut self, routine: Boxed<Routine>) -> Result<(), SqlRefusal>
+        ensures { Makes result (create_function (view_program routine)) (objects_of self.old) (objects_of self.new) }
+    {
+        if let Some(code) = function_refusal(&self.objects, routine.get()) {
+            return Err(SqlRefusal::Sql(code));
+        }
+        let routine = Shared::new(self.alloc, routine)?;
+        self.objects.add(Object::Function(routine))?;
+        Ok(())
+    }
+
+    /// CREATE PROCEDURE, as that of a function.
+    pub fn add_procedure(&mut self, routine: Boxed<Routine>) -> Result<(), SqlRefusal>
+        ensures { Makes result (create_procedure (view_program routine)) (objects_of self.old) (objects_of self.new) }
+    {
+        if let Some(code) = procedure_refusal(&self.objects, routine.get()) {
+            return Err(SqlRefusal::Sql(code));
+        }
+        let routine = Shared::new(self.alloc, routine)?;
+        self.objects.add(Object::Procedure(routine))?;
+        Ok(())
+    }
+
+    /// CREATE TRIGGER, likewise.
+    pub fn add_trigger(&mut self, trigger: Boxed<TriggerDef>) -> Result<(), SqlRefusal>
+        ensures { Makes result (create_trigger (view_trigger trigger)) (objects_of self.old) (objects_of self.new) }
+    {
+        if let Some(code) = trigger_refusal(&self.objects, trigger.get()) {
+            return Err(SqlRefusal::Sql(code));
+        }
+        let trigger = Shared::new(self.alloc, trigger)?;
+        self.objects.add(Object::Trigger(trigger))?;
         Ok(())
     }
 

@@ -10,8 +10,8 @@
 //! - [`Catalog::table`], [`Catalog::routine`] and [`Catalog::trigger`] find just what the definitions find
 //! - [`Catalog::check`] and [`Catalog::check_in`] refuse a statement, and [`Catalog::check_expr`] an expression of a body, with
 //!   just the error that the definition says comes first, and let others through
-//! - [`Catalog::add_table`] makes just the catalog after a CREATE TABLE, or refuses it with just the error of its first check;
-//!   then, and where memory is wanted, nothing changes
+//! - [`Catalog::add_table`], [`Catalog::add_function`], [`Catalog::add_procedure`] and [`Catalog::add_trigger`] make just the
+//!   catalog after a CREATE, or refuse it with just the error of its first check; then, and where memory is wanted, nothing changes
 //! - [`Catalog::remove`] makes just the catalog after a DROP, without memory; an object that is not there is refused, and
 //!   nothing changes. [`Catalog::check_removal`] answers what refuses a DROP or TRUNCATE
 //! - [`Catalog::copy`] is equal, or wants memory

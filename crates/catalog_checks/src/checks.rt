@@ -62,7 +62,7 @@ pub(crate) fn is_readable(name: &Bytes) -> bool
 }
 
 /// Whether SET writes a variable.
-pub(crate) fn is_session_variable(name: &Bytes) -> bool
+pub fn is_session_variable(name: &Bytes) -> bool
     ensures { result ≡ is_among session_variables name.now }
 {
     is(name, b"auto_increment_increment")

@@ -10,7 +10,8 @@
 //! of `catalog_rules`.
 //!
 //! # Proved
-//! - [`is_among`] and [`has_twice`] look for a name among some, and for one that stands twice
+//! - [`is_among`] and [`has_twice`] look for a name among some, and for one that stands twice; [`is_session_variable`] tells
+//!   the variables that SET writes
 //! - [`statement_refusal`] and [`expression_refusal`] answer just the error that the definitions say, for any locals in scope and
 //!   any rows of NEW and OLD, and take no memory
 #![tactic(auto)]
@@ -23,7 +24,7 @@ mod refusing;
 mod sight;
 mod statements;
 
-pub use checks::Checks;
+pub use checks::{Checks, is_session_variable};
 pub use inserting::{has_twice, is_among};
 pub use refusing::{expression_refusal, statement_refusal};
 pub use sight::Sight;

@@ -11,7 +11,8 @@
 //!
 //! # Proved
 //! - [`Objects::table`], [`Objects::function`], [`Objects::procedure`], [`Objects::trigger_named`] and [`Objects::trigger`] give
-//!   just what the definitions find by a walk over the catalog; [`Objects::object`] the object at a place in order of creation
+//!   just what the definitions find by a walk over the catalog; [`Objects::object`] the object at a place in order of creation,
+//!   [`Objects::all`] all of them
 //! - [`Objects::count_tables`] and [`Objects::count_programs`] count them
 //! - [`Objects::add`] puts an object behind the others; where memory is wanted nothing changes
 //! - [`Objects::remove`] leaves just the catalog after a DROP, without memory: with a table go its triggers

@@ -111,6 +111,13 @@ impl Objects {
         self.made.get(at)
     }
 
+    /// All objects, in the order of creation.
+    pub fn all(&self) -> &[Object]
+        ensures { result.now ≡ self.now }
+    {
+        self.made.as_slice()
+    }
+
     /// How many tables there are, by a walk.
     pub fn count_tables(&self) -> usize
         ensures { result ≡ count_of_tables (objects_of self.now) }

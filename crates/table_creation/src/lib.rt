@@ -8,7 +8,7 @@
 //! - [`table_refusal`] answers just the error of the first check, in their order, that refuses a CREATE TABLE
 //! - [`definition_of`] makes just the definition that the rules say, where the columns are few and of types that have a size, as
 //!   those are that nothing refuses; or it wants memory
-//! - [`is_ill_type`] answers whether a VARCHAR has 0 bytes or more than 65,535
+//! - [`refused`] is the error of one check, or of those behind it; [`is_ill_type`] answers whether a VARCHAR has 0 bytes or more than 65,535
 #![tactic(auto)]
 
 mod columns;
@@ -18,4 +18,4 @@ mod refusing;
 
 pub use columns::is_ill_type;
 pub use defining::definition_of;
-pub use refusing::table_refusal;
+pub use refusing::{refused, table_refusal};

@@ -33,7 +33,7 @@ fn is_past_limits(objects: &Objects, t: &CreateTable) -> bool
 }
 
 /// The error of a check, where it refuses, or else that of the checks behind it.
-fn refused(refuses: bool, code: SqlError, rest: Option<SqlError>) -> Option<SqlError>
+pub fn refused(refuses: bool, code: SqlError, rest: Option<SqlError>) -> Option<SqlError>
     ensures { result ≡ (if refuses then Some code else rest) }
 {
     if refuses { Some(code) } else { rest }

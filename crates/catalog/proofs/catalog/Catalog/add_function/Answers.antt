@@ -1,0 +1,16 @@
+use Rattle.std.proofs.Common.{◌≡◌, None, rules, subst, sym}
+use Rattle.sql_tree.specs.Statement.{create_function}
+use Rattle.sql_tree.specs.StatementView.{view_program}
+use Rattle.sql_tree.specs.declared.statements.Routine.{Routine}
+use Rattle.catalog_rules.specs.Creating.{ddl_refusal}
+use Rattle.catalog_objects.specs.declared.object.Object.TheVariants as kinds
+use Rattle.catalog_objects.specs.Keys.{objects_of}
+use Rattle.catalog_objects.specs.Lookups.{is_free}
+use Rattle.catalog.proofs.Programs.{new_function}
+use Rattle.catalog.proofs.catalog.Catalog.add_function.Goals as goal
+
+pub add-requires-clause-name : goal.add-requires-clause-name
+add-requires-clause-name c =
+    let none : ddl_refusal (objects_of c.self.inside.objects) (create_function (view_program c.args.routine)) ≡ None = search rules in
+    let made : c.in_ok-routine.routine ≡ c.args.routine = search rules in
+    subst (λ (p : Routine). is_free (kinds.Function p) c.self.inside.objects) (sym made) (new_function c.self.inside.objects c.args.routine none)

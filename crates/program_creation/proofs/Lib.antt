@@ -1,0 +1,4 @@
+pub mod Among
+pub mod BodyRanking
+pub mod Most
+pub mod RefusedFirst

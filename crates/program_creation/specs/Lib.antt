@@ -1,0 +1,4 @@
+pub mod BodyRanks
+pub mod Kinds
+pub mod Refusing
+pub mod Scopes
