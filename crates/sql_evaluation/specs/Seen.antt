@@ -22,6 +22,7 @@ use Rattle.val_types.specs.declared.ops.Agg.{Agg}
 use Rattle.sql_meaning.specs.Running.{level_of}
 use Rattle.sql_stage.specs.declared.stage.Stage.{Stage}
 use Rattle.sql_stage.specs.declared.running.Running.{Running as UnderWay}
+use Rattle.sql_stage.specs.UnderWay.{under_way}
 use Rattle.catalog_objects.specs.Keys.{objects_of}
 use Rattle.sql_stage.specs.Stage.{scene_of, EndsAs, LeadsOn}
 use Rattle.sql_evaluation.specs.declared.world.View.{View as Shown}
@@ -39,7 +40,7 @@ views_of vs = map view_of vs
 
 -- what is under way
 abbrev pub running_of : UnderWay → Running
-running_of r = record { tables = r.tables; functions = r.functions }
+running_of r = under_way r
 
 -- what a whole statement has round it
 abbrev pub setting_of : Around → Setting

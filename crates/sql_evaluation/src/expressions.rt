@@ -25,7 +25,7 @@ use val_types::{Bytes, List, SqlRefusal, Value};
 /// The value of an expression. Where it is deeper than the levels that are left, memory is short: each
 /// level takes a part of the stack.
 #[tactic(auto, using(crate::proofs::Steps::steps, crate::proofs::Steps::anywhere_here))]
-pub fn value<F: Fn(&mut Stage, &Running, &Bytes, List<Value>) -> Result<Value, SqlRefusal>>(
+pub fn value<F: Fn(&mut Stage, &Running<'_>, &Bytes, List<Value>) -> Result<Value, SqlRefusal>>(
     alloc: Global,
     run: &F,
     around: &Around<'_>,

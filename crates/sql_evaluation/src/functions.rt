@@ -20,7 +20,7 @@ use val_types::{Bytes, List, SqlRefusal, Value};
 /// A call of a stored function.
 #[tactic(auto, using(crate::proofs::Steps::steps, crate::proofs::Steps::under_way))]
 pub fn call_value<
-    F: Fn(&mut Stage, &Running, &Bytes, List<Value>) -> Result<Value, SqlRefusal>,
+    F: Fn(&mut Stage, &Running<'_>, &Bytes, List<Value>) -> Result<Value, SqlRefusal>,
     V: Fn(&mut Stage, &Expr, &Views) -> Result<Value, SqlRefusal>,
 >(
     alloc: Global,

@@ -46,11 +46,12 @@ pub use functions::{
 };
 pub use lookup::copied;
 pub use operators::{binary_value, membership, unary_value};
-pub use queries::{exists_value, rows_of_query, subquery_value};
+pub use queries::{exists_value, kept_rows, ordered_rows, rows_of_query, subquery_value};
 pub use session_values::{
     capped, connection_id, last_insert_id, now, row_count, sys_date, system_variable,
     unix_timestamp, user, user_variable, uuid,
 };
+pub use sorting::{count_of, cut};
 pub use value_lists::values;
 pub use views::{Views, seeing};
 pub use world::{Around, View};

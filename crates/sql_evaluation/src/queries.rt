@@ -230,7 +230,7 @@ fn where_rows<V: Fn(&mut Stage, &Expr, &Views) -> Result<Value, SqlRefusal>>(
 
 /// The rows for which a condition is true.
 #[tactic(auto, using(crate::proofs::Steps::steps, crate::proofs::Scanning::keeping))]
-fn kept_rows<V: Fn(&mut Stage, &Expr, &Views) -> Result<Value, SqlRefusal>>(
+pub fn kept_rows<V: Fn(&mut Stage, &Expr, &Views) -> Result<Value, SqlRefusal>>(
     alloc: Global,
     evaluate: &V,
     around: &Around<'_>,
@@ -259,7 +259,7 @@ fn kept_rows<V: Fn(&mut Stage, &Expr, &Views) -> Result<Value, SqlRefusal>>(
 
 /// The rows in the order of ORDER BY.
 #[tactic(auto, using(crate::proofs::Steps::steps, crate::proofs::Scanning::unordered))]
-fn ordered_rows<V: Fn(&mut Stage, &Expr, &Views) -> Result<Value, SqlRefusal>>(
+pub fn ordered_rows<V: Fn(&mut Stage, &Expr, &Views) -> Result<Value, SqlRefusal>>(
     alloc: Global,
     evaluate: &V,
     around: &Around<'_>,

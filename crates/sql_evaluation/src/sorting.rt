@@ -89,7 +89,7 @@ pub fn in_order(
 }
 
 /// The number of a LIMIT.
-fn count_of(locals: &Locals, count: &Count) -> u64
+pub fn count_of(locals: &Locals, count: &Count) -> u64
     ensures { result ≡ count_value locals.now count.now }
 {
     match count {
@@ -117,7 +117,7 @@ fn number_of(value: &Value) -> u64
 }
 
 /// The rows behind the first `skip`, and of these the first `take`.
-fn cut(skip: u64, take: u64, rows: List<Shared<Row>>) -> List<Shared<Row>>
+pub fn cut(skip: u64, take: u64, rows: List<Shared<Row>>) -> List<Shared<Row>>
     ensures { result ≡ cut skip take rows }
 {
     let mut rows = rows.into_vec();

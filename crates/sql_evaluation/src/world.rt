@@ -36,7 +36,7 @@ pub struct Around<'a> {
     pub uuid: u128,
     /// How many programs may run one inside the other from here on.
     pub nesting: u8,
-    pub running: &'a Running,
+    pub running: &'a Running<'a>,
     pub locals: &'a Locals,
     pub new_row: Option<&'a View>,
     pub old_row: Option<&'a View>,

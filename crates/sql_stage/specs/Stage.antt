@@ -6,7 +6,7 @@ use Rattle.val_types.specs.Keys.{same_values}
 use Rattle.val_types.specs.declared.refusal.SqlRefusal.{SqlRefusal}
 use Rattle.val_types.specs.declared.refusal.SqlRefusal.TheVariants.{Sql, NoMemory}
 use Rattle.auto_inc.specs.declared.counters.Counter.{Counter}
-use Rattle.auto_inc.specs.Counting.{value_for}
+use Rattle.auto_inc.specs.Counting.{value_for, tables_of}
 use Rattle.table_rules.specs.Tables.{Table}
 use Rattle.table_rules.specs.Leads.{Leads}
 use Rattle.sql_meaning.specs.Scenes.{Scene, Ending, done, failed}
@@ -26,10 +26,12 @@ abbrev pub NoneLower : List Counter → List Counter → Type 0
 NoneLower old new = (table : List ℕ) → unwrap_or (value_for table old) 0 ≤ unwrap_or (value_for table new) 0
 
 -- What holds between the state before and the one after, on every way out: the changes noted since lead from the old rows to
--- the new, taking them back leads to the old ones and needs no memory; no counter is lower; no turn came back.
+-- the new, taking them back leads to the old ones and needs no memory; counters are of the same tables, and none is lower; no
+-- turn came back.
 pub record Led (old new : Stage) : Type 0 where
   pub rows : Leads old.tables old.undo new.tables new.undo
   pub counters : NoneLower old.counters new.counters
+  pub named : tables_of new.counters ≡ tables_of old.counters
   pub turns : new.turns ≤ old.turns
 
 unfoldable pub LeadsOn : Stage → Stage → Type 0

@@ -1,0 +1,14 @@
+use Rattle.std.proofs.Common.{◌≡◌, [], drop}
+use Rattle.sql_tree.specs.StatementView.{view_sets}
+use Rattle.sql_stage.specs.Stage.{LeadsOn, scene_of}
+use Rattle.sql_evaluation.specs.Seen.{Inside}
+use Rattle.changed_rows.specs.Changed.{assigned_in}
+use Rattle.changed_rows.proofs.Updates.{assigned_left}
+use Rattle.changed_rows.proofs.updating.assigned_row.Given as goal
+
+abbrev pub invariant-loop-set : goal.invariant-loop-set
+invariant-loop-set g l = record {
+  gives : assigned_left l.around l.definition (view_sets (drop l.set-index l.set-items)) l.row (scene_of l.stage) ≡ assigned_in l.around l.definition (view_sets l.sets) l.old (scene_of l.fn.stage);
+  leads : LeadsOn l.fn.stage l.stage;
+  inside : Inside l.definition [] l.inner;
+}

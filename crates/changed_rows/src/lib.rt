@@ -1,0 +1,51 @@
+//! One row changed: INSERT, REPLACE, ON DUPLICATE KEY UPDATE, UPDATE and DELETE, with the triggers of its table.
+//!
+//! Each function changes one row of the table at a place of a `Stage` of `sql_stage`, of which `StandsAt` says that it has
+//! just the definition that is handed in; a statement looks a table up once, for all its rows. What triggers do is
+//! handed in as a closure (`fire`), which leaves the row to be stored, or None where it is as it was given; evaluation
+//! is handed in as in `sql_evaluation`. So programs stand above this crate, as whole statements do.
+//!
+//! - `deleting`: [`delete_row`]; `updating`: [`update_row`]; `inserting`: [`insert_row`], [`Manner`], [`Inserting`]
+//! - `placing`: a row put in, and what is done with those in its way: passed over, replaced or updated
+//! - `counting`: the AUTO_INCREMENT value of a row
+//! - `columns`: values put into columns, what is left out, NOT NULL
+//! - `firing`: triggers before and after; `looking`: rows that have a key of another; `standing`: rows stored, taken out
+//!   and replaced in the table at a place
+//!
+//! A row is copied where it is stored, where an assignment changes it, and where it is in the way of another and has to
+//! outlive its own change.
+//!
+//! The definitions in specs/ say what the code's values stand for and where a table stands (`Changed`), what is asked of
+//! a closure that runs triggers (`Firing`), and what the parts of an INSERT are (`Inserted`).
+//!
+//! # Proved
+//! - [`delete_row`], [`update_row`] and [`insert_row`] end as the definitions do, for every evaluation and every trigger
+//!   that is handed in: the count or what the INSERT has come to, or the error's number, with the scene behind it; or
+//!   memory is short, as where a count of rows outgrows 64 bits (`gives`)
+//! - on every way out the stage leads on from the one before: the changes lead from the old rows to the new and can be
+//!   taken back, no counter is lower, no turn came back (`leads`)
+//! - so: the triggers before the tests and the row, and after it; each assignment sees what the earlier ones left; an
+//!   equal row is not stored and counts 0; the AUTO_INCREMENT value is generated from the statement's own sequence;
+//!   the first key in the way decides, the primary one first; REPLACE deletes for each key in turn and counts each
+//!   row; ON DUPLICATE KEY UPDATE counts 2, or 0
+//! - [`place_of`] is the place of the first column of a name, None where there is none
+//! - a table stands where it stood whatever is done by these calls (`stands_on` of proofs/Places)
+//!
+//! # Only tested
+//! Nothing yet: statements are run in the crates above.
+#![tactic(auto)]
+
+mod columns;
+mod counting;
+mod deleting;
+mod firing;
+mod inserting;
+mod looking;
+mod placing;
+mod standing;
+mod updating;
+
+pub use columns::place_of;
+pub use deleting::delete_row;
+pub use inserting::{Inserting, Manner, insert_row};
+pub use updating::update_row;

@@ -1,0 +1,15 @@
+use Rattle.std.proofs.Common.{◌≡◌, [], drop}
+use Rattle.sql_tree.specs.StatementView.{view_rows}
+use Rattle.sql_meaning.specs.Changing.{nothing_inserted}
+use Rattle.sql_stage.specs.Stage.{LeadsOn, scene_of}
+use Rattle.changed_rows.specs.Changed.{StandsAt, inserting_of, manner_of}
+use Rattle.sql_statements.specs.Changed.{lists_in}
+use Rattle.sql_statements.proofs.inserting.insert_lists.Given as goal
+
+abbrev pub invariant-loop-list : goal.invariant-loop-list
+invariant-loop-list g l = record {
+  gives : lists_in l.around l.forced l.definition l.places (manner_of l.manner) (inserting_of l.so_far) (view_rows (drop l.list-index l.lists)) (scene_of l.stage) ≡ lists_in l.around l.forced l.definition l.places (manner_of l.manner) nothing_inserted (view_rows l.lists) (scene_of l.fn.stage);
+  leads : LeadsOn l.fn.stage l.stage;
+  stands : StandsAt l.at l.definition l.stage;
+  none : l.views ≡ [];
+}

@@ -1,0 +1,13 @@
+use Rattle.std.proofs.Common.{◌≡◌, drop}
+use Rattle.sql_meaning.specs.Changing.{nothing_inserted}
+use Rattle.sql_stage.specs.Stage.{LeadsOn, scene_of}
+use Rattle.changed_rows.specs.Changed.{StandsAt, inserting_of, manner_of}
+use Rattle.sql_statements.specs.Changed.{rows_in}
+use Rattle.sql_statements.proofs.inserting.insert_rows.Given as goal
+
+abbrev pub invariant-loop-row : goal.invariant-loop-row
+invariant-loop-row g l = record {
+  gives : rows_in l.around l.forced l.definition l.places (manner_of l.manner) (inserting_of l.so_far) (drop l.row-index l.rows) (scene_of l.stage) ≡ rows_in l.around l.forced l.definition l.places (manner_of l.manner) nothing_inserted l.rows (scene_of l.fn.stage);
+  leads : LeadsOn l.fn.stage l.stage;
+  stands : StandsAt l.at l.definition l.stage;
+}

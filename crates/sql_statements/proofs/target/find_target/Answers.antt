@@ -1,0 +1,20 @@
+use Rattle.std.proofs.Common.{Some, sym, ap, ◌∙◌}
+use Rattle.val_types.specs.declared.definitions.TableDef.{TableDef}
+use Rattle.sql_stage.specs.Stage.{scene_of}
+use Rattle.sql_stage.proofs.Snapshots.{not_there, no_definition}
+use Rattle.sql_statements.proofs.Aimed.{found_so}
+use Rattle.sql_statements.proofs.target.find_target.Goals as goal
+
+pub returns-in_default : goal.returns-in_default
+unfolding scene_of
+returns-in_default c = not_there c.args.name.now (scene_of c.args.stage.now) (sym c.in_default.ensures)
+
+pub returns-in_default-shared_definition : goal.returns-in_default-shared_definition
+unfolding scene_of
+returns-in_default-shared_definition c =
+    no_definition c.args.name.now (scene_of c.args.stage.now) c.in-Some.at (sym c.in-Some.ensures) (sym c.in_default-shared_definition.ensures)
+
+pub returns : goal.returns
+returns c =
+    found_so (record { at = c.in-Some.at; definition = c.in_ok-definition.definition }) c.args.name.now c.args.stage.now (sym c.in-Some.ensures)
+    (sym c.in-Some-shared_definition.ensures ∙ ap (λ (d : TableDef). Some d) (sym c.in_ok-definition.ensures))

@@ -1,0 +1,110 @@
+//! DELETE.
+ghost use Rattle.std.specs.Prelude.{◌≡◌};
+ghost use Rattle.sql_stage.specs.Stage.{EndsAs, EndsAsBy, LeadsOn, scene_of};
+ghost use Rattle.sql_evaluation.specs.Seen.{Evaluates, LeadsAlways};
+ghost use Rattle.changed_rows.specs.Changed.{StandsAt};
+ghost use Rattle.changed_rows.specs.Firing.{Fires, FiresLead};
+ghost use Rattle.sql_statements.specs.Changed.{delete_in, deletes_in};
+ghost use Rattle.sql_statements.specs.Did.{did_of};
+
+use crate::choosing::chosen_rows;
+use crate::did::{Did, affecting};
+use crate::target::{find_target, rows_there};
+use changed_rows::delete_row;
+use sharing::Shared;
+use sql_evaluation::{Around, Views};
+use sql_stage::{Running, Stage};
+use sql_tree::{Cause, DeleteStmt, Expr, Time};
+use std::alloc::Global;
+use val_types::{Row, SqlRefusal, TableDef, Value};
+
+/// Deletes rows one after the other; how many they are.
+#[tactic(auto, using(sql_stage::proofs::Leading::leading, crate::proofs::Aimed::standing, crate::proofs::Changes::deleting_rows))]
+fn delete_each<
+    T: Fn(
+        &mut Stage,
+        &Running<'_>,
+        Time,
+        Cause,
+        &Shared<TableDef>,
+        Option<&Row>,
+        Option<&Shared<Row>>,
+    ) -> Result<Option<Row>, SqlRefusal>,
+>(
+    alloc: Global,
+    fire: &T,
+    around: &Around<'_>,
+    stage: &mut Stage,
+    at: usize,
+    definition: &Shared<TableDef>,
+    rows: &[Shared<Row>],
+) -> Result<u64, SqlRefusal>
+    requires fires { T.IsAlwaysCallable fire.now }
+    requires fired { Fires (T.post fire.now) around.now }
+    requires fire_leads { FiresLead (T.post fire.now) }
+    requires stands { StandsAt at definition.now stage.old }
+    ensures gives { EndsAs result (scene_of stage.new) (deletes_in around.now definition.now rows.now (scene_of stage.old)) }
+    ensures leads { LeadsOn stage.old stage.new }
+{
+    for row in rows {
+        delete_row(alloc, fire, around, stage, at, definition, row)?;
+    }
+    Ok(rows.len() as u64)
+}
+
+/// DELETE: the rows that it deletes are chosen before the first is deleted.
+#[tactic(auto, using(sql_stage::proofs::Leading::leading, crate::proofs::Aimed::standing, crate::proofs::Changes::delete))]
+pub(crate) fn delete<
+    V: Fn(&mut Stage, &Expr, &Views) -> Result<Value, SqlRefusal>,
+    T: Fn(
+        &mut Stage,
+        &Running<'_>,
+        Time,
+        Cause,
+        &Shared<TableDef>,
+        Option<&Row>,
+        Option<&Shared<Row>>,
+    ) -> Result<Option<Row>, SqlRefusal>,
+>(
+    alloc: Global,
+    evaluate: &V,
+    fire: &T,
+    around: &Around<'_>,
+    stage: &mut Stage,
+    statement: &DeleteStmt,
+) -> Result<Did, SqlRefusal>
+    requires callable { V.IsAlwaysCallable evaluate.now }
+    requires gives { Evaluates (V.post evaluate.now) around.now }
+    requires leads { LeadsAlways (V.post evaluate.now) }
+    requires fires { T.IsAlwaysCallable fire.now }
+    requires fired { Fires (T.post fire.now) around.now }
+    requires fire_leads { FiresLead (T.post fire.now) }
+    ensures gives { EndsAsBy did_of result (scene_of stage.new) (delete_in around.now statement.now (scene_of stage.old)) }
+    ensures leads { LeadsOn stage.old stage.new }
+{
+    let target = find_target(stage, &statement.table)?;
+    let rows = rows_there(stage, &statement.table, &target)?;
+    let views = Views::new(alloc);
+    let chosen = chosen_rows(
+        alloc,
+        evaluate,
+        around,
+        stage,
+        &statement.filter,
+        &statement.order,
+        &statement.limit,
+        &target.definition,
+        rows,
+        &views,
+    )?;
+    let count = delete_each(
+        alloc,
+        fire,
+        around,
+        stage,
+        target.at,
+        &target.definition,
+        chosen.as_slice(),
+    )?;
+    Ok(affecting(count))
+}

@@ -1,0 +1,126 @@
+//! UPDATE.
+ghost use Rattle.std.specs.Prelude.{◌≡◌};
+ghost use Rattle.sql_tree.specs.StatementView.{view_sets};
+ghost use Rattle.sql_stage.specs.Stage.{EndsAs, EndsAsBy, LeadsOn, scene_of};
+ghost use Rattle.sql_evaluation.specs.Seen.{Evaluates, LeadsAlways};
+ghost use Rattle.changed_rows.specs.Changed.{StandsAt};
+ghost use Rattle.changed_rows.specs.Firing.{Fires, FiresLead};
+ghost use Rattle.sql_statements.specs.Changed.{update_in, updates_in};
+ghost use Rattle.sql_statements.specs.Did.{did_of};
+
+use crate::choosing::chosen_rows;
+use crate::did::{Did, affecting};
+use crate::target::{find_target, rows_there};
+use changed_rows::update_row;
+use sharing::Shared;
+use sql_evaluation::{Around, Views};
+use sql_stage::{Running, Stage};
+use sql_tree::{Cause, ColumnSet, Expr, Time, UpdateStmt};
+use std::alloc::Global;
+use val_types::{List, Row, SqlRefusal, TableDef, Value};
+
+/// Updates rows one after the other; how many of them that changes.
+#[tactic(auto, using(sql_stage::proofs::Leading::leading, crate::proofs::Aimed::standing, crate::proofs::Changes::updating))]
+fn update_each<
+    V: Fn(&mut Stage, &Expr, &Views) -> Result<Value, SqlRefusal>,
+    T: Fn(
+        &mut Stage,
+        &Running<'_>,
+        Time,
+        Cause,
+        &Shared<TableDef>,
+        Option<&Row>,
+        Option<&Shared<Row>>,
+    ) -> Result<Option<Row>, SqlRefusal>,
+>(
+    alloc: Global,
+    evaluate: &V,
+    fire: &T,
+    around: &Around<'_>,
+    stage: &mut Stage,
+    at: usize,
+    definition: &Shared<TableDef>,
+    sets: &List<ColumnSet>,
+    rows: &[Shared<Row>],
+) -> Result<u64, SqlRefusal>
+    requires callable { V.IsAlwaysCallable evaluate.now }
+    requires gives { Evaluates (V.post evaluate.now) around.now }
+    requires leads { LeadsAlways (V.post evaluate.now) }
+    requires fires { T.IsAlwaysCallable fire.now }
+    requires fired { Fires (T.post fire.now) around.now }
+    requires fire_leads { FiresLead (T.post fire.now) }
+    requires stands { StandsAt at definition.now stage.old }
+    ensures gives { EndsAs result (scene_of stage.new) (updates_in around.now definition.now (view_sets sets.now) rows.now (scene_of stage.old)) }
+    ensures leads { LeadsOn stage.old stage.new }
+{
+    let mut count = 0u64;
+    for row in rows {
+        let more = update_row(
+            alloc, evaluate, fire, around, stage, at, definition, sets, row,
+        )?;
+        count = match count.checked_add(more) {
+            Some(count) => count,
+            None => return Err(SqlRefusal::NoMemory),
+        };
+    }
+    Ok(count)
+}
+
+/// UPDATE: the rows that it changes are chosen before the first is changed.
+#[tactic(auto, using(sql_stage::proofs::Leading::leading, crate::proofs::Aimed::standing, crate::proofs::Changes::update))]
+pub(crate) fn update<
+    V: Fn(&mut Stage, &Expr, &Views) -> Result<Value, SqlRefusal>,
+    T: Fn(
+        &mut Stage,
+        &Running<'_>,
+        Time,
+        Cause,
+        &Shared<TableDef>,
+        Option<&Row>,
+        Option<&Shared<Row>>,
+    ) -> Result<Option<Row>, SqlRefusal>,
+>(
+    alloc: Global,
+    evaluate: &V,
+    fire: &T,
+    around: &Around<'_>,
+    stage: &mut Stage,
+    statement: &UpdateStmt,
+) -> Result<Did, SqlRefusal>
+    requires callable { V.IsAlwaysCallable evaluate.now }
+    requires gives { Evaluates (V.post evaluate.now) around.now }
+    requires leads { LeadsAlways (V.post evaluate.now) }
+    requires fires { T.IsAlwaysCallable fire.now }
+    requires fired { Fires (T.post fire.now) around.now }
+    requires fire_leads { FiresLead (T.post fire.now) }
+    ensures gives { EndsAsBy did_of result (scene_of stage.new) (update_in around.now statement.now (scene_of stage.old)) }
+    ensures leads { LeadsOn stage.old stage.new }
+{
+    let target = find_target(stage, &statement.table)?;
+    let rows = rows_there(stage, &statement.table, &target)?;
+    let views = Views::new(alloc);
+    let chosen = chosen_rows(
+        alloc,
+        evaluate,
+        around,
+        stage,
+        &statement.filter,
+        &statement.order,
+        &statement.limit,
+        &target.definition,
+        rows,
+        &views,
+    )?;
+    let count = update_each(
+        alloc,
+        evaluate,
+        fire,
+        around,
+        stage,
+        target.at,
+        &target.definition,
+        &statement.sets,
+        chosen.as_slice(),
+    )?;
+    Ok(affecting(count))
+}
