@@ -31,10 +31,11 @@ use Rattle.sql_meaning.specs.Frames.{Context}
 use Rattle.sql_meaning.specs.Changing.{Did}
 use Rattle.sql_meaning.specs.Running.{context_after, most_nested}
 use Rattle.sql_meaning.specs.Leading.{EndsWell, Leads, StatementsEndWell, EvaluationsEndWell}
+use Rattle.sql_reach.specs.Defining.{counters_after, is_still_refused, number_of_bytes}
 use Rattle.session_model.specs.Answers.{ok, refused, refused_at, refused_by}
 use Rattle.session_model.specs.Sessions.{Save, Open, just_opened, Session, Shared, tables_with}
-use Rattle.session_model.specs.Running.{Began, Call, Fuel, Turn, Given, is_other, released, items_of, all_committed, commit_shared, commit_entries, commit_open, keep, made_behind, with_counters, scene_for, settle, ended, item_of, fuel_of, with_context, full, statement_run, expressions_run, setting_of, number_of_bytes, lock_refusal, writing_refusal, held_by, most_committed}
-use Rattle.session_model.specs.Commands.{answered, unless_refused, begin_turn, commit_turn, rollback_turn, is_save_of, saves_but, changes_of_own, saved, save_turn, cut_back, back_to_save, back_in, back_turn, release_in, with_answer, counters_after, definition_item, defined_turn, made_turn, unless_answered, define_turn, definition_turn, is_still_refused, assign_unless, first_refused, set_by, set_expressions, set_turn, code_answer, is_too_long, call_turn, plain_turn}
+use Rattle.session_model.specs.Running.{Began, Call, Fuel, Turn, Given, is_other, released, items_of, all_committed, commit_shared, commit_entries, commit_open, keep, made_behind, with_counters, scene_for, settle, ended, item_of, fuel_of, with_context, full, statement_run, expressions_run, setting_of, lock_refusal, writing_refusal, held_by, most_committed}
+use Rattle.session_model.specs.Commands.{answered, unless_refused, begin_turn, commit_turn, rollback_turn, is_save_of, saves_but, changes_of_own, saved, save_turn, cut_back, back_to_save, back_in, back_turn, release_in, with_answer, definition_item, defined_turn, made_turn, unless_answered, define_turn, definition_turn, assign_unless, first_refused, set_by, set_expressions, set_turn, code_answer, is_too_long, call_turn, plain_turn}
 use Rattle.session_model.specs.Machine.{Whole, whole, statement_turn, text_turn, at_work, with_count, session_slots, step}
 use Rattle.session_model.specs.Holding.{changes_of, define, changes_in, holds_lock, SavesFrom, Owns, SharedHolds, transaction_of, RunsBegin, RunsGoOn}
 use Rattle.session_model.proofs.Saving.{none_made, front_made, cut_changes, saves_more, saves_set, saves_without, saves_cut, found_holds}
@@ -44,11 +45,11 @@ use Rattle.session_model.proofs.Saving.{none_made, front_made, cut_changes, save
 same_number : (n : ℕ) → (n == n) ≡ true
 same_number n = eq-eqb n n refl
 
-held_not_other : (n : ℕ) (w : Option ℕ) → holds_lock n w ≡ true → is_other n w ≡ false
+pub held_not_other : (n : ℕ) (w : Option ℕ) → holds_lock n w ≡ true → is_other n w ≡ false
 held_not_other n None h = cc
 held_not_other n (Some w) h = ap not h
 
-other_not_held : (n : ℕ) (w : Option ℕ) → is_other n w ≡ true → holds_lock n w ≡ false
+pub other_not_held : (n : ℕ) (w : Option ℕ) → is_other n w ≡ true → holds_lock n w ≡ false
 other_not_held n None h = refl
 other_not_held n (Some w) h = by (w == n) h
   where
@@ -66,7 +67,7 @@ own_or_free n (Some w) h = inl (by (w == n) h)
     by false e = cc
 
 -- of two sessions, one beside no other, the second does not have the lock
-not_both : (n k : ℕ) (w : Option ℕ) → k ≢ n → is_other n w ≡ false → holds_lock k w ≡ false
+pub not_both : (n k : ℕ) (w : Option ℕ) → k ≢ n → is_other n w ≡ false → holds_lock k w ≡ false
 not_both n k None differ h = refl
 not_both n k (Some w) differ h = by (w == n) (w == k) refl refl h
   where
@@ -105,7 +106,7 @@ no_changes n shared t h o q e = by (own_or_free n shared.writer q)
     by (inr free) = h.free free
 
 -- the open changes are those of the items of a session beside no other
-own_changes : (n : ℕ) (shared : Shared) (t : Option (Open Whole)) → SharedHolds shared → Owns n shared t → is_other n shared.writer ≡ false → shared.changes ≡ changes_in (items_of t)
+pub own_changes : (n : ℕ) (shared : Shared) (t : Option (Open Whole)) → SharedHolds shared → Owns n shared t → is_other n shared.writer ≡ false → shared.changes ≡ changes_in (items_of t)
 own_changes n shared t h o q = by (own_or_free n shared.writer q)
   where
     free_not_held : (w : Option ℕ) → w ≡ None → holds_lock n w ≡ false
@@ -154,7 +155,7 @@ released_left n shared t h o e false q = record {
   frame = inr (q, refl);
 }
 
-must_own : (n : ℕ) (shared : Shared) (i : Whole) (is : List Whole) (t : Option (Open Whole)) → Owns n shared t → items_of t ≡ i ∷ is → holds_lock n shared.writer ≡ true
+pub must_own : (n : ℕ) (shared : Shared) (i : Whole) (is : List Whole) (t : Option (Open Whole)) → Owns n shared t → items_of t ≡ i ∷ is → holds_lock n shared.writer ≡ true
 must_own n shared i is t o e = by (holds_lock n shared.writer) refl
   where
     not_empty : [] ≡ i ∷ is → ⊥
@@ -268,7 +269,7 @@ settle_left call item (c ∷ cs) scene shared session given of_item h o some =
     keep_left call (item (c ∷ cs)) scene shared session.vars session.transaction given (c ∷ cs) h o k.0 (of_item (c ∷ cs)) k.1 k.2
 
 -- beside another session's open changes none are kept; else they stand behind those before
-made_kept : (n : ℕ) (fuel : Fuel) (context : Context) (shared : Shared) (scene : Scene) → SharedHolds shared → (b : Bool) → is_other n shared.writer ≡ b
+pub made_kept : (n : ℕ) (fuel : Fuel) (context : Context) (shared : Shared) (scene : Scene) → SharedHolds shared → (b : Bool) → is_other n shared.writer ≡ b
     → Leads (scene_for n fuel context shared) scene → (c : Change) (cs : List Change) → made_behind b (scene_for n fuel context shared) scene ≡ c ∷ cs
     → (b ≡ false) × (scene.changes ≡ shared.changes ++ made_behind b (scene_for n fuel context shared) scene)
     × (is_some (all_applied (shared.changes ++ made_behind b (scene_for n fuel context shared) scene) shared.base.tables) ≡ true)
@@ -422,7 +423,7 @@ module _ (call : Call Whole) (noted : (item : Item) (began : Began) → call.not
   -- ---- definitions
 
   -- where nothing refuses a session that writes, it has the lock or none has
-  free_to_write : (new : Shared) → writing_refusal call.number new ≡ None → is_other call.number new.writer ≡ false
+  pub free_to_write : (new : Shared) → writing_refusal call.number new ≡ None → is_other call.number new.writer ≡ false
   free_to_write new e = limits (nat_le most_committed new.committed) e
     where
       by : (b : Bool) (w : ℕ) → cond b None (Some (refused_by w)) ≡ None → not b ≡ false
@@ -567,7 +568,7 @@ module _ (call : Call Whole) (noted : (item : Item) (began : Began) → call.not
 
 -- ---- a step
 
-work_same : (call : Call Whole) (session : Option (Session Whole)) → (at_work call session).transaction ≡ transaction_of session
+pub work_same : (call : Call Whole) (session : Option (Session Whole)) → (at_work call session).transaction ≡ transaction_of session
 work_same call None = refl
 work_same call (Some session) = refl
 
@@ -616,7 +617,7 @@ runs_go_on statements evaluations base m identity n text draw holds within =
 
 -- ---- the beginning
 
-none_there : (count n : ℕ) → slice_index_or {A = Option (Session Whole)} (replicate count None) n None ≡ None
+pub none_there : (count n : ℕ) → slice_index_or {A = Option (Session Whole)} (replicate count None) n None ≡ None
 none_there zero n = refl
 none_there (suc count) zero = refl
 none_there (suc count) (suc n) = none_there count n

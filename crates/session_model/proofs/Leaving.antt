@@ -10,9 +10,10 @@ use Rattle.sql_tree.specs.Statement.{Statement, create_table, create_function, c
 use Rattle.sql_meaning.specs.Scenes.{Scene, Ending, done, failed}
 use Rattle.sql_meaning.specs.Changing.{Did}
 use Rattle.sql_meaning.specs.Running.{effect, most_nested, context_after}
+use Rattle.sql_reach.specs.Defining.{number_of_bytes}
 use Rattle.session_model.specs.Answers.{ok, refused, showing}
 use Rattle.session_model.specs.Sessions.{Save, Open, Session, Shared, tables_with}
-use Rattle.session_model.specs.Running.{Call, full, Turn, is_other, lock_refusal, ended, scene_for, setting_of, number_of_bytes, settle, item_of, made_behind, with_counters, with_context, fuel_of}
+use Rattle.session_model.specs.Running.{Call, full, Turn, is_other, lock_refusal, ended, scene_for, setting_of, settle, item_of, made_behind, with_counters, with_context, fuel_of}
 use Rattle.session_model.specs.Commands.{answered, unless_refused, is_save_of, saves_but, back_to_save, back_in, release_in, code_answer, given_turn, plain_turn}
 use Rattle.session_model.specs.Machine.{Whole}
 use Rattle.session_model.specs.Holding.{is_refused, IsLeft, ErrorsLeaveAll, ReadersSeeCommitted}

@@ -1,4 +1,4 @@
-mod Holding
+pub mod Holding
 mod Leaving
 mod Natural
 mod Saving

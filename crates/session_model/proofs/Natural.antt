@@ -23,11 +23,12 @@ use Rattle.sql_meaning.specs.Scenes.{Scene, Ending, done, failed}
 use Rattle.sql_meaning.specs.Frames.{Context}
 use Rattle.sql_meaning.specs.Changing.{Did}
 use Rattle.sql_meaning.specs.Running.{context_after, effect, evaluation, most_nested}
+use Rattle.sql_reach.specs.Defining.{counters_after, is_still_refused, number_of_bytes}
 use Rattle.text_answers.specs.Answers.{TextAnswer, a_statement, a_syntax_error, too_deep, text_answer}
 use Rattle.session_model.specs.Answers.{ok, refused}
 use Rattle.session_model.specs.Sessions.{Save, Open, Session, Shared, State}
-use Rattle.session_model.specs.Running.{Call, Fuel, full, Turn, Given, is_other, items_of, commit_shared, commit_entries, commit_open, kept_shared, keep, settle, ended, statement_run, expressions_run, writing_refusal, lock_refusal, item_of, made_behind, with_counters, with_context, fuel_of, scene_for, setting_of, number_of_bytes}
-use Rattle.session_model.specs.Commands.{answered, with_answer, counters_after, definition_item, begin_turn, commit_turn, save_turn, is_save_of, saves_but, changes_of_own, saves_up_to, changes_cut, back_to_save, back_in, release_in, defined_turn, made_turn, unless_answered, define_turn, definition_turn, is_still_refused, assign_unless, first_refused, set_by, set_given, set_expressions, code_answer, is_too_long, given_turn, unless_refused, set_turn, call_turn, plain_turn}
+use Rattle.session_model.specs.Running.{Call, Fuel, full, Turn, Given, is_other, items_of, commit_shared, commit_entries, commit_open, kept_shared, keep, settle, ended, statement_run, expressions_run, writing_refusal, lock_refusal, item_of, made_behind, with_counters, with_context, fuel_of, scene_for, setting_of}
+use Rattle.session_model.specs.Commands.{answered, with_answer, definition_item, begin_turn, commit_turn, save_turn, is_save_of, saves_but, changes_of_own, saves_up_to, changes_cut, back_to_save, back_in, release_in, defined_turn, made_turn, unless_answered, define_turn, definition_turn, assign_unless, first_refused, set_by, set_given, set_expressions, code_answer, is_too_long, given_turn, unless_refused, set_turn, call_turn, plain_turn}
 use Rattle.session_model.specs.Machine.{statement_turn, text_turn, at_work, with_count, command, stepped, step, open_by, session_by, state_by, entry_by, step_by, StepsAreNatural}
 
 module _ {I J : Type 0} (f : I → J) where

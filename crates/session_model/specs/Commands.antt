@@ -2,24 +2,21 @@
 use Rattle.std.specs.Prelude.{ℕ, ◌+◌, ◌^◌, Bool, true, false, not, nat_lt, if◌then◌else◌, List, [], ◌∷◌, ◌++◌, length, filter, find, map, take, zip, Option, Some, None, Result, Ok, Err, is_some}
 use Rattle.std.specs.Option.{option_map}
 use Rattle.val_types.specs.declared.value.Value.{Value}
-use Rattle.val_types.specs.declared.definitions.TableDef.{TableDef}
-use Rattle.auto_inc.specs.declared.counters.Counter.{Counter}
-use Rattle.auto_inc.specs.Counting.{changed_for, counters_beside}
 use Rattle.sql_print.specs.StatementSpelling.{spelling}
-use Rattle.sql_tree.specs.Statement.{Statement, create_table, create_function, create_procedure, create_trigger, drop_table, truncate, set_all, call_procedure, evaluate}
+use Rattle.sql_tree.specs.Statement.{Statement, set_all, call_procedure, evaluate}
 use Rattle.sql_tree.specs.Tree.{Tree, Trees, no_tree, tree}
 use Rattle.sql_tree.specs.declared.statements.Target.{Target}
 use Rattle.catalog_rules.specs.Names.{same_name, first_made}
 use Rattle.catalog_rules.specs.Bases.{Base, defined}
 use Rattle.catalog_rules.specs.Checks.{session_scope, statement_refusal}
 use Rattle.catalog_rules.specs.Creating.{ddl_refusal}
-use Rattle.catalog_rules.specs.Defined.{definition_of}
 use Rattle.log_entries.specs.declared.carried.Carried.{Carried}
 use Rattle.log_entries.specs.declared.entries.Entry.TheVariants.{Definition}
 use Rattle.answer_text.specs.declared.answer.Answer.{Answer}
 use Rattle.sql_meaning.specs.Frames.{Context}
 use Rattle.sql_meaning.specs.Changing.{Did}
 use Rattle.sql_meaning.specs.Running.{most_nested}
+use Rattle.sql_reach.specs.Defining.{counters_after, is_still_refused}
 use Rattle.session_model.specs.Answers.{ok, refused}
 use Rattle.session_model.specs.Sessions.{Save, Open, just_opened, Session, Shared}
 use Rattle.session_model.specs.Running.{Call, full, Turn, Given, is_other, writing_refusal, lock_refusal, closed, commit_open, statement_run, expressions_run, given_answer}
@@ -110,24 +107,6 @@ release_in name (Some open') shared session =
     else answered (refused 1305) shared session
 
 -- ---- CREATE, DROP and TRUNCATE
-
--- the counter of a table that is made with an AUTO_INCREMENT column begins at 1
-abbrev pub counters_with : TableDef → List Counter → List Counter
-counters_with definition counters =
-    elim (definition.auto) [ None ↦ counters | Some place ↦ counters ++ record { table = definition.name; value = 1 } ∷ [] ]
-
-abbrev pub counters_after : Statement → List Counter → List Counter
-counters_after (create_table t) counters = counters_with (definition_of t) counters
-counters_after (drop_table name) counters = counters_beside name counters
-counters_after (truncate name) counters = changed_for name (λ _. 1) counters
-counters_after s counters = counters
-
--- until they come, stored programs are not allowed
-abbrev pub is_still_refused : Statement → Bool
-is_still_refused (create_function p) = true
-is_still_refused (create_procedure p) = true
-is_still_refused (create_trigger t) = true
-is_still_refused s = false
 
 -- a definition carries its moment, its session and the two AUTO_INCREMENT variables
 abbrev pub definition_carried : Context → Carried

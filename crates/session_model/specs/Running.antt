@@ -1,5 +1,5 @@
 -- What one statement of a session does to what is shared and to its session, and which entries it puts out.
-use Rattle.std.specs.Prelude.{ℕ, ◌+◌, ◌*◌, ◌^◌, ◌-◌, ◌==◌, Bool, true, false, not, nat_le, if◌then◌else◌, List, [], ◌∷◌, ◌++◌, length, drop, filter, map, Option, Some, None, Result, Ok, Err, ℤ}
+use Rattle.std.specs.Prelude.{ℕ, ◌+◌, ◌^◌, ◌-◌, ◌==◌, Bool, true, false, not, nat_le, if◌then◌else◌, List, [], ◌∷◌, ◌++◌, length, drop, filter, map, Option, Some, None, Result, Ok, Err, ℤ}
 use Rattle.std.specs.Option.{option_map_or}
 use Rattle.val_types.specs.declared.change.Change.{Change}
 use Rattle.val_types.specs.declared.definitions.TableDef.{TableDef}
@@ -23,6 +23,7 @@ use Rattle.sql_meaning.specs.Changing.{Did}
 use Rattle.sql_meaning.specs.Running.{most_nested, most_turns, effect, evaluation, context_after}
 use Rattle.sql_reach.specs.Carrying.{carried}
 use Rattle.sql_reach.specs.Reach.{writes}
+use Rattle.sql_reach.specs.Defining.{number_of_bytes}
 use Rattle.session_model.specs.Answers.{ok, showing, refused, refused_by}
 use Rattle.session_model.specs.Sessions.{Open, Session, Shared, tables_with}
 
@@ -179,11 +180,6 @@ keep call item scene shared session a = record {
 
 abbrev pub setting_of : List Object → Context → ℕ → Setting
 setting_of catalog context uuid = record { catalog = catalog; context = context; uuid = uuid }
-
--- bytes as a number, the most significant first
-abbrev pub number_of_bytes : ℕ → List ℕ → ℕ
-number_of_bytes so_far [] = so_far
-number_of_bytes so_far (b ∷ bs) = number_of_bytes (256 * so_far + b) bs
 
 -- the rows that a session's statement reads: the holder of the lock its own changes, too, every other one the committed rows
 abbrev pub scene_for : ℕ → Fuel → Context → Shared → Scene

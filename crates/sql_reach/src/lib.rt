@@ -2,7 +2,7 @@
 //!
 //! The definitions stand in specs/: `Reach` (functions and triggers that a statement reaches; which statements write),
 //! `Reasons` (for which a statement is unsafe to log by its text), `Carrying` (what an item carries of its context), `Closing`
-//! (a statement of a procedure with its locals closed in).
+//! (a statement of a procedure with its locals closed in), `Defining` (what definitions do to counters).
 //!
 //! - `laws`: what follows from the definitions
 //! - `worked`: statements by hand, which the checker computes

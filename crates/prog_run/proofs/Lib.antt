@@ -1,0 +1,11 @@
+pub mod Around
+pub mod Defined
+pub mod Definitions
+pub mod Digits
+pub mod Effects
+pub mod Holding
+pub mod LastId
+pub mod Moments
+pub mod Plain
+pub mod UnderWay
+pub mod Undone

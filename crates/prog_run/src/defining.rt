@@ -1,0 +1,301 @@
+//! CREATE, DROP and TRUNCATE.
+ghost use Rattle.std.specs.Prelude.{◌≡◌, ◌++◌, ◌∷◌, [], true, None, Some, List, IfOk, OnErr, OnOk};
+ghost use Rattle.std.specs.List.{list_all};
+ghost use Rattle.val_types.specs.declared.definitions.TableDef.{TableDef as Definition};
+ghost use Rattle.auto_inc.specs.Counting.{value_for};
+ghost use Rattle.table_rules.specs.Stored.{table_named};
+ghost use Rattle.sql_tree.specs.Statement.{create_table, drop_function, drop_procedure, drop_table, drop_trigger, truncate};
+ghost use Rattle.sql_tree.specs.StatementView.{view};
+ghost use Rattle.catalog_rules.specs.Objects.{is_table, table, table_in};
+ghost use Rattle.catalog_rules.specs.Bases.{table_without_rows};
+ghost use Rattle.catalog_objects.specs.declared.object.Object.{Object};
+ghost use Rattle.catalog_objects.specs.Keys.{objects_of};
+ghost use Rattle.catalog_objects.specs.Lookups.{is_drop};
+ghost use Rattle.sql_reach.specs.Defining.{counters_with};
+ghost use Rattle.sql_reach.specs.Reach.{is_definition};
+ghost use Rattle.prog_run.specs.Runs.{Defines, contents_of};
+ghost use Rattle.prog_run.specs.Together.{AreTogether};
+
+use crate::meter::Outcome;
+use crate::work::Work;
+use catalog::Catalog;
+use row_store::tables_are_kept;
+use sql_stage::Stage;
+use sql_tree::{CreateTable, Stmt};
+use std::alloc::Global;
+use val_types::{Boxed, Bytes, Duplicate, NoMemory, SqlError, SqlRefusal, TableDef};
+
+/// CREATE FUNCTION, PROCEDURE and TRIGGER are not allowed yet.
+const NOT_ALLOWED: SqlError = 30005;
+
+/// No function or procedure of a name.
+const NO_SUCH_ROUTINE: SqlError = 1305;
+
+/// No trigger of a name.
+const NO_SUCH_TRIGGER: SqlError = 1360;
+
+/// Whether a statement changes the catalog or empties a table.
+pub(crate) fn is_definition(statement: &Stmt) -> bool
+    ensures { result ≡ is_definition (view statement.now) }
+{
+    match statement {
+        Stmt::CreateTable(_) => true,
+        Stmt::CreateFunction(_) => true,
+        Stmt::CreateProcedure(_) => true,
+        Stmt::CreateTrigger(_) => true,
+        Stmt::DropTable(_) => true,
+        Stmt::DropFunction(_) => true,
+        Stmt::DropProcedure(_) => true,
+        Stmt::DropTrigger(_) => true,
+        Stmt::Truncate(_) => true,
+        _ => false,
+    }
+}
+
+/// What is told of a definition.
+fn nothing_told() -> Outcome
+    ensures { result ≡ record { affected = 0; rows = None; first = None } }
+{
+    Outcome {
+        affected: 0,
+        rows: None,
+        first: None,
+    }
+}
+
+/// A table without rows, with its counter where it has an AUTO_INCREMENT column; where memory is wanted, neither.
+#[tactic(auto, using(crate::proofs::Definitions::counter_out, crate::proofs::Definitions::added_counter_out))]
+fn put_table(stage: &mut Stage, definition: &TableDef) -> Result<(), NoMemory>
+    requires name { table_named definition.now.name stage.old.tables.tables ≡ None }
+    requires counter { value_for definition.now.name stage.old.counters ≡ None }
+    ensures tables { OnOk result (stage.new.tables.tables ≡ stage.old.tables.tables ++ table_without_rows definition.now ∷ []) }
+    ensures counters { OnOk result (stage.new.counters ≡ counters_with definition.now stage.old.counters) }
+    ensures err_tables { OnErr result (stage.new.tables.tables ≡ stage.old.tables.tables) }
+    ensures err_counters { OnErr result (stage.new.counters ≡ stage.old.counters) }
+    ensures changes { stage.new.undo ≡ stage.old.undo }
+{
+    if definition.auto.is_some() {
+        stage.counters.add(&definition.name, 1)?;
+    }
+    match stage.tables.create(definition) {
+        Ok(()) => Ok(()),
+        Err(e) => {
+            stage.counters.remove(&definition.name);
+            Err(e)
+        }
+    }
+}
+
+/// The table of a name in the catalog, put where the rows are.
+fn store(catalog: &Catalog, stage: &mut Stage, name: &Bytes) -> Result<(), SqlRefusal>
+    requires free_name { (d : Definition) → table_in (objects_of catalog.now) name.now ≡ Some d → table_named d.name stage.old.tables.tables ≡ None }
+    requires free_counter { (d : Definition) → table_in (objects_of catalog.now) name.now ≡ Some d → value_for d.name stage.old.counters ≡ None }
+    ensures tables { OnOk result ((d : Definition) → table_in (objects_of catalog.now) name.now ≡ Some d → stage.new.tables.tables ≡ stage.old.tables.tables ++ table_without_rows d ∷ []) }
+    ensures counters { OnOk result ((d : Definition) → table_in (objects_of catalog.now) name.now ≡ Some d → stage.new.counters ≡ counters_with d stage.old.counters) }
+    ensures err_tables { OnErr result (stage.new.tables.tables ≡ stage.old.tables.tables) }
+    ensures err_counters { OnErr result (stage.new.counters ≡ stage.old.counters) }
+    ensures changes { stage.new.undo ≡ stage.old.undo }
+{
+    match catalog.table(name) {
+        Some(definition) => {
+            put_table(stage, definition)?;
+            Ok(())
+        }
+        None => Err(SqlRefusal::NoMemory),
+    }
+}
+
+/// Takes the table out of the catalog that was put in last.
+#[tactic(auto, using(crate::proofs::Definitions::forgotten))]
+fn forget(catalog: &mut Catalog, dropping: &Stmt)
+    requires { is_drop (view dropping.now) ≡ true }
+    ensures { (before : List Object) → (d : Definition) → list_all is_table (objects_of before) ≡ true → table_in (objects_of before) d.name ≡ None
+        → view dropping.now ≡ drop_table d.name → objects_of catalog.old ≡ objects_of before ++ table d ∷ [] → catalog.new ≡ before }
+{
+    let _ = catalog.remove(dropping);
+}
+
+/// CREATE TABLE; where there is no memory for the table's rows, the catalog is as it was, by the DROP that is handed in.
+fn create(
+    catalog: &mut Catalog,
+    stage: &mut Stage,
+    t: &CreateTable,
+    dropping: &Stmt,
+) -> Result<Outcome, SqlRefusal>
+    requires dropping { view dropping.now ≡ drop_table t.now.name }
+    requires closed { stage.old.undo ≡ [] }
+    requires together { AreTogether catalog.old stage.old.tables stage.old.undo stage.old.counters }
+    ensures defines { Defines (create_table t.now) result (contents_of catalog.old stage.old) (contents_of catalog.new stage.new) }
+    ensures together { AreTogether catalog.new stage.new.tables stage.new.undo stage.new.counters }
+{
+    match catalog.add_table(t) {
+        Ok(()) => {}
+        Err(SqlRefusal::Sql(code)) => return Err(SqlRefusal::Sql(code)),
+        Err(SqlRefusal::NoMemory) => return Err(SqlRefusal::NoMemory),
+    }
+    match store(catalog, stage, &t.name) {
+        Ok(()) => Ok(nothing_told()),
+        Err(_) => {
+            forget(catalog, dropping);
+            Err(SqlRefusal::NoMemory)
+        }
+    }
+}
+
+/// DROP TABLE.
+fn drop_named(
+    catalog: &mut Catalog,
+    stage: &mut Stage,
+    statement: &Stmt,
+    name: &Bytes,
+) -> Result<Outcome, SqlRefusal>
+    requires statement { view statement.now ≡ drop_table name.now }
+    requires closed { stage.old.undo ≡ [] }
+    requires together { AreTogether catalog.old stage.old.tables stage.old.undo stage.old.counters }
+    ensures defines { Defines (drop_table name.now) result (contents_of catalog.old stage.old) (contents_of catalog.new stage.new) }
+    ensures together { AreTogether catalog.new stage.new.tables stage.new.undo stage.new.counters }
+{
+    tables_are_kept(&stage.tables);
+    match catalog.remove(statement) {
+        Ok(()) => {
+            stage.tables.drop_table(name);
+            stage.counters.remove(name);
+            Ok(nothing_told())
+        }
+        Err(SqlRefusal::Sql(code)) => Err(SqlRefusal::Sql(code)),
+        Err(SqlRefusal::NoMemory) => Err(SqlRefusal::NoMemory),
+    }
+}
+
+/// TRUNCATE.
+fn empty(
+    catalog: &Catalog,
+    stage: &mut Stage,
+    statement: &Stmt,
+    name: &Bytes,
+) -> Result<Outcome, SqlRefusal>
+    requires statement { view statement.now ≡ truncate name.now }
+    requires closed { stage.old.undo ≡ [] }
+    requires together { AreTogether catalog.now stage.old.tables stage.old.undo stage.old.counters }
+    ensures defines { Defines (truncate name.now) result (contents_of catalog.now stage.old) (contents_of catalog.now stage.new) }
+    ensures together { AreTogether catalog.now stage.new.tables stage.new.undo stage.new.counters }
+{
+    match catalog.check_removal(statement) {
+        Ok(()) => {
+            stage.tables.clear(name);
+            stage.counters.reset(name);
+            Ok(nothing_told())
+        }
+        Err(SqlRefusal::Sql(code)) => Err(SqlRefusal::Sql(code)),
+        Err(SqlRefusal::NoMemory) => Err(SqlRefusal::NoMemory),
+    }
+}
+
+/// DROP FUNCTION: there is none.
+#[tactic(auto, using(crate::proofs::Definitions::no_function_to_drop))]
+fn absent_function(
+    catalog: &Catalog,
+    stage: &Stage,
+    statement: &Stmt,
+    name: &Bytes,
+) -> Result<Outcome, SqlRefusal>
+    requires statement { view statement.now ≡ drop_function name.now }
+    requires plain { list_all is_table (objects_of catalog.now) ≡ true }
+    ensures { Defines (drop_function name.now) result (contents_of catalog.now stage.now) (contents_of catalog.now stage.now) }
+{
+    Err(SqlRefusal::Sql(NO_SUCH_ROUTINE))
+}
+
+/// DROP PROCEDURE: there is none.
+#[tactic(auto, using(crate::proofs::Definitions::no_procedure_to_drop))]
+fn absent_procedure(
+    catalog: &Catalog,
+    stage: &Stage,
+    statement: &Stmt,
+    name: &Bytes,
+) -> Result<Outcome, SqlRefusal>
+    requires statement { view statement.now ≡ drop_procedure name.now }
+    requires plain { list_all is_table (objects_of catalog.now) ≡ true }
+    ensures { Defines (drop_procedure name.now) result (contents_of catalog.now stage.now) (contents_of catalog.now stage.now) }
+{
+    Err(SqlRefusal::Sql(NO_SUCH_ROUTINE))
+}
+
+/// DROP TRIGGER: there is none.
+#[tactic(auto, using(crate::proofs::Definitions::no_trigger_to_drop))]
+fn absent_trigger(
+    catalog: &Catalog,
+    stage: &Stage,
+    statement: &Stmt,
+    name: &Bytes,
+) -> Result<Outcome, SqlRefusal>
+    requires statement { view statement.now ≡ drop_trigger name.now }
+    requires plain { list_all is_table (objects_of catalog.now) ≡ true }
+    ensures { Defines (drop_trigger name.now) result (contents_of catalog.now stage.now) (contents_of catalog.now stage.now) }
+{
+    Err(SqlRefusal::Sql(NO_SUCH_TRIGGER))
+}
+
+/// The DROP of a table.
+fn dropping(alloc: Global, name: &Bytes) -> Result<Boxed<Stmt>, NoMemory>
+    ensures { IfOk result (λ s. view s ≡ drop_table name.now) }
+{
+    let name = name.duplicate(alloc)?;
+    Boxed::new(alloc, Stmt::DropTable(name))
+}
+
+/// CREATE TABLE, with the DROP made first that it may need.
+fn create_prepared(
+    alloc: Global,
+    catalog: &mut Catalog,
+    stage: &mut Stage,
+    t: &CreateTable,
+) -> Result<Outcome, SqlRefusal>
+    requires closed { stage.old.undo ≡ [] }
+    requires together { AreTogether catalog.old stage.old.tables stage.old.undo stage.old.counters }
+    ensures defines { Defines (create_table t.now) result (contents_of catalog.old stage.old) (contents_of catalog.new stage.new) }
+    ensures together { AreTogether catalog.new stage.new.tables stage.new.undo stage.new.counters }
+{
+    match dropping(alloc, &t.name) {
+        Ok(dropping) => create(catalog, stage, t, dropping.get()),
+        Err(_) => Err(SqlRefusal::NoMemory),
+    }
+}
+
+/// A definition under a catalog.
+fn define_in(
+    alloc: Global,
+    catalog: &mut Catalog,
+    stage: &mut Stage,
+    statement: &Stmt,
+) -> Result<Outcome, SqlRefusal>
+    requires closed { stage.old.undo ≡ [] }
+    requires together { AreTogether catalog.old stage.old.tables stage.old.undo stage.old.counters }
+    ensures defines { Defines (view statement.now) result (contents_of catalog.old stage.old) (contents_of catalog.new stage.new) }
+    ensures together { AreTogether catalog.new stage.new.tables stage.new.undo stage.new.counters }
+{
+    match statement {
+        Stmt::CreateTable(t) => create_prepared(alloc, catalog, stage, t),
+        Stmt::DropTable(name) => drop_named(catalog, stage, statement, name),
+        Stmt::Truncate(name) => empty(catalog, stage, statement, name),
+        Stmt::CreateFunction(_) => Err(SqlRefusal::Sql(NOT_ALLOWED)),
+        Stmt::CreateProcedure(_) => Err(SqlRefusal::Sql(NOT_ALLOWED)),
+        Stmt::CreateTrigger(_) => Err(SqlRefusal::Sql(NOT_ALLOWED)),
+        Stmt::DropFunction(name) => absent_function(catalog, stage, statement, name),
+        Stmt::DropProcedure(name) => absent_procedure(catalog, stage, statement, name),
+        Stmt::DropTrigger(name) => absent_trigger(catalog, stage, statement, name),
+        _ => Err(SqlRefusal::NoMemory),
+    }
+}
+
+/// Makes a definition, or refuses it.
+pub(crate) fn define(
+    alloc: Global,
+    work: &mut Work,
+    statement: &Stmt,
+) -> Result<Outcome, SqlRefusal>
+    requires { work.old.changes ≡ [] }
+    ensures { Defines (view statement.now) result work.old work.new }
+{
+    define_in(alloc, &mut work.catalog, &mut work.stage, statement)
+}

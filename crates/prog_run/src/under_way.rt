@@ -1,0 +1,39 @@
+//! What is under way where a session runs a statement.
+ghost use Rattle.std.specs.Prelude.{◌≡◌, []};
+ghost use Rattle.sql_tree.specs.View.{view_trees};
+ghost use Rattle.sql_tree.specs.StatementView.{view};
+ghost use Rattle.catalog_rules.specs.Nodes.{no_sight, nodes_of, nodes_of_trees};
+ghost use Rattle.sql_meaning.specs.Running.{tables_named};
+ghost use Rattle.sql_evaluation.specs.Seen.{running_of};
+
+use sql_stage::Running;
+use sql_tree::{Expr, Stmt};
+use val_types::List;
+
+/// Nothing.
+pub(crate) fn nothing<'a>() -> Running<'a>
+    ensures { running_of result ≡ record { tables = []; functions = [] } }
+{
+    Running::Nothing
+}
+
+/// A statement by itself.
+#[tactic(auto, using(crate::proofs::UnderWay::statement_alone))]
+pub(crate) fn statement_alone<'a>(statement: &'a Stmt, nothing: &'a Running<'a>) -> Running<'a>
+    requires { running_of nothing.now ≡ record { tables = []; functions = [] } }
+    ensures { running_of result ≡ record { tables = tables_named (nodes_of (view statement.now)); functions = [] } }
+{
+    Running::Statement(statement, nothing)
+}
+
+/// Expressions by themselves.
+#[tactic(auto, using(crate::proofs::UnderWay::expressions_alone))]
+pub(crate) fn expressions_alone<'a>(
+    expressions: &'a List<Expr>,
+    nothing: &'a Running<'a>,
+) -> Running<'a>
+    requires { running_of nothing.now ≡ record { tables = []; functions = [] } }
+    ensures { running_of result ≡ record { tables = tables_named (nodes_of_trees (view_trees expressions.now) no_sight); functions = [] } }
+{
+    Running::Expressions(expressions, nothing)
+}
