@@ -1,0 +1,24 @@
+-- Numbers read from digits.
+use Rattle.std.proofs.Common.{◌≡◌, ℕ, ◌+◌, ◌-◌, ◌*◌, ◌<◌, ◌≤◌, List, [], ◌∷◌, Bool, true, false, length, drop, get_or, arith, add-one, drop-cons, None, refl}
+use Rattle.std.proofs.lemmas.Bool.Decides.{nat_tests}
+use Rattle.script_read.specs.Bytes.{read_on, is_numeral, number_to}
+
+-- reading on never makes a number less
+pub read_on_grows : (n : ℕ) (ds : List ℕ) → n ≤ read_on n ds
+read_on_grows n [] = omega arith
+read_on_grows n (d ∷ ds) = omega (arith, read_on_grows (10 * n + (d - 0x30)) ds)
+
+-- a number past the limit is none
+past_limit : (limit : ℕ) (digits : List ℕ) → limit < read_on 0 digits → number_to limit digits ≡ None
+past_limit limit digits past = by_numeral (is_numeral digits) refl where
+  by_numeral : (t : Bool) → is_numeral digits ≡ t → number_to limit digits ≡ None
+  by_numeral false e = rw e refl
+  by_numeral true e = grind (arith, nat_tests)
+
+-- digits whose number is past the limit once some of them are read give none
+pub too_great : (limit : ℕ) (digits : List ℕ) (i n d : ℕ) → i < length digits → d ≡ get_or digits i 0 → limit < 10 * n + (d - 0x30) → read_on n (drop i digits) ≡ read_on 0 digits → number_to limit digits ≡ None
+too_great limit digits i n d within is above e =
+    let grows : 10 * n + (d - 0x30) ≤ read_on (10 * n + (d - 0x30)) (drop (i + 1) digits) = read_on_grows (10 * n + (d - 0x30)) (drop (i + 1) digits) in
+    let split : drop i digits ≡ d ∷ drop (i + 1) digits = rw (is, add-one) (drop-cons digits i 0 within) in
+    let whole : read_on (10 * n + (d - 0x30)) (drop (i + 1) digits) ≡ read_on 0 digits = rw split at e in
+    past_limit limit digits (omega arith)

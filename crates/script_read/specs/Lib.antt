@@ -1,0 +1,5 @@
+pub mod Bytes
+pub mod Commands
+pub mod Script
+pub mod Split
+pub mod Worked

@@ -1,0 +1,114 @@
+-- What one statement of a session leaves: its item gives its changes on the base, behind those of the items before it.
+use Rattle.std.proofs.Common.{◌≡◌, ℕ, ◌⊎◌, inl, inr, Bool, false, List, [], ◌∷◌, ◌++◌, Option, Some, None, Ok, ℤ, refl, sym, ◌∙◌, ap, subst, cond}
+use Rattle.val_types.specs.declared.change.Change.{Change}
+use Rattle.sql_tree.specs.Statement.{Statement}
+use Rattle.log_entries.specs.declared.entries.Entry.{Entry}
+use Rattle.sql_meaning.specs.Scenes.{Scene, Ending, done, failed}
+use Rattle.sql_meaning.specs.Frames.{Context}
+use Rattle.sql_meaning.specs.Changing.{Did}
+use Rattle.sql_meaning.specs.Running.{effect, context_after, most_nested}
+use Rattle.sql_meaning.specs.Leading.{EndsWell}
+use Rattle.session_ctx.specs.declared.session.SessionVars.{SessionVars}
+use Rattle.session_model.specs.Sessions.{Open, Session, Shared, tables_with}
+use Rattle.sql_reach.specs.Defining.{number_of_bytes}
+use Rattle.session_model.specs.Running.{Call, Fuel, Turn, Given, is_other, items_of, keep, made_behind, with_counters, scene_for, settle, ended, item_of, fuel_of, with_context, setting_of}
+use Rattle.session_model.specs.Machine.{Whole, whole}
+use Rattle.session_model.specs.Holding.{changes_in, Owns, SharedHolds}
+use Rattle.session_model.proofs.Holding.{own_changes, made_kept}
+use Rattle.session_replays.specs.Again.{Gives, AllGive, EntriesGive}
+use Rattle.session_replays.proofs.Giving.{all_behind}
+
+-- Entries that give their changes on the base before, and open items that give theirs on the base after; the base is the same,
+-- or no other session had the lock.
+pub record Kept (n : ℕ) (old new : Shared) (t : Option (Open Whole)) (es : List (Entry Whole)) : Type 0 where
+  pub entries : EntriesGive old.base es
+  pub items : AllGive new.base [] (items_of t)
+  pub frame : (new.base ≡ old.base) ⊎ (is_other n old.writer ≡ false)
+
+abbrev pub TurnKept : {A : Type 0} → ℕ → Shared → Turn Whole A → Type 0
+TurnKept n shared t = Kept n shared t.shared t.session.transaction t.committed
+
+-- nothing that counts is done
+pub nothing_kept : (n : ℕ) (shared : Shared) (t : Option (Open Whole)) → AllGive shared.base [] (items_of t) → Kept n shared shared t []
+nothing_kept n shared t g = record { entries = tt; items = g; frame = inl refl }
+
+-- ---- one item
+
+-- a session beside no other sees the base with its own changes
+seen_again : (n : ℕ) (fuel : Fuel) (context : Context) (shared : Shared) (b : Bool) → is_other n shared.writer ≡ b → b ≡ false
+    → scene_for n fuel context shared ≡ record {
+      tables = tables_with shared.changes shared.base.tables;
+      changes = shared.changes;
+      counters = shared.counters;
+      seeds = context.seeds;
+      turns = fuel.turns;
+      uuids = fuel.uuids;
+    }
+seen_again n fuel context shared b q e =
+    ap (λ (c : Bool). record {
+      tables = cond c shared.base.tables (tables_with shared.changes shared.base.tables);
+      changes = cond c [] shared.changes;
+      counters = shared.counters;
+      seeds = context.seeds;
+      turns = fuel.turns;
+      uuids = fuel.uuids;
+    }) (q ∙ e)
+
+-- A statement of a session that was done on a scene.
+pub record WasDone (call : Call Whole) (shared : Shared) (context : Context) (tree : Statement) (before after : Scene) : Type 0 where
+  pub did : Did
+  pub ends : effect (setting_of shared.base.catalog context (number_of_bytes 0 call.draw.uuid)) most_nested [] tree before ≡ done did after
+
+module _ (call : Call Whole) (fuel : Fuel) (text : List ℕ) (tree : Statement) (shared : Shared) where
+  -- its item gives its changes behind those of the items before
+  item_gives : (context : Context) (scene : Scene) (first : Option ℤ) (cs before : List Change) → call.note ≡ whole → is_other call.number shared.writer ≡ false
+      → shared.changes ≡ before → scene.changes ≡ shared.changes ++ cs → WasDone call shared context tree (scene_for call.number fuel context shared) scene
+      → Gives shared.base before (item_of call fuel text tree context shared first cs)
+  item_gives context scene first cs before noted q own f d =
+      subst (λ (note : _). Gives shared.base before (item_of (record call { note = note }) fuel text tree context shared first cs)) (sym noted)
+      (subst (λ (ds : List Change). Gives shared.base ds (item_of (record call { note = whole }) fuel text tree context shared first cs)) own
+      (record {
+        did = d.did;
+        scene = scene;
+        ends = ap (effect (setting_of shared.base.catalog context (number_of_bytes 0 call.draw.uuid)) most_nested [] tree) (sym (seen_again call.number fuel context shared (is_other call.number shared.writer) refl q)) ∙ d.ends;
+        changes = f;
+        catalog = refl;
+      }))
+
+  -- ---- kept
+
+  keep_kept : {A : Type 0} (item : Whole) (scene : Scene) (new : Shared) (vars : SessionVars) (t : Option (Open Whole)) (a : A) → new.base ≡ shared.base → is_other call.number shared.writer ≡ false
+      → AllGive shared.base [] (items_of t) → Gives shared.base (changes_in (items_of t)) item
+      → let turn : Turn Whole A = keep call item scene new (record { vars = vars; transaction = t }) a in Kept call.number shared turn.shared turn.session.transaction turn.committed
+  keep_kept item scene new vars None a e q g one = record { entries = ((one, tt), λ next made. tt); items = tt; frame = inr q }
+  keep_kept item scene new vars (Some open') a e q g one = record {
+    entries = tt;
+    items = all_behind new.base [] open'.items item (subst (λ b. AllGive b [] open'.items) (sym e) g) (subst (λ b. Gives b (changes_in open'.items) item) (sym e) one);
+    frame = inl e;
+  }
+
+  -- a statement that changed nothing leaves no item
+  settle_kept : {A : Type 0} (context : Context) (scene : Scene) (first : Option ℤ) (made : List Change) (session : Session Whole) (given : Given A) → call.note ≡ whole
+      → SharedHolds shared → Owns call.number shared session.transaction → AllGive shared.base [] (items_of session.transaction)
+      → WasDone call shared context tree (scene_for call.number fuel context shared) scene
+      → ((c : Change) (cs : List Change) → made ≡ c ∷ cs → (is_other call.number shared.writer ≡ false) × (scene.changes ≡ shared.changes ++ made))
+      → let turn : Turn Whole (Given A) = settle call (item_of call fuel text tree context shared first) made scene (with_counters scene shared) session given in
+      Kept call.number shared turn.shared turn.session.transaction turn.committed
+  settle_kept context scene first [] session given noted h o g d some = record { entries = tt; items = g; frame = inl refl }
+  settle_kept context scene first (c ∷ cs) session given noted h o g d some =
+      let k = some c cs refl in
+      keep_kept (item_of call fuel text tree context shared first (c ∷ cs)) scene (with_counters scene shared) session.vars session.transaction given refl k.0 g
+      (item_gives context scene first (c ∷ cs) (changes_in (items_of session.transaction)) noted k.0 (own_changes call.number shared session.transaction h o k.0) k.1 d)
+
+  -- a statement that ended, done or with an error
+  pub ended_kept : {A : Type 0} (session : Session Whole) (first last_id : A → Option ℤ) (e : Ending A) → call.note ≡ whole → SharedHolds shared → Owns call.number shared session.transaction
+      → AllGive shared.base [] (items_of session.transaction) → EndsWell (scene_for call.number fuel session.vars.context shared) e
+      → ((a : A) (scene : Scene) → e ≡ done a scene → WasDone call shared session.vars.context tree (scene_for call.number fuel session.vars.context shared) scene)
+      → let turn : Turn Whole (Given A) = ended call fuel text tree shared session first last_id (scene_for call.number fuel session.vars.context shared) e in
+      Kept call.number shared turn.shared turn.session.transaction turn.committed
+  ended_kept session first last_id (done a scene) noted h o g ends was =
+      let before = scene_for call.number fuel session.vars.context shared in
+      settle_kept session.vars.context scene (first a) (made_behind (is_other call.number shared.writer) before scene)
+      (with_context (context_after session.vars.context tree scene.seeds (last_id a)) session) (record { result = Ok a; fuel = fuel_of scene }) noted h o g (was a scene refl)
+      (λ c cs q. let k = made_kept call.number fuel session.vars.context shared scene h (is_other call.number shared.writer) refl ends c cs q in (k.0, k.1))
+  ended_kept session first last_id (failed code scene) noted h o g ends was = record { entries = tt; items = g; frame = inl refl }

@@ -1,0 +1,65 @@
+-- Each step keeps that committed statements give the changes of the entries.
+use Rattle.std.proofs.Common.{◌≡◌, ◌≢◌, ◌<◌, ℕ, ◌⊎◌, inl, inr, Bool, true, false, ◌==◌, List, [], length, Option, Some, None, refl, sym, subst}
+use Rattle.std.proofs.lemmas.List.{get_or-set_same, get_or-set_other}
+use Rattle.std.proofs.lemmas.Bool.{eqb-true, eqb-false}
+use Rattle.std.specs.Prelude.{slice_index_or, slice_set}
+use Rattle.catalog_rules.specs.Bases.{Base}
+use Rattle.answer_text.specs.declared.answer.Answer.{Answer}
+use Rattle.text_answers.specs.Answers.{text_answer}
+use Rattle.sql_meaning.specs.Leading.{StatementsEndWell, EvaluationsEndWell}
+use Rattle.session_model.specs.Sessions.{Open, Session, Shared}
+use Rattle.session_model.specs.Running.{Call, Turn, is_other, items_of}
+use Rattle.session_model.specs.Machine.{Whole, whole, text_turn, at_work, with_count, session_slots, step}
+use Rattle.session_model.specs.Holding.{Owns, transaction_of, RunsBegin, RunsGoOn}
+use Rattle.session_model.proofs.Holding.{none_there, not_both, work_same}
+use Rattle.session_replays.specs.Again.{AllGive}
+use Rattle.session_replays.specs.Replaying.{ReplaysBegin, ReplaysGoOn}
+use Rattle.session_replays.proofs.Giving.{none_give, entries_behind}
+use Rattle.session_replays.proofs.Turning.{command_kept}
+
+-- for a session of another number: the base stays, or it has no item
+other_gives : (n k : ℕ) (old : Shared) (base : Base) (t : Option (Open Whole)) → k ≢ n → (base ≡ old.base) ⊎ (is_other n old.writer ≡ false) → Owns k old t → AllGive old.base [] (items_of t)
+    → AllGive base [] (items_of t)
+other_gives n k old base t differ (inl e) o g = subst (λ (b : Base). AllGive b [] (items_of t)) (sym e) g
+other_gives n k old base t differ (inr q) o g = none_give base (items_of t) (o.none (not_both n k old.writer differ q))
+
+each_gives : (n k : ℕ) (old : Shared) (base : Base) (sessions : List (Option (Session Whole))) (session : Session Whole) → n < length sessions → AllGive base [] (items_of session.transaction)
+    → (base ≡ old.base) ⊎ (is_other n old.writer ≡ false) → ((j : ℕ) → Owns j old (transaction_of (slice_index_or sessions j None)))
+    → ((j : ℕ) → AllGive old.base [] (items_of (transaction_of (slice_index_or sessions j None))))
+    → AllGive base [] (items_of (transaction_of (slice_index_or (slice_set sessions n (Some session)) k None)))
+each_gives n k old base sessions session within own frame owns each = by (k == n) refl
+  where
+    by : (b : Bool) → (k == n) ≡ b → AllGive base [] (items_of (transaction_of (slice_index_or (slice_set sessions n (Some session)) k None)))
+    by true e =
+        subst (λ (j : ℕ). AllGive base [] (items_of (transaction_of (slice_index_or (slice_set sessions n (Some session)) j None)))) (sym (eqb-true k n e))
+        (subst (λ (s : Option (Session Whole)). AllGive base [] (items_of (transaction_of s))) (sym (get_or-set_same sessions n (Some session) None within)) own)
+    by false e =
+        let differ : k ≢ n = eqb-false k n e in
+        subst (λ (s : Option (Session Whole)). AllGive base [] (items_of (transaction_of s))) (sym (get_or-set_other sessions n k (Some session) None differ))
+        (other_gives n k old base _ differ frame (owns k) (each k))
+
+pub replays_go_on : StatementsEndWell → EvaluationsEndWell → RunsGoOn → ReplaysGoOn
+unfolding step
+replays_go_on statements evaluations goes_on base m identity n text draw r within =
+    let call : Call Whole = record { identity = identity; draw = draw; number = n; note = whole } in
+    let session : Session Whole = at_work call (slice_index_or m.state.sessions n None) in
+    let same : session.transaction ≡ transaction_of (slice_index_or m.state.sessions n None) = work_same call (slice_index_or m.state.sessions n None) in
+    let own : Owns n m.state.shared session.transaction = subst (λ (t : Option (Open Whole)). Owns n m.state.shared t) (sym same) (r.holds.each n) in
+    let open_items : AllGive m.state.shared.base [] (items_of session.transaction) =
+    subst (λ (t : Option (Open Whole)). AllGive m.state.shared.base [] (items_of t)) (sym same) (r.open_ones n) in
+    let turn : Turn Whole Answer = with_count (text_turn call text (text_answer text) m.state.shared session) in
+    let kept = command_kept call refl m.state.shared session r.holds.shared own open_items statements evaluations text in
+    record {
+      holds = goes_on base m identity n text draw r.holds within;
+      history = entries_behind m.history turn.committed base m.state.shared.base r.history r.holds.entries kept.entries;
+      open_ones = λ k. each_gives n k m.state.shared turn.shared.base m.state.sessions turn.session within kept.items kept.frame r.holds.each r.open_ones;
+    }
+
+-- ---- the beginning
+
+pub replays_begin : RunsBegin → ReplaysBegin
+replays_begin begins base counters committed = record {
+  holds = begins base counters committed;
+  history = tt;
+  open_ones = λ n. subst (λ (s : Option (Session Whole)). AllGive base [] (items_of (transaction_of s))) (sym (none_there session_slots n)) tt;
+}

@@ -1,0 +1,4 @@
+pub mod Again
+pub mod Replaying
+pub mod Rerun
+pub mod Worked
