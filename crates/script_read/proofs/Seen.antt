@@ -6,7 +6,7 @@ use Rattle.std.proofs.lemmas.List.Folds.{list_all-append}
 use Rattle.std.proofs.lemmas.Bool.Decides.{nat_tests}
 use Rattle.script_read.specs.declared.command.Command.{Command}
 use Rattle.script_read.specs.Commands.{what_seen}
-use Rattle.script_read.specs.Split.{statement_of, is_short}
+use Rattle.script_read.specs.Split.{statement_of, is_numbered, is_short}
 
 pub map_more : {A B : Type 0} (f : A → B) (items : List A) (item : A) → map f (items ++ item ∷ []) ≡ map f items ++ f item ∷ []
 map_more f items item = map-append f items (item ∷ [])
@@ -19,3 +19,7 @@ pub short_more : (commands : List Command) (c : Command) (size : ℕ) → length
 short_more commands c size within most all =
     let short : nat_le (length (statement_of (what_seen c.what))) 1048571 ≡ true = grind (arith, nat_tests) in
     rw (list_all-append is_short commands (c ∷ []), all, short) refl
+
+-- one more command of a session with a number of one
+pub numbered_more : (commands : List Command) (c : Command) → IsTrue (is_numbered c) → IsTrue (list_all is_numbered commands) → IsTrue (list_all is_numbered (commands ++ c ∷ []))
+numbered_more commands c numbered all = rw (list_all-append is_numbered commands (c ∷ []), all, numbered) refl

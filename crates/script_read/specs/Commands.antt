@@ -1,5 +1,5 @@
 -- What a command says: its actor, and what its text asks of it.
-use Rattle.std.specs.Prelude.{ℕ, ◌==◌, codes, if◌then◌else◌, List, [], ◌∷◌, Option, Some, None}
+use Rattle.std.specs.Prelude.{ℕ, Bool, true, ◌&&◌, nat_le, ◌==◌, codes, if◌then◌else◌, List, [], ◌∷◌, Option, Some, None}
 use Rattle.std.specs.Option.{option_map}
 use Rattle.std.specs.Char.{to_ascii_lowercase}
 use Rattle.script_read.specs.declared.command.Actor.{Actor}
@@ -41,6 +41,16 @@ actor_of head =
     else if is_word (codes "replica") head then Some actors.Replica
     else session_of head
 
+-- sessions are numbered from 1 to 99
+abbrev pub is_session : ℕ → Bool
+is_session n = nat_le 1 n && nat_le n 99
+
+-- whether an actor that is a session has the number of one
+abbrev pub is_actor_numbered : Actor → Bool
+is_actor_numbered (actors.Session n) = is_session n
+is_actor_numbered actors.Source = true
+is_actor_numbered actors.Replica = true
+
 -- ---- texts
 
 -- what a text asks of the source
@@ -78,6 +88,18 @@ abbrev pub what_of : Actor → List ℕ → Option What
 what_of (actors.Session n) text = Some (of_session n text)
 what_of actors.Source text = source_text text
 what_of actors.Replica text = replica_text text
+
+-- whether what is asked of a session has the number of one
+abbrev pub is_what_numbered : What → Bool
+is_what_numbered (of_session n text) = is_session n
+is_what_numbered source_checkpoint = true
+is_what_numbered source_flush = true
+is_what_numbered source_restart = true
+is_what_numbered (fetch n) = true
+is_what_numbered (apply n) = true
+is_what_numbered replica_checkpoint = true
+is_what_numbered replica_restart = true
+is_what_numbered (replica_select text) = true
 
 -- ---- the code's commands as plain data
 

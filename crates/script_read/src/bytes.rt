@@ -1,5 +1,5 @@
 //! White space, words and numbers in bytes.
-ghost use Rattle.std.specs.Prelude.{◌≡◌, ◌≤◌, length, reverse};
+ghost use Rattle.std.specs.Prelude.{◌≡◌, ◌≤◌, length, reverse, IfSome};
 ghost use Rattle.std.specs.List.{list_all, take_while};
 ghost use Rattle.std.specs.Char.{is_ascii_digit};
 ghost use Rattle.script_read.specs.Bytes.{behind_word, first_word, is_blank, is_numeral, is_word, is_word_byte, number_to, trim, trim_front};
@@ -101,7 +101,8 @@ fn is_numeral(digits: &[u8]) -> bool
 /// The number that `digits` are in decimal, without sign or leading zero, from 1 to `limit`.
 #[tactic(auto, using(crate::proofs::Numbers::too_great))]
 pub(crate) fn number_to(limit: u32, digits: &[u8]) -> Option<u32>
-    ensures { result ≡ number_to limit digits.now }
+    ensures value { result ≡ number_to limit digits.now }
+    ensures within { IfSome result (λ number. (1 ≤ number) × (number ≤ limit)) }
 {
     if !is_numeral(digits) {
         return None;

@@ -1,7 +1,7 @@
 //! What a command says: its actor, and what its text asks of it.
-ghost use Rattle.std.specs.Prelude.{◌≡◌, ◌≤◌, length, IfSome, OnSome};
+ghost use Rattle.std.specs.Prelude.{◌≡◌, ◌≤◌, length, IfSome, IsTrue, OnSome};
 ghost use Rattle.std.specs.Option.{option_map};
-ghost use Rattle.script_read.specs.Commands.{actor_of, replica_text, session_of, source_text, what_of, what_seen, worded_text};
+ghost use Rattle.script_read.specs.Commands.{actor_of, is_actor_numbered, is_what_numbered, replica_text, session_of, source_text, what_of, what_seen, worded_text};
 ghost use Rattle.script_read.specs.Split.{statement_of};
 
 use crate::bytes::{cut_word, is_word, number_to, trim_front};
@@ -53,6 +53,7 @@ pub struct Command<'a> {
 fn session_of(head: &[u8]) -> Option<Actor>
     ensures value { result ≡ session_of head.now }
     ensures size { OnSome result (2 ≤ length head.now) }
+    ensures numbered { IfSome result (λ actor. IsTrue (is_actor_numbered actor)) }
 {
     match head {
         [b's' | b'S', digits @ ..] => {
@@ -67,6 +68,7 @@ fn session_of(head: &[u8]) -> Option<Actor>
 pub(crate) fn actor_of(head: &[u8]) -> Option<Actor>
     ensures value { result ≡ actor_of head.now }
     ensures size { OnSome result (2 ≤ length head.now) }
+    ensures numbered { IfSome result (λ actor. IsTrue (is_actor_numbered actor)) }
 {
     if is_word(b"source", head) {
         Some(Actor::Source)
@@ -81,6 +83,7 @@ pub(crate) fn actor_of(head: &[u8]) -> Option<Actor>
 fn source_text(text: &[u8]) -> Option<What<'_>>
     ensures value { option_map what_seen result ≡ source_text text.now }
     ensures within { IfSome result (λ what. length (statement_of (what_seen what)) ≤ length text.now) }
+    ensures numbered { IfSome result (λ what. IsTrue (is_what_numbered (what_seen what))) }
 {
     if is_word(b"checkpoint", text) {
         Some(What::SourceCheckpoint)
@@ -97,6 +100,7 @@ fn source_text(text: &[u8]) -> Option<What<'_>>
 fn worded_text<'a>(text: &'a [u8], word: &[u8], rest: &[u8]) -> Option<What<'a>>
     ensures value { option_map what_seen result ≡ worded_text text.now word.now rest.now }
     ensures within { IfSome result (λ what. length (statement_of (what_seen what)) ≤ length text.now) }
+    ensures numbered { IfSome result (λ what. IsTrue (is_what_numbered (what_seen what))) }
 {
     if is_word(b"select", word) {
         Some(What::ReplicaSelect { text })
@@ -113,6 +117,7 @@ fn worded_text<'a>(text: &'a [u8], word: &[u8], rest: &[u8]) -> Option<What<'a>>
 fn replica_text(text: &[u8]) -> Option<What<'_>>
     ensures value { option_map what_seen result ≡ replica_text text.now }
     ensures within { IfSome result (λ what. length (statement_of (what_seen what)) ≤ length text.now) }
+    ensures numbered { IfSome result (λ what. IsTrue (is_what_numbered (what_seen what))) }
 {
     if is_word(b"checkpoint", text) {
         Some(What::ReplicaCheckpoint)
@@ -128,6 +133,7 @@ fn replica_text(text: &[u8]) -> Option<What<'_>>
 pub(crate) fn what_of(actor: Actor, text: &[u8]) -> Option<What<'_>>
     ensures value { option_map what_seen result ≡ what_of actor text.now }
     ensures within { IfSome result (λ what. length (statement_of (what_seen what)) ≤ length text.now) }
+    ensures numbered { IsTrue (is_actor_numbered actor) → IfSome result (λ what. IsTrue (is_what_numbered (what_seen what))) }
 {
     match actor {
         Actor::Session(session) => Some(What::Session { session, text }),

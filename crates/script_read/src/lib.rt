@@ -15,7 +15,7 @@
 //! # Proved
 //! - [`split`] gives exactly the commands of the script, with their places, or exactly the first bad byte, or wants memory
 //!   (`gives`). A command takes five bytes at the least (`count`), its text is at most five bytes shorter than 1 MiB (`texts`),
-//!   and only a script of at most 64 MiB is split (`limit`).
+//!   a session has a number from 1 to 99 (`sessions`), and only a script of at most 64 MiB is split (`limit`).
 //! - What is longer than a limit is bad: a script at its limit, a command at its first byte ([`limits_kept`]).
 //! - The worked examples: actors and words in either case, numbers at their limits and past them, `//` within texts and before
 //!   each kind of line's end, semicolons, first words, places.

@@ -2,9 +2,9 @@
 ghost use Rattle.std.specs.Prelude.{◌≡◌, ◌+◌, ◌*◌, ◌≤◌, length, reverse, IsTrue, IfSome, IfOk, OnOk};
 ghost use Rattle.std.specs.Option.{option_map};
 ghost use Rattle.std.specs.List.{list_all, take_while};
-ghost use Rattle.script_read.specs.Commands.{what_seen};
+ghost use Rattle.script_read.specs.Commands.{is_what_numbered, what_seen};
 ghost use Rattle.script_read.specs.Script.{begins_with_end, body_of, command_of, drop_semicolon, ends_command, head_of, is_no_colon, split_of, text_of_body};
-ghost use Rattle.script_read.specs.Split.{GivesSplit, is_short, statement_of};
+ghost use Rattle.script_read.specs.Split.{GivesSplit, is_numbered, is_short, statement_of};
 
 use crate::bytes::{trim, trim_front};
 use crate::command::{Command, What, actor_of, what_of};
@@ -111,6 +111,7 @@ fn command_of(bytes: &[u8]) -> Option<(What<'_>, usize)>
     ensures value { option_map (λ command. (what_seen command.0, command.1)) result ≡ command_of bytes.now }
     ensures within { IfSome result (λ command. (5 ≤ command.1) × (command.1 ≤ length bytes.now)) }
     ensures text { IfSome result (λ command. length (statement_of (what_seen command.0)) + 5 ≤ command.1) }
+    ensures numbered { IfSome result (λ command. IsTrue (is_what_numbered (what_seen command.0))) }
 {
     let head = head_of(bytes);
     let actor = actor_of(head)?;
@@ -125,6 +126,7 @@ pub fn split(alloc: Global, script: &[u8]) -> Result<List<Command<'_>>, SplitRef
     ensures gives { GivesSplit result (split_of script.now) }
     ensures count { IfOk result (λ commands. 5 * length commands ≤ length script.now) }
     ensures texts { IfOk result (λ commands. IsTrue (list_all is_short commands)) }
+    ensures sessions { IfOk result (λ commands. IsTrue (list_all is_numbered commands)) }
     ensures limit { OnOk result (length script.now ≤ 67108864) }
 {
     if script.len() > SCRIPT_LIMIT {

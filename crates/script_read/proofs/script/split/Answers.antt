@@ -2,7 +2,7 @@ use Rattle.std.proofs.Common.{◌≡◌, [], ◌∷◌, ◌++◌, ◌+◌, ◌-�
 use Rattle.script_read.specs.Bytes.{trim_front}
 use Rattle.script_read.specs.Commands.{command_seen, what_seen}
 use Rattle.script_read.specs.Script.{command_at}
-use Rattle.script_read.proofs.Seen.{map_more, one_more, short_more}
+use Rattle.script_read.proofs.Seen.{map_more, numbered_more, one_more, short_more}
 use Rattle.script_read.proofs.Splitting.{first_turn, next_turn, left_within, too_long_script}
 use Rattle.script_read.proofs.script.split.Goals as goal
 
@@ -21,6 +21,7 @@ loop-rest-init c =
         },
       ),
       refl,
+      refl,
     )
 
 pub loop-rest-preserved : goal.loop-rest-preserved
@@ -38,4 +39,5 @@ loop-rest-preserved c =
           (omega (arith, c.loop-rest.invariant.0)) c.in-Some.ensures.within.0 c.in-Some.ensures.within.1 (sym c.in-Some.ensures.value)
           c.if-size-le-COMMAND_LIMIT.true c.loop-rest.invariant.1.1,
       rw pushed (short_more c.loop-rest.commands _ c.in-Some.size c.in-Some.ensures.text c.if-size-le-COMMAND_LIMIT.true c.loop-rest.invariant.2),
+      rw pushed (numbered_more c.loop-rest.commands _ c.in-Some.ensures.numbered c.loop-rest.invariant.3),
     )
