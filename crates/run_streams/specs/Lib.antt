@@ -1,0 +1,5 @@
+pub mod Read
+pub mod Reports
+pub mod Stops
+pub mod Words
+pub mod Wrote
