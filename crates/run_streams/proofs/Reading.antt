@@ -1,7 +1,8 @@
 -- What a run of reads takes from the input.
-use Rattle.std.proofs.Common.{◌≡◌, ◌⊎◌, inl, inr, ℕ, ◌+◌, ◌<◌, ◌≤◌, suc, List, [], ◌∷◌, ◌++◌, length, drop, Option, Some, None, Result, Ok, Err, IfOk, IfSome, option_map, refl, sym, ap, ◌∙◌, subst, arith, append-nil, length-append}
+use Rattle.std.proofs.Common.{◌≡◌, ◌⊎◌, inl, inr, ℕ, ◌+◌, ◌<◌, ◌≤◌, suc, Bool, true, false, nat_lt, List, [], ◌∷◌, ◌++◌, length, drop, Option, Some, None, Result, Ok, Err, IfOk, IfSome, option_map, refl, sym, ap, ◌∙◌, subst, arith, append-nil, length-append}
 use Rattle.std.proofs.Math.Seq.{drop-append_seam}
 use Rattle.std.proofs.lemmas.List.{drop_all}
+use Rattle.std.proofs.lemmas.Bool.Decides.{nat_tests}
 use Rattle.script_read.specs.Script.{split_of}
 use Rattle.script_read.proofs.Limits.{long_script}
 use Rattle.run_streams.specs.Read.{IsRead, TakesUpToLimit}
@@ -64,3 +65,11 @@ script_read script (Some all) None joined size end = cc
 script_read script (Some all) (Some rest) joined size end =
     let whole : script ++ rest ≡ all = cc in
     subst (λ (all : List ℕ). IsRead script all (Some rest)) whole (read_by script rest size end)
+
+-- what splits is no longer than the greatest length
+pub where_split : (P : Type 0) (script : List ℕ) → (length script ≤ 67108864 → P) → IfOk (split_of script) (λ commands. P)
+where_split P script within = by_length (nat_lt 67108864 (length script)) refl
+  where
+    by_length : (t : Bool) → nat_lt 67108864 (length script) ≡ t → IfOk (split_of script) (λ commands. P)
+    by_length true e = never P (split_of script) 67108864 (long_script script (grind (arith, nat_tests)))
+    by_length false e = whatever (split_of script) (within (grind (arith, nat_tests)))

@@ -15,7 +15,8 @@
 //!
 //! # Proved
 //! - [`read_script`] reads to the end or to one byte past the greatest length, and no further (`limit`): what it
-//!   gives splits as the whole input does, and where that splits nothing is left (`read`). It stops only at a
+//!   gives splits as the whole input does, and where that splits nothing is left (`read`) and the input has ended
+//!   (`at_end`). It stops only at a
 //!   fault, for which the stream's count of faults rose, or for want of memory (`stop`), and a fault is the last
 //!   call on the stream (`once`, `last`).
 //! - [`split_commands`] gives exactly the commands of the script, or BadScript exactly at its first bad byte, or

@@ -1,6 +1,7 @@
 //! The input read to its end or past the limit, and bytes written whole.
 ghost use Rattle.std.specs.Prelude.{◌≡◌, ℕ, ◌+◌, ◌<◌, ◌≤◌, ◌++◌, ◌⊎◌, if◌then◌else◌, is_err, [], length, drop, option_map, IfOk, IfErr, IfSome, OnOk, OnErr, vec_len};
 ghost use Rattle.port_traits.specs.Causes.{HasCause};
+ghost use Rattle.script_read.specs.Script.{split_of};
 ghost use Rattle.run_streams.specs.Wrote.{Wrote, WroteFront};
 ghost use Rattle.run_streams.specs.Stops.{StopsReading, StopsWriting, failed_writes, status_of};
 ghost use Rattle.run_streams.specs.Read.{IsRead, TakesUpToLimit};
@@ -38,6 +39,7 @@ fn read_piece<S: Source>(
     ensures taken { (count : ℕ) × (count ≤ length buffer.old)
         × (S.left input.new ≡ option_map (drop count) (S.left input.old)) }
     ensures goes_on { IfOk result (λ count. 0 < count → S.ended input.old ≡ 0 → S.ended input.new ≡ 0) }
+    ensures at_end { result ≡ Ok 0 → S.ended input.old ≡ 0 → S.ended input.new ≡ 1 }
     ensures once { S.ended input.old ≡ 0 → S.ended input.new ≤ 1 }
     ensures last { result ≡ Err Status.ReadFault → S.ended input.old ≡ 0 → S.ended input.new ≡ 1 }
     ensures stop { IfErr result (λ status. StopsReading status (S.faults input.old) (S.faults input.new)) }
@@ -61,6 +63,7 @@ fn read_front<S: Source>(alloc: Global, input: &mut S) -> Result<Bytes, Status>
     ensures end { IfOk result (λ script. IfSome (S.left input.new) (λ rest. (rest ≡ [])
         ⊎ (67108864 < length script))) }
     ensures limit { TakesUpToLimit (S.left input.old) (S.left input.new) }
+    ensures at_end { IfOk result (λ script. length script ≤ 67108864 → S.ended input.old ≡ 0 → S.ended input.new ≡ 1) }
     ensures once { S.ended input.old ≡ 0 → S.ended input.new ≤ 1 }
     ensures last { result ≡ Err Status.ReadFault → S.ended input.old ≡ 0 → S.ended input.new ≡ 1 }
     ensures stop { IfErr result (λ status. StopsReading status (S.faults input.old) (S.faults input.new)) }
@@ -83,6 +86,7 @@ fn read_front<S: Source>(alloc: Global, input: &mut S) -> Result<Bytes, Status>
 pub fn read_script<S: Source>(alloc: Global, input: &mut S) -> Result<Bytes, Status>
     ensures read { IfOk result (λ script. IfSome (S.left input.old) (λ all. IsRead script all (S.left input.new))) }
     ensures limit { TakesUpToLimit (S.left input.old) (S.left input.new) }
+    ensures at_end { IfOk result (λ script. IfOk (split_of script) (λ commands. S.ended input.old ≡ 0 → S.ended input.new ≡ 1)) }
     ensures once { S.ended input.old ≡ 0 → S.ended input.new ≤ 1 }
     ensures last { result ≡ Err Status.ReadFault → S.ended input.old ≡ 0 → S.ended input.new ≡ 1 }
     ensures stop { IfErr result (λ status. StopsReading status (S.faults input.old) (S.faults input.new)) }
