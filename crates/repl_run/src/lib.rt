@@ -1,72 +1,46 @@
-//! The program: a source with one table and a log, and a replica that carries the log out.
+//! The program: a script of commands, carried out over a source and a replica.
 //!
-//! [`top`] is all that the program does, over any input, output and environments. Its clauses are
-//! over definitions in `specs/`: how a script splits, what a small machine over a list of rows
-//! answers, and which lines show it.
+//! [`top`] is all that the program does, over any input, output and environments. Its clauses are over definitions: how a script
+//! splits (`script_read`), what its commands ask and lead to (`run_model`, over the machine of `session_model`), and how a run
+//! ends, in `specs/Ran`.
 //!
 //! - `program`: [`top`]
-//! - `outcome`: [`Status`], how a call ends, as a number and as a line
-//! - `reports`: [`Report`], who the nodes are and what they drew
-//! - `streams`: the input read to its end, bytes written whole
-//! - `script`: a script as its commands
-//! - `session`: the commands, one after the other, and the replica behind them
-//! - `insert`: the one statement that is accepted
-//! - `source`: [`FirstSource`], a table and its log
-//! - `carry`: [`first_apply`], a replica that carries out a log
-//! - `growing`: the replica's rows while a log is carried out on them
-//! - `table`: rows of the one table, in the order of their ids
-//! - `answers`: answers and the lines that show them
-//! - `laws`: what follows of the machine
+//! - `commands`: the commands, one after the other, and the lines that show their answers
+//! - `nodes`: a source and a replica, and one command over both
+//! - `asked`: what a script asks of them
 //!
-//! It stands on `first_codec`, `port_traits` and `val_types`; `repl_cli` gives it the real edges.
+//! In specs/: `Ran` (how a run ends), `Running` (commands on their way), `Together` (nodes that stand for the machine, and what
+//! one command makes of them), `Asking` (what is read of a script), `Faults` (the cause of a fault).
+//!
+//! It stands on `run_streams`, `run_model`, `source_node` and `replica_node`; the programs give it the real edges.
 //!
 //! # Proved
 //! Over any input, output and environments that keep the contracts of `port_traits`:
 //!
 //! - [`top`] answers BadWords exactly where the words do not ask for a run, and then reads nothing
 //!   (`words`, `unread`). At BadWords, BadScript and ReadFault all but the input is as before (`idle`).
-//! - Where the input tells its bytes (`run`): Done comes only for a script that splits, and all its lines
-//!   were written; BadScript only for one that does not, with its bad byte; at any other status a
-//!   front of the lines was written. At BadScript the input was read to its end or to one byte past
-//!   the limit (`refused`), and never further (`limit`).
+//! - What a run comes to (`run`), by its status. Done: all commands of the script on the input, which was read to its end
+//!   (`read_end`), were carried out, each at a draw of its node's environment; all lines of their answers were written, and
+//!   each answer is the one of the machine of both nodes; the report tells who the nodes are and these draws; what the
+//!   statements of the committed entries give, run again one transaction after the other, are just the changes of the entries,
+//!   and these make the committed base of an empty one. WriteFault: the same up to the command of the last draw, of whose
+//!   lines a front was written. BadScript: the byte is the first at which no command begins, or else the first of a command that
+//!   no node carries out, and nothing was written. ReadFault: nothing was written. NoMemory: nothing was written, or the lines
+//!   of the first commands, whole, and the report begins with their draws. No other status comes.
+//! - At BadScript the input was read to its end or to one byte past the limit (`refused`), and never further (`limit`).
 //! - A fault comes only where the stream's count of faults rose, or stands at its last value
-//!   (`read_fault`, `write_fault`), and is the last call on its stream (`last_read`, `last_write`).
-//! - The report tells who the nodes are and what they drew (`source`, `replica`, `told`, `opened`),
-//!   and at any status but NoMemory all that was drawn (`src_drawn`, `rep_drawn`).
-//! - [`FirstSource`]: the log is the definition's to the byte, with the server id of the identity
-//!   that the source was made with; `exec` gives the definition's answer, or want of memory, and a
-//!   refusal or want of memory changes nothing. No clause of [`top`] speaks of the log's bytes.
-//! - [`first_apply`] stops where the definition over groups says, with its rows; want of memory
-//!   changes nothing. [`split`] and [`status_line`] give what their definitions say, or want of
-//!   memory; [`insert_of`] and [`Status::number`] just that.
-//! - The rows shown are one for each id that some text inserts, with the value of the first such
-//!   text, in the order of their ids ([`rows_are_of_first_inserts`]).
+//!   (`read_fault`, `write_fault`), and is the last call on its stream (`last_read`, `last_write`, `reads_once`).
+//! - The report's identities and draws are the environments' at any status (`source`, `replica`), and at any but NoMemory all
+//!   that was drawn is told (`src_drawn`, `rep_drawn`).
 //!
 //! # Only tested
-//! In `repl_tests`: that calls succeed with ample memory; every read and write of a run failing in
-//! turn, with the number of calls; logs cut at every byte.
+//! In the tests of the program: that calls succeed with ample memory; that the replica answers from what the source committed
+//! and not from a log, is so by the definition of the machine until there is a log.
 #![tactic(auto)]
 
-mod answers;
-mod carry;
-mod growing;
-mod insert;
-mod laws;
-mod outcome;
+mod asked;
+mod commands;
+mod nodes;
 mod program;
-mod reports;
-mod script;
-mod session;
-mod source;
-mod streams;
-mod table;
 
-pub use answers::Answer;
-pub use carry::first_apply;
-pub use insert::insert_of;
-pub use laws::rows_are_of_first_inserts;
-pub use outcome::{Status, status_line};
 pub use program::top;
-pub use reports::Report;
-pub use script::{SplitRefusal, split};
-pub use source::FirstSource;

@@ -1,5 +1,0 @@
-use Rattle.first_codec.proofs.RoundTrip.{length-event_bytes}
-use Rattle.first_codec.proofs.laws.has_length.Goals as goal
-
-pub returns : goal.returns
-returns c = length-event_bytes

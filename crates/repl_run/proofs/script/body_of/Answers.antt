@@ -1,8 +1,0 @@
-use Rattle.std.proofs.Common.{◌<◌, length, arith}
-use Rattle.repl_run.proofs.Splitting.{body_more}
-use Rattle.repl_run.proofs.script.body_of.Goals as goal
-
-pub loop-i-preserved : goal.loop-i-preserved
-loop-i-preserved c =
-    let within : c.loop-i.i < length c.args.bytes.now = omega arith in
-    body_more _ c.args.bytes.now c.loop-i.i within (cc) c.loop-i.invariant
