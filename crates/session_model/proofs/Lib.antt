@@ -1,4 +1,4 @@
 pub mod Holding
 mod Leaving
-mod Natural
+pub mod Natural
 mod Saving

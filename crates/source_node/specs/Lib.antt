@@ -1,0 +1,12 @@
+pub mod Nothing
+pub mod Turned
+pub mod Saving
+pub mod Desk
+pub mod Assigning
+pub mod Standing
+pub mod Ran
+pub mod Telling
+pub mod Settled
+pub mod Defining
+pub mod Other
+pub mod ReadTexts

@@ -1,0 +1,103 @@
+-- How a statement of a session ends, by the scene that it left.
+use Rattle.std.specs.Prelude.{◌≡◌, ℕ, Bool, true, false, if◌then◌else◌, List, [], Option, Some, None, Result, Ok, Err, ℤ}
+use Rattle.val_types.specs.declared.value.Value.{Value}
+use Rattle.val_types.specs.declared.refusal.SqlRefusal.{SqlRefusal}
+use Rattle.val_types.specs.declared.refusal.SqlRefusal.TheVariants.{Sql, NoMemory}
+use Rattle.port_traits.specs.declared.identity.Draw.{Draw}
+use Rattle.sql_tree.specs.Statement.{Statement, evaluate}
+use Rattle.sql_tree.specs.Tree.{Trees}
+use Rattle.sql_reach.specs.Defining.{number_of_bytes}
+use Rattle.sql_meaning.specs.Scenes.{Scene, Ending, done, failed}
+use Rattle.sql_meaning.specs.Frames.{Context}
+use Rattle.sql_meaning.specs.Changing.{Did}
+use Rattle.sql_meaning.specs.Running.{most_nested, most_turns, effect, evaluation, context_after}
+use Rattle.prog_run.specs.declared.meter.Meter.{Meter}
+use Rattle.prog_run.specs.declared.meter.Outcome.{Outcome}
+use Rattle.prog_run.specs.Runs.{outcome_of}
+use Rattle.session_model.specs.Sessions.{Open, Shared}
+use Rattle.session_model.specs.Running.{all_committed, full, is_other, scene_for, setting_of, with_counters}
+use Rattle.source_node.specs.Nothing.{Nothing}
+use Rattle.source_node.specs.Saving.{one_more}
+
+-- where a statement begins and ends: what is shared, and the context of its session
+pub record Place : Type 0 where
+  pub shared : Shared
+  pub context : Context
+
+abbrev pub place_at : Shared → Context → Place
+place_at shared context = record { shared = shared; context = context }
+
+-- what a statement does there
+abbrev pub effect_for : ℕ → Draw → Statement → Place → Ending Did
+effect_for n draw s p =
+    effect (setting_of p.shared.base.catalog p.context (number_of_bytes 0 draw.uuid)) most_nested [] s (scene_for n full p.context p.shared)
+
+-- what expressions give there
+abbrev pub evaluation_for : ℕ → Draw → Trees → Place → Ending (List Value)
+evaluation_for n draw ts p =
+    evaluation (setting_of p.shared.base.catalog p.context (number_of_bytes 0 draw.uuid)) most_nested [] ts (scene_for n full p.context p.shared)
+
+-- what is shared behind the scene that a statement left: one beside another session's open changes moved counters alone
+abbrev pub shared_behind : ℕ → Shared → Scene → Shared
+shared_behind n shared scene =
+    if is_other n shared.writer then with_counters scene shared else record (with_counters scene shared) { changes = scene.changes }
+
+-- a statement left a scene
+pub record Leaves (n : ℕ) (s : Statement) (last_id : Option ℤ) (scene : Scene) (old new : Place) : Type 0 where
+  pub shared : new.shared ≡ shared_behind n old.shared scene
+  pub context : new.context ≡ context_after old.context s scene.seeds last_id
+
+-- an error left counters, seeds and the use of a forced INSERT_ID
+pub record Fails {A : Type 0} (s : Statement) (code : ℕ) (ending : Ending A) (old new : Place) : Type 0 where
+  pub scene : Scene
+  pub ends : ending ≡ failed code scene
+  pub shared : new.shared ≡ with_counters scene old.shared
+  pub context : new.context ≡ context_after old.context s scene.seeds None
+
+-- a statement came to something, of which this is told
+pub record Came (n : ℕ) (draw : Draw) (s : Statement) (told : Outcome) (old new : Place) : Type 0 where
+  pub did : Did
+  pub scene : Scene
+  pub ends : effect_for n draw s old ≡ done did scene
+  pub outcome : told ≡ outcome_of did
+  pub leaves : Leaves n s did.last_id scene old new
+
+abbrev pub Comes : ℕ → Draw → Statement → Result Outcome SqlRefusal → Place → Place → Type 0
+Comes n draw s (Ok told) old new = Came n draw s told old new
+Comes n draw s (Err (Sql code)) old new = Fails s code (effect_for n draw s old) old new
+Comes n draw s (Err NoMemory) old new = Unit {0}
+
+-- the same of expressions, as of the DO over them
+pub record Gave (n : ℕ) (draw : Draw) (ts : Trees) (vs : List Value) (old new : Place) : Type 0 where
+  pub scene : Scene
+  pub ends : evaluation_for n draw ts old ≡ done vs scene
+  pub leaves : Leaves n (evaluate ts) None scene old new
+
+abbrev pub Gives : ℕ → Draw → Trees → Result (List Value) SqlRefusal → Place → Place → Type 0
+Gives n draw ts (Ok vs) old new = Gave n draw ts vs old new
+Gives n draw ts (Err (Sql code)) old new = Fails (evaluate ts) code (evaluation_for n draw ts old) old new
+Gives n draw ts (Err NoMemory) old new = Unit {0}
+
+-- ---- changes kept
+
+-- changes outside a transaction are one by itself; in an open one the session keeps the lock
+abbrev pub kept_in : ℕ → Option (Open Nothing) → Shared → Shared
+kept_in n None shared = all_committed shared
+kept_in n (Some open') shared = record shared { writer = Some n }
+
+abbrev pub one_more_in : Option (Open Nothing) → Option (Open Nothing)
+one_more_in None = None
+one_more_in (Some open') = Some (one_more open')
+
+-- the same where a statement changed something, and nothing else
+abbrev pub shared_kept : Bool → ℕ → Option (Open Nothing) → Shared → Shared
+shared_kept true n transaction shared = kept_in n transaction shared
+shared_kept false n transaction shared = shared
+
+abbrev pub transaction_kept : Bool → Option (Open Nothing) → Option (Open Nothing)
+transaction_kept true transaction = one_more_in transaction
+transaction_kept false transaction = transaction
+
+-- what is left to a command at its beginning
+abbrev pub full_meter : Meter
+full_meter = record { depth = most_nested; turns = most_turns; uuids = 0 }

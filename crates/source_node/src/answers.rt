@@ -1,0 +1,106 @@
+//! What commands are answered.
+ghost use Rattle.std.specs.Prelude.{◌≡◌, [], IfOk};
+ghost use Rattle.session_model.specs.Answers.{ok, refused, refused_at, refused_by, row_count_after, showing};
+
+use answer_text::{Answer, End};
+use sharing::Shared;
+use std::alloc::Global;
+use val_types::{Duplicate, List, NoMemory, Row, SqlError};
+
+/// An answer that shows no rows.
+fn ended(alloc: Global, end: End) -> Answer
+    ensures { result ≡ record { sets = []; end = end } }
+{
+    Answer {
+        sets: List::new(alloc),
+        end,
+    }
+}
+
+/// So many rows were affected, 0 for what affects none.
+pub(crate) fn ok(alloc: Global, affected: u64) -> Answer
+    ensures { result ≡ ok affected }
+{
+    ended(
+        alloc,
+        End::Ok {
+            affected,
+            warned: false,
+        },
+    )
+}
+
+/// An error.
+pub(crate) fn refused(alloc: Global, code: SqlError) -> Answer
+    ensures { result ≡ refused code }
+{
+    ended(
+        alloc,
+        End::Refused {
+            code,
+            at: None,
+            holder: None,
+        },
+    )
+}
+
+/// A syntax error at a byte of the text.
+pub(crate) fn refused_at(alloc: Global, at: u32) -> Answer
+    ensures { result ≡ refused_at at }
+{
+    ended(
+        alloc,
+        End::Refused {
+            code: 1064,
+            at: Some(at),
+            holder: None,
+        },
+    )
+}
+
+/// Another session has the writer's lock.
+pub(crate) fn refused_by(alloc: Global, holder: u8) -> Answer
+    ensures { result ≡ refused_by holder }
+{
+    ended(
+        alloc,
+        End::Refused {
+            code: 1205,
+            at: None,
+            holder: Some(holder),
+        },
+    )
+}
+
+/// Copies of rows that many hold.
+fn copies(alloc: Global, rows: &[Shared<Row>]) -> Result<List<Row>, NoMemory>
+    ensures { IfOk result (λ copies. copies ≡ rows.now) }
+{
+    let mut copies = List::new(alloc);
+    for row in rows {
+        copies.push(row.get().duplicate(alloc)?)?;
+    }
+    Ok(copies)
+}
+
+/// The rows of a SELECT.
+pub(crate) fn showing(alloc: Global, rows: &List<Shared<Row>>) -> Result<Answer, NoMemory>
+    ensures { IfOk result (λ answer. answer ≡ showing rows.now) }
+{
+    let mut sets = List::new(alloc);
+    sets.push(copies(alloc, rows.as_slice())?)?;
+    Ok(Answer {
+        sets,
+        end: End::Rows { warned: false },
+    })
+}
+
+/// What ROW_COUNT() is behind an answer.
+pub(crate) fn row_count_after(end: &End) -> i64
+    ensures { result ≡ row_count_after end.now }
+{
+    match end {
+        End::Ok { affected, .. } => (*affected).min(9_223_372_036_854_775_807) as i64,
+        End::Rows { .. } | End::Refused { .. } => -1,
+    }
+}
