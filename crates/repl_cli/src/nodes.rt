@@ -1,5 +1,5 @@
 //! Who the two nodes are.
-ghost use Rattle.std.specs.Prelude.{◌≡◌, ◌≢◌, ◌<◌, ◌^◌, ℕ, codes, IfOk};
+ghost use Rattle.std.specs.Prelude.{◌≡◌, ◌≢◌, ◌<◌, ◌^◌, ℕ, codes, string_bytes, IfOk, OnErr};
 ghost use Rattle.std.specs.Fmt.{decimal};
 ghost use Rattle.std.specs.Str.{bytes_eq};
 
@@ -34,7 +34,7 @@ fn prints_as(alloc: Global, number: u32, text: &str) -> Result<bool, NoMemory>
 
 /// The number that a text gives: a decimal number from 1 to 4294967295 without sign or leading zero,
 /// and 1 for any other text.
-fn server_id_of(alloc: Global, text: &str) -> Result<u32, NoMemory>
+fn number_of(alloc: Global, text: &str) -> Result<u32, NoMemory>
     ensures number { IfOk result (λ id. (n : ℕ) → 0 < n → n < 2 ^ 32 → text.now ≡ decimal n → id ≡ n) }
     ensures other { IfOk result (λ id. ((n : ℕ) → 0 < n → n < 2 ^ 32 → text.now ≢ decimal n) → id ≡ 1) }
 {
@@ -49,10 +49,15 @@ fn server_id_of(alloc: Global, text: &str) -> Result<u32, NoMemory>
     }
 }
 
-/// The number of the source's server.
-fn source_id(rt: &HostRuntime) -> Result<u32, NoMemory> {
-    match env::var(rt, SERVER_ID_VARIABLE) {
-        Ok(text) => server_id_of(rt.alloc(), text.as_str()),
+/// The number of the source's server, from what the environment answered: that of the text, 1 where there is no text or one
+/// that is not UTF-8.
+fn server_id_of(alloc: Global, answered: Result<String, VarError>) -> Result<u32, NoMemory>
+    ensures number { IfOk result (λ id. IfOk answered (λ text. (n : ℕ) → 0 < n → n < 2 ^ 32 → string_bytes text ≡ decimal n → id ≡ n)) }
+    ensures other { IfOk result (λ id. IfOk answered (λ text. ((n : ℕ) → 0 < n → n < 2 ^ 32 → string_bytes text ≢ decimal n) → id ≡ 1)) }
+    ensures none { IfOk result (λ id. OnErr answered (id ≡ 1)) }
+{
+    match answered {
+        Ok(text) => number_of(alloc, text.as_str()),
         Err(VarError::OutOfMemory) => Err(AllocError),
         Err(_) => Ok(SOURCE_ID),
     }
@@ -63,7 +68,7 @@ pub fn source_identity(rt: &HostRuntime) -> Result<Identity, NoMemory>
     ensures { IfOk result (λ node. node.user ≡ codes "root@localhost") }
 {
     Ok(Identity {
-        server_id: source_id(rt)?,
+        server_id: server_id_of(rt.alloc(), env::var(rt, SERVER_ID_VARIABLE))?,
         user: List::from_slice(rt.alloc(), b"root@localhost")?,
     })
 }
@@ -98,7 +103,7 @@ mod tests {
             ("7x", 1),
             ("", 1),
         ] {
-            assert_eq!(rt; server_id_of(rt.alloc(), text)?, id, "of {text:?}");
+            assert_eq!(rt; number_of(rt.alloc(), text)?, id, "of {text:?}");
         }
         let source = source_identity(&rt)?;
         assert_eq!(rt; source.user.as_slice(), b"root@localhost".as_slice());

@@ -26,7 +26,7 @@ use Rattle.source_node.specs.Nothing.{Nothing, call_of}
 use Rattle.source_node.specs.Turned.{Left, left_by}
 use Rattle.source_node.specs.Ran.{Came, Fails, Gave, effect_for, evaluation_for, kept_in, one_more_in, place_at, shared_behind, shared_kept, transaction_kept}
 use Rattle.source_node.specs.Settled.{has_any, shared_with}
-use Rattle.source_node.specs.Telling.{told_answer}
+use Rattle.node_answers.specs.Telling.{told_answer}
 
 -- ---- changes behind those before
 

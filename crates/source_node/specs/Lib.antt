@@ -5,8 +5,6 @@ pub mod Desk
 pub mod Assigning
 pub mod Standing
 pub mod Ran
-pub mod Telling
 pub mod Settled
 pub mod Defining
 pub mod Other
-pub mod ReadTexts

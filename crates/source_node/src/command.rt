@@ -7,14 +7,12 @@ ghost use Rattle.source_node.specs.Nothing.{call_of};
 ghost use Rattle.source_node.specs.Turned.{left_by};
 ghost use Rattle.text_answers.specs.Answers.{text_answer};
 
-use crate::answers::{refused, refused_at};
 use crate::desk::Desk;
-use crate::fault::NodeFault;
-use crate::reading::statement_of;
 use crate::session::Session;
 use crate::statements::run;
 use crate::working::{at_work, count};
 use answer_text::Answer;
+use node_answers::{NodeFault, refused, refused_at, statement_of};
 use port_traits::{Draw, Identity};
 use sql_parse::ParseRefusal;
 use std::alloc::Global;

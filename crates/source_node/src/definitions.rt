@@ -12,14 +12,13 @@ ghost use Rattle.source_node.specs.Desk.{shared_of};
 ghost use Rattle.source_node.specs.Nothing.{call_of};
 ghost use Rattle.source_node.specs.Turned.{left_by};
 
-use crate::answers::{ok, refused};
 use crate::desk::Desk;
-use crate::fault::NodeFault;
 use crate::running::full;
 use crate::session::Session;
 use crate::transactions::commit_open;
 use crate::writing::{definition_refusal, is_still_refused};
 use answer_text::Answer;
+use node_answers::{NodeFault, ok, refused};
 use port_traits::Draw;
 use prog_run::{Outcome, run_stmt};
 use session_ctx::Ctx;

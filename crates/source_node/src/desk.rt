@@ -6,8 +6,8 @@ ghost use Rattle.session_model.specs.Commands.{changes_of_own, dropped};
 ghost use Rattle.source_node.specs.Desk.{cut_to, shared_of};
 ghost use Rattle.source_node.specs.Settled.{has_any};
 
-use crate::answers::{refused, refused_by};
 use answer_text::Answer;
+use node_answers::{refused, refused_by};
 use prog_run::Work;
 use std::alloc::{AllocError, Global};
 use txn_lock::WriterLock;

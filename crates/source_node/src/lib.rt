@@ -4,8 +4,8 @@
 //! with the open changes, the writer's lock. As long as it writes no log it keeps of a transaction's items their count
 //! alone, and the machine that knows nothing of items is the machine of whole items, cut down.
 //!
-//! - `source`: [`SourceNode`], with [`SourceNode::open`], [`SourceNode::exec`] and [`SourceNode::committed`]; `fault`: [`NodeFault`]
-//! - `command`: a command of a session; `reading`: the statement that a text is; `working`: a session at its command; `answers`
+//! - `source`: [`SourceNode`], with [`SourceNode::open`], [`SourceNode::exec`] and [`SourceNode::committed`]
+//! - `command`: a command of a session; `working`: a session at its command
 //! - `session`, `saves`: what a session keeps: its variables, its open transaction, savepoints
 //! - `desk`: what all sessions share; `running`: statements run on it, on a copy beside another session's open changes;
 //!   `keeping`: what a statement changed, kept
@@ -27,15 +27,12 @@
 //! Nothing yet: that calls succeed with ample memory is shown where scripts run.
 #![tactic(auto)]
 
-mod answers;
 mod assigning;
 mod command;
 mod definitions;
 mod desk;
-mod fault;
 mod keeping;
 mod plain;
-mod reading;
 mod running;
 mod savepoints;
 mod saves;
@@ -47,7 +44,6 @@ mod transactions;
 mod working;
 mod writing;
 
-pub use fault::NodeFault;
 pub use saves::Save;
 pub use session::{Open, Session};
 pub use source::SourceNode;

@@ -7,31 +7,20 @@ ghost use Rattle.session_model.specs.Running.{full, given_answer, statement_run}
 ghost use Rattle.session_model.specs.Commands.{given_turn};
 ghost use Rattle.source_node.specs.Desk.{shared_of};
 ghost use Rattle.source_node.specs.Nothing.{call_of};
-ghost use Rattle.source_node.specs.Telling.{told_answer};
+ghost use Rattle.node_answers.specs.Telling.{told_answer};
 ghost use Rattle.source_node.specs.Turned.{left_by};
 
-use crate::answers::{ok, refused, showing};
 use crate::desk::Desk;
-use crate::fault::NodeFault;
 use crate::keeping::keep;
 use crate::running::run;
 use crate::session::Session;
 use answer_text::Answer;
+use node_answers::{NodeFault, refused, told};
 use port_traits::Draw;
 use prog_run::Outcome;
 use sql_tree::Stmt;
 use std::alloc::Global;
 use val_types::{NoMemory, SqlRefusal};
-
-/// The answer of a statement that came to something.
-fn told(alloc: Global, outcome: &Outcome) -> Result<Answer, NoMemory>
-    ensures { IfOk result (λ answer. answer ≡ told_answer outcome.now) }
-{
-    match &outcome.rows {
-        None => Ok(ok(alloc, outcome.affected)),
-        Some(rows) => showing(alloc, rows),
-    }
-}
 
 /// Runs a change, a SELECT or a DO, which nothing refuses before.
 pub(crate) fn run_plain(

@@ -7,10 +7,10 @@ ghost use Rattle.source_node.specs.Nothing.{Nothing, call_of};
 ghost use Rattle.source_node.specs.Desk.{shared_of};
 ghost use Rattle.source_node.specs.Turned.{left_by};
 
-use crate::answers::{ok, refused};
 use crate::desk::Desk;
 use crate::session::Session;
 use answer_text::Answer;
+use node_answers::{ok, refused};
 use std::alloc::Global;
 use val_types::{Bytes, NoMemory};
 

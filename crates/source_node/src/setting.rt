@@ -14,15 +14,14 @@ ghost use Rattle.source_node.specs.Desk.{shared_of};
 ghost use Rattle.source_node.specs.Nothing.{call_of};
 ghost use Rattle.source_node.specs.Turned.{left_by};
 
-use crate::answers::{ok, refused};
 use crate::assigning::{assign_all, first_refused, taken_apart};
 use crate::desk::Desk;
-use crate::fault::NodeFault;
 use crate::keeping::keep;
 use crate::running::evaluate;
 use crate::session::Session;
 use crate::writing::lock_refusal;
 use answer_text::Answer;
+use node_answers::{NodeFault, ok, refused};
 use port_traits::Draw;
 use sql_print::print;
 use sql_tree::{Assignment, Expr, Stmt, Target};

@@ -9,9 +9,9 @@ ghost use Rattle.source_node.specs.Standing.{no_session, state_of, Stands};
 
 use crate::command::run_command;
 use crate::desk::Desk;
-use crate::fault::NodeFault;
 use crate::session::Session;
 use answer_text::Answer;
+use node_answers::NodeFault;
 use port_traits::{Draw, Identity};
 use prog_run::Work;
 use std::alloc::Global;

@@ -14,10 +14,8 @@ ghost use Rattle.source_node.specs.Desk.{shared_of};
 ghost use Rattle.source_node.specs.Nothing.{call_of};
 ghost use Rattle.source_node.specs.Turned.{left_by};
 
-use crate::answers::refused;
 use crate::definitions::define;
 use crate::desk::Desk;
-use crate::fault::NodeFault;
 use crate::plain::run_plain;
 use crate::savepoints::{back, release, save};
 use crate::session::Session;
@@ -25,6 +23,7 @@ use crate::setting::{call, set};
 use crate::transactions::{begin, commit, rollback};
 use crate::writing::{checked, is_definition, lock_refusal};
 use answer_text::Answer;
+use node_answers::{NodeFault, refused};
 use port_traits::Draw;
 use sql_tree::{Assignment, Expr, Stmt};
 use std::alloc::Global;

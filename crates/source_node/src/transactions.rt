@@ -9,10 +9,10 @@ ghost use Rattle.source_node.specs.Desk.{committed_if, shared_of};
 ghost use Rattle.source_node.specs.Saving.{has_items};
 ghost use Rattle.source_node.specs.Turned.{left_by};
 
-use crate::answers::ok;
 use crate::desk::Desk;
 use crate::session::{Open, Session};
 use answer_text::Answer;
+use node_answers::ok;
 use std::alloc::Global;
 use val_types::NoMemory;
 

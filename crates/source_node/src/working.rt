@@ -3,9 +3,9 @@ ghost use Rattle.std.specs.Prelude.{◌≡◌, IfOk};
 ghost use Rattle.session_model.specs.Machine.{at_work, counted};
 ghost use Rattle.source_node.specs.Nothing.{call_of};
 
-use crate::answers::row_count_after;
 use crate::session::Session;
 use answer_text::Answer;
+use node_answers::row_count_after;
 use port_traits::{Draw, Identity};
 use session_ctx::SessionVars;
 use std::alloc::Global;

@@ -12,7 +12,7 @@ pub enum NodeFault {
 
 impl From<AllocError> for NodeFault {
     ghost use Rattle.std.specs.Prelude.{◌≡◌};
-    ghost use Rattle.source_node.specs.declared.fault.NodeFault.TheVariants.{NoMemory};
+    ghost use Rattle.node_answers.specs.declared.fault.NodeFault.TheVariants.{NoMemory};
 
     ghost from_gives = { λ _ e. e ≡ NoMemory };
 

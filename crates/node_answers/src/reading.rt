@@ -2,7 +2,7 @@
 ghost use Rattle.std.specs.Prelude.{◌≡◌, ◌≤◌, length, IfErr, IfOk};
 ghost use Rattle.sql_tree.specs.StatementView.{view};
 ghost use Rattle.text_answers.specs.Answers.{a_statement, text_answer};
-ghost use Rattle.source_node.specs.ReadTexts.{IsRefusedText};
+ghost use Rattle.node_answers.specs.ReadTexts.{IsRefusedText};
 
 use sql_parse::{ParseRefusal, parse};
 use sql_tree::Stmt;
@@ -18,7 +18,7 @@ fn boxed<T: Drop>(alloc: Global, value: T) -> Result<Box<T>, NoMemory>
 }
 
 /// The statement that a text is, or why it is none.
-pub(crate) fn statement_of(alloc: Global, text: &[u8]) -> Result<Box<Stmt>, ParseRefusal>
+pub fn statement_of(alloc: Global, text: &[u8]) -> Result<Box<Stmt>, ParseRefusal>
     requires { length text.now ≤ 4294967295 }
     ensures statement { IfOk result (λ s. text_answer text.now ≡ a_statement (view s.value)) }
     ensures refused { IfErr result (IsRefusedText (text_answer text.now)) }

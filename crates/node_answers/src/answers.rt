@@ -1,8 +1,10 @@
 //! What commands are answered.
 ghost use Rattle.std.specs.Prelude.{◌≡◌, [], IfOk};
 ghost use Rattle.session_model.specs.Answers.{ok, refused, refused_at, refused_by, row_count_after, showing};
+ghost use Rattle.node_answers.specs.Telling.{told_answer};
 
 use answer_text::{Answer, End};
+use prog_run::Outcome;
 use sharing::Shared;
 use std::alloc::Global;
 use val_types::{Duplicate, List, NoMemory, Row, SqlError};
@@ -18,7 +20,7 @@ fn ended(alloc: Global, end: End) -> Answer
 }
 
 /// So many rows were affected, 0 for what affects none.
-pub(crate) fn ok(alloc: Global, affected: u64) -> Answer
+pub fn ok(alloc: Global, affected: u64) -> Answer
     ensures { result ≡ ok affected }
 {
     ended(
@@ -31,7 +33,7 @@ pub(crate) fn ok(alloc: Global, affected: u64) -> Answer
 }
 
 /// An error.
-pub(crate) fn refused(alloc: Global, code: SqlError) -> Answer
+pub fn refused(alloc: Global, code: SqlError) -> Answer
     ensures { result ≡ refused code }
 {
     ended(
@@ -45,7 +47,7 @@ pub(crate) fn refused(alloc: Global, code: SqlError) -> Answer
 }
 
 /// A syntax error at a byte of the text.
-pub(crate) fn refused_at(alloc: Global, at: u32) -> Answer
+pub fn refused_at(alloc: Global, at: u32) -> Answer
     ensures { result ≡ refused_at at }
 {
     ended(
@@ -59,7 +61,7 @@ pub(crate) fn refused_at(alloc: Global, at: u32) -> Answer
 }
 
 /// Another session has the writer's lock.
-pub(crate) fn refused_by(alloc: Global, holder: u8) -> Answer
+pub fn refused_by(alloc: Global, holder: u8) -> Answer
     ensures { result ≡ refused_by holder }
 {
     ended(
@@ -84,7 +86,7 @@ fn copies(alloc: Global, rows: &[Shared<Row>]) -> Result<List<Row>, NoMemory>
 }
 
 /// The rows of a SELECT.
-pub(crate) fn showing(alloc: Global, rows: &List<Shared<Row>>) -> Result<Answer, NoMemory>
+pub fn showing(alloc: Global, rows: &List<Shared<Row>>) -> Result<Answer, NoMemory>
     ensures { IfOk result (λ answer. answer ≡ showing rows.now) }
 {
     let mut sets = List::new(alloc);
@@ -96,11 +98,21 @@ pub(crate) fn showing(alloc: Global, rows: &List<Shared<Row>>) -> Result<Answer,
 }
 
 /// What ROW_COUNT() is behind an answer.
-pub(crate) fn row_count_after(end: &End) -> i64
+pub fn row_count_after(end: &End) -> i64
     ensures { result ≡ row_count_after end.now }
 {
     match end {
         End::Ok { affected, .. } => (*affected).min(9_223_372_036_854_775_807) as i64,
         End::Rows { .. } | End::Refused { .. } => -1,
+    }
+}
+
+/// The answer of a statement that came to something.
+pub fn told(alloc: Global, outcome: &Outcome) -> Result<Answer, NoMemory>
+    ensures { IfOk result (λ answer. answer ≡ told_answer outcome.now) }
+{
+    match &outcome.rows {
+        None => Ok(ok(alloc, outcome.affected)),
+        Some(rows) => showing(alloc, rows),
     }
 }

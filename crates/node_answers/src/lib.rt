@@ -1,0 +1,26 @@
+//! What both nodes answer commands with.
+//!
+//! - `reading`: [`statement_of`], the statement that a text is
+//! - `answers`: [`Answer`](answer_text::Answer)s made: [`ok`], [`refused`], [`refused_at`], [`refused_by`], [`showing`] and
+//!   [`told`]; [`row_count_after`], what ROW_COUNT() is behind one
+//! - `fault`: [`NodeFault`], why a node gives no answer
+//!
+//! The definitions stand in specs/: `ReadTexts` (why a text is no statement), `Telling` (the answer of what a statement came to);
+//! those of the answers are `session_model`'s.
+//!
+//! # Proved
+//! - [`statement_of`] gives the statement that a text is, or the place of its syntax error, or that it is too deep, exactly, or
+//!   wants memory.
+//! - Each answer is just the one that its definition is, or memory is short where rows are shown.
+//!
+//! # Only tested
+//! Nothing here: that rows are shown with ample memory is tested where scripts run.
+#![tactic(auto)]
+
+mod answers;
+mod fault;
+mod reading;
+
+pub use answers::{ok, refused, refused_at, refused_by, row_count_after, showing, told};
+pub use fault::NodeFault;
+pub use reading::statement_of;

@@ -1,0 +1,38 @@
+//! The program with told identities and draws: a run gives the same bytes everywhere.
+//!
+//! It is the program `repl_cli` but for its environments: the clock and the random source of the system have no part in it.
+//!
+//! - `main` (here): both nodes at environments in memory, handed to [`start`]
+//! - `draws`: who the nodes are and what they draw
+//!
+//! # Proved
+//! - The source is server 1 and `root@localhost`, the replica server 2 and `rep@localhost`.
+//!
+//! # Only tested
+//! By its stored run, which goes through every kind of statement and answer: what is drawn.
+#![tactic(auto)]
+
+mod draws;
+
+use answer_text::Status;
+use draws::{replica_env, source_env};
+use repl_start::{exit_of, start, tell};
+use std::process::ExitCode;
+use val_types::NoMemory;
+
+/// The program over environments in memory.
+fn run(rt: &HostRuntime) -> Result<ExitCode, NoMemory> {
+    let mut src_env = source_env(rt.alloc())?;
+    let mut rep_env = replica_env(rt.alloc())?;
+    Ok(start(rt, &mut src_env, &mut rep_env))
+}
+
+fn main(rt: HostRuntime) -> ExitCode {
+    match run(&rt) {
+        Ok(exit) => exit,
+        Err(_) => {
+            let _ = tell(rt.alloc(), &mut rt.stderr(), &Status::NoMemory);
+            exit_of(&Status::NoMemory)
+        }
+    }
+}

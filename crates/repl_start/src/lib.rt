@@ -1,0 +1,26 @@
+//! What each program of the project does around [`top`](repl_run::top): its words, its pages of help, its end.
+//!
+//! - `words`: [`words`], those of the command line
+//! - `pages`: [`Page`], `--help` and `--version`, and which of them some words ask for
+//! - `ending`: [`exit_of`] and [`tell`], how a status ends the process
+//! - `starting`: [`start`], one call of the program over two environments
+//!
+//! # Proved
+//! - A page is shown exactly where the first word is `--help` or `--version` ([`page_asked`]).
+//! - The exit status is the number of the status ([`exit_of`]).
+//! - Where [`tell`] ends well, it put exactly the line of the status at the end of a writer that tells its bytes, which is
+//!   nothing at Done.
+//!
+//! # Only tested
+//! The text of the pages; that they go to standard output, and the line of a status to standard error.
+#![tactic(auto)]
+
+mod ending;
+mod pages;
+mod starting;
+mod words;
+
+pub use ending::{exit_of, tell};
+pub use pages::{Page, page_asked};
+pub use starting::start;
+pub use words::words;

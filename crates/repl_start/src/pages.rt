@@ -1,0 +1,69 @@
+//! The pages that a program shows in place of doing its work.
+ghost use Rattle.std.specs.Prelude.{◌≡◌, map, string_bytes};
+ghost use Rattle.std.specs.Str.{bytes_eq};
+ghost use Rattle.repl_start.specs.Pages.{page_asked, page_of};
+
+/// A page: how the program is called, or which version it is.
+#[derive(Clone, Copy, PartialEq, Eq, Debug)]
+pub enum Page {
+    Help,
+    Version,
+}
+
+/// How the program is called.
+const HELP: &str = "A MySQL 5.7 source and replica for a subset of SQL, in memory.
+
+usage: run < SCRIPT      carries out the script on standard input
+       --help            shows this page
+       --version         shows the version
+
+A script is a list of commands `actor: text //`, each with its `//` at the end of a line:
+    s1: CREATE TABLE t (id INT, v INT, PRIMARY KEY (id)) //
+    s2: INSERT INTO t VALUES (1, 10) //
+    replica: SELECT * FROM t //
+Actors are the sessions s1 to s99 of the source, whose texts are statements, and the replica, whose texts begin with
+SELECT. Each command is answered on standard output before the next is carried out.
+
+Exit status, with a line on standard error but for 0:
+    0 done              1 bad words         2 bad script
+    3 read fault        4 write fault      12 out of memory
+
+REPL_SERVER_ID in the environment is the number of the source's server, from 1 to 4294967295 in decimal digits; without it,
+or where it is anything else, the number is 1. The replica is server 2.
+";
+
+/// Which version the program is.
+const VERSION: &str = "cedarchisel 0.4.0 (statements of MySQL 5.7, log version 4)\n";
+
+impl Page {
+    /// The text of the page.
+    pub fn text(self) -> &'static str {
+        match self {
+            Page::Help => HELP,
+            Page::Version => VERSION,
+        }
+    }
+}
+
+/// The page that a word asks for.
+fn page_of(word: &str) -> Option<Page>
+    ensures { result ≡ page_of word.now }
+{
+    if word == "--help" {
+        Some(Page::Help)
+    } else if word == "--version" {
+        Some(Page::Version)
+    } else {
+        None
+    }
+}
+
+/// The page that the words ask for, by the first of them.
+pub fn page_asked(words: &[String]) -> Option<Page>
+    ensures { result ≡ page_asked (map string_bytes words.now) }
+{
+    match words {
+        [] => None,
+        [word, ..] => page_of(word.as_str()),
+    }
+}

@@ -1,0 +1,60 @@
+//! One call of the program.
+
+use crate::ending::{exit_of, tell};
+use crate::pages::{Page, page_asked};
+use crate::words::words;
+use answer_text::Status;
+use port_traits::{Env, StdSink, StdSource};
+use repl_run::top;
+use run_streams::empty_report;
+use std::io;
+use std::io::Write;
+use std::process::ExitCode;
+
+/// Shows a page on standard output.
+fn show(rt: &HostRuntime, page: Page) -> Status {
+    match io::writer(rt).write_all(page.text().as_bytes()) {
+        Ok(()) => Status::Done,
+        Err(_) => Status::WriteFault,
+    }
+}
+
+/// The program over standard input and output, a source in the one environment and a replica in the other.
+fn call<E: Env, F: Env>(
+    rt: &HostRuntime,
+    words: &[String],
+    src_env: &mut E,
+    rep_env: &mut F,
+) -> Status {
+    let mut input = StdSource::new(rt.reader());
+    let mut out = StdSink::new(io::writer(rt));
+    let mut report = empty_report(rt.alloc());
+    top(
+        rt.alloc(),
+        words,
+        &mut input,
+        &mut out,
+        src_env,
+        rep_env,
+        &mut report,
+    )
+}
+
+/// What the words of the command line ask for, done.
+fn asked<E: Env, F: Env>(rt: &HostRuntime, src_env: &mut E, rep_env: &mut F) -> Status {
+    match words(rt) {
+        Err(status) => status,
+        Ok(words) => match page_asked(words.as_slice()) {
+            Some(page) => show(rt, page),
+            None => call(rt, words.as_slice(), src_env, rep_env),
+        },
+    }
+}
+
+/// Does what the words of the command line ask for, tells how it ended on standard error, and gives what the process ends with.
+pub fn start<E: Env, F: Env>(rt: &HostRuntime, src_env: &mut E, rep_env: &mut F) -> ExitCode {
+    let status = asked(rt, src_env, rep_env);
+    // where standard error takes nothing, the exit status says it
+    let _ = tell(rt.alloc(), &mut rt.stderr(), &status);
+    exit_of(&status)
+}

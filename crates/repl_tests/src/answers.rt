@@ -1,0 +1,280 @@
+//! Scripts and what they write.
+
+use crate::playing::{bytes, expect_lines};
+use std::alloc::Global;
+use std::test::Fail;
+use val_types::{Bytes, List};
+
+/// The table `t` of two numbers, whose key is `id`.
+const T: &str = "s1: CREATE TABLE t (id INT, v INT, PRIMARY KEY (id)) //\n";
+
+/// The table `a`, whose key is generated.
+const A: &str =
+    "s1: CREATE TABLE a (id INT NOT NULL AUTO_INCREMENT, k INT NOT NULL, PRIMARY KEY (id), UNIQUE KEY uk (k)) //\n";
+
+/// A script behind the one that makes its table.
+fn script_of(alloc: Global, made: &str, rest: &str) -> Result<Bytes, Fail> {
+    let mut script = bytes(alloc, made)?;
+    script.extend_from_slice(rest.as_bytes())?;
+    Ok(script)
+}
+
+/// Scripts behind the table `t`, and the lines behind `1 ok 0`.
+static OF_T: [(&str, &str); 11] = [
+    // a savepoint
+    (
+        "s1: BEGIN //\ns1: INSERT INTO t VALUES (1, 10) //\ns1: SAVEPOINT x //\ns1: INSERT INTO t VALUES (2, 20) //\ns1: ROLLBACK TO x //\ns1: COMMIT //\nreplica: SELECT * FROM t //\n",
+        "2 ok 0\n3 ok 1\n4 ok 0\n5 ok 1\n6 ok 0\n7 ok 0\n8 row 1, 10\n8 rows 1\n",
+    ),
+    // a writer, and readers beside it
+    (
+        "s1: INSERT INTO t VALUES (1, 10) //\ns1: BEGIN //\ns1: INSERT INTO t VALUES (2, 20) //\ns2: UPDATE t SET v = 0 //\ns2: SELECT * FROM t //\nreplica: SELECT * FROM t //\ns1: COMMIT //\nreplica: SELECT v FROM t WHERE id = 2 //\n",
+        "2 ok 1\n3 ok 0\n4 ok 1\n5 error 1205 by s1\n6 row 1, 10\n6 rows 1\n7 row 1, 10\n7 rows 1\n8 ok 0\n9 row 20\n9 rows 1\n",
+    ),
+    // the lock ends with the transaction, and a statement that changed nothing or failed does not keep it
+    (
+        "s1: BEGIN //\ns1: UPDATE t SET v = 1 //\ns2: INSERT INTO t VALUES (1, 1) //\ns1: INSERT INTO t VALUES (1, 2) //\ns2: UPDATE t SET v = 2 //\ns1: INSERT INTO t VALUES (3, 3) //\ns1: ROLLBACK //\ns2: DELETE FROM t //\n",
+        "2 ok 0\n3 ok 0\n4 ok 1\n5 error 1062\n6 ok 1\n7 ok 1\n8 ok 0\n9 ok 1\n",
+    ),
+    // the lock stays behind a savepoint to which the only change was taken back
+    (
+        "s1: BEGIN //\ns1: SAVEPOINT x //\ns1: INSERT INTO t VALUES (1, 1) //\ns1: ROLLBACK TO x //\ns2: INSERT INTO t VALUES (2, 2) //\ns1: COMMIT //\ns2: INSERT INTO t VALUES (2, 2) //\n",
+        "2 ok 0\n3 ok 0\n4 ok 1\n5 ok 0\n6 error 1205 by s1\n7 ok 0\n8 ok 1\n",
+    ),
+    // BEGIN and a definition commit the open transaction, also a definition that is refused
+    (
+        "s1: BEGIN //\ns1: INSERT INTO t VALUES (1, 1) //\ns1: BEGIN //\ns1: ROLLBACK //\ns1: SELECT COUNT(*) FROM t //\ns1: BEGIN //\ns1: INSERT INTO t VALUES (2, 2) //\ns1: DROP TABLE nosuch //\ns1: ROLLBACK //\ns1: SELECT COUNT(*) FROM t //\n",
+        "2 ok 0\n3 ok 1\n4 ok 0\n5 ok 0\n6 row 1\n6 rows 1\n7 ok 0\n8 ok 1\n9 error 1051\n10 ok 0\n11 row 2\n11 rows 1\n",
+    ),
+    // changes that are none, and rows that are replaced
+    (
+        "s1: INSERT INTO t VALUES (1, 10) //\ns1: INSERT INTO t VALUES (1, 10) ON DUPLICATE KEY UPDATE v = 10 //\ns1: INSERT INTO t VALUES (1, 20) ON DUPLICATE KEY UPDATE v = VALUES(v) + 1 //\ns1: SELECT v FROM t //\ns1: REPLACE INTO t VALUES (1, 5) //\ns1: UPDATE t SET v = 5 //\n",
+        "2 ok 1\n3 ok 0\n4 ok 2\n5 row 21\n5 rows 1\n6 ok 2\n7 ok 0\n",
+    ),
+    // session variables
+    (
+        "s1: SET nosuch = 1 //\ns1: SET auto_increment_offset = 0 //\ns1: SELECT @@auto_increment_offset //\ns1: SET rand_seed1 = -1 //\ns1: ROLLBACK TO x //\ns1: SET @a = 1, timestamp = 2147483648 //\ns1: SELECT @a //\n",
+        "2 error 1193\n3 ok 0\n4 row 1\n4 rows 1\n5 error 1231\n6 error 1305\n7 error 1231\n8 row NULL\n8 rows 1\n",
+    ),
+    // a statement that fails at its second row leaves none, and those before it stay
+    (
+        "s1: BEGIN //\ns1: INSERT INTO t VALUES (1, 1) //\ns1: INSERT INTO t VALUES (2, 2), (1, 3) //\ns1: SELECT COUNT(*) FROM t //\ns1: COMMIT //\ns1: SELECT ROW_COUNT() //\ns1: SELECT ROW_COUNT() //\n",
+        "2 ok 0\n3 ok 1\n4 error 1062\n5 row 1\n5 rows 1\n6 ok 0\n7 row 0\n7 rows 1\n8 row -1\n8 rows 1\n",
+    ),
+    // what is no statement, at its place
+    (
+        "s1: SELECT 1 FORM t //\ns1: SELECT 1; SELECT 2 //\ns1: //\nreplica: SELECT 1 FORM t //\n",
+        "2 error 1064 at 9\n3 error 1064 at 8\n4 error 1064 at 0\n5 error 1064 at 9\n",
+    ),
+    // the clock, the draw and the identity of each node; the last draw repeats
+    (
+        "s1: SELECT UNIX_TIMESTAMP(), USER(), @@server_id, CONNECTION_ID() //\nreplica: SELECT UNIX_TIMESTAMP(), USER(), @@server_id, CONNECTION_ID() //\n",
+        "2 row 1700000002, 'root@localhost', 1, 1\n2 rows 1\n3 row 1600000001, 'rep@localhost', 2, 0\n3 rows 1\n",
+    ),
+    // bytes that are shown in hexadecimal digits, and a table that is emptied
+    (
+        "s1: SELECT X'0027', 'it''s', 'plain' //\ns1: INSERT INTO t VALUES (1, 1), (2, 2) //\ns1: TRUNCATE TABLE t //\ns1: SELECT * FROM t //\n",
+        "2 row X'0027', X'69742773', 'plain'\n2 rows 1\n3 ok 2\n4 ok 0\n5 rows 0\n",
+    ),
+];
+
+#[test]
+fn statements_of_sessions(rt: HostRuntime) -> Result<(), Fail> {
+    let alloc = rt.alloc();
+    for (script, lines) in &OF_T {
+        let mut all = bytes(alloc, "1 ok 0\n")?;
+        all.extend_from_slice(lines.as_bytes())?;
+        let written = crate::playing::run(alloc, script_of(alloc, T, *script)?)?.written;
+        assert_eq!(rt; written.as_slice(), all.as_slice(), "{script}");
+    }
+    Ok(())
+}
+
+/// Scripts behind the table `a`, and what they write.
+static OF_A: [(&str, &str); 4] = [
+    (
+        "s1: INSERT INTO a (k) VALUES (1), (1), (2) //\ns1: INSERT INTO a (k) VALUES (5) //\ns1: SELECT * FROM a //\n",
+        "1 ok 0\n2 error 1062\n3 ok 1\n4 row 3, 5\n4 rows 1\n",
+    ),
+    (
+        "s1: INSERT INTO a VALUES (149, 1) //\ns1: INSERT INTO a VALUES (NULL, 2), (300, 3), (NULL, 4) //\ns1: SELECT id FROM a //\nreplica: SELECT id FROM a //\n",
+        "1 ok 0\n2 ok 1\n3 ok 3\n4 row 149\n4 row 150\n4 row 300\n4 row 301\n4 rows 4\n5 row 149\n5 row 150\n5 row 300\n5 row 301\n5 rows 4\n",
+    ),
+    (
+        "s1: INSERT INTO a VALUES (3, 1) //\ns1: SET auto_increment_increment = 10, auto_increment_offset = 3 //\ns1: INSERT INTO a (k) VALUES (2) //\ns1: SET auto_increment_offset = 20 //\ns1: INSERT INTO a (k) VALUES (3) //\ns1: SELECT id FROM a //\n",
+        "1 ok 0\n2 ok 1\n3 ok 0\n4 ok 1\n5 ok 0\n6 ok 1\n7 row 3\n7 row 13\n7 row 20\n7 rows 3\n",
+    ),
+    (
+        "s1: INSERT INTO a VALUES (2147483647, 1) //\ns1: INSERT INTO a (k) VALUES (2) //\n",
+        "1 ok 0\n2 ok 1\n3 error 1467\n",
+    ),
+];
+
+#[test]
+fn generated_values(rt: HostRuntime) -> Result<(), Fail> {
+    for (script, lines) in &OF_A {
+        expect_lines(
+            &rt,
+            rt.alloc(),
+            script_of(rt.alloc(), A, *script)?,
+            *lines,
+            *script,
+        )?;
+    }
+    Ok(())
+}
+
+/// Statements with two causes to be refused, each with the number of the one that comes first: behind a table `t` and a table
+/// `n` with a column that takes no NULL and has no default, while the first session has changed a row in its transaction.
+static TWO_CAUSES: [(&str, &str); 25] = [
+    ("SELECT nosuch FORM nosuch", "1064 at 14"),
+    ("SELECT nosuch FROM nosuch", "1146"),
+    ("SELECT f(), nosuch FROM t", "1054"),
+    ("SELECT @@nosuch, f() FROM t", "1305"),
+    ("SELECT @@nosuch FROM t LIMIT m", "1193"),
+    ("INSERT INTO t (id, id) SELECT 1, 2 FROM t LIMIT m", "1327"),
+    ("INSERT INTO t (id, id) VALUES (1)", "1110"),
+    ("INSERT INTO t VALUES ((SELECT v FROM t))", "1136"),
+    ("INSERT INTO n (id) VALUES ((SELECT id FROM n))", "1093"),
+    ("INSERT INTO n (id) VALUES (1)", "1364"),
+    ("UPDATE nosuch SET v = 1", "1146"),
+    ("INSERT INTO t VALUES (1, 'a')", "1205 by s1"),
+    ("CREATE TABLE u (k INT, PRIMARY KEY (k))", "1205 by s1"),
+    ("CREATE TABLE t (a INT, a INT, PRIMARY KEY (a))", "1050"),
+    (
+        "CREATE TABLE u (a INT, a INT, UNIQUE KEY k (a), UNIQUE KEY k (a), PRIMARY KEY (a))",
+        "1060",
+    ),
+    (
+        "CREATE TABLE u (a INT, UNIQUE KEY k (a), UNIQUE KEY k (b), PRIMARY KEY (a))",
+        "1061",
+    ),
+    ("CREATE TABLE u (a INT, UNIQUE KEY k (b))", "1072"),
+    ("CREATE TABLE u (a INT DEFAULT 'x')", "30001"),
+    (
+        "CREATE TABLE u (a VARCHAR(5) AUTO_INCREMENT DEFAULT 'x', PRIMARY KEY (a))",
+        "1067",
+    ),
+    (
+        "CREATE TABLE u (a INT, b VARCHAR(5) AUTO_INCREMENT, PRIMARY KEY (a))",
+        "1063",
+    ),
+    (
+        "CREATE TABLE u (a INT, b INT AUTO_INCREMENT, c VARCHAR(0), PRIMARY KEY (a))",
+        "1075",
+    ),
+    (
+        "CREATE TABLE u (a INT, c VARCHAR(0), PRIMARY KEY (a))",
+        "30009",
+    ),
+    ("DROP TABLE nosuch", "1051"),
+    ("TRUNCATE nosuch", "1146"),
+    ("DROP TRIGGER nosuch", "1360"),
+];
+
+/// What stands before each of them.
+const HELD: &str =
+    "s1: CREATE TABLE t (id INT, v INT, PRIMARY KEY (id)) //\ns1: CREATE TABLE n (id INT, w INT NOT NULL, PRIMARY KEY (id)) //\ns1: BEGIN //\ns1: INSERT INTO t VALUES (1, 1) //\ns2: ";
+
+#[test]
+fn causes_in_their_order(rt: HostRuntime) -> Result<(), Fail> {
+    let alloc = rt.alloc();
+    for (text, refused) in &TWO_CAUSES {
+        let mut script = script_of(alloc, HELD, *text)?;
+        script.extend_from_slice(b" //")?;
+        let mut lines = bytes(alloc, "1 ok 0\n2 ok 0\n3 ok 0\n4 ok 1\n5 error ")?;
+        lines.extend_from_slice(refused.as_bytes())?;
+        lines.push(b'\n')?;
+        let written = crate::playing::run(alloc, script)?.written;
+        assert_eq!(rt; written.as_slice(), lines.as_slice(), "{text}");
+    }
+    Ok(())
+}
+
+/// A text so many times.
+fn repeated(text: &mut Bytes, piece: &str, times: u32) -> Result<(), Fail> {
+    for _ in 0..times {
+        text.extend_from_slice(piece.as_bytes())?;
+    }
+    Ok(())
+}
+
+/// `SELECT 1 + .. + 1` with so many terms.
+fn sum_of(alloc: Global, terms: u32) -> Result<Bytes, Fail> {
+    let mut script = bytes(alloc, "s1: SELECT 1")?;
+    repeated(&mut script, " + 1", terms.saturating_sub(1))?;
+    script.extend_from_slice(b" //")?;
+    Ok(script)
+}
+
+/// `SELECT 1` with so many parentheses around.
+fn wrapped(alloc: Global, pairs: u32) -> Result<Bytes, Fail> {
+    let mut script = bytes(alloc, "s1: SELECT ")?;
+    repeated(&mut script, "(", pairs)?;
+    script.push(b'1')?;
+    repeated(&mut script, ")", pairs)?;
+    script.extend_from_slice(b" //")?;
+    Ok(script)
+}
+
+#[test]
+fn limits_of_trees(rt: HostRuntime) -> Result<(), Fail> {
+    let alloc = rt.alloc();
+    expect_lines(
+        &rt,
+        alloc,
+        sum_of(alloc, 199)?,
+        "1 row 199\n1 rows 1\n",
+        "199 terms",
+    )?;
+    expect_lines(
+        &rt,
+        alloc,
+        sum_of(alloc, 200)?,
+        "1 error 30007\n",
+        "200 terms",
+    )?;
+    expect_lines(
+        &rt,
+        alloc,
+        wrapped(alloc, 400)?,
+        "1 row 1\n1 rows 1\n",
+        "400 pairs",
+    )?;
+    expect_lines(
+        &rt,
+        alloc,
+        wrapped(alloc, 401)?,
+        "1 error 30007\n",
+        "401 pairs",
+    )?;
+    Ok(())
+}
+
+/// A SET whose expressions name so many columns, which print longer than they are written.
+fn long_set(alloc: Global, names: u32) -> Result<Bytes, Fail> {
+    let mut script = bytes(alloc, "s1: SET @a = CONCAT(a")?;
+    repeated(&mut script, ",a", names.saturating_sub(1))?;
+    script.extend_from_slice(b") //")?;
+    Ok(script)
+}
+
+#[test]
+fn printed_length_before_names(rt: HostRuntime) -> Result<(), Fail> {
+    let alloc = rt.alloc();
+    expect_lines(
+        &rt,
+        alloc,
+        long_set(alloc, 200_000)?,
+        "1 error 1054\n",
+        "a million bytes",
+    )?;
+    expect_lines(
+        &rt,
+        alloc,
+        long_set(alloc, 220_000)?,
+        "1 error 1153\n",
+        "and more than 2^20",
+    )?;
+    Ok(())
+}

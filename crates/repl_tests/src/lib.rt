@@ -1,0 +1,15 @@
+//! Tests of the program over streams and environments in memory.
+//!
+//! They stand in a crate of their own above `repl_run`, since a crate with tests of its own is proved once more for them.
+//!
+//! - `playing`: a call of the program on a script
+//! - `answers`: scripts and what they write: transactions, generated values, limits of trees, errors and their order
+//! - `statuses`: words, scripts that do not split, streams that fail, what the report tells
+#![tactic(auto)]
+
+#[cfg(test)]
+mod answers;
+#[cfg(test)]
+mod playing;
+#[cfg(test)]
+mod statuses;

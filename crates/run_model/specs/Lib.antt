@@ -1,0 +1,4 @@
+pub mod Asked
+pub mod Selecting
+pub mod Run
+pub mod Worked
