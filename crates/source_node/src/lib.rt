@@ -24,7 +24,7 @@
 //!   is how many transactions were committed.
 //!
 //! # Only tested
-//! Nothing yet: that calls succeed with ample memory is shown where scripts run.
+//! Nothing yet: that calls succeed with ample memory has no clause and no test here.
 #![tactic(auto)]
 
 mod assigning;
