@@ -1,6 +1,6 @@
 //! What each program of the project does around [`top`](repl_run::top): its words, its pages of help, its end.
 //!
-//! - `words`: [`words`], those of the command line
+//! - `command_line`: [`words`], those of the command line
 //! - `pages`: [`Page`], `--help` and `--version`, and which of them some words ask for
 //! - `ending`: [`exit_of`] and [`tell`], how a status ends the process
 //! - `starting`: [`start`], one call of the program over two environments
@@ -15,12 +15,12 @@
 //! The text of the pages; that they go to standard output, and the line of a status to standard error.
 #![tactic(auto)]
 
+mod command_line;
 mod ending;
 mod pages;
 mod starting;
-mod words;
 
+pub use command_line::words;
 pub use ending::{exit_of, tell};
 pub use pages::{Page, page_asked};
 pub use starting::start;
-pub use words::words;

@@ -1,8 +1,8 @@
 //! One call of the program.
 
+use crate::command_line::words;
 use crate::ending::{exit_of, tell};
 use crate::pages::{Page, page_asked};
-use crate::words::words;
 use answer_text::Status;
 use port_traits::{Env, StdSink, StdSource};
 use repl_run::top;

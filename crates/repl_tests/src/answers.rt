@@ -117,7 +117,7 @@ fn generated_values(rt: HostRuntime) -> Result<(), Fail> {
             &rt,
             rt.alloc(),
             script_of(rt.alloc(), A, *script)?,
-            *lines,
+            lines.as_bytes(),
             *script,
         )?;
     }
@@ -224,28 +224,28 @@ fn limits_of_trees(rt: HostRuntime) -> Result<(), Fail> {
         &rt,
         alloc,
         sum_of(alloc, 199)?,
-        "1 row 199\n1 rows 1\n",
+        b"1 row 199\n1 rows 1\n",
         "199 terms",
     )?;
     expect_lines(
         &rt,
         alloc,
         sum_of(alloc, 200)?,
-        "1 error 30007\n",
+        b"1 error 30007\n",
         "200 terms",
     )?;
     expect_lines(
         &rt,
         alloc,
         wrapped(alloc, 400)?,
-        "1 row 1\n1 rows 1\n",
+        b"1 row 1\n1 rows 1\n",
         "400 pairs",
     )?;
     expect_lines(
         &rt,
         alloc,
         wrapped(alloc, 401)?,
-        "1 error 30007\n",
+        b"1 error 30007\n",
         "401 pairs",
     )?;
     Ok(())
@@ -266,14 +266,14 @@ fn printed_length_before_names(rt: HostRuntime) -> Result<(), Fail> {
         &rt,
         alloc,
         long_set(alloc, 200_000)?,
-        "1 error 1054\n",
+        b"1 error 1054\n",
         "a million bytes",
     )?;
     expect_lines(
         &rt,
         alloc,
         long_set(alloc, 220_000)?,
-        "1 error 1153\n",
+        b"1 error 1153\n",
         "and more than 2^20",
     )?;
     Ok(())

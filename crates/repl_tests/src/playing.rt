@@ -125,11 +125,11 @@ pub fn expect_lines(
     rt: &impl Abort,
     alloc: Global,
     script: Bytes,
-    lines: &str,
+    lines: &[u8],
     of: &str,
 ) -> Result<(), Fail> {
     let played = run(alloc, script)?;
     assert_eq!(rt; played.status.number(), 0, "{of}");
-    assert_eq!(rt; played.written.as_slice(), lines.as_bytes(), "{of}");
+    assert_eq!(rt; played.written.as_slice(), lines, "{of}");
     Ok(())
 }
