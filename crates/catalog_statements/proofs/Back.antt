@@ -32,14 +32,12 @@ column_back auto place c e =
 cons_same : {A : Type 0} (a b : A) (xs ys : List A) → a ≡ b → xs ≡ ys → a ∷ xs ≡ b ∷ ys
 cons_same a b xs ys e f = λ i. e i ∷ f i
 
-columns_back : (auto : Option ℕ) (start : ℕ) (cs : List Column) → ((j : ℕ) (c : Column) → slice_get cs j ≡ Some c → option_map_or (nat_eq (start + j)) auto false ≡ c.auto_increment)
+columns_back : (auto : Option ℕ) (start : ℕ) (cs : List Column) → ((j k : ℕ) (c : Column) → k ≡ start + j → slice_get cs j ≡ Some c → option_map_or (nat_eq k) auto false ≡ c.auto_increment)
     → written_columns auto start (map defined_column cs) ≡ cs
 columns_back auto start [] counts = refl
 columns_back auto start (c ∷ cs) counts =
-    cons_same _ _ _ _ (column_back auto start c (counts 0 c refl))
-    (columns_back auto (start + 1) cs (λ j d get. ap (λ (n : ℕ). option_map_or (nat_eq n) auto false) (moved start j) ∙ counts (suc j) d get)) where
-      moved : (n m : ℕ) → n + 1 + m ≡ n + suc m
-      moved n m = omega arith
+    cons_same _ _ _ _ (column_back auto start c (counts 0 start c (omega arith) refl))
+    (columns_back auto (start + 1) cs (λ j k d e get. counts (suc j) k d (omega (arith, e)) get))
 
 -- ---- the AUTO_INCREMENT column
 
@@ -161,7 +159,7 @@ pub table_back : (t : CreateTable) (key : List (List ℕ)) → t.primary ≡ Som
     → list_any (has_unknown (names_of_columns t)) (map (λ (k : UniqueKey). k.columns) t.uniques) ≡ false → nat_lt 1 (length (filter counting t.columns)) ≡ false
     → written_table (definition_of t) ≡ t
 table_back t key is known all one =
-    let columns = columns_back (auto_place t.columns) 0 t.columns (λ j c get. counted_at t.columns c one j get) in
+    let columns = columns_back (auto_place t.columns) 0 t.columns (λ j k c e get. ap (λ (n : ℕ). option_map_or (nat_eq n) (auto_place t.columns) false) (omega (arith, e)) ∙ counted_at t.columns c one j get) in
     let fused = names_fused t.columns in
     let primary =
     ap (λ (names : List (List ℕ)). Some (names_at names (option_map_or (places_of (names_of_columns t)) t.primary []))) fused

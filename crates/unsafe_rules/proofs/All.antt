@@ -32,17 +32,17 @@ kept_alike true false o xs ys e f = cc
 kept_alike false true o xs ys e f = cc
 kept_alike false false o xs ys e f = f
 
-kept_places : (places : List ℕ) (test : Object → Bool) (start : ℕ) (os : List Object) → ((j : ℕ) (o : Object) → slice_get os j ≡ Some o → is_at (start + j) places ≡ test o)
+kept_places : (places : List ℕ) (test : Object → Bool) (start : ℕ) (os : List Object) → ((j k : ℕ) (o : Object) → k ≡ start + j → slice_get os j ≡ Some o → is_at k places ≡ test o)
     → at_places places start os ≡ filter test os
 kept_places places test start [] same = refl
 kept_places places test start (o ∷ os) same =
-    kept_alike (is_at start places) (test o) o _ _ (same 0 o refl)
-    (kept_places places test (suc start) os (λ j x get. same (suc j) x get))
+    kept_alike (is_at start places) (test o) o _ _ (same 0 start o (omega arith) refl)
+    (kept_places places test (suc start) os (λ j k x e get. same (suc j) k x (omega (arith, e)) get))
 
 -- those at places that were found, in the order of the catalog
 pub places_reached : (catalog : List Object) (nodes : List Node) (places : List ℕ) → IsAll catalog nodes places → at_places places 0 catalog ≡ reached_programs catalog nodes
 places_reached catalog nodes places all =
-    kept_places places (in_round catalog nodes (length catalog)) 0 catalog (λ j o get. placed catalog nodes places all j o get)
+    kept_places places (in_round catalog nodes (length catalog)) 0 catalog (λ j k o e get. ap (λ (n : ℕ). is_at n places) (omega (arith, e)) ∙ placed catalog nodes places all j o get)
     ∙ sym (rounds_kept catalog nodes (length catalog))
 
 same_place : (at : ℕ) → nat_eq at at ≡ true
@@ -74,16 +74,16 @@ to_places ask catalog (at ∷ places) j o is get holds =
     (λ same. or_left _ _ (at_own_place ask catalog at j o get holds same))
     (λ rest. or_right (in_place ask (slice_get catalog at)) _ (to_places ask catalog places j o rest get holds))
 
-in_kept : (ask : Ask) (places : List ℕ) (start : ℕ) (os : List Object) (j : ℕ) (o : Object) → slice_get os j ≡ Some o → is_at (start + j) places ≡ true → list_any (asks_node ask) (body_nodes o) ≡ true
+in_kept : (ask : Ask) (places : List ℕ) (start : ℕ) (os : List Object) (j k : ℕ) (o : Object) → k ≡ start + j → slice_get os j ≡ Some o → is_at k places ≡ true → list_any (asks_node ask) (body_nodes o) ≡ true
     → list_any (λ x. list_any (asks_node ask) (body_nodes x)) (at_places places start os) ≡ true
-in_kept ask places start [] j o get is holds = cc
-in_kept ask places start (x ∷ os) zero o get is holds =
+in_kept ask places start [] j k o e get is holds = cc
+in_kept ask places start (x ∷ os) zero k o e get is holds =
     let same : Some x ≡ Some o = get in
     let own : x ≡ o = cc in
     let here : list_any (asks_node ask) (body_nodes x) ≡ true = ap (λ (y : Object). list_any (asks_node ask) (body_nodes y)) own ∙ holds in
-    let at : is_at start places ≡ true = is in
+    let at : is_at start places ≡ true = ap (λ (n : ℕ). is_at n places) (omega (arith, e)) ∙ is in
     rw at (or_left _ _ here)
-in_kept ask places start (x ∷ os) (suc j) o get is holds = behind (is_at start places) (in_kept ask places (suc start) os j o get is holds) where
+in_kept ask places start (x ∷ os) (suc j) k o e get is holds = behind (is_at start places) (in_kept ask places (suc start) os j k o (omega (arith, e)) get is holds) where
   behind : (t : Bool) → list_any (λ y. list_any (asks_node ask) (body_nodes y)) (at_places places (suc start) os) ≡ true
       → list_any (λ y. list_any (asks_node ask) (body_nodes y)) (cond t (x ∷ at_places places (suc start) os) (at_places places (suc start) os)) ≡ true
   behind true e = or_right (list_any (asks_node ask) (body_nodes x)) _ e
@@ -97,19 +97,19 @@ kept_split ask places start x os true is f here later = or_from (list_any (asks_
 kept_split ask places start x os false is f here later = later f
 
 from_kept : (ask : Ask) (places : List ℕ) (start : ℕ) (os : List Object) {C : Type 0} → list_any (λ x. list_any (asks_node ask) (body_nodes x)) (at_places places start os) ≡ true
-    → ((j : ℕ) (o : Object) → slice_get os j ≡ Some o → is_at (start + j) places ≡ true → list_any (asks_node ask) (body_nodes o) ≡ true → C) → C
+    → ((j k : ℕ) (o : Object) → k ≡ start + j → slice_get os j ≡ Some o → is_at k places ≡ true → list_any (asks_node ask) (body_nodes o) ≡ true → C) → C
 from_kept ask places start [] e then = cc
 from_kept ask places start (x ∷ os) e then =
-    kept_split ask places start x os (is_at start places) refl e (λ holds is. then 0 x refl is holds)
-    (λ f. from_kept ask places (suc start) os f (λ j o get is holds. then (suc j) o get is holds))
+    kept_split ask places start x os (is_at start places) refl e (λ holds is. then 0 start x (omega arith) refl is holds)
+    (λ f. from_kept ask places (suc start) os f (λ j k o e get is holds. then (suc j) k o (omega (arith, e)) get is holds))
 
 -- what is asked holds in the programs that were found just where it holds in those that are reached
 pub programs_asked : (ask : Ask) (catalog : List Object) (nodes : List Node) (places : List ℕ) → IsAll catalog nodes places
     → in_programs ask catalog places ≡ list_any (asks_node ask) (flat_map body_nodes (reached_programs catalog nodes))
 programs_asked ask catalog nodes places all =
     alike (in_programs ask catalog places) (list_any (λ x. list_any (asks_node ask) (body_nodes x)) (at_places places 0 catalog))
-    (λ e. from_places ask catalog places e (λ at o is get holds. in_kept ask places 0 catalog at o get is holds))
-    (λ e. from_kept ask places 0 catalog e (λ j o get is holds. to_places ask catalog places j o is get holds))
+    (λ e. from_places ask catalog places e (λ at o is get holds. in_kept ask places 0 catalog at at o (omega arith) get is holds))
+    (λ e. from_kept ask places 0 catalog e (λ j k o e get is holds. to_places ask catalog places j o (ap (λ (n : ℕ). is_at n places) (omega (arith, e)) ∙ is) get holds))
     ∙ ap (list_any (λ x. list_any (asks_node ask) (body_nodes x))) (places_reached catalog nodes places all)
     ∙ sym (any_made body_nodes (asks_node ask) (reached_programs catalog nodes))
 

@@ -13,7 +13,7 @@ use Rattle.sql_reach.specs.Reasons.{Reason, a_function, a_variable, a_limited, a
 use Rattle.node_walk.specs.declared.asking.Ask.TheVariants as asks
 use Rattle.node_walk.specs.declared.asking.Ask.{Ask}
 use Rattle.node_walk.specs.Asking.{asks_node}
-use Rattle.unsafe_rules.specs.declared.reasons.Reasons.{Reasons}
+use Rattle.unsafe_rules.specs.declared.unsafety.Reasons.{Reasons}
 use Rattle.unsafe_rules.specs.Unsafe.{has_reason, is_nothing, reasons_in}
 use Rattle.unsafe_rules.proofs.Elements.{any_same}
 
@@ -115,8 +115,6 @@ filtered_same : (p q : Reason → Bool) → ((reason : Reason) → p reason ≡ 
 filtered_same p q same [] = refl
 filtered_same p q same (reason ∷ some) = kept_same (p reason) (q reason) reason _ _ (same reason) (filtered_same p q same some)
 
-unfolding reasons
-
 -- where each part holds as its reason does, they are the reasons
 pub reasons_are : (catalog : List Object) (s : Statement) (r : Reasons)
     → r.function ≡ reason_holds catalog (nodes_of s) a_function → r.variable ≡ reason_holds catalog (nodes_of s) a_variable → r.limit ≡ reason_holds catalog (nodes_of s) a_limited
@@ -124,5 +122,6 @@ pub reasons_are : (catalog : List Object) (s : Statement) (r : Reasons)
     → r.two_keys ≡ reason_holds catalog (nodes_of s) two_keys → r.ignored_select ≡ reason_holds catalog (nodes_of s) ignored_select
     → r.replaced_select ≡ reason_holds catalog (nodes_of s) replaced_select → r.updated_select ≡ reason_holds catalog (nodes_of s) updated_select
     → reasons_in r ≡ reasons catalog s
+unfolding reasons
 reasons_are catalog s r e0 e1 e2 e3 e4 e5 e6 e7 e8 =
     filtered_same (has_reason r) (reason_holds catalog (nodes_of s)) (parts_hold catalog (nodes_of s) r e0 e1 e2 e3 e4 e5 e6 e7 e8) all_reasons

@@ -38,17 +38,23 @@ passed true e value es more differ = cc
 passed false e value es more differ = refl
 
 -- one more of some names that rise is set behind those before it
-pub set_more : (value : List ℕ → Value) (names : List (List ℕ)) (i : ℕ) (name : List ℕ) → Rises names → slice_get names i ≡ Some name
+set_by_place : (value : List ℕ → Value) (names : List (List ℕ)) (i : ℕ) (name : List ℕ) → Rises names → slice_get names i ≡ Some name
     → variable_set (map (λ n. (n, value n)) (take i names)) name (value name) ≡ map (λ n. (n, value n)) (take (suc i) names)
-set_more value [] i name up get = cc
-set_more value (n ∷ ns) zero name up get =
+set_by_place value [] i name up get = cc
+set_by_place value (n ∷ ns) zero name up get =
     let same : Some n ≡ Some name = get in
     let own : name ≡ n = cc in
     ap (λ (m : List ℕ). (m, value m) ∷ []) own
-set_more value (n ∷ ns) (suc i) name up get =
+set_by_place value (n ∷ ns) (suc i) name up get =
     let other : pointwise nat_eq name n ≡ false = above_differs n name (above_at n ns i name up.0 get) in
     passed (pointwise nat_eq name n) (n, value n) (value name) (map (λ m. (m, value m)) (take i ns)) (variable_set (map (λ m. (m, value m)) (take i ns)) name (value name)) other
-    ∙ ap (λ (rest : List (List ℕ × Value)). (n, value n) ∷ rest) (set_more value ns i name up.1 get)
+    ∙ ap (λ (rest : List (List ℕ × Value)). (n, value n) ∷ rest) (set_by_place value ns i name up.1 get)
+
+pub set_more : (value : List ℕ → Value) (names : List (List ℕ)) (i next : ℕ) (name : List ℕ) (vars : List (List ℕ × Value)) (own : Value) → next ≡ suc i → Rises names → slice_get names i ≡ Some name
+    → vars ≡ map (λ n. (n, value n)) (take i names) → own ≡ value name → variable_set vars name own ≡ map (λ n. (n, value n)) (take next names)
+set_more value names i next name vars own after up get before same =
+    ap (λ (v : Value). variable_set vars name v) same ∙ ap (λ (vs : List (List ℕ × Value)). variable_set vs name (value name)) before
+    ∙ set_by_place value names i name up get ∙ ap (λ (k : ℕ). map (λ n. (n, value n)) (take k names)) (sym after)
 
 put_more : (xs ys : List Node) (names : List (List ℕ)) → nodes_put (xs ++ ys) names ≡ nodes_put ys (nodes_put xs names)
 put_more [] ys names = refl
@@ -63,10 +69,20 @@ names_reached law catalog nodes places all =
     ∙ law (reached_nodes catalog nodes)
 
 -- an object whose place was found is next, and one whose place was not is passed over
-pub next_found : (places : List ℕ) (at : ℕ) (o : Object) (os : List Object) (names : List (List ℕ)) → is_at at places ≡ true
-    → nodes_put (flat_map body_nodes (at_places places at (o ∷ os))) names ≡ nodes_put (flat_map body_nodes (at_places places (suc at) os)) (nodes_put (body_nodes o) names)
-next_found places at o os names e = rw e (put_more (body_nodes o) (flat_map body_nodes (at_places places (suc at) os)) names)
+pub next_found : (places : List ℕ) (at next : ℕ) (o : Object) (all rest : List Object) (names new : List (List ℕ)) → next ≡ suc at → all ≡ o ∷ rest → is_at at places ≡ true → new ≡ nodes_put (body_nodes o) names
+    → nodes_put (flat_map body_nodes (at_places places next rest)) new ≡ nodes_put (flat_map body_nodes (at_places places at all)) names
+next_found places at next o all rest names new after whole is put =
+    ap (nodes_put (flat_map body_nodes (at_places places next rest))) put
+    ∙ ap (λ (k : ℕ). nodes_put (flat_map body_nodes (at_places places k rest)) (nodes_put (body_nodes o) names)) after
+    ∙ sym (taken is) ∙ ap (λ (os : List Object). nodes_put (flat_map body_nodes (at_places places at os)) names) (sym whole) where
+      taken : is_at at places ≡ true → nodes_put (flat_map body_nodes (at_places places at (o ∷ rest))) names ≡ nodes_put (flat_map body_nodes (at_places places (suc at) rest)) (nodes_put (body_nodes o) names)
+      taken e = rw e (put_more (body_nodes o) (flat_map body_nodes (at_places places (suc at) rest)) names)
 
-pub next_passed : (places : List ℕ) (at : ℕ) (o : Object) (os : List Object) (names : List (List ℕ)) → is_at at places ≡ false
-    → nodes_put (flat_map body_nodes (at_places places at (o ∷ os))) names ≡ nodes_put (flat_map body_nodes (at_places places (suc at) os)) names
-next_passed places at o os names e = rw e refl
+pub next_passed : (places : List ℕ) (at next : ℕ) (o : Object) (all rest : List Object) (names new : List (List ℕ)) → next ≡ suc at → all ≡ o ∷ rest → is_at at places ≡ false → new ≡ names
+    → nodes_put (flat_map body_nodes (at_places places next rest)) new ≡ nodes_put (flat_map body_nodes (at_places places at all)) names
+next_passed places at next o all rest names new after whole is put =
+    ap (nodes_put (flat_map body_nodes (at_places places next rest))) put
+    ∙ ap (λ (k : ℕ). nodes_put (flat_map body_nodes (at_places places k rest)) names) after
+    ∙ sym (left is) ∙ ap (λ (os : List Object). nodes_put (flat_map body_nodes (at_places places at os)) names) (sym whole) where
+      left : is_at at places ≡ false → nodes_put (flat_map body_nodes (at_places places at (o ∷ rest))) names ≡ nodes_put (flat_map body_nodes (at_places places (suc at) rest)) names
+      left e = rw e refl

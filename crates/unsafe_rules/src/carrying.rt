@@ -11,8 +11,8 @@ ghost use Rattle.unsafe_rules.specs.Places.{places_of};
 ghost use Rattle.unsafe_rules.specs.Reaching.{IsAll, IsFound, at_places, nothing_wanted};
 ghost use Rattle.variable_names.specs.Naming.{nodes_put};
 
-use crate::all::{next_of, reaches};
 use crate::found::{Found, is_found, more, nothing};
+use crate::reach::{next_of, reaches};
 use catalog_objects::{Object, Objects};
 use log_entries::{Carried, Vars};
 use node_walk::{Ask, in_statement};

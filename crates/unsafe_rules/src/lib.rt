@@ -6,9 +6,10 @@
 //! takes memory. [`carried`] gives what an item of a statement carries of the context before it.
 //!
 //! - `writing`: [`writes`]
-//! - `reasons`: [`Reasons`], [`reasons`]
+//! - `unsafety`: [`Reasons`]
+//! - `explaining`: [`reasons`]
 //! - `carrying`: [`carried`]
-//! - `all`: what holds of all that is reached, once all programs were found
+//! - `reach`: what holds of all that is reached, once all programs were found
 //! - `reaching`: programs that are reached, found one after the other, until none is left, or for the lock until a function with
 //!   a change in it is among them
 //! - `found`: what was found so far, as a list on the stack, and whether an object is reached from it
@@ -34,13 +35,15 @@
 //! Nothing.
 #![tactic(auto)]
 
-mod all;
 mod carrying;
+mod explaining;
 mod found;
+mod reach;
 mod reaching;
-mod reasons;
+mod unsafety;
 mod writing;
 
 pub use carrying::carried;
-pub use reasons::{Reasons, reasons};
+pub use explaining::reasons;
+pub use unsafety::Reasons;
 pub use writing::writes;

@@ -6,54 +6,14 @@ ghost use Rattle.sql_reach.specs.Reasons.{reasons};
 ghost use Rattle.sql_tree.specs.StatementView.{view};
 ghost use Rattle.unsafe_rules.specs.Places.{places_of};
 ghost use Rattle.unsafe_rules.specs.Reaching.{IsAll, IsFound, nothing_wanted};
-ghost use Rattle.unsafe_rules.specs.Unsafe.{is_nothing, reasons_in};
+ghost use Rattle.unsafe_rules.specs.Unsafe.{reasons_in};
 
-use crate::all::{next_of, programs_reach, reaches};
 use crate::found::{Found, more, nothing};
+use crate::reach::{next_of, programs_reach, reaches};
+use crate::unsafety::Reasons;
 use catalog_objects::Objects;
 use node_walk::{Ask, in_statement};
 use sql_tree::Stmt;
-
-/// The reasons for which a statement is unsafe to log by its text. All but the third from the last speak of all that is
-/// reached: the statement, the functions that it calls, the triggers of the events that it causes, and all that these reach.
-#[derive(Clone, Copy)]
-pub struct Reasons {
-    /// UUID(), SYSDATE(), USER(), ROW_COUNT() or RAND().
-    pub function: bool,
-    /// @@server_id.
-    pub variable: bool,
-    /// A LIMIT.
-    pub limit: bool,
-    /// INSERT or REPLACE of a SELECT into a table with AUTO_INCREMENT.
-    pub counted_select: bool,
-    /// INSERT or REPLACE into a table with AUTO_INCREMENT, in a function or trigger.
-    pub counted_program: bool,
-    /// ON DUPLICATE KEY UPDATE on a table with a unique key beside the primary one.
-    pub two_keys: bool,
-    /// INSERT IGNORE of a SELECT.
-    pub ignored_select: bool,
-    /// REPLACE of a SELECT.
-    pub replaced_select: bool,
-    /// INSERT of a SELECT with ON DUPLICATE KEY UPDATE.
-    pub updated_select: bool,
-}
-
-impl Reasons {
-    /// Whether there is none, so that the text may be logged.
-    pub fn is_empty(&self) -> bool
-        ensures { result ≡ is_nothing (reasons_in self.now) }
-    {
-        !(self.function
-            || self.variable
-            || self.limit
-            || self.counted_select
-            || self.counted_program
-            || self.two_keys
-            || self.ignored_select
-            || self.replaced_select
-            || self.updated_select)
-    }
-}
 
 /// The reasons, where all programs that are reached were found.
 fn reasons_of_all(s: &Stmt, objects: &Objects, found: &Found<'_>) -> Reasons

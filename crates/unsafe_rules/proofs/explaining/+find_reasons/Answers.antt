@@ -7,7 +7,7 @@ use Rattle.unsafe_rules.specs.Places.{places_of}
 use Rattle.unsafe_rules.specs.Reaching.{others, nothing_wanted}
 use Rattle.unsafe_rules.proofs.Counting.{one_less}
 use Rattle.unsafe_rules.proofs.Rounds.{one_found, place_within}
-use Rattle.unsafe_rules.proofs.reasons.+find_reasons.Goals as goal
+use Rattle.unsafe_rules.proofs.explaining.+find_reasons.Goals as goal
 
 pub find_reasons-requires : goal.find_reasons-requires
 find_reasons-requires t c =
