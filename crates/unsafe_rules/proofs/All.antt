@@ -1,5 +1,5 @@
 -- Where no object is left to find, those that were found are those that are reached.
-use Rattle.std.proofs.Common.{◌≡◌, ◌+◌, ◌≤◌, ℕ, zero, suc, Bool, true, false, ◌||◌, nat_eq, List, [], ◌∷◌, ◌++◌, cond, filter, flat_map, length, slice_get, Option, Some, None, refl, sym, ap, ◌∙◌, arith}
+use Rattle.std.proofs.Common.{◌≡◌, ◌+◌, ℕ, zero, suc, Bool, true, false, ◌||◌, nat_eq, List, [], ◌∷◌, cond, filter, flat_map, length, slice_get, Option, Some, None, refl, sym, ap, ◌∙◌, arith}
 use Rattle.std.specs.List.{list_any}
 use Rattle.std.proofs.lemmas.List.Folds.{list_any-append}
 use Rattle.std.proofs.lemmas.Bool.Decides.{nat_tests}
@@ -9,8 +9,8 @@ use Rattle.sql_reach.specs.Reach.{body_nodes, reached_nodes, reached_programs}
 use Rattle.node_walk.specs.declared.asking.Ask.{Ask}
 use Rattle.node_walk.specs.Asking.{asks_node}
 use Rattle.unsafe_rules.specs.Reaching.{is_at, in_round, in_place, in_programs, at_places, IsAll}
-use Rattle.unsafe_rules.proofs.Elements.{any_is, any_from, any_made}
-use Rattle.unsafe_rules.proofs.Rounds.{clash, kept_on, or_left, or_right, or_from, rounds_kept, settled}
+use Rattle.unsafe_rules.proofs.Elements.{any_made}
+use Rattle.unsafe_rules.proofs.Rounds.{kept_on, or_left, or_right, or_from, rounds_kept, settled}
 
 alike : (s t : Bool) → (s ≡ true → t ≡ true) → (t ≡ true → s ≡ true) → s ≡ t
 alike true true f g = refl

@@ -1,18 +1,18 @@
 -- What the walk is asked says whether an object is reached.
 use Rattle.std.proofs.Common.{◌≡◌, ℕ, Bool, false, ◌||◌, List, [], ◌∷◌, slice_get, Option, Some, None, refl, sym, ap, ◌∙◌, Bor}
 use Rattle.std.specs.List.{list_any}
-use Rattle.sql_tree.specs.Statement.{Statement, Program, Trigger, trigger}
+use Rattle.sql_tree.specs.Statement.{Program, Trigger, trigger}
 use Rattle.val_types.specs.declared.definitions.TableDef.{TableDef}
 use Rattle.sql_tree.specs.StatementView.{view_trigger}
 use Rattle.sql_tree.specs.declared.statements.TriggerDef.{TriggerDef}
-use Rattle.catalog_rules.specs.Objects.{Object, table, function, procedure, reaction, name_of, body_of, trigger_body}
-use Rattle.catalog_rules.specs.Nodes.{Node, a_name, a_column, a_new_column, an_old_column, an_inserted_value, a_user_variable, a_system_variable, a_built_in, a_random_number, a_function_call, a_table_read, a_limit, a_statement, nodes_of}
+use Rattle.catalog_rules.specs.Objects.{Object, table, function, procedure, reaction, name_of}
+use Rattle.catalog_rules.specs.Nodes.{Node, a_name, a_column, a_new_column, an_old_column, an_inserted_value, a_user_variable, a_system_variable, a_built_in, a_random_number, a_function_call, a_table_read, a_limit, a_statement}
 use Rattle.catalog_rules.specs.Names.{same_name}
 use Rattle.sql_reach.specs.Reach.{body_nodes, fires_trigger, holds_change}
 use Rattle.node_walk.specs.declared.asking.Ask.TheVariants as asks
 use Rattle.node_walk.specs.declared.asking.Ask.{Ask}
 use Rattle.node_walk.specs.Asking.{asks_node}
-use Rattle.unsafe_rules.specs.Reaching.{reaches, body_reaches, is_reached, in_body, in_place, in_found}
+use Rattle.unsafe_rules.specs.Reaching.{reaches, body_reaches, is_reached, in_place, in_found}
 use Rattle.unsafe_rules.proofs.Elements.{any_same, none_of}
 
 both : (a b c d : Bool) → a ≡ b → c ≡ d → (a || c) ≡ (b || d)

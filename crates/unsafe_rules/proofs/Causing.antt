@@ -1,5 +1,5 @@
 -- A statement without a call of a function and without a change reaches nothing.
-use Rattle.std.proofs.Common.{◌≡◌, Bool, true, false, List, [], length, refl, ◌∙◌}
+use Rattle.std.proofs.Common.{◌≡◌, Bool, true, false, List, [], length, refl}
 use Rattle.std.specs.List.{list_any}
 use Rattle.sql_tree.specs.Statement.{Statement, insert_into, replace_into, update_rows, delete_rows}
 use Rattle.sql_tree.specs.Statement.{Trigger, trigger}

@@ -1,5 +1,5 @@
 -- What the walk asks says for which reasons a statement is unsafe, and what it carries.
-use Rattle.std.proofs.Common.{◌≡◌, ℕ, Bool, true, false, List, [], ◌∷◌, cond, filter, flat_map, refl, ap, ◌∙◌, Bor}
+use Rattle.std.proofs.Common.{◌≡◌, ℕ, Bool, true, false, List, [], ◌∷◌, cond, filter, refl, ap, Bor}
 use Rattle.std.specs.List.{list_any}
 use Rattle.val_types.specs.declared.ops.Func.{Func}
 use Rattle.sql_tree.specs.Statement.{Statement}
@@ -11,10 +11,9 @@ use Rattle.catalog_objects.specs.declared.object.Object as code
 use Rattle.sql_reach.specs.Carrying.{asks_last_id, draws}
 use Rattle.sql_reach.specs.Reasons.{Reason, a_function, a_variable, a_limited, a_counted_select, a_counted_program, two_keys, ignored_select, replaced_select, updated_select, all_reasons, names_unsafe_function, names_server_id, is_limited, inserts_counted, selects_counted, updates_by_two_keys, ignores_select, replaces_select, updates_select, reason_holds, reasons}
 use Rattle.node_walk.specs.declared.asking.Ask.TheVariants as asks
-use Rattle.node_walk.specs.declared.asking.Ask.{Ask}
 use Rattle.node_walk.specs.Asking.{asks_node}
 use Rattle.unsafe_rules.specs.declared.unsafety.Reasons.{Reasons}
-use Rattle.unsafe_rules.specs.Unsafe.{has_reason, is_nothing, reasons_in}
+use Rattle.unsafe_rules.specs.Unsafe.{has_reason, reasons_in}
 use Rattle.unsafe_rules.proofs.Elements.{any_same}
 
 -- ---- node by node

@@ -1,11 +1,9 @@
 -- Names put one after the other are names in the order of their bytes.
 use Rattle.std.proofs.Common.{◌≡◌, ℕ, List, [], ◌∷◌, Ordering, Less, Equal, Greater, refl, sym, ap, ◌∙◌}
-use Rattle.std.specs.Prelude.{filter_map}
-use Rattle.std.specs.Cmp.Lexicographic.{slice_cmp}
-use Rattle.std.specs.Ordering.{nat_cmp, ordering_reverse}
+use Rattle.std.specs.Ordering.{ordering_reverse}
 use Rattle.std.proofs.lemmas.Map.Lookups.{exact_bytes}
 use Rattle.catalog_rules.specs.Nodes.{Node, a_name, a_column, a_new_column, an_old_column, an_inserted_value, a_user_variable, a_system_variable, a_built_in, a_random_number, a_function_call, a_table_read, a_limit, a_statement}
-use Rattle.sql_reach.specs.Carrying.{in_byte_order, put_by_order, put_name, user_variable_at}
+use Rattle.sql_reach.specs.Carrying.{put_by_order, put_name}
 use Rattle.variable_names.specs.Naming.{nodes_put, NamesAreInByteOrder}
 use Rattle.variable_names.specs.Rising.{by_bytes}
 use Rattle.variable_names.proofs.Placed.{total}

@@ -1,4 +1,4 @@
-use Rattle.std.proofs.Common.{◌≡◌, [], rules, ap, ◌∙◌}
+use Rattle.std.proofs.Common.{◌≡◌, rules}
 use Rattle.std.specs.Prelude.{filter_map}
 use Rattle.catalog_objects.specs.Keys.{objects_of}
 use Rattle.catalog_rules.specs.Nodes.{nodes_of}

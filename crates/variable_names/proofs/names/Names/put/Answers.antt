@@ -1,5 +1,4 @@
-use Rattle.std.proofs.Common.{◌≡◌, ℕ, ◌≤◌, length, true, false, List, slice_get, rules, sym, ap, subst, ◌∙◌, arith}
-use Rattle.std.specs.List.{insert}
+use Rattle.std.proofs.Common.{◌≡◌, ◌≤◌, length, true, false, slice_get, rules, sym, subst, arith}
 use Rattle.sql_reach.specs.Carrying.{put_name}
 use Rattle.variable_names.specs.Rising.{Rises, is_name_at, place}
 use Rattle.variable_names.proofs.Placed.{at_most, put_new, put_there, rises_put}
