@@ -1,5 +1,5 @@
 -- A CREATE TABLE of which the keys are known and one column at most counts is written as its definition is.
-use Rattle.std.proofs.Common.{◌≡◌, ◌+◌, ℕ, zero, suc, Bool, true, false, ◌&&◌, ◌||◌, not, nat_eq, cond, List, [], ◌∷◌, map, filter, filter_map, length, slice_get, Option, Some, None, refl, sym, ap, ◌∙◌, arith}
+use Rattle.std.proofs.Common.{◌≡◌, ◌+◌, ℕ, zero, suc, Bool, true, false, ◌&&◌, ◌||◌, not, nat_eq, cond, List, [], ◌∷◌, map, filter, length, slice_get, Option, Some, None, refl, sym, ap, ◌∙◌, arith}
 use Rattle.std.specs.Prelude.{nat_lt, slice_index_or}
 use Rattle.std.specs.List.{list_any}
 use Rattle.std.specs.Option.{option_map, option_map_or}
@@ -13,7 +13,6 @@ use Rattle.sql_tree.specs.declared.statements.UniqueKey.{UniqueKey}
 use Rattle.sql_tree.specs.declared.statements.CreateTable.{CreateTable}
 use Rattle.sql_locals.specs.Types.{column_type}
 use Rattle.catalog_rules.specs.Names.{same_name, is_among, place_among}
-use Rattle.catalog_rules.specs.Objects.{columns_of}
 use Rattle.catalog_rules.specs.Defined.{written_type, defined_column, names_of_columns, places_of, auto_place, defined_key, definition_of, written_column, written_columns, names_at, written_key, written_table}
 use Rattle.catalog_rules.specs.Creating.{has_unknown}
 
@@ -41,7 +40,7 @@ columns_back auto start (c ∷ cs) counts =
 
 -- ---- the AUTO_INCREMENT column
 
-counting : Column → Bool
+abbrev pub counting : Column → Bool
 counting c = c.auto_increment
 
 first_is : (d c : Column) (cs : List Column) → slice_get (d ∷ cs) 0 ≡ Some c → d ≡ c
@@ -61,21 +60,22 @@ none_behind (d ∷ cs) c none j get = none_step d.auto_increment d cs c refl non
 
 moved_on : (j : ℕ) (auto : Option ℕ) → option_map_or (nat_eq (suc j)) (option_map suc auto) false ≡ option_map_or (nat_eq j) auto false
 moved_on j None = refl
-moved_on j (Some p) = refl
+moved_on j (Some p) = grind (arith, nat_tests)
 
 not_first : (auto : Option ℕ) → option_map_or (nat_eq 0) (option_map suc auto) false ≡ false
 not_first None = refl
-not_first (Some p) = refl
+not_first (Some p) = grind (arith, nat_tests)
 
 one_at_most : (n : ℕ) → nat_lt 1 (suc n) ≡ false → n ≡ 0
-one_at_most zero e = refl
-one_at_most (suc n) e = cc
+one_at_most n e = grind (arith, nat_tests)
 
 counted_step : (t : Bool) (d : Column) (cs : List Column) (c : Column) → d.auto_increment ≡ t → nat_lt 1 (length (cond t (d ∷ filter counting cs) (filter counting cs))) ≡ false
     → (nat_lt 1 (length (filter counting cs)) ≡ false → (j : ℕ) → slice_get cs j ≡ Some c → option_map_or (nat_eq j) (auto_place cs) false ≡ c.auto_increment)
     → (k : ℕ) → slice_get (d ∷ cs) k ≡ Some c → option_map_or (nat_eq k) (cond t (Some 0) (option_map suc (auto_place cs))) false ≡ c.auto_increment
 counted_step true d cs c is few later zero at = sym is ∙ ap counting (first_is d c cs at)
-counted_step true d cs c is few later (suc k) at = sym (none_behind cs c (one_at_most _ few) k at)
+counted_step true d cs c is few later (suc k) at =
+    let apart : nat_eq (suc k) 0 ≡ false = grind (arith, nat_tests) in
+    apart ∙ sym (none_behind cs c (one_at_most _ few) k at)
 counted_step false d cs c is few later zero at = not_first (auto_place cs) ∙ sym is ∙ ap counting (first_is d c cs at)
 counted_step false d cs c is few later (suc k) at = moved_on k (auto_place cs) ∙ later few k at
 

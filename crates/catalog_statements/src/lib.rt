@@ -4,13 +4,13 @@
 //! - `statements`: [`object_statement`], [`statement_at`]
 //! - `laws`: what follows from the definitions
 //!
-//! In specs/ stand `Stated` (the statement of an object) and `Places` (names and columns, from a place on).
+//! In specs/ stands `Stated`: the statement of an object, and for which objects a catalog has room.
 //!
 //! # Proved
 //! - [`object_statement`] gives a statement that is seen as the one of an object, and [`statement_at`] that of the object at a
 //!   place in order of creation, None just past the last; or they want memory
-//! - the statement of an object is the very one by which it was made ([`statement_is_that_of_making`]); made by it on any
-//!   catalog, the object stands behind the others ([`object_is_made_by_its_statement`])
+//! - the statement of an object is the very one by which it was made ([`statement_is_that_of_making`]); by it the object is made
+//!   again on any catalog that has room for it, and stands behind the others then ([`object_is_made_by_its_statement`])
 //!
 //! # Only tested
 //! Nothing.
