@@ -13,7 +13,7 @@
 //!   again on any catalog that has room for it, and stands behind the others then ([`object_is_made_by_its_statement`])
 //!
 //! # Only tested
-//! Nothing.
+//! That calls succeed with ample memory, in `reach_callers`.
 #![tactic(auto)]
 
 mod laws;

@@ -24,7 +24,7 @@
 //! find, no round has one that was not found; so the list has just what the last round has. The stack is one call deeper for each
 //! program that was found. The time is at most the number of programs that are reached, times the number of functions and triggers,
 //! times what the statement and these programs have of nodes; for a statement without a call and without a change nothing is
-//! looked for.
+//! looked for. [`reasons`] then asks nine things of all these nodes, [`carried`] three.
 //!
 //! # Proved
 //! - [`writes`] is the definition's answer for every statement and every catalog.
@@ -32,7 +32,7 @@
 //! - [`carried`] is exactly what the definition says, for every statement, catalog and context, or memory is short.
 //!
 //! # Only tested
-//! Nothing.
+//! That [`carried`] succeeds with ample memory, in `reach_callers`.
 #![tactic(auto)]
 
 mod carrying;

@@ -18,7 +18,7 @@
 //!   ([`names_are_in_byte_order`])
 //!
 //! # Only tested
-//! Nothing.
+//! That names are put with ample memory, in `reach_callers`.
 #![tactic(auto)]
 
 mod expressions;
