@@ -4,13 +4,14 @@ use catalog::Catalog;
 use log_entries::{Carried, Vars};
 use port_traits::{Draw, Identity};
 use session_ctx::{Ctx, SessionVars};
-use sql_parse::parse;
+use sql_parse::{ParseRefusal, parse};
 use sql_print::print;
-use sql_tree::Stmt;
+use sql_tree::{Routine, Stmt, TriggerDef};
 use std::alloc::Global;
 use std::test::Fail;
+use tree_copies::{copy_routine, copy_trigger};
 use unsafe_rules::{Reasons, carried, reasons, writes};
-use val_types::{List, NoMemory, Value};
+use val_types::{Boxed, List, NoMemory, Value};
 
 /// What is made, and the statement that makes it again.
 static OBJECTS: &[(&str, &str)] = &[
@@ -66,64 +67,154 @@ const DRAW: Draw = Draw {
     uuid: [0; 16],
 };
 
-/// A text as a statement.
-fn read(alloc: Global, text: &str) -> Option<Stmt> {
+/// What a text is read as. No text here is as long as those that are not read.
+fn read(alloc: Global, text: &str) -> Result<Stmt, ParseRefusal> {
     if text.len() > 4_294_967_295 {
-        return None;
+        return Err(ParseRefusal::NoMemory);
     }
-    parse(alloc, text.as_bytes()).ok()
+    parse(alloc, text.as_bytes())
 }
 
-/// Whether a CREATE makes its object.
-fn is_added(catalog: &mut Catalog, made: Stmt) -> bool {
-    match made {
-        Stmt::CreateTable(t) => catalog.add_table(&t).is_ok(),
-        Stmt::CreateFunction(routine) => catalog.add_function(routine).is_ok(),
-        Stmt::CreateTrigger(trigger) => catalog.add_trigger(trigger).is_ok(),
-        _ => false,
-    }
+/// What the tests ask of a statement. Functions that hold one are over this, since the borrows of one that holds a statement are
+/// dear to check.
+trait Asked {
+    /// Whether a copy of it makes its object.
+    fn is_added(&self, alloc: Global, catalog: &mut Catalog) -> bool;
+
+    /// Whether it has the reasons of some letters, and writes or not.
+    fn is_explained(&self, catalog: &Catalog, letters: &str, writing: bool) -> bool;
+
+    /// Whether an item of it carries what a call of `f` with @c does.
+    fn is_carried(&self, alloc: Global, catalog: &Catalog, x: &Ctx) -> bool;
+
+    /// Whether it is printed as a text.
+    fn is_printed(&self, alloc: Global, text: &str) -> bool;
 }
 
-/// The catalog of the objects, and how many were made.
-fn made(alloc: Global) -> (Catalog, usize) {
-    let mut catalog = Catalog::new(alloc);
-    let mut count = 0;
-    for (text, _) in OBJECTS {
-        if let Some(s) = read(alloc, text) {
-            if is_added(&mut catalog, s) {
-                count += 1;
+/// Whether a copy of a function is made.
+fn is_function_added(
+    alloc: Global,
+    catalog: &mut Catalog,
+    routine: &Routine,
+) -> Result<bool, NoMemory> {
+    let copy = copy_routine(alloc, routine)?;
+    let boxed = Boxed::new(alloc, copy)?;
+    Ok(catalog.add_function(boxed).is_ok())
+}
+
+/// The same of a trigger.
+fn is_trigger_added(
+    alloc: Global,
+    catalog: &mut Catalog,
+    trigger: &TriggerDef,
+) -> Result<bool, NoMemory> {
+    let copy = copy_trigger(alloc, trigger)?;
+    let boxed = Boxed::new(alloc, copy)?;
+    Ok(catalog.add_trigger(boxed).is_ok())
+}
+
+impl Asked for Stmt {
+    fn is_added(&self, alloc: Global, catalog: &mut Catalog) -> bool {
+        match self {
+            Stmt::CreateTable(t) => catalog.add_table(t).is_ok(),
+            Stmt::CreateFunction(routine) => {
+                matches!(is_function_added(alloc, catalog, routine.get()), Ok(true))
             }
+            Stmt::CreateTrigger(trigger) => {
+                matches!(is_trigger_added(alloc, catalog, trigger.get()), Ok(true))
+            }
+            _ => false,
         }
     }
-    (catalog, count)
+
+    fn is_explained(&self, catalog: &Catalog, letters: &str, writing: bool) -> bool {
+        are(&reasons(self, catalog.objects()), letters)
+            && writes(self, catalog.objects()) == writing
+    }
+
+    fn is_carried(&self, alloc: Global, catalog: &Catalog, x: &Ctx) -> bool {
+        match carried(alloc, self, catalog.objects(), x, Some(4)) {
+            Ok(parts) => are_parts(&parts),
+            Err(_) => false,
+        }
+    }
+
+    fn is_printed(&self, alloc: Global, text: &str) -> bool {
+        match print(alloc, self) {
+            Ok(out) => out.as_slice() == text.as_bytes(),
+            Err(_) => false,
+        }
+    }
 }
 
-/// Whether a statement is printed as a text.
-fn is_printed(alloc: Global, s: &Stmt, text: &str) -> bool {
-    match print(alloc, s) {
-        Ok(out) => out.as_slice() == text.as_bytes(),
+fn added<T: Asked + Drop>(
+    alloc: Global,
+    catalog: &mut Catalog,
+    answer: Result<T, ParseRefusal>,
+) -> bool {
+    match answer {
+        Ok(s) => s.is_added(alloc, catalog),
         Err(_) => false,
     }
 }
 
-/// Whether the object at a place has a statement that is printed as a text.
-fn is_stated(alloc: Global, catalog: &Catalog, at: u32, text: &str) -> bool {
-    match catalog.object(alloc, at) {
-        Ok(Some(s)) => is_printed(alloc, &s, text),
+fn explained<T: Asked + Drop>(
+    catalog: &Catalog,
+    answer: Result<T, ParseRefusal>,
+    letters: &str,
+    writing: bool,
+) -> bool {
+    match answer {
+        Ok(s) => s.is_explained(catalog, letters, writing),
+        Err(_) => false,
+    }
+}
+
+fn carried_by<T: Asked + Drop>(
+    alloc: Global,
+    catalog: &Catalog,
+    x: &Ctx,
+    answer: Result<T, ParseRefusal>,
+) -> bool {
+    match answer {
+        Ok(s) => s.is_carried(alloc, catalog, x),
+        Err(_) => false,
+    }
+}
+
+/// Whether an object's statement is printed as a text, which is empty where there is none.
+fn printed_as<T: Asked + Drop>(
+    alloc: Global,
+    answer: Result<Option<T>, NoMemory>,
+    text: &str,
+) -> bool {
+    match answer {
+        Ok(Some(s)) => s.is_printed(alloc, text),
         Ok(None) => text == "",
         Err(_) => false,
     }
+}
+
+/// How many of the objects are made, in a catalog.
+fn make(alloc: Global, catalog: &mut Catalog) -> u32 {
+    let mut count = 0;
+    for (text, _) in OBJECTS {
+        if count < 99 && added(alloc, catalog, read(alloc, text)) {
+            count += 1;
+        }
+    }
+    count
 }
 
 /// How many objects have the statement that they should have; behind the last one there is none.
 fn stated(alloc: Global, catalog: &Catalog) -> u32 {
     let mut at = 0;
     for (_, text) in OBJECTS {
-        if is_stated(alloc, catalog, at, text) {
+        if at < 99 && printed_as(alloc, catalog.object(alloc, at), text) {
             at += 1;
         }
     }
-    if is_stated(alloc, catalog, at, "") {
+    if printed_as(alloc, catalog.object(alloc, at), "") {
         at
     } else {
         0
@@ -132,8 +223,8 @@ fn stated(alloc: Global, catalog: &Catalog) -> u32 {
 
 #[test]
 fn objects_have_their_statements(rt: HostRuntime) -> Result<(), Fail> {
-    let (catalog, count) = made(rt.alloc());
-    assert!(rt; count == 5);
+    let mut catalog = Catalog::new(rt.alloc());
+    assert!(rt; make(rt.alloc(), &mut catalog) == 5);
     assert!(rt; stated(rt.alloc(), &catalog) == 5);
     Ok(())
 }
@@ -157,27 +248,10 @@ fn are(r: &Reasons, letters: &str) -> bool {
         && r.is_empty() == (letters == "")
 }
 
-/// Whether a statement has the reasons of some letters, and writes or not.
-fn is_explained(
-    alloc: Global,
-    catalog: &Catalog,
-    text: &str,
-    letters: &str,
-    writing: bool,
-) -> bool {
-    match read(alloc, text) {
-        None => false,
-        Some(s) => {
-            are(&reasons(&s, catalog.objects()), letters)
-                && writes(&s, catalog.objects()) == writing
-        }
-    }
-}
-
 /// The first statement that is not as it should be.
 fn first_wrong(alloc: Global, catalog: &Catalog) -> &'static str {
     for (text, letters, writing) in STATEMENTS {
-        if !is_explained(alloc, catalog, text, letters, *writing) {
+        if !explained(catalog, read(alloc, text), letters, *writing) {
             return text;
         }
     }
@@ -186,7 +260,8 @@ fn first_wrong(alloc: Global, catalog: &Catalog) -> &'static str {
 
 #[test]
 fn statements_have_their_reasons(rt: HostRuntime) -> Result<(), Fail> {
-    let (catalog, _) = made(rt.alloc());
+    let mut catalog = Catalog::new(rt.alloc());
+    let _ = make(rt.alloc(), &mut catalog);
     assert!(rt; first_wrong(rt.alloc(), &catalog) == "");
     Ok(())
 }
@@ -227,24 +302,20 @@ fn are_parts(c: &Carried) -> bool {
         && is_variable(&c.vars, 2, b"c", None)
 }
 
-fn is_carried(alloc: Global, catalog: &Catalog, x: &Ctx, s: &Stmt) -> bool {
-    match carried(alloc, s, catalog.objects(), x, Some(4)) {
-        Ok(parts) => are_parts(&parts),
-        Err(_) => false,
-    }
-}
-
 fn carries(alloc: Global, catalog: &Catalog) -> Result<bool, NoMemory> {
     let session = session(alloc)?;
-    Ok(match read(alloc, "SELECT f(@c) + @c") {
-        None => false,
-        Some(s) => is_carried(alloc, catalog, &session.context, &s),
-    })
+    Ok(carried_by(
+        alloc,
+        catalog,
+        &session.context,
+        read(alloc, "SELECT f(@c) + @c"),
+    ))
 }
 
 #[test]
 fn an_item_carries_what_it_reaches(rt: HostRuntime) -> Result<(), Fail> {
-    let (catalog, _) = made(rt.alloc());
+    let mut catalog = Catalog::new(rt.alloc());
+    let _ = make(rt.alloc(), &mut catalog);
     assert!(rt; carries(rt.alloc(), &catalog)?);
     Ok(())
 }
