@@ -1,5 +1,5 @@
 //! The catalog.
-ghost use Rattle.std.specs.Prelude.{◌≡◌, [], true, false, None, if◌then◌else◌, IfOk};
+ghost use Rattle.std.specs.Prelude.{◌≡◌, [], true, false, None, if◌then◌else◌, slice_get, IfOk};
 ghost use Rattle.std.specs.Option.{option_copied, option_map};
 ghost use Rattle.sql_tree.specs.View.{view_tree};
 ghost use Rattle.sql_tree.specs.StatementView.{view, view_program, view_trigger};
@@ -8,6 +8,7 @@ ghost use Rattle.catalog_rules.specs.Checks.{expression_refusal, statement_refus
 ghost use Rattle.catalog_objects.specs.Keys.{objects_of};
 ghost use Rattle.catalog_checks.specs.Asking.{scope_with};
 ghost use Rattle.catalog.specs.Answers.{Lets, Makes, is_create};
+ghost use Rattle.catalog_statements.specs.Stated.{statement_of};
 ghost use Rattle.sql_tree.specs.Statement.{create_function, create_procedure, create_table, create_trigger};
 ghost use Rattle.catalog_rules.specs.Creating.{ddl_refusal};
 ghost use Rattle.catalog_objects.specs.Lookups.{is_drop};
@@ -15,6 +16,7 @@ ghost use Rattle.catalog_objects.specs.Lookups.{is_drop};
 use crate::refusing::{creation_refusal, removal_refusal};
 use catalog_checks::{expression_refusal, statement_refusal};
 use catalog_objects::{Object, Objects};
+use catalog_statements::statement_at;
 use program_creation::{function_refusal, procedure_refusal, trigger_refusal};
 use sharing::Shared;
 use sql_locals::Locals;
@@ -106,6 +108,13 @@ impl Catalog {
             alloc: self.alloc,
             objects: self.objects.copy()?,
         })
+    }
+
+    /// The CREATE statement of the object at a place in order of creation, counted from 0; None where there are not so many.
+    pub fn object(&self, alloc: Global, i: u32) -> Result<Option<Stmt>, NoMemory>
+        ensures { IfOk result (λ found. option_map view found ≡ option_map statement_of (slice_get (objects_of self.now) i)) }
+    {
+        statement_at(alloc, &self.objects, i)
     }
 
     /// The catalog checks of a statement of a session or a procedure, where some locals are in scope: the error that comes

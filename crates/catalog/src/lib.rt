@@ -15,6 +15,8 @@
 //! - [`Catalog::remove`] makes just the catalog after a DROP, without memory; an object that is not there is refused, and
 //!   nothing changes. [`Catalog::check_removal`] answers what refuses a DROP or TRUNCATE
 //! - [`Catalog::copy`] is equal, or wants memory
+//! - [`Catalog::object`] gives the CREATE statement of the object at a place in order of creation, None just past the last, or
+//!   wants memory; what that statement is, and that it makes the object again, stands in `catalog_statements`
 #![tactic(auto)]
 
 mod catalog;

@@ -1,40 +1,32 @@
 -- What the walk is asked says whether an object is reached.
 use Rattle.std.proofs.Common.{◌≡◌, ℕ, Bool, false, ◌||◌, List, [], ◌∷◌, slice_get, Option, Some, None, refl, sym, ap, ◌∙◌, Bor}
 use Rattle.std.specs.List.{list_any}
-use Rattle.sql_tree.specs.Statement.{Statement, Program, Trigger, trigger}
+use Rattle.sql_tree.specs.Statement.{Program, Trigger, trigger}
 use Rattle.val_types.specs.declared.definitions.TableDef.{TableDef}
 use Rattle.sql_tree.specs.StatementView.{view_trigger}
 use Rattle.sql_tree.specs.declared.statements.TriggerDef.{TriggerDef}
-use Rattle.catalog_rules.specs.Objects.{Object, table, function, procedure, reaction, name_of, body_of, trigger_body}
-use Rattle.catalog_rules.specs.Nodes.{Node, a_name, a_column, a_new_column, an_old_column, an_inserted_value, a_user_variable, a_system_variable, a_built_in, a_random_number, a_function_call, a_table_read, a_limit, a_statement, nodes_of}
+use Rattle.catalog_rules.specs.Objects.{Object, table, function, procedure, reaction, name_of}
+use Rattle.catalog_rules.specs.Nodes.{Node, a_name, a_column, a_new_column, an_old_column, an_inserted_value, a_user_variable, a_system_variable, a_built_in, a_random_number, a_function_call, a_table_read, a_limit, a_statement}
 use Rattle.catalog_rules.specs.Names.{same_name}
 use Rattle.sql_reach.specs.Reach.{body_nodes, fires_trigger, holds_change}
-use Rattle.unsafe_rules.specs.declared.asking.Ask.TheVariants as asks
-use Rattle.unsafe_rules.specs.declared.asking.Ask.{Ask}
-use Rattle.unsafe_rules.specs.Asking.{asks_node}
-use Rattle.unsafe_rules.specs.Walking.{in_statement}
-use Rattle.unsafe_rules.specs.Reaching.{reaches, body_reaches, is_reached, in_body, in_place, in_found}
+use Rattle.node_walk.specs.declared.asking.Ask.TheVariants as asks
+use Rattle.node_walk.specs.declared.asking.Ask.{Ask}
+use Rattle.node_walk.specs.Asking.{asks_node}
+use Rattle.unsafe_rules.specs.Reaching.{reaches, body_reaches, is_reached, in_place, in_found}
 use Rattle.unsafe_rules.proofs.Elements.{any_same, none_of}
-use Rattle.unsafe_rules.proofs.Walked.{statement_walked}
 
 both : (a b c d : Bool) → a ≡ b → c ≡ d → (a || c) ≡ (b || d)
 both a b c d e f = cc
 
-pub body_walked : (ask : Ask) (o : Object) → list_any (asks_node ask) (body_nodes o) ≡ in_body ask o
-body_walked ask (table d) = refl
-body_walked ask (function p) = statement_walked ask (body_of p)
-body_walked ask (procedure p) = statement_walked ask (body_of p)
-body_walked ask (reaction t) = statement_walked ask (trigger_body t)
-
 place_reached : (ask : Ask) (o : Object) → ((node : Node) → reaches o node ≡ asks_node ask node) → (found : Option Object) → body_reaches o found ≡ in_place ask found
 place_reached ask o same None = refl
-place_reached ask o same (Some x) = any_same (reaches o) (asks_node ask) (body_nodes x) same ∙ body_walked ask x
+place_reached ask o same (Some x) = any_same (reaches o) (asks_node ask) (body_nodes x) same
 
 -- an object is reached just where the walk finds a node of which is asked what reaches the object
-pub found_reached : (ask : Ask) (catalog : List Object) (s : Statement) (places : List ℕ) (o : Object) → ((node : Node) → reaches o node ≡ asks_node ask node)
-    → is_reached catalog (nodes_of s) places o ≡ in_found ask catalog s places
-found_reached ask catalog s [] o same = any_same (reaches o) (asks_node ask) (nodes_of s) same ∙ statement_walked ask s
-found_reached ask catalog s (at ∷ places) o same = both _ _ _ _ (place_reached ask o same (slice_get catalog at)) (found_reached ask catalog s places o same)
+pub found_reached : (ask : Ask) (catalog : List Object) (nodes : List Node) (places : List ℕ) (o : Object) → ((node : Node) → reaches o node ≡ asks_node ask node)
+    → is_reached catalog nodes places o ≡ in_found ask catalog nodes places
+found_reached ask catalog nodes [] o same = any_same (reaches o) (asks_node ask) nodes same
+found_reached ask catalog nodes (at ∷ places) o same = both _ _ _ _ (place_reached ask o same (slice_get catalog at)) (found_reached ask catalog nodes places o same)
 
 -- an object that nothing reaches
 pub never_reached : (catalog : List Object) (ns : List Node) (places : List ℕ) (o : Object) → ((node : Node) → reaches o node ≡ false) → is_reached catalog ns places o ≡ false
@@ -75,14 +67,14 @@ by_event (trigger n time event on body) own e (a_limit c) = refl
 by_event (trigger n time event on body) own e (a_statement s) = ap (λ t. fires_trigger t (a_statement s)) (sym e)
 
 -- a function is reached just where a call of its name is found
-pub function_found : (catalog : List Object) (s : Statement) (places : List ℕ) (p : Program) (name : Bor (List ℕ)) → name.now ≡ name_of p
-    → in_found (asks.Function name) catalog s places ≡ is_reached catalog (nodes_of s) places (function p)
-function_found catalog s places p name e = sym (found_reached (asks.Function name) catalog s places (function p) (by_name p name e))
+pub function_found : (catalog : List Object) (nodes : List Node) (places : List ℕ) (p : Program) (name : Bor (List ℕ)) → name.now ≡ name_of p
+    → in_found (asks.Function name) catalog nodes places ≡ is_reached catalog nodes places (function p)
+function_found catalog nodes places p name e = sym (found_reached (asks.Function name) catalog nodes places (function p) (by_name p name e))
 
 -- a trigger where a statement is found that causes what it waits for
-pub trigger_found : (catalog : List Object) (s : Statement) (places : List ℕ) (own : Bor TriggerDef)
-    → in_found (asks.Trigger own) catalog s places ≡ is_reached catalog (nodes_of s) places (reaction (view_trigger own.now))
-trigger_found catalog s places own = sym (found_reached (asks.Trigger own) catalog s places (reaction (view_trigger own.now)) (by_event (view_trigger own.now) own refl))
+pub trigger_found : (catalog : List Object) (nodes : List Node) (places : List ℕ) (own : Bor TriggerDef)
+    → in_found (asks.Trigger own) catalog nodes places ≡ is_reached catalog nodes places (reaction (view_trigger own.now))
+trigger_found catalog nodes places own = sym (found_reached (asks.Trigger own) catalog nodes places (reaction (view_trigger own.now)) (by_event (view_trigger own.now) own refl))
 
 -- tables and procedures never
 pub table_not_found : (catalog : List Object) (ns : List Node) (places : List ℕ) (d : TableDef) → is_reached catalog ns places (table d) ≡ false
@@ -107,5 +99,5 @@ change_asked (a_limit c) = refl
 change_asked (a_statement s) = refl
 
 -- changes that are found
-pub changes_walked : (s : Statement) → in_statement asks.Change s ≡ list_any holds_change (nodes_of s)
-changes_walked s = sym (any_same holds_change (asks_node asks.Change) (nodes_of s) change_asked ∙ statement_walked asks.Change s)
+pub changes_asked : (nodes : List Node) → list_any (asks_node asks.Change) nodes ≡ list_any holds_change nodes
+changes_asked nodes = sym (any_same holds_change (asks_node asks.Change) nodes change_asked)

@@ -1,18 +1,16 @@
 -- A statement without a call of a function and without a change reaches nothing.
-use Rattle.std.proofs.Common.{◌≡◌, Bool, true, false, List, [], length, refl, ◌∙◌}
+use Rattle.std.proofs.Common.{◌≡◌, Bool, true, false, List, [], length, refl}
 use Rattle.std.specs.List.{list_any}
 use Rattle.sql_tree.specs.Statement.{Statement, insert_into, replace_into, update_rows, delete_rows}
 use Rattle.sql_tree.specs.Statement.{Trigger, trigger}
 use Rattle.catalog_rules.specs.Objects.{Object, table, function, procedure, reaction}
-use Rattle.catalog_rules.specs.Nodes.{Node, a_name, a_column, a_new_column, an_old_column, an_inserted_value, a_user_variable, a_system_variable, a_built_in, a_random_number, a_function_call, a_table_read, a_limit, a_statement, nodes_of}
+use Rattle.catalog_rules.specs.Nodes.{Node, a_name, a_column, a_new_column, an_old_column, an_inserted_value, a_user_variable, a_system_variable, a_built_in, a_random_number, a_function_call, a_table_read, a_limit, a_statement}
 use Rattle.sql_reach.specs.Reach.{rounds}
-use Rattle.unsafe_rules.specs.declared.asking.Ask.TheVariants as asks
-use Rattle.unsafe_rules.specs.Asking.{asks_node}
-use Rattle.unsafe_rules.specs.Walking.{in_statement}
-use Rattle.unsafe_rules.specs.Reaching.{reaches}
+use Rattle.node_walk.specs.declared.asking.Ask.TheVariants as asks
+use Rattle.node_walk.specs.Asking.{asks_node}
+use Rattle.unsafe_rules.specs.Reaching.{reaches, nothing_wanted, IsAll}
 use Rattle.unsafe_rules.proofs.Elements.{any_is, any_from}
 use Rattle.unsafe_rules.proofs.Rounds.{nothing_found, none_wanted, clash, not_true}
-use Rattle.unsafe_rules.proofs.Walked.{statement_walked}
 
 -- what a trigger waits for is caused by a change
 fired : (t : Trigger) (s : Statement) → reaches (reaction t) (a_statement s) ≡ true → asks_node asks.Cause (a_statement s) ≡ true
@@ -52,12 +50,18 @@ caused (reaction (trigger n time event on body)) a_random_number e = e
 caused (reaction (trigger n time event on body)) (a_table_read t) e = e
 caused (reaction (trigger n time event on body)) (a_limit c) e = e
 
-not_reached : (s : Statement) (o : Object) → in_statement asks.Cause s ≡ false → list_any (reaches o) (nodes_of s) ≡ false
-not_reached s o none =
-    not_true (list_any (reaches o) (nodes_of s))
-    (λ some. any_from (reaches o) (nodes_of s) some
-    (λ i node get e. clash (list_any (asks_node asks.Cause) (nodes_of s)) (statement_walked asks.Cause s ∙ none) (any_is (asks_node asks.Cause) (nodes_of s) i node get (caused o node e))))
+not_reached : (nodes : List Node) (o : Object) → list_any (asks_node asks.Cause) nodes ≡ false → list_any (reaches o) nodes ≡ false
+not_reached nodes o none =
+    not_true (list_any (reaches o) nodes)
+    (λ some. any_from (reaches o) nodes some
+    (λ i node get e. clash (list_any (asks_node asks.Cause) nodes) none (any_is (asks_node asks.Cause) nodes i node get (caused o node e))))
 
-pub nothing_caused : (catalog : List Object) (s : Statement) (wanted : Object → Bool) → in_statement asks.Cause s ≡ false → list_any wanted (rounds (length catalog) catalog (nodes_of s)) ≡ false
-nothing_caused catalog s wanted none =
-    none_wanted catalog (nodes_of s) wanted [] (nothing_found catalog (nodes_of s) wanted) (λ at o get new. not_reached s o none)
+pub nothing_caused : (catalog : List Object) (nodes : List Node) (wanted : Object → Bool) → list_any (asks_node asks.Cause) nodes ≡ false → list_any wanted (rounds (length catalog) catalog nodes) ≡ false
+nothing_caused catalog nodes wanted none =
+    none_wanted catalog nodes wanted [] (nothing_found catalog nodes wanted) (λ at o get new. not_reached nodes o none)
+
+pub nothing_reached : (catalog : List Object) (nodes : List Node) → list_any (asks_node asks.Cause) nodes ≡ false → IsAll catalog nodes []
+nothing_reached catalog nodes none = record {
+  found = nothing_found catalog nodes nothing_wanted;
+  none = (λ at o get new. not_reached nodes o none);
+}

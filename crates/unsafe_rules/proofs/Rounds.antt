@@ -12,14 +12,14 @@ use Rattle.unsafe_rules.proofs.Counting.{others_none, one_less}
 
 -- ---- tests
 
-or_left : (s t : Bool) → s ≡ true → (s || t) ≡ true
+pub or_left : (s t : Bool) → s ≡ true → (s || t) ≡ true
 or_left s t e = rw e refl
 
-or_right : (s t : Bool) → t ≡ true → (s || t) ≡ true
+pub or_right : (s t : Bool) → t ≡ true → (s || t) ≡ true
 or_right true t e = refl
 or_right false t e = e
 
-or_from : {C : Type 0} (s t : Bool) → (s || t) ≡ true → (s ≡ true → C) → (t ≡ true → C) → C
+pub or_from : {C : Type 0} (s t : Bool) → (s || t) ≡ true → (s ≡ true → C) → (t ≡ true → C) → C
 or_from true t e left right = left refl
 or_from false t e left right = right e
 
@@ -46,7 +46,7 @@ reached_test ns (function p) = refl
 reached_test ns (procedure p) = sym (none_of ns)
 reached_test ns (reaction t) = refl
 
-rounds_kept : (catalog : List Object) (nodes : List Node) (k : ℕ) → rounds k catalog nodes ≡ filter (in_round catalog nodes k) catalog
+pub rounds_kept : (catalog : List Object) (nodes : List Node) (k : ℕ) → rounds k catalog nodes ≡ filter (in_round catalog nodes k) catalog
 rounds_kept catalog nodes zero = sym (none_kept catalog)
 rounds_kept catalog nodes (suc k) = refl
 
@@ -87,7 +87,7 @@ kept_by catalog nodes k m o within before has false other =
     let less : k ≤ m = grind (arith, nat_tests) in
     kept_next catalog nodes m o (before less)
 
-kept_on : (catalog : List Object) (nodes : List Node) (k m : ℕ) (o : Object) → k ≤ m → in_round catalog nodes k o ≡ true → in_round catalog nodes m o ≡ true
+pub kept_on : (catalog : List Object) (nodes : List Node) (k m : ℕ) (o : Object) → k ≤ m → in_round catalog nodes k o ≡ true → in_round catalog nodes m o ≡ true
 kept_on catalog nodes k zero o within has =
     let e : k ≡ 0 = omega arith in
     ap (λ n. in_round catalog nodes n o) (sym e) ∙ has
@@ -174,7 +174,7 @@ settled_by catalog nodes places at o none get is true e = e
 settled_by catalog nodes places at o none get is false e = absurd (clash (is_reached catalog nodes places o) (none at o get e) is)
 
 -- where there is no next object, what any round has was found
-settled : (catalog : List Object) (nodes : List Node) (places : List ℕ) → IsNext catalog nodes places None → (k at : ℕ) (o : Object) → slice_get catalog at ≡ Some o → in_round catalog nodes k o ≡ true → is_at at places ≡ true
+pub settled : (catalog : List Object) (nodes : List Node) (places : List ℕ) → IsNext catalog nodes places None → (k at : ℕ) (o : Object) → slice_get catalog at ≡ Some o → in_round catalog nodes k o ≡ true → is_at at places ≡ true
 settled catalog nodes places none zero at o get has = cc
 settled catalog nodes places none (suc k) at o get has =
     settled_by catalog nodes places at o none get

@@ -1,4 +1,3 @@
-pub mod Asking
 pub mod Places
 pub mod Reaching
-pub mod Walking
+pub mod Unsafe

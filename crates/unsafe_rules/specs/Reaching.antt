@@ -1,12 +1,11 @@
 -- Which programs are reached, found one after the other.
-use Rattle.std.specs.Prelude.{◌≡◌, ◌+◌, ◌<◌, ◌≤◌, ℕ, zero, suc, cond, ◌++◌, flat_map, length, Bool, true, false, ◌||◌, nat_eq, List, [], ◌∷◌, slice_get, Option, Some, None}
+use Rattle.std.specs.Prelude.{◌≡◌, ◌+◌, ◌<◌, ◌≤◌, ℕ, zero, suc, cond, if◌then◌else◌, ◌++◌, flat_map, length, Bool, true, false, ◌||◌, nat_eq, List, [], ◌∷◌, slice_get, Option, Some, None}
 use Rattle.std.specs.List.{list_any}
-use Rattle.catalog_rules.specs.Objects.{Object, table, function, procedure, reaction, name_of, body_of, trigger_body}
+use Rattle.catalog_rules.specs.Objects.{Object, table, function, procedure, reaction, name_of}
 use Rattle.catalog_rules.specs.Nodes.{Node}
-use Rattle.sql_tree.specs.Statement.{Statement}
 use Rattle.sql_reach.specs.Reach.{calls_function, fires_trigger, body_nodes, is_reached_from, rounds}
-use Rattle.unsafe_rules.specs.declared.asking.Ask.{Ask}
-use Rattle.unsafe_rules.specs.Walking.{in_statement}
+use Rattle.node_walk.specs.declared.asking.Ask.{Ask}
+use Rattle.node_walk.specs.Asking.{asks_node}
 
 -- whether a node calls the function, or causes what the trigger waits for
 abbrev pub reaches : Object → Node → Bool
@@ -62,19 +61,36 @@ pub record IsFound (catalog : List Object) (nodes : List Node) (wanted : Object 
   pub reached : (at : ℕ) (o : Object) → is_at at places ≡ true → slice_get catalog at ≡ Some o → (in_round catalog nodes (length places) o ≡ true) × (wanted o ≡ false)
   pub room : length places + others places (length catalog) ≤ length catalog
 
+-- ---- all that is reached
+
+abbrev pub nothing_wanted : Object → Bool
+nothing_wanted o = false
+
+-- Places of all objects that are reached.
+pub record IsAll (catalog : List Object) (nodes : List Node) (places : List ℕ) : Type 0 where
+  pub found : IsFound catalog nodes nothing_wanted places
+  pub none : IsNext catalog nodes places None
+
+-- the objects at some places, in the order of the catalog, of which the first has a place
+abbrev pub at_places : List ℕ → ℕ → List Object → List Object
+at_places places at [] = []
+at_places places at (o ∷ os) = if is_at at places then o ∷ at_places places (suc at) os else at_places places (suc at) os
+
 -- ---- the same, as the walk finds it
 
 abbrev pub in_body : Ask → Object → Bool
-in_body ask (table definition) = false
-in_body ask (function p) = in_statement ask (body_of p)
-in_body ask (procedure p) = in_statement ask (body_of p)
-in_body ask (reaction t) = in_statement ask (trigger_body t)
+in_body ask o = list_any (asks_node ask) (body_nodes o)
 
 abbrev pub in_place : Ask → Option Object → Bool
 in_place ask None = false
 in_place ask (Some o) = in_body ask o
 
--- in a statement, or in the bodies of the objects at some places
-abbrev pub in_found : Ask → List Object → Statement → List ℕ → Bool
-in_found ask catalog s [] = in_statement ask s
-in_found ask catalog s (at ∷ places) = in_place ask (slice_get catalog at) || in_found ask catalog s places
+-- in the bodies of the objects at some places
+abbrev pub in_programs : Ask → List Object → List ℕ → Bool
+in_programs ask catalog [] = false
+in_programs ask catalog (at ∷ places) = in_place ask (slice_get catalog at) || in_programs ask catalog places
+
+-- in some nodes, or in the bodies of the objects at some places
+abbrev pub in_found : Ask → List Object → List Node → List ℕ → Bool
+in_found ask catalog nodes [] = list_any (asks_node ask) nodes
+in_found ask catalog nodes (at ∷ places) = in_place ask (slice_get catalog at) || in_found ask catalog nodes places

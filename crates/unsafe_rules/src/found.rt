@@ -5,11 +5,10 @@ ghost use Rattle.catalog_rules.specs.Nodes.{nodes_of};
 ghost use Rattle.sql_tree.specs.StatementView.{view, view_program, view_trigger};
 ghost use Rattle.catalog_rules.specs.Objects.{function, name_of, reaction};
 ghost use Rattle.unsafe_rules.specs.Places.{places_of};
-ghost use Rattle.unsafe_rules.specs.Reaching.{in_body, in_found, in_place, is_at, is_reached};
+ghost use Rattle.unsafe_rules.specs.Reaching.{in_body, in_found, in_place, in_programs, is_at, is_reached};
 
-use crate::asking::Ask;
-use crate::statements::in_statement;
-use catalog_objects::{Object, Objects};
+use catalog_objects::Object;
+use node_walk::{Ask, in_statement};
 use sql_tree::{Routine, Stmt, TriggerDef};
 use val_types::Bytes;
 
@@ -51,8 +50,8 @@ pub(crate) fn is_found(at: usize, found: &Found<'_>) -> bool
     }
 }
 
-/// Whether it holds of a node of the body of an object.
-pub(crate) fn in_body(ask: &Ask<'_>, object: &Object) -> bool
+/// Whether what is asked holds of a node of the body of an object.
+fn in_body(ask: &Ask<'_>, object: &Object) -> bool
     ensures { result ≡ in_body ask.now (seen object.now) }
 {
     match object {
@@ -74,9 +73,21 @@ fn in_place(ask: &Ask<'_>, at: usize, objects: &[Object]) -> bool
     }
 }
 
+/// Whether it holds of a node of the bodies of what was found.
+pub(crate) fn in_programs(ask: &Ask<'_>, objects: &[Object], found: &Found<'_>) -> bool
+    ensures { result ≡ in_programs ask.now (objects_of objects.now) (places_of found.now) }
+{
+    match found {
+        Found::Nothing => false,
+        Found::More(at, before) => {
+            in_place(ask, *at, objects) || in_programs(ask, objects, before)
+        }
+    }
+}
+
 /// Whether it holds of a node of a statement or of the bodies of what was found.
 fn in_found(ask: &Ask<'_>, s: &Stmt, objects: &[Object], found: &Found<'_>) -> bool
-    ensures { result ≡ in_found ask.now (objects_of objects.now) (view s.now) (places_of found.now) }
+    ensures { result ≡ in_found ask.now (objects_of objects.now) (nodes_of (view s.now)) (places_of found.now) }
 {
     match found {
         Found::Nothing => in_statement(ask, s),

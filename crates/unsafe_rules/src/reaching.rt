@@ -10,10 +10,9 @@ ghost use Rattle.catalog_rules.specs.Objects.{body_of, function};
 ghost use Rattle.unsafe_rules.specs.Places.{places_of};
 ghost use Rattle.unsafe_rules.specs.Reaching.{IsFound, IsNext};
 
-use crate::asking::Ask;
 use crate::found::{Found, is_found, is_reached, more, nothing};
-use crate::statements::in_statement;
 use catalog_objects::Object;
+use node_walk::{Ask, in_statement};
 use sql_tree::{Routine, Stmt};
 
 /// What a function does.
@@ -48,7 +47,7 @@ fn object_at(objects: &[Object], at: usize) -> Option<&Object>
 }
 
 /// The place of an object that is reached and was not found, None where there is none.
-fn next_reached(s: &Stmt, objects: &[Object], found: &Found<'_>) -> Option<usize>
+pub(crate) fn next_reached(s: &Stmt, objects: &[Object], found: &Found<'_>) -> Option<usize>
     ensures { IsNext (objects_of objects.now) (nodes_of (view s.now)) (places_of found.now) result }
 {
     for (at, object) in objects.iter().enumerate() {

@@ -4,9 +4,9 @@ ghost use Rattle.catalog_objects.specs.Keys.{objects_of};
 ghost use Rattle.sql_reach.specs.Reach.{is_definition, writes};
 ghost use Rattle.sql_tree.specs.StatementView.{view};
 
-use crate::asking::is_change;
 use crate::reaching::reaches_writing;
 use catalog_objects::Objects;
+use node_walk::is_change;
 use sql_tree::Stmt;
 
 /// Whether a statement defines or takes away an object, or takes all rows away.

@@ -11,4 +11,4 @@ pub finds_writing-requires : goal.finds_writing-requires
 finds_writing-requires c = rw (c.nothing.ensures) (nothing_found (objects_of c.args.objects.now) (nodes_of (view c.args.s.now)) is_writing_function)
 
 pub returns-then-not-in_statement : goal.returns-then-not-in_statement
-returns-then-not-in_statement c = sym (nothing_caused (objects_of c.args.objects.now) (view c.args.s.now) is_writing_function (sym c.in_statement.ensures ∙ c.if-not-in_statement.true))
+returns-then-not-in_statement c = sym (nothing_caused (objects_of c.args.objects.now) (nodes_of (view c.args.s.now)) is_writing_function (sym c.in_statement.ensures ∙ c.if-not-in_statement.true))

@@ -1,0 +1,21 @@
+//! Whether something that is asked holds of a node of a statement.
+//!
+//! - `asking`: [`Ask`], what is asked of each node, and [`is_change`]
+//! - `statements`, `expressions`: [`in_statement`], the walk that asks it of all nodes of a statement until it holds of one
+//!
+//! In specs/ stand `Asking` (what is asked of a node) and `Walking` (the walk over a tree).
+//!
+//! # Proved
+//! - [`in_statement`] says for every statement whether what is asked holds of one of its nodes, and takes no memory;
+//!   [`is_change`] whether it is INSERT, REPLACE, UPDATE or DELETE
+//!
+//! # Only tested
+//! Nothing.
+#![tactic(auto)]
+
+mod asking;
+mod expressions;
+mod statements;
+
+pub use asking::{Ask, is_change};
+pub use statements::in_statement;

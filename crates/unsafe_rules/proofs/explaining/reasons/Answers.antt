@@ -1,0 +1,14 @@
+use Rattle.std.proofs.Common.{sym, ◌∙◌}
+use Rattle.catalog_objects.specs.Keys.{objects_of}
+use Rattle.catalog_rules.specs.Nodes.{nodes_of}
+use Rattle.sql_tree.specs.StatementView.{view}
+use Rattle.unsafe_rules.specs.Reaching.{nothing_wanted}
+use Rattle.unsafe_rules.proofs.Causing.{nothing_reached}
+use Rattle.unsafe_rules.proofs.Rounds.{nothing_found}
+use Rattle.unsafe_rules.proofs.explaining.reasons.Goals as goal
+
+pub reasons_of_all-requires : goal.reasons_of_all-requires
+reasons_of_all-requires c = rw (c.nothing-found.ensures) (nothing_reached (objects_of c.args.objects.now) (nodes_of (view c.args.s.now)) (sym c.in_statement.ensures ∙ c.if-not-in_statement.true))
+
+pub find_reasons-requires : goal.find_reasons-requires
+find_reasons-requires c = rw (c.nothing-found.ensures) (nothing_found (objects_of c.args.objects.now) (nodes_of (view c.args.s.now)) nothing_wanted)
