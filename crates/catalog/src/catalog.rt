@@ -1,5 +1,5 @@
 //! The catalog.
-ghost use Rattle.std.specs.Prelude.{◌≡◌, [], true, false, None, if◌then◌else◌, slice_get, IfOk};
+ghost use Rattle.std.specs.Prelude.{◌≡◌, [], true, false, None, if◌then◌else◌, slice_get, IfOk, OnErr};
 ghost use Rattle.std.specs.Option.{option_copied, option_map};
 ghost use Rattle.sql_tree.specs.View.{view_tree};
 ghost use Rattle.sql_tree.specs.StatementView.{view, view_program, view_trigger};
@@ -153,7 +153,8 @@ impl Catalog {
 
     /// CREATE TABLE: the error of the first check that refuses it, or the catalog with its table behind the others.
     pub fn add_table(&mut self, t: &CreateTable) -> Result<(), SqlRefusal>
-        ensures { Makes result (create_table t.now) (objects_of self.old) (objects_of self.new) }
+        ensures made { Makes result (create_table t.now) (objects_of self.old) (objects_of self.new) }
+        ensures same { OnErr result (self.new ≡ self.old) }
     {
         if let Some(code) = creation_refusal(&self.objects, t) {
             return Err(SqlRefusal::Sql(code));
@@ -166,7 +167,8 @@ impl Catalog {
 
     /// CREATE FUNCTION: the error of the first check that refuses it, or the catalog with it behind the others.
     pub fn add_function(&mut self, routine: Boxed<Routine>) -> Result<(), SqlRefusal>
-        ensures { Makes result (create_function (view_program routine)) (objects_of self.old) (objects_of self.new) }
+        ensures made { Makes result (create_function (view_program routine)) (objects_of self.old) (objects_of self.new) }
+        ensures same { OnErr result (self.new ≡ self.old) }
     {
         if let Some(code) = function_refusal(&self.objects, routine.get()) {
             return Err(SqlRefusal::Sql(code));
@@ -178,7 +180,8 @@ impl Catalog {
 
     /// CREATE PROCEDURE, as that of a function.
     pub fn add_procedure(&mut self, routine: Boxed<Routine>) -> Result<(), SqlRefusal>
-        ensures { Makes result (create_procedure (view_program routine)) (objects_of self.old) (objects_of self.new) }
+        ensures made { Makes result (create_procedure (view_program routine)) (objects_of self.old) (objects_of self.new) }
+        ensures same { OnErr result (self.new ≡ self.old) }
     {
         if let Some(code) = procedure_refusal(&self.objects, routine.get()) {
             return Err(SqlRefusal::Sql(code));
@@ -190,7 +193,8 @@ impl Catalog {
 
     /// CREATE TRIGGER, likewise.
     pub fn add_trigger(&mut self, trigger: Boxed<TriggerDef>) -> Result<(), SqlRefusal>
-        ensures { Makes result (create_trigger (view_trigger trigger)) (objects_of self.old) (objects_of self.new) }
+        ensures made { Makes result (create_trigger (view_trigger trigger)) (objects_of self.old) (objects_of self.new) }
+        ensures same { OnErr result (self.new ≡ self.old) }
     {
         if let Some(code) = trigger_refusal(&self.objects, trigger.get()) {
             return Err(SqlRefusal::Sql(code));
@@ -215,6 +219,7 @@ impl Catalog {
         requires { is_drop (view s.now) ≡ true }
         ensures made { Makes result (view s.now) (objects_of self.old) (objects_of self.new) }
         ensures refused { Lets result (ddl_refusal (objects_of self.old) (view s.now)) }
+        ensures same { OnErr result (self.new ≡ self.old) }
     {
         if let Some(code) = removal_refusal(&self.objects, s) {
             return Err(SqlRefusal::Sql(code));

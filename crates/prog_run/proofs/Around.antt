@@ -1,14 +1,11 @@
--- Calls, events and whole statements in what is round a statement, where the catalog has only tables.
+-- Whole statements in what is round them.
 use Rattle.std.proofs.Common.{refl, ◌≡◌, ℕ, true, List, [], Option, None, ℤ}
-use Rattle.std.specs.List.{list_all}
 use Rattle.val_types.specs.declared.value.Value.{Value}
 use Rattle.val_types.specs.declared.definitions.TableDef.{TableDef}
 use Rattle.sql_tree.specs.Tree.{Trees}
 use Rattle.sql_tree.specs.Statement.{Statement}
 use Rattle.sql_tree.specs.declared.statements.Time.{Time}
 use Rattle.sql_tree.specs.declared.statements.Cause.{Cause}
-use Rattle.catalog_rules.specs.Objects.{is_table}
-use Rattle.catalog_objects.specs.Keys.{objects_of}
 use Rattle.catalog_rules.specs.Nodes.{nodes_of, nodes_of_trees, no_sight}
 use Rattle.sql_meaning.specs.Scenes.{Scene, Ending, done, failed, Action, undone, put_back}
 use Rattle.sql_meaning.specs.Frames.{Setting, Running, Frame, only_locals}
@@ -18,17 +15,6 @@ use Rattle.sql_stage.specs.declared.stage.Stage.{Stage}
 use Rattle.sql_stage.specs.Stage.{scene_of, EndsAs, EndsAsBy}
 use Rattle.sql_evaluation.specs.declared.world.Around.{Around}
 use Rattle.sql_evaluation.specs.Seen.{setting_of, world_of, frame_of, running_of, values_in}
-use Rattle.prog_run.proofs.Plain.{no_call, no_event}
-
-pub no_call_around : (a : Around) (running : Running) (n : List ℕ) (vs : List Value) (scene : Scene) → list_all is_table (objects_of a.catalog.now) ≡ true
-    → (world_of a).below.call running n vs scene ≡ failed 1305 scene
-unfolding world_of
-no_call_around a running n vs scene plain = no_call (setting_of a) a.nesting running n vs scene plain
-
-pub no_event_around : (a : Around) (running : Running) (time : Time) (event : Cause) (definition : TableDef) (new old : Option (List Value)) (scene : Scene) → list_all is_table (objects_of a.catalog.now) ≡ true
-    → (world_of a).below.fire running time event definition new old scene ≡ done new scene
-unfolding world_of
-no_event_around a running time event definition new old scene plain = no_event (setting_of a) a.nesting running time event definition new old scene plain
 
 -- ---- whole statements
 

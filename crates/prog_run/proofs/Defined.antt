@@ -1,6 +1,5 @@
 -- What a definition comes to.
 use Rattle.std.proofs.Common.{◌≡◌, ℕ, Bool, true, false, cond, List, [], ◌∷◌, ◌++◌, Option, Some, None, Err, refl, sym, ap, subst, ◌∙◌}
-use Rattle.std.specs.List.{list_all}
 use Rattle.val_types.specs.declared.definitions.TableDef.{TableDef}
 use Rattle.val_types.specs.declared.refusal.SqlRefusal.{SqlRefusal}
 use Rattle.val_types.specs.declared.refusal.SqlRefusal.TheVariants.{Sql, NoMemory}
@@ -11,7 +10,7 @@ use Rattle.table_rules.specs.Stored.{table_named, tables_beside, tables_cleared}
 use Rattle.table_rules.specs.Stores.{Store, IsWhole}
 use Rattle.sql_tree.specs.Statement.{Statement, create_table}
 use Rattle.sql_tree.specs.declared.statements.CreateTable.{CreateTable}
-use Rattle.catalog_rules.specs.Objects.{table, is_table, table_in}
+use Rattle.catalog_rules.specs.Objects.{table, table_in}
 use Rattle.catalog_rules.specs.Objects as rules
 use Rattle.catalog_rules.specs.Defined.{definition_of}
 use Rattle.catalog_rules.specs.Creating.{ddl_refusal, catalog_after, goes_with_table, objects_but}
@@ -24,7 +23,7 @@ use Rattle.sql_reach.specs.Defining.{counters_after, counters_with, is_still_ref
 use Rattle.prog_run.specs.Contents.{Contents}
 use Rattle.prog_run.specs.Runs.{Makes, definition_refusal, outcome_of_none, contents_of}
 use Rattle.prog_run.specs.Together.{AreTogether}
-use Rattle.prog_run.proofs.Definitions.{same_objects, together_made, together_dropped, together_cleared, no_table_yet, no_counter_yet, not_there_yet, found_made}
+use Rattle.prog_run.proofs.Definitions.{together_made, together_dropped, together_cleared, no_table_yet, no_counter_yet, not_there_yet, found_made}
 use Rattle.prog_run.proofs.Holding.{together_committed}
 use Rattle.table_rules.proofs.Storing.{some_same}
 use Rattle.prog_run.specs.declared.meter.Outcome.{Outcome}
@@ -67,14 +66,12 @@ together_stays objects now a b os same h =
     subst (λ (s : Stage). AreTogether now s.tables s.undo s.counters) same (subst (λ (o : List Object). AreTogether o a.tables a.undo a.counters) (sym os) h)
 
 -- refused by the catalog
-pub refused_by : (s : Statement) (objects now : List Object) (a : Stage) (code : ℕ) → is_still_refused s ≡ false → ddl_refusal (objects_of objects) s ≡ Some code
-    → objects_of now ≡ objects_of objects → list_all is_table (objects_of objects) ≡ true
+pub refused_by : (s : Statement) (objects now : List Object) (a : Stage) (code : ℕ) → is_still_refused s ≡ false → ddl_refusal (objects_of objects) s ≡ Some code → now ≡ objects
     → (definition_refusal s (contents_of objects a) ≡ Some code) × (contents_of now a ≡ contents_of objects a)
-refused_by s objects now a code still refusal same plain =
-    let os : objects ≡ now = same_objects objects now (sym same) plain in (
-      ap (λ (b : Bool). cond b (Some 30005) (ddl_refusal (objects_of objects) s)) still ∙ refusal,
-      ap (λ (o : List Object). contents_of o a) (sym os),
-    )
+refused_by s objects now a code still refusal same = (
+  ap (λ (b : Bool). cond b (Some 30005) (ddl_refusal (objects_of objects) s)) still ∙ refusal,
+  ap (λ (o : List Object). contents_of o a) same,
+)
 
 -- ---- what holds, where no change is open
 

@@ -2,13 +2,12 @@
 use Rattle.std.proofs.Common.{◌≡◌, ℕ, Bool, true, false, not, ◌||◌, cond, List, [], ◌∷◌, ◌++◌, Option, Some, None, Result, Ok, Err, refl, sym, ap, subst, ◌∙◌}
 use Rattle.std.specs.Prelude.{find, is_some, is_none}
 use Rattle.std.specs.Option.{option_map}
-use Rattle.std.specs.List.{list_any, list_all, cons_option}
+use Rattle.std.specs.List.{list_any, cons_option}
 use Rattle.std.proofs.lemmas.List.{map-append, append-nil}
-use Rattle.std.proofs.lemmas.List.Elements.{filter-append, filter_map-append}
-use Rattle.std.proofs.lemmas.List.Folds.{list_all-append}
-use Rattle.std.proofs.lemmas.Bool.{and_parts, and_from}
+use Rattle.std.proofs.lemmas.List.Elements.{filter_map-append}
+use Rattle.std.proofs.lemmas.Bool.{and_parts}
 use Rattle.val_types.specs.declared.definitions.TableDef.{TableDef}
-use Rattle.val_types.specs.declared.refusal.SqlRefusal.{SqlRefusal}
+use Rattle.val_types.specs.declared.change.Change.{Change}
 use Rattle.val_types.specs.Lookup.{remove_first}
 use Rattle.auto_inc.specs.declared.counters.Counter.{Counter}
 use Rattle.auto_inc.specs.Counting.{counts_for, value_for, counters_beside, tables_of}
@@ -17,21 +16,18 @@ use Rattle.table_rules.specs.Stored.{has_name, table_named, tables_beside, table
 use Rattle.table_rules.specs.Stores.{Store, definitions_of, names_differ}
 use Rattle.table_rules.proofs.Places.{name_is, name_self}
 use Rattle.table_rules.proofs.Leading.{none_taken_back}
-use Rattle.sql_tree.specs.Statement.{Statement, create_table, drop_table, drop_function, drop_procedure, drop_trigger}
+use Rattle.sql_tree.specs.Statement.{Statement, Program, Trigger, create_table, create_function, create_procedure, create_trigger, drop_table, drop_function, drop_procedure, drop_trigger, truncate, insert_into, replace_into, update_rows, delete_rows, select, evaluate, set_all, call_procedure, begin, commit, rollback, savepoint, rollback_to, release_savepoint, block, if_steps, while_steps, return_value}
 use Rattle.sql_tree.specs.declared.statements.CreateTable.{CreateTable}
 use Rattle.catalog_rules.specs.Names.{same_name}
-use Rattle.catalog_rules.specs.Objects.{table, function, procedure, reaction, is_table, table_in, function_in, procedure_in, trigger_in}
+use Rattle.catalog_rules.specs.Objects.{table, function, procedure, reaction, table_in}
 use Rattle.catalog_rules.specs.Objects as rules
-use Rattle.catalog_rules.specs.Creating.{ddl_refusal, goes_with_table, objects_but, catalog_after}
+use Rattle.catalog_rules.specs.Creating.{ddl_refusal, goes_with_table, is_function_named, is_procedure_named, is_trigger_named, objects_but, catalog_after}
 use Rattle.catalog_rules.specs.Bases.{definitions_in, definition_if}
-use Rattle.catalog.specs.Answers.{Makes, Lets, answer_of}
 use Rattle.catalog_objects.specs.declared.object.Object.{Object}
-use Rattle.catalog_objects.specs.declared.object.Object.TheVariants as kinds
 use Rattle.catalog_objects.specs.Keys.{objects_of}
 use Rattle.sql_reach.specs.Defining.{counters_with}
 use Rattle.prog_run.specs.Contents.{counted_name, counted_names}
-use Rattle.prog_run.specs.Together.{AreTogether}
-use Rattle.prog_run.proofs.Plain.{no_function, no_procedure, no_trigger}
+use Rattle.prog_run.specs.Together.{AreTogether, is_drop_of_program}
 
 -- ---- names
 
@@ -126,7 +122,6 @@ together_made objects now store new counters after d h os ts cs =
           ∙ ap (λ (ds : List TableDef). ds ++ d ∷ []) h.theirs ∙ sym definitions;
       counted = ap tables_of cs ∙ counters_named d d.auto counters ∙ ap (λ (ns : List (List ℕ)). ns ++ counted_names (d ∷ [])) h.counted
           ∙ sym (filter_map-append counted_name (definitions_in (objects_of objects)) (d ∷ [])) ∙ ap counted_names (sym definitions);
-      plain = ap (list_all is_table) os ∙ list_all-append is_table (objects_of objects) (table d ∷ []) ∙ and_from (list_all is_table (objects_of objects)) true h.plain refl;
     }
 
 -- ---- counters that are added and taken out again
@@ -157,58 +152,7 @@ counter_out name cs e = kept_beside (counts_for name) cs (none_found (find (coun
 pub added_counter_out : (name : List ℕ) (value : ℕ) (cs : List Counter) → value_for name cs ≡ None → counters_beside name (cs ++ record { table = name; value = value } ∷ []) ≡ cs
 added_counter_out name value cs e = last_out (counts_for name) (record { table = name; value = value }) cs (none_found (find (counts_for name) cs) e) (name_self name)
 
--- ---- catalogs of tables alone are known by what they hold
-
-head_is : (d e : TableDef) (os ps : List rules.Object) → (table d ∷ os) ≡ (table e ∷ ps) → d ≡ e
-head_is d e os ps h = cc
-
-tail_is : (o p : rules.Object) (os ps : List rules.Object) → (o ∷ os) ≡ (p ∷ ps) → os ≡ ps
-tail_is o p os ps h = cc
-
-pub same_objects : (a b : List Object) → objects_of a ≡ objects_of b → list_all is_table (objects_of a) ≡ true → a ≡ b
-same_objects [] [] e plain = refl
-same_objects [] (o ∷ b) e plain = cc
-same_objects (o ∷ a) [] e plain = cc
-same_objects (kinds.Table d ∷ a) (kinds.Table f ∷ b) e plain =
-    ap (λ (x : TableDef). kinds.Table x ∷ a) (head_is d f (objects_of a) (objects_of b) e)
-    ∙ ap (λ (rest : List Object). kinds.Table f ∷ rest) (same_objects a b (tail_is _ _ (objects_of a) (objects_of b) e) plain)
-same_objects (kinds.Table d ∷ a) (kinds.Function p ∷ b) e plain = cc
-same_objects (kinds.Table d ∷ a) (kinds.Procedure p ∷ b) e plain = cc
-same_objects (kinds.Table d ∷ a) (kinds.Trigger t ∷ b) e plain = cc
-same_objects (kinds.Function p ∷ a) (o ∷ b) e plain = cc
-same_objects (kinds.Procedure p ∷ a) (o ∷ b) e plain = cc
-same_objects (kinds.Trigger t ∷ a) (o ∷ b) e plain = cc
-
--- ---- a table taken out again
-
-stays_step : (b : Bool) (o : rules.Object) (os rest : List rules.Object) → b ≡ false → rest ≡ os → cond (not b) (o ∷ rest) rest ≡ o ∷ os
-stays_step true o os rest e later = cc
-stays_step false o os rest e later = ap (λ (more : List rules.Object). o ∷ more) later
-
-none_goes : (name : List ℕ) (os : List rules.Object) → list_all is_table os ≡ true → list_any (named name) (definitions_in os) ≡ false → objects_but (goes_with_table name) os ≡ os
-none_goes name [] plain e = refl
-none_goes name (table d ∷ os) plain e =
-    let parts = or_parts (named name d) (list_any (named name) (definitions_in os)) e in
-    stays_step (named name d) (table d) os (objects_but (goes_with_table name) os) parts.0 (none_goes name os plain parts.1)
-none_goes name (function p ∷ os) plain e = cc
-none_goes name (procedure p ∷ os) plain e = cc
-none_goes name (reaction t ∷ os) plain e = cc
-
-last_goes : (b : Bool) (o : rules.Object) → b ≡ true → cond (not b) (o ∷ []) [] ≡ []
-last_goes true o e = refl
-last_goes false o e = cc
-
-made_and_out : (os : List rules.Object) (d : TableDef) → list_all is_table os ≡ true → table_in os d.name ≡ None → objects_but (goes_with_table d.name) (os ++ table d ∷ []) ≡ os
-made_and_out os d plain e =
-    filter-append (λ o. not (goes_with_table d.name o)) os (table d ∷ [])
-    ∙ ap (λ (rest : List rules.Object). objects_but (goes_with_table d.name) os ++ rest) (last_goes (same_name d.name d.name) (table d) (name_self d.name))
-    ∙ append-nil (objects_but (goes_with_table d.name) os)
-    ∙ none_goes d.name os plain (is_free d.name os e)
-
--- it was there, so DROP is not refused
-found_last_step : (b : Bool) (d : TableDef) (rest : Option TableDef) → is_none rest ≡ false → is_none (elim (cond b (Some d) None) as (λ _. Option TableDef) [ None ↦ rest | Some e ↦ Some e ]) ≡ false
-found_last_step true d rest e = refl
-found_last_step false d rest e = e
+-- ---- a table that was made is found
 
 found_it : (b : Bool) (d : TableDef) → b ≡ true → elim (cond b (Some d) None) as (λ _. Option TableDef) [ None ↦ None | Some e ↦ Some e ] ≡ Some d
 found_it true d e = refl
@@ -225,34 +169,6 @@ found_made (table o ∷ os) d e = behind_step (same_name d.name o.name) o (table
 found_made (function p ∷ os) d e = found_made os d e
 found_made (procedure p ∷ os) d e = found_made os d e
 found_made (reaction t ∷ os) d e = found_made os d e
-
-found_last : (os : List rules.Object) (d : TableDef) → is_none (table_in (os ++ table d ∷ []) d.name) ≡ false
-found_last [] d = ap is_none (found_it (same_name d.name d.name) d (name_self d.name))
-found_last (table e ∷ os) d = found_last_step (same_name d.name e.name) e (table_in (os ++ table d ∷ []) d.name) (found_last os d)
-found_last (function p ∷ os) d = found_last os d
-found_last (procedure p ∷ os) d = found_last os d
-found_last (reaction t ∷ os) d = found_last os d
-
-one_check : (b : Bool) (code : ℕ) → b ≡ false → cond b (Some code) None ≡ None
-one_check true code e = cc
-one_check false code e = refl
-
-not_refused : (os : List rules.Object) (d : TableDef) → ddl_refusal (os ++ table d ∷ []) (drop_table d.name) ≡ None
-unfolding ddl_refusal
-not_refused os d = one_check (is_none (table_in (os ++ table d ∷ []) d.name)) 1051 (found_last os d)
-
-done_makes : (r : Result (Unit {0}) SqlRefusal) (s : Statement) (old new : List rules.Object) → r ≡ Ok tt → Makes r s old new → new ≡ catalog_after s old
-done_makes (Ok x) s old new e h = h.1
-done_makes (Err x) s old new e h = cc
-
-pub forgotten : (before mid after : List Object) (d : TableDef) (r : Result (Unit {0}) SqlRefusal) → list_all is_table (objects_of before) ≡ true → table_in (objects_of before) d.name ≡ None
-    → objects_of mid ≡ objects_of before ++ table d ∷ [] → Makes r (drop_table d.name) (objects_of mid) (objects_of after) → Lets r (ddl_refusal (objects_of mid) (drop_table d.name)) → after ≡ before
-forgotten before mid after d r plain free is makes lets =
-    let refusal : ddl_refusal (objects_of mid) (drop_table d.name) ≡ None = ap (λ (os : List rules.Object). ddl_refusal os (drop_table d.name)) is ∙ not_refused (objects_of before) d in
-    let gone : objects_of after ≡ objects_of before =
-    done_makes r (drop_table d.name) (objects_of mid) (objects_of after) (lets ∙ ap answer_of refusal) makes
-    ∙ ap (objects_but (goes_with_table d.name)) is ∙ made_and_out (objects_of before) d plain free in
-    sym (same_objects before after (sym gone) plain)
 
 -- ---- a table dropped
 
@@ -294,29 +210,23 @@ objects_step : (name : List ℕ) (b : Bool) (d : TableDef) (rest : List rules.Ob
 objects_step name true d rest ds there later = there refl
 objects_step name false d rest ds there later = ap (λ (more : List TableDef). d ∷ more) (later refl)
 
-objects_beside_are : (name : List ℕ) (os : List rules.Object) → list_all is_table os ≡ true → names_differ (definitions_in os) ≡ true
+-- a trigger is no table, whether it goes or stays
+trigger_step : (b : Bool) (t : Trigger) (rest : List rules.Object) → definitions_in (cond (not b) (reaction t ∷ rest) rest) ≡ definitions_in rest
+trigger_step true t rest = refl
+trigger_step false t rest = refl
+
+objects_beside_are : (name : List ℕ) (os : List rules.Object) → names_differ (definitions_in os) ≡ true
     → definitions_in (objects_but (goes_with_table name) os) ≡ beside name (definitions_in os)
-objects_beside_are name [] plain differ = refl
-objects_beside_are name (table d ∷ os) plain differ =
+objects_beside_are name [] differ = refl
+objects_beside_are name (table d ∷ os) differ =
     let parts = and_parts (not (list_any (λ (other : TableDef). same_name d.name other.name) (definitions_in os))) (names_differ (definitions_in os)) differ in
-    let rest = objects_beside_are name os plain parts.1 in
+    let rest = objects_beside_are name os parts.1 in
     objects_step name (named name d) d (objects_but (goes_with_table name) os) (definitions_in os)
     (λ same. rest ∙ whole_beside name (definitions_in os) (not_among name d.name (definitions_in os) same (not_is _ parts.0)))
     (λ other. rest)
-objects_beside_are name (function p ∷ os) plain differ = cc
-objects_beside_are name (procedure p ∷ os) plain differ = cc
-objects_beside_are name (reaction t ∷ os) plain differ = cc
-
-plain_step : (b : Bool) (d : TableDef) (rest : List rules.Object) → list_all is_table rest ≡ true → list_all is_table (cond (not b) (table d ∷ rest) rest) ≡ true
-plain_step true d rest e = e
-plain_step false d rest e = e
-
-plain_beside : (name : List ℕ) (os : List rules.Object) → list_all is_table os ≡ true → list_all is_table (objects_but (goes_with_table name) os) ≡ true
-plain_beside name [] plain = refl
-plain_beside name (table d ∷ os) plain = plain_step (named name d) d (objects_but (goes_with_table name) os) (plain_beside name os plain)
-plain_beside name (function p ∷ os) plain = cc
-plain_beside name (procedure p ∷ os) plain = cc
-plain_beside name (reaction t ∷ os) plain = cc
+objects_beside_are name (function p ∷ os) differ = objects_beside_are name os differ
+objects_beside_are name (procedure p ∷ os) differ = objects_beside_are name os differ
+objects_beside_are name (reaction t ∷ os) differ = trigger_step (same_name name (rules.trigger_table t)) t (objects_but (goes_with_table name) os) ∙ objects_beside_are name os differ
 
 whole_names : (name : List ℕ) (ns : List (List ℕ)) → list_any (same_name name) ns ≡ false → remove_first (same_name name) ns ≡ ns
 whole_names name [] e = refl
@@ -346,13 +256,12 @@ pub together_dropped : (objects now : List Object) (store new : Store) (counters
 together_dropped objects now store new counters after name h differ os ts cs =
     let differ' : names_differ (definitions_in (objects_of objects)) ≡ true = ap names_differ (sym h.theirs) ∙ differ in
     let definitions : definitions_in (objects_of now) ≡ beside name (definitions_in (objects_of objects)) =
-    ap definitions_in os ∙ objects_beside_are name (objects_of objects) h.plain differ' in
+    ap definitions_in os ∙ objects_beside_are name (objects_of objects) differ' in
     record {
       reversible = none_taken_back new;
       theirs = ap definitions_of ts ∙ tables_beside_are name store.tables ∙ ap (beside name) h.theirs ∙ sym definitions;
       counted = ap tables_of cs ∙ counters_beside_are name counters ∙ ap (remove_first (same_name name)) h.counted
           ∙ counted_beside_are name (definitions_in (objects_of objects)) differ' ∙ ap counted_names (sym definitions);
-      plain = ap (list_all is_table) os ∙ plain_beside name (objects_of objects) h.plain;
     }
 
 -- ---- a table emptied
@@ -371,23 +280,98 @@ together_cleared objects store new counters after name h ts cs = record {
   reversible = none_taken_back new;
   theirs = ap definitions_of ts ∙ cleared_are name store.tables ∙ h.theirs;
   counted = cs ∙ h.counted;
-  plain = h.plain;
 }
 
--- ---- programs that are not there
+-- ---- programs made and dropped
 
-refused_first : (o : Bool) (code : ℕ) → o ≡ true → cond o (Some code) None ≡ Some code
-refused_first true code e = refl
-refused_first false code e = cc
+-- a program is no table
+function_step : (b : Bool) (p : Program) (rest : List rules.Object) → definitions_in (cond (not b) (function p ∷ rest) rest) ≡ definitions_in rest
+function_step true p rest = refl
+function_step false p rest = refl
 
-pub no_function_to_drop : (os : List rules.Object) (n : List ℕ) → list_all is_table os ≡ true → ddl_refusal os (drop_function n) ≡ Some 1305
-unfolding ddl_refusal
-no_function_to_drop os n plain = refused_first (is_none (function_in os n)) 1305 (ap is_none (no_function n os plain))
+procedure_step : (b : Bool) (p : Program) (rest : List rules.Object) → definitions_in (cond (not b) (procedure p ∷ rest) rest) ≡ definitions_in rest
+procedure_step true p rest = refl
+procedure_step false p rest = refl
 
-pub no_procedure_to_drop : (os : List rules.Object) (n : List ℕ) → list_all is_table os ≡ true → ddl_refusal os (drop_procedure n) ≡ Some 1305
-unfolding ddl_refusal
-no_procedure_to_drop os n plain = refused_first (is_none (procedure_in os n)) 1305 (ap is_none (no_procedure n os plain))
+abbrev next : TableDef → List TableDef → List TableDef
+next d ds = d ∷ ds
 
-pub no_trigger_to_drop : (os : List rules.Object) (n : List ℕ) → list_all is_table os ≡ true → ddl_refusal os (drop_trigger n) ≡ Some 1360
-unfolding ddl_refusal
-no_trigger_to_drop os n plain = refused_first (is_none (trigger_in os n)) 1360 (ap is_none (no_trigger n os plain))
+functions_out : (name : List ℕ) (os : List rules.Object) → definitions_in (objects_but (is_function_named name) os) ≡ definitions_in os
+functions_out name [] = refl
+functions_out name (table d ∷ os) = ap (next d) (functions_out name os)
+functions_out name (function p ∷ os) = function_step (same_name name (rules.name_of p)) p (objects_but (is_function_named name) os) ∙ functions_out name os
+functions_out name (procedure p ∷ os) = functions_out name os
+functions_out name (reaction t ∷ os) = functions_out name os
+
+procedures_out : (name : List ℕ) (os : List rules.Object) → definitions_in (objects_but (is_procedure_named name) os) ≡ definitions_in os
+procedures_out name [] = refl
+procedures_out name (table d ∷ os) = ap (next d) (procedures_out name os)
+procedures_out name (function p ∷ os) = procedures_out name os
+procedures_out name (procedure p ∷ os) = procedure_step (same_name name (rules.name_of p)) p (objects_but (is_procedure_named name) os) ∙ procedures_out name os
+procedures_out name (reaction t ∷ os) = procedures_out name os
+
+triggers_out : (name : List ℕ) (os : List rules.Object) → definitions_in (objects_but (is_trigger_named name) os) ≡ definitions_in os
+triggers_out name [] = refl
+triggers_out name (table d ∷ os) = ap (next d) (triggers_out name os)
+triggers_out name (function p ∷ os) = triggers_out name os
+triggers_out name (procedure p ∷ os) = triggers_out name os
+triggers_out name (reaction t ∷ os) = trigger_step (same_name name (rules.trigger_name t)) t (objects_but (is_trigger_named name) os) ∙ triggers_out name os
+
+-- whether a statement makes or drops a program
+abbrev pub is_of_program : Statement → Bool
+is_of_program (create_function p) = true
+is_of_program (create_procedure p) = true
+is_of_program (create_trigger t) = true
+is_of_program (drop_function name) = true
+is_of_program (drop_procedure name) = true
+is_of_program (drop_trigger name) = true
+is_of_program s = false
+
+pub drop_is_of_program : (s : Statement) → is_drop_of_program s ≡ true → is_of_program s ≡ true
+drop_is_of_program (drop_function name) e = refl
+drop_is_of_program (drop_procedure name) e = refl
+drop_is_of_program (drop_trigger name) e = refl
+drop_is_of_program s e = cc
+
+program_made : (o : rules.Object) (os : List rules.Object) → definitions_in (o ∷ []) ≡ [] → definitions_in (os ++ o ∷ []) ≡ definitions_in os
+program_made o os none = filter_map-append definition_if os (o ∷ []) ∙ ap (λ (ds : List TableDef). definitions_in os ++ ds) none ∙ append-nil (definitions_in os)
+
+-- the tables of the catalog stay
+pub tables_stay : (s : Statement) (os : List rules.Object) → is_of_program s ≡ true → definitions_in (catalog_after s os) ≡ definitions_in os
+tables_stay (create_function p) os of = program_made (function p) os refl
+tables_stay (create_procedure p) os of = program_made (procedure p) os refl
+tables_stay (create_trigger t) os of = program_made (reaction t) os refl
+tables_stay (drop_function name) os of = functions_out name os
+tables_stay (drop_procedure name) os of = procedures_out name os
+tables_stay (drop_trigger name) os of = triggers_out name os
+tables_stay (create_table t) os of = cc
+tables_stay (drop_table name) os of = cc
+tables_stay (truncate name) os of = cc
+tables_stay (insert_into ignore t cs from us) os of = cc
+tables_stay (replace_into t cs from) os of = cc
+tables_stay (update_rows t ss w o l) os of = cc
+tables_stay (delete_rows t w o l) os of = cc
+tables_stay (select q) os of = cc
+tables_stay (evaluate ts) os of = cc
+tables_stay (set_all as') os of = cc
+tables_stay (call_procedure n ts) os of = cc
+tables_stay begin os of = cc
+tables_stay commit os of = cc
+tables_stay rollback os of = cc
+tables_stay (savepoint n) os of = cc
+tables_stay (rollback_to n) os of = cc
+tables_stay (release_savepoint n) os of = cc
+tables_stay (block ds ss) os of = cc
+tables_stay (if_steps bs o) os of = cc
+tables_stay (while_steps c ss) os of = cc
+tables_stay (return_value e) os of = cc
+
+pub together_programmed : (objects now : List Object) (store : Store) (changes : List Change) (counters : List Counter) (s : Statement) → AreTogether objects store changes counters
+    → is_of_program s ≡ true → objects_of now ≡ catalog_after s (objects_of objects) → AreTogether now store changes counters
+together_programmed objects now store changes counters s h of os =
+    let same : definitions_in (objects_of now) ≡ definitions_in (objects_of objects) = ap definitions_in os ∙ tables_stay s (objects_of objects) of in
+    record {
+      reversible = h.reversible;
+      theirs = h.theirs ∙ sym same;
+      counted = h.counted ∙ ap counted_names (sym same);
+    }

@@ -1,13 +1,10 @@
 -- Statements on a stage, by what is round them.
 use Rattle.std.proofs.Common.{◌≡◌, ℕ, true, List, [], Option, None, ℤ, Result, sym, subst, ap, ◌∙◌}
-use Rattle.std.specs.List.{list_all}
 use Rattle.val_types.specs.declared.value.Value.{Value}
 use Rattle.val_types.specs.declared.refusal.SqlRefusal.{SqlRefusal}
 use Rattle.sql_tree.specs.Tree.{Trees}
 use Rattle.sql_tree.specs.Statement.{Statement}
 use Rattle.sql_locals.specs.declared.locals.Local.{Local}
-use Rattle.catalog_rules.specs.Objects.{is_table}
-use Rattle.catalog_objects.specs.Keys.{objects_of}
 use Rattle.catalog_rules.specs.Nodes.{nodes_of, nodes_of_trees, no_sight}
 use Rattle.sql_meaning.specs.Scenes.{Scene, Ending, undone}
 use Rattle.sql_meaning.specs.Frames.{Setting}

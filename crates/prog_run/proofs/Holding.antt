@@ -90,7 +90,6 @@ together_back objects old new changes now counters mark h gone stays = record {
   reversible = stays 0 h.reversible;
   theirs = all_definitions (all_inverse (drop mark changes)) old.tables new.tables gone ∙ h.theirs;
   counted = h.counted;
-  plain = h.plain;
 }
 
 pub together_committed : (objects : List Object) (old new : Store) (changes : List Change) (counters : List Counter)
@@ -99,11 +98,10 @@ together_committed objects old new changes counters h tables = record {
   reversible = none_taken_back new;
   theirs = ap definitions_of tables ∙ h.theirs;
   counted = h.counted;
-  plain = h.plain;
 }
 
 pub together_nothing : AreTogether [] (record { tables = []; kept = [] }) [] []
-together_nothing = record { reversible = none_taken_back _; theirs = refl; counted = refl; plain = refl }
+together_nothing = record { reversible = none_taken_back _; theirs = refl; counted = refl }
 
 pub are_together : (objects : List Object) (store : Store) (changes : List Change) (counters : List Counter) → AreTogether objects store changes counters → IsWhole store
     → IsTogether (record { objects = objects; tables = store.tables; changes = changes; counters = counters })
@@ -117,7 +115,6 @@ are_together objects store changes counters h whole =
       committed = turned.1;
       theirs = h.theirs;
       counted = h.counted;
-      plain = h.plain;
     }
 
 -- ---- a reader's work
@@ -135,7 +132,6 @@ together_read objects now store read changes counters after h gone os cs =
       reversible = none_taken_back read;
       theirs = all_definitions (all_inverse changes) store.tables read.tables gone ∙ h.theirs;
       counted = h.counted;
-      plain = h.plain;
     }))
 
 pub together_counting : (objects own : List Object) (store other : Store) (changes theirs : List Change) (counters after : List Counter) → AreTogether objects store changes counters
@@ -144,5 +140,4 @@ together_counting objects own store other changes theirs counters after h h' os 
   reversible = h.reversible;
   theirs = h.theirs;
   counted = subst (λ (o : List Object). tables_of after ≡ counted_names (definitions_in (objects_of o))) os h'.counted;
-  plain = h.plain;
 }

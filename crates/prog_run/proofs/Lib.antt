@@ -6,6 +6,5 @@ pub mod Effects
 pub mod Holding
 pub mod LastId
 pub mod Moments
-pub mod Plain
 pub mod UnderWay
 pub mod Undone

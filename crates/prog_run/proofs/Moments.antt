@@ -30,7 +30,6 @@ together_on objects a b h p = record {
   reversible = still_taken_back a.tables b.tables a.undo b.undo (rows_led a b p) 0 h.reversible;
   theirs = (rows_led a b p).same ∙ h.theirs;
   counted = names_led a b p ∙ h.counted;
-  plain = h.plain;
 }
 
 pub leaves_all : (objects : List Object) (a b : Stage) → LeadsOn a b → IsBack a b → LeavesAll (contents_of objects a) (contents_of objects b)

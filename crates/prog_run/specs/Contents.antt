@@ -1,6 +1,5 @@
 -- What statements work on, as plain data, and what holds of it.
-use Rattle.std.specs.Prelude.{◌≡◌, ℕ, true, List, [], drop, take, filter_map, Option, Some, unwrap_or}
-use Rattle.std.specs.List.{list_all}
+use Rattle.std.specs.Prelude.{◌≡◌, ℕ, List, [], drop, take, filter_map, Option, Some, unwrap_or}
 use Rattle.std.specs.Option.{option_map}
 use Rattle.val_types.specs.declared.change.Change.{Change}
 use Rattle.val_types.specs.declared.definitions.TableDef.{TableDef}
@@ -10,7 +9,6 @@ use Rattle.table_rules.specs.Tables.{Table}
 use Rattle.table_rules.specs.Changes.{AreKept}
 use Rattle.table_rules.specs.Stored.{all_applied, all_inverse}
 use Rattle.table_rules.specs.Stores.{definitions_of}
-use Rattle.catalog_rules.specs.Objects.{is_table}
 use Rattle.catalog_rules.specs.Bases.{Base, definitions_in}
 use Rattle.catalog_objects.specs.declared.object.Object.{Object}
 use Rattle.catalog_objects.specs.Keys.{objects_of}
@@ -57,8 +55,7 @@ abbrev pub counted_names : List TableDef → List (List ℕ)
 counted_names definitions = filter_map counted_name definitions
 
 -- The open changes lead from the committed rows to those that stand, and back; the tables are those of the catalog and hold
--- what tables have to; each table with an AUTO_INCREMENT column has its counter, and no other has one; until programs come,
--- the catalog has none.
+-- what tables have to; each table with an AUTO_INCREMENT column has its counter, and no other has one.
 pub record IsTogether (c : Contents) : Type 0 where
   pub back : all_applied (all_inverse c.changes) c.tables ≡ Some (committed_tables c)
   pub made : all_applied c.changes (committed_tables c) ≡ Some c.tables
@@ -66,4 +63,3 @@ pub record IsTogether (c : Contents) : Type 0 where
   pub committed : AreKept (committed_tables c)
   pub theirs : definitions_of c.tables ≡ definitions_in (objects_of c.objects)
   pub counted : tables_of c.counters ≡ counted_names (definitions_in (objects_of c.objects))
-  pub plain : list_all is_table (objects_of c.objects) ≡ true

@@ -1,23 +1,21 @@
 -- What holds of all that is worked on, over what is stored.
-use Rattle.std.specs.Prelude.{◌≡◌, true, List, Option, ℤ, pos, int_le, IfSome, IsTrue}
-use Rattle.std.specs.List.{list_all}
+use Rattle.std.specs.Prelude.{◌≡◌, Bool, true, false, List, Option, ℤ, pos, int_le, IfSome, IsTrue}
 use Rattle.val_types.specs.declared.change.Change.{Change}
 use Rattle.auto_inc.specs.declared.counters.Counter.{Counter}
 use Rattle.auto_inc.specs.Counting.{tables_of}
 use Rattle.table_rules.specs.Stores.{Store, definitions_of, can_take_back}
 use Rattle.catalog_rules.specs.Bases.{definitions_in}
+use Rattle.sql_tree.specs.Statement.{Statement, drop_function, drop_procedure, drop_trigger}
 use Rattle.catalog_objects.specs.declared.object.Object.{Object}
 use Rattle.catalog_objects.specs.Keys.{objects_of}
 use Rattle.sql_stage.specs.declared.stage.Stage.{Stage}
-use Rattle.catalog_rules.specs.Objects.{is_table}
 use Rattle.prog_run.specs.Contents.{counted_names}
 
--- the changes can be taken back without memory; tables and counters are those of the catalog, which has only tables
+-- the changes can be taken back without memory; tables and counters are those of the catalog
 pub record AreTogether (objects : List Object) (store : Store) (changes : List Change) (counters : List Counter) : Type 0 where
   pub reversible : can_take_back store changes ≡ true
   pub theirs : definitions_of store.tables ≡ definitions_in (objects_of objects)
   pub counted : tables_of counters ≡ counted_names (definitions_in (objects_of objects))
-  pub plain : list_all is_table (objects_of objects) ≡ true
 
 -- the rows and changes of an earlier stage, with all else as it was used since
 pub record StandsBack (start now back : Stage) : Type 0 where
@@ -36,3 +34,10 @@ pub record IsBack (start back : Stage) : Type 0 where
 -- a value that is there is not below 0
 abbrev pub Counts : Option ℤ → Type 0
 Counts v = IfSome v (λ id. IsTrue (int_le (pos 0) id))
+
+-- whether a statement drops a program
+abbrev pub is_drop_of_program : Statement → Bool
+is_drop_of_program (drop_function name) = true
+is_drop_of_program (drop_procedure name) = true
+is_drop_of_program (drop_trigger name) = true
+is_drop_of_program s = false

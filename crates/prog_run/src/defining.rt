@@ -1,38 +1,30 @@
 //! CREATE, DROP and TRUNCATE.
-ghost use Rattle.std.specs.Prelude.{◌≡◌, ◌++◌, ◌∷◌, [], true, None, Some, List, IfOk, OnErr, OnOk};
-ghost use Rattle.std.specs.List.{list_all};
+ghost use Rattle.std.specs.Prelude.{◌≡◌, ◌++◌, ◌∷◌, [], true, None, Some, OnErr, OnOk};
 ghost use Rattle.val_types.specs.declared.definitions.TableDef.{TableDef as Definition};
 ghost use Rattle.auto_inc.specs.Counting.{value_for};
 ghost use Rattle.table_rules.specs.Stored.{table_named};
-ghost use Rattle.sql_tree.specs.Statement.{create_table, drop_function, drop_procedure, drop_table, drop_trigger, truncate};
-ghost use Rattle.sql_tree.specs.StatementView.{view};
-ghost use Rattle.catalog_rules.specs.Objects.{is_table, table, table_in};
+ghost use Rattle.sql_tree.specs.Statement.{create_function, create_table, create_trigger, drop_table, truncate};
+ghost use Rattle.sql_tree.specs.StatementView.{view, view_program, view_trigger};
+ghost use Rattle.catalog_rules.specs.Objects.{table_in};
 ghost use Rattle.catalog_rules.specs.Bases.{table_without_rows};
-ghost use Rattle.catalog_objects.specs.declared.object.Object.{Object};
 ghost use Rattle.catalog_objects.specs.Keys.{objects_of};
-ghost use Rattle.catalog_objects.specs.Lookups.{is_drop};
 ghost use Rattle.sql_reach.specs.Defining.{counters_with};
 ghost use Rattle.sql_reach.specs.Reach.{is_definition};
 ghost use Rattle.prog_run.specs.Runs.{Defines, contents_of};
-ghost use Rattle.prog_run.specs.Together.{AreTogether};
+ghost use Rattle.prog_run.specs.Together.{AreTogether, is_drop_of_program};
 
 use crate::meter::Outcome;
 use crate::work::Work;
 use catalog::Catalog;
 use row_store::tables_are_kept;
 use sql_stage::Stage;
-use sql_tree::{CreateTable, Stmt};
+use sql_tree::{CreateTable, Routine, Stmt, TriggerDef};
 use std::alloc::Global;
-use val_types::{Boxed, Bytes, Duplicate, NoMemory, SqlError, SqlRefusal, TableDef};
+use tree_copies::{copy_routine, copy_trigger};
+use val_types::{Boxed, Bytes, NoMemory, SqlError, SqlRefusal, TableDef};
 
-/// CREATE FUNCTION, PROCEDURE and TRIGGER are not allowed yet.
+/// CREATE PROCEDURE is not allowed yet.
 const NOT_ALLOWED: SqlError = 30005;
-
-/// No function or procedure of a name.
-const NO_SUCH_ROUTINE: SqlError = 1305;
-
-/// No trigger of a name.
-const NO_SUCH_TRIGGER: SqlError = 1360;
 
 /// Whether a statement changes the catalog or empties a table.
 pub(crate) fn is_definition(statement: &Stmt) -> bool
@@ -105,24 +97,14 @@ fn store(catalog: &Catalog, stage: &mut Stage, name: &Bytes) -> Result<(), SqlRe
     }
 }
 
-/// Takes the table out of the catalog that was put in last.
-#[tactic(auto, using(crate::proofs::Definitions::forgotten))]
-fn forget(catalog: &mut Catalog, dropping: &Stmt)
-    requires { is_drop (view dropping.now) ≡ true }
-    ensures { (before : List Object) → (d : Definition) → list_all is_table (objects_of before) ≡ true → table_in (objects_of before) d.name ≡ None
-        → view dropping.now ≡ drop_table d.name → objects_of catalog.old ≡ objects_of before ++ table d ∷ [] → catalog.new ≡ before }
-{
-    let _ = catalog.remove(dropping);
-}
-
-/// CREATE TABLE; where there is no memory for the table's rows, the catalog is as it was, by the DROP that is handed in.
+/// CREATE TABLE; where there is no memory for the table's rows, the catalog is as it was.
 fn create(
     catalog: &mut Catalog,
     stage: &mut Stage,
     t: &CreateTable,
-    dropping: &Stmt,
+    before: Catalog,
 ) -> Result<Outcome, SqlRefusal>
-    requires dropping { view dropping.now ≡ drop_table t.now.name }
+    requires before { before ≡ catalog.old }
     requires closed { stage.old.undo ≡ [] }
     requires together { AreTogether catalog.old stage.old.tables stage.old.undo stage.old.counters }
     ensures defines { Defines (create_table t.now) result (contents_of catalog.old stage.old) (contents_of catalog.new stage.new) }
@@ -136,7 +118,7 @@ fn create(
     match store(catalog, stage, &t.name) {
         Ok(()) => Ok(nothing_told()),
         Err(_) => {
-            forget(catalog, dropping);
+            *catalog = before;
             Err(SqlRefusal::NoMemory)
         }
     }
@@ -191,62 +173,8 @@ fn empty(
     }
 }
 
-/// DROP FUNCTION: there is none.
-#[tactic(auto, using(crate::proofs::Definitions::no_function_to_drop))]
-fn absent_function(
-    catalog: &Catalog,
-    stage: &Stage,
-    statement: &Stmt,
-    name: &Bytes,
-) -> Result<Outcome, SqlRefusal>
-    requires statement { view statement.now ≡ drop_function name.now }
-    requires plain { list_all is_table (objects_of catalog.now) ≡ true }
-    ensures { Defines (drop_function name.now) result (contents_of catalog.now stage.now) (contents_of catalog.now stage.now) }
-{
-    Err(SqlRefusal::Sql(NO_SUCH_ROUTINE))
-}
-
-/// DROP PROCEDURE: there is none.
-#[tactic(auto, using(crate::proofs::Definitions::no_procedure_to_drop))]
-fn absent_procedure(
-    catalog: &Catalog,
-    stage: &Stage,
-    statement: &Stmt,
-    name: &Bytes,
-) -> Result<Outcome, SqlRefusal>
-    requires statement { view statement.now ≡ drop_procedure name.now }
-    requires plain { list_all is_table (objects_of catalog.now) ≡ true }
-    ensures { Defines (drop_procedure name.now) result (contents_of catalog.now stage.now) (contents_of catalog.now stage.now) }
-{
-    Err(SqlRefusal::Sql(NO_SUCH_ROUTINE))
-}
-
-/// DROP TRIGGER: there is none.
-#[tactic(auto, using(crate::proofs::Definitions::no_trigger_to_drop))]
-fn absent_trigger(
-    catalog: &Catalog,
-    stage: &Stage,
-    statement: &Stmt,
-    name: &Bytes,
-) -> Result<Outcome, SqlRefusal>
-    requires statement { view statement.now ≡ drop_trigger name.now }
-    requires plain { list_all is_table (objects_of catalog.now) ≡ true }
-    ensures { Defines (drop_trigger name.now) result (contents_of catalog.now stage.now) (contents_of catalog.now stage.now) }
-{
-    Err(SqlRefusal::Sql(NO_SUCH_TRIGGER))
-}
-
-/// The DROP of a table.
-fn dropping(alloc: Global, name: &Bytes) -> Result<Boxed<Stmt>, NoMemory>
-    ensures { IfOk result (λ s. view s ≡ drop_table name.now) }
-{
-    let name = name.duplicate(alloc)?;
-    Boxed::new(alloc, Stmt::DropTable(name))
-}
-
-/// CREATE TABLE, with the DROP made first that it may need.
+/// CREATE TABLE, with the catalog kept as it was, which it may need again. No object is copied.
 fn create_prepared(
-    alloc: Global,
     catalog: &mut Catalog,
     stage: &mut Stage,
     t: &CreateTable,
@@ -256,9 +184,65 @@ fn create_prepared(
     ensures defines { Defines (create_table t.now) result (contents_of catalog.old stage.old) (contents_of catalog.new stage.new) }
     ensures together { AreTogether catalog.new stage.new.tables stage.new.undo stage.new.counters }
 {
-    match dropping(alloc, &t.name) {
-        Ok(dropping) => create(catalog, stage, t, dropping.get()),
+    match catalog.copy() {
+        Ok(before) => create(catalog, stage, t, before),
         Err(_) => Err(SqlRefusal::NoMemory),
+    }
+}
+
+/// CREATE FUNCTION: the catalog holds a copy of its tree.
+fn create_function(
+    alloc: Global,
+    catalog: &mut Catalog,
+    stage: &Stage,
+    routine: &Routine,
+) -> Result<Outcome, SqlRefusal>
+    requires together { AreTogether catalog.old stage.now.tables stage.now.undo stage.now.counters }
+    ensures defines { Defines (create_function (view_program routine.now)) result (contents_of catalog.old stage.now) (contents_of catalog.new stage.now) }
+    ensures together { AreTogether catalog.new stage.now.tables stage.now.undo stage.now.counters }
+{
+    let routine = Boxed::new(alloc, copy_routine(alloc, routine)?)?;
+    match catalog.add_function(routine) {
+        Ok(()) => Ok(nothing_told()),
+        Err(SqlRefusal::Sql(code)) => Err(SqlRefusal::Sql(code)),
+        Err(SqlRefusal::NoMemory) => Err(SqlRefusal::NoMemory),
+    }
+}
+
+/// CREATE TRIGGER, likewise.
+fn create_trigger(
+    alloc: Global,
+    catalog: &mut Catalog,
+    stage: &Stage,
+    trigger: &TriggerDef,
+) -> Result<Outcome, SqlRefusal>
+    requires together { AreTogether catalog.old stage.now.tables stage.now.undo stage.now.counters }
+    ensures defines { Defines (create_trigger (view_trigger trigger.now)) result (contents_of catalog.old stage.now) (contents_of catalog.new stage.now) }
+    ensures together { AreTogether catalog.new stage.now.tables stage.now.undo stage.now.counters }
+{
+    let trigger = Boxed::new(alloc, copy_trigger(alloc, trigger)?)?;
+    match catalog.add_trigger(trigger) {
+        Ok(()) => Ok(nothing_told()),
+        Err(SqlRefusal::Sql(code)) => Err(SqlRefusal::Sql(code)),
+        Err(SqlRefusal::NoMemory) => Err(SqlRefusal::NoMemory),
+    }
+}
+
+/// DROP FUNCTION, PROCEDURE and TRIGGER.
+fn drop_program(
+    catalog: &mut Catalog,
+    stage: &Stage,
+    statement: &Stmt,
+) -> Result<Outcome, SqlRefusal>
+    requires dropping { is_drop_of_program (view statement.now) ≡ true }
+    requires together { AreTogether catalog.old stage.now.tables stage.now.undo stage.now.counters }
+    ensures defines { Defines (view statement.now) result (contents_of catalog.old stage.now) (contents_of catalog.new stage.now) }
+    ensures together { AreTogether catalog.new stage.now.tables stage.now.undo stage.now.counters }
+{
+    match catalog.remove(statement) {
+        Ok(()) => Ok(nothing_told()),
+        Err(SqlRefusal::Sql(code)) => Err(SqlRefusal::Sql(code)),
+        Err(SqlRefusal::NoMemory) => Err(SqlRefusal::NoMemory),
     }
 }
 
@@ -275,15 +259,15 @@ fn define_in(
     ensures together { AreTogether catalog.new stage.new.tables stage.new.undo stage.new.counters }
 {
     match statement {
-        Stmt::CreateTable(t) => create_prepared(alloc, catalog, stage, t),
+        Stmt::CreateTable(t) => create_prepared(catalog, stage, t),
         Stmt::DropTable(name) => drop_named(catalog, stage, statement, name),
         Stmt::Truncate(name) => empty(catalog, stage, statement, name),
-        Stmt::CreateFunction(_) => Err(SqlRefusal::Sql(NOT_ALLOWED)),
+        Stmt::CreateFunction(routine) => create_function(alloc, catalog, stage, routine.get()),
         Stmt::CreateProcedure(_) => Err(SqlRefusal::Sql(NOT_ALLOWED)),
-        Stmt::CreateTrigger(_) => Err(SqlRefusal::Sql(NOT_ALLOWED)),
-        Stmt::DropFunction(name) => absent_function(catalog, stage, statement, name),
-        Stmt::DropProcedure(name) => absent_procedure(catalog, stage, statement, name),
-        Stmt::DropTrigger(name) => absent_trigger(catalog, stage, statement, name),
+        Stmt::CreateTrigger(trigger) => create_trigger(alloc, catalog, stage, trigger.get()),
+        Stmt::DropFunction(_) => drop_program(catalog, stage, statement),
+        Stmt::DropProcedure(_) => drop_program(catalog, stage, statement),
+        Stmt::DropTrigger(_) => drop_program(catalog, stage, statement),
         _ => Err(SqlRefusal::NoMemory),
     }
 }

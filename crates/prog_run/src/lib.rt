@@ -1,4 +1,4 @@
-//! What a statement of a session or an applier does, with the catalog, and without stored programs.
+//! What a statement of a session or an applier does, with the catalog and its functions and triggers.
 //!
 //! [`Work`] is the catalog, the tables as they stand with the changes that can be taken back, and the counters. Contracts
 //! see it as plain data (`Contents`), and a statement as the scene of the definitions of `sql_meaning` (`scene_at`).
@@ -7,8 +7,8 @@
 //! - `meter`: [`Meter`], what is left to a command, and [`Outcome`], what is told of a statement
 //! - `running`: [`run_stmt`] and [`eval_list`]
 //! - `defining`: CREATE, DROP and TRUNCATE
-//! - `staged`, `undoing`, `programs`: a statement on a stage with its context, what an error takes back, and calls and
-//!   events where the catalog has no programs
+//! - `staged`, `undoing`, `programs`: a statement on a stage with its context, what an error takes back, and statements
+//!   with the stored programs that they reach
 //! - `context`, `number`, `under_way`: what a statement leaves of a context; the number from which UUID() counts; what is
 //!   under way where it runs
 //!
@@ -19,14 +19,14 @@
 //!   number, and leaves just that scene; the context has its seeds, LAST_INSERT_ID() and no forced INSERT_ID that was
 //!   used; or memory is short (`runs`)
 //! - with CREATE, DROP or TRUNCATE it makes just the base and the counters of the definitions, or refuses with just the
-//!   error of the first check (30005 for programs) and changes nothing, as where memory is short; context and meter stay
+//!   error of the first check (30005 for CREATE PROCEDURE) and changes nothing, as where memory is short; context and meter stay
 //!   (`defines`)
 //! - on every error, want of memory too, rows, changes and catalog are as before and no counter is lower (`err`); no turn
 //!   comes back (`spends`)
 //! - [`eval_list`] the same for expressions, as the DO over them
 //! - what holds of every [`Work`]: its changes can be taken back, which gives the committed rows, and made again, which
 //!   gives the rows that stand; its tables are those of the catalog, each table with an AUTO_INCREMENT column has its
-//!   counter and no other has one, and the catalog has no programs yet ([`Work::together`])
+//!   counter and no other has one ([`Work::together`])
 //! - [`Work::take_back_to`] takes back just the changes behind a mark, without memory, and leaves what is committed;
 //!   [`Work::commit`] lets them stand; [`Work::reader`] has just the committed rows, and [`Work::take_counters`] takes
 //!   over the counters that its statement left

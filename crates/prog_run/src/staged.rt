@@ -1,9 +1,7 @@
 //! Statements and expressions on a stage, with their context.
-ghost use Rattle.std.specs.Prelude.{◌≡◌, true, [], OnErr};
-ghost use Rattle.std.specs.List.{list_all};
+ghost use Rattle.std.specs.Prelude.{[], OnErr};
 ghost use Rattle.sql_tree.specs.View.{view_trees};
 ghost use Rattle.sql_tree.specs.StatementView.{view};
-ghost use Rattle.catalog_rules.specs.Objects.{is_table};
 ghost use Rattle.catalog_objects.specs.Keys.{objects_of};
 ghost use Rattle.sql_meaning.specs.Running.{effect, evaluation};
 ghost use Rattle.sql_stage.specs.Stage.{EndsAs, EndsAsBy, LeadsOn, scene_of};
@@ -35,7 +33,6 @@ fn effect(
     uuid: u128,
     nesting: u8,
 ) -> Result<Did, SqlRefusal>
-    requires plain { list_all is_table (objects_of catalog.now) ≡ true }
     ensures gives { EndsAsBy did_of result (scene_of stage.new) (effect (record { catalog = objects_of catalog.now; context = context.now; uuid = uuid }) nesting [] (view statement.now) (scene_of stage.old)) }
     ensures leads { LeadsOn stage.old stage.new }
     ensures back { OnErr result (IsBack stage.old stage.new) }
@@ -65,7 +62,6 @@ fn evaluation(
     uuid: u128,
     nesting: u8,
 ) -> Result<List<Value>, SqlRefusal>
-    requires plain { list_all is_table (objects_of catalog.now) ≡ true }
     ensures gives { EndsAs result (scene_of stage.new) (evaluation (record { catalog = objects_of catalog.now; context = context.now; uuid = uuid }) nesting locals.now (view_trees expressions.now) (scene_of stage.old)) }
     ensures leads { LeadsOn stage.old stage.new }
     ensures back { OnErr result (IsBack stage.old stage.new) }
@@ -87,7 +83,6 @@ pub(crate) fn run_on(
     uuid: u128,
     nesting: u8,
 ) -> Result<Outcome, SqlRefusal>
-    requires plain { list_all is_table (objects_of catalog.now) ≡ true }
     ensures comes { Comes (record { catalog = objects_of catalog.now; context = context.old; uuid = uuid }) nesting (view statement.now) result stage.old stage.new context.new }
     ensures leads { LeadsOn stage.old stage.new }
     ensures back { OnErr result (IsBack stage.old stage.new) }
@@ -121,7 +116,6 @@ pub(crate) fn evaluate_on(
     uuid: u128,
     nesting: u8,
 ) -> Result<List<Value>, SqlRefusal>
-    requires plain { list_all is_table (objects_of catalog.now) ≡ true }
     ensures gives { Gives (record { catalog = objects_of catalog.now; context = context.old; uuid = uuid }) nesting locals.now (view_trees expressions.now) result stage.old stage.new context.new }
     ensures leads { LeadsOn stage.old stage.new }
     ensures back { OnErr result (IsBack stage.old stage.new) }

@@ -1,10 +1,7 @@
 //! Statements whose errors take back what they did.
 ghost use Rattle.std.specs.Prelude.{◌≡◌, true, [], drop, length, OnErr};
-ghost use Rattle.std.specs.List.{list_all};
 ghost use Rattle.sql_tree.specs.View.{view_trees};
 ghost use Rattle.sql_tree.specs.StatementView.{view};
-ghost use Rattle.catalog_rules.specs.Objects.{is_table};
-ghost use Rattle.catalog_objects.specs.Keys.{objects_of};
 ghost use Rattle.table_rules.specs.Stores.{can_take_back};
 ghost use Rattle.sql_meaning.specs.Scenes.{undone};
 ghost use Rattle.sql_meaning.specs.Running.{perform};
@@ -42,7 +39,6 @@ pub(crate) fn undo_failed(
     stage: &mut Stage,
     statement: &Stmt,
 ) -> Result<Did, SqlRefusal>
-    requires plain { list_all is_table (objects_of around.now.catalog.now) ≡ true }
     ensures gives { EndsAsBy did_of result (scene_of stage.new) (undone (perform (world_of around.now) (frame_of around.now []) forced (view statement.now)) (scene_of stage.old)) }
     ensures leads { LeadsOn stage.old stage.new }
     ensures back { OnErr result (IsBack stage.old stage.new) }
@@ -69,7 +65,6 @@ pub(crate) fn undo_unknown(
     stage: &mut Stage,
     expressions: &List<Expr>,
 ) -> Result<List<Value>, SqlRefusal>
-    requires plain { list_all is_table (objects_of around.now.catalog.now) ≡ true }
     ensures gives { EndsAs result (scene_of stage.new) (undone (values_in around.now [] (view_trees expressions.now)) (scene_of stage.old)) }
     ensures leads { LeadsOn stage.old stage.new }
     ensures back { OnErr result (IsBack stage.old stage.new) }

@@ -4,6 +4,7 @@
 //!
 //! - `playing`: a call of the program on a script
 //! - `answers`: scripts and what they write: transactions, generated values, limits of trees, errors and their order
+//! - `programs`: stored functions and triggers
 //! - `statuses`: words, scripts that do not split, streams that fail, what the report tells
 #![tactic(auto)]
 
@@ -11,5 +12,7 @@
 mod answers;
 #[cfg(test)]
 mod playing;
+#[cfg(test)]
+mod programs;
 #[cfg(test)]
 mod statuses;

@@ -26,7 +26,7 @@ use sql_tree::Stmt;
 use std::alloc::Global;
 use val_types::SqlRefusal;
 
-/// Stored programs are not allowed yet.
+/// Procedures are not allowed yet.
 const NOT_ALLOWED: u16 = 30005;
 
 /// Runs a definition where no change is open.

@@ -1,7 +1,7 @@
 //! What refuses statements before they run.
 ghost use Rattle.std.specs.Prelude.{◌≡◌, false};
-ghost use Rattle.sql_tree.specs.Statement.{create_table};
-ghost use Rattle.sql_tree.specs.StatementView.{view};
+ghost use Rattle.sql_tree.specs.Statement.{create_function, create_table, create_trigger};
+ghost use Rattle.sql_tree.specs.StatementView.{view, view_program, view_trigger};
 ghost use Rattle.catalog_objects.specs.Keys.{objects_of};
 ghost use Rattle.catalog_rules.specs.Checks.{session_scope, statement_refusal};
 ghost use Rattle.catalog_rules.specs.Creating.{ddl_refusal};
@@ -13,8 +13,9 @@ ghost use Rattle.source_node.specs.Desk.{shared_of};
 use crate::desk::Desk;
 use answer_text::Answer;
 use catalog::Catalog;
+use program_creation::{function_refusal, trigger_refusal};
 use sql_locals::Locals;
-use sql_tree::{CreateTable, Stmt};
+use sql_tree::{CreateTable, Routine, Stmt, TriggerDef};
 use std::alloc::Global;
 use table_creation::table_refusal;
 use unsafe_rules::writes;
@@ -38,14 +39,11 @@ pub(crate) fn is_definition(statement: &Stmt) -> bool
     }
 }
 
-/// Whether a statement makes a stored program, which is not allowed yet.
+/// Whether a statement makes a procedure, which is not allowed yet.
 pub(crate) fn is_still_refused(statement: &Stmt) -> bool
     ensures { result ≡ is_still_refused (view statement.now) }
 {
-    match statement {
-        Stmt::CreateFunction(_) | Stmt::CreateProcedure(_) | Stmt::CreateTrigger(_) => true,
-        _ => false,
-    }
+    matches!(statement, Stmt::CreateProcedure(_))
 }
 
 /// What refuses a statement for the writer's lock.
@@ -82,7 +80,21 @@ fn creation_refusal(catalog: &Catalog, table: &CreateTable) -> Option<SqlError>
     table_refusal(catalog.objects(), table)
 }
 
-/// The catalog's checks of a CREATE TABLE, a DROP or a TRUNCATE.
+/// The checks of a CREATE FUNCTION.
+fn function_refused(catalog: &Catalog, routine: &Routine) -> Option<SqlError>
+    ensures { result ≡ ddl_refusal (objects_of catalog.now) (create_function (view_program routine.now)) }
+{
+    function_refusal(catalog.objects(), routine)
+}
+
+/// The checks of a CREATE TRIGGER.
+fn trigger_refused(catalog: &Catalog, trigger: &TriggerDef) -> Option<SqlError>
+    ensures { result ≡ ddl_refusal (objects_of catalog.now) (create_trigger (view_trigger trigger.now)) }
+{
+    trigger_refusal(catalog.objects(), trigger)
+}
+
+/// The catalog's checks of a definition.
 pub(crate) fn definition_refusal(desk: &Desk, statement: &Stmt) -> Option<SqlError>
     requires { is_still_refused (view statement.now) ≡ false }
     ensures { result ≡ ddl_refusal ((shared_of desk.now).base.catalog) (view statement.now) }
@@ -90,6 +102,12 @@ pub(crate) fn definition_refusal(desk: &Desk, statement: &Stmt) -> Option<SqlErr
     let catalog = desk.work.catalog();
     if let Stmt::CreateTable(table) = statement {
         return creation_refusal(catalog, table);
+    }
+    if let Stmt::CreateFunction(routine) = statement {
+        return function_refused(catalog, routine.get());
+    }
+    if let Stmt::CreateTrigger(trigger) = statement {
+        return trigger_refused(catalog, trigger.get());
     }
     match catalog.check_removal(statement) {
         Err(SqlRefusal::Sql(code)) => Some(code),

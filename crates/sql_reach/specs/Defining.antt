@@ -3,7 +3,7 @@ use Rattle.std.specs.Prelude.{ℕ, ◌+◌, ◌*◌, Bool, true, false, List, []
 use Rattle.val_types.specs.declared.definitions.TableDef.{TableDef}
 use Rattle.auto_inc.specs.declared.counters.Counter.{Counter}
 use Rattle.auto_inc.specs.Counting.{changed_for, counters_beside}
-use Rattle.sql_tree.specs.Statement.{Statement, create_table, create_function, create_procedure, create_trigger, drop_table, truncate}
+use Rattle.sql_tree.specs.Statement.{Statement, create_table, create_procedure, drop_table, truncate}
 use Rattle.catalog_rules.specs.Defined.{definition_of}
 
 -- the counter of a table that is made with an AUTO_INCREMENT column begins at 1
@@ -17,11 +17,9 @@ counters_after (drop_table name) counters = counters_beside name counters
 counters_after (truncate name) counters = changed_for name (λ _. 1) counters
 counters_after s counters = counters
 
--- until they come, stored programs are not allowed
+-- until they come, procedures are not allowed
 abbrev pub is_still_refused : Statement → Bool
-is_still_refused (create_function p) = true
 is_still_refused (create_procedure p) = true
-is_still_refused (create_trigger t) = true
 is_still_refused s = false
 
 -- bytes as a number, the most significant first

@@ -4,7 +4,7 @@ use Rattle.sql_tree.specs.StatementView.{view}
 use Rattle.catalog_rules.specs.Creating.{ddl_refusal, catalog_after}
 use Rattle.catalog_objects.specs.Keys.{objects_of}
 use Rattle.sql_stage.specs.declared.stage.Stage.{Stage}
-use Rattle.prog_run.proofs.Defined.{dropped_on, refused_by, refused_with, stays_where}
+use Rattle.prog_run.proofs.Defined.{dropped_on, refused_by, refused_with}
 use Rattle.prog_run.proofs.defining.drop_named.Goals as goal
 
 pub returns-in-Ok-clause-together : goal.returns-in-Ok-clause-together
@@ -26,4 +26,4 @@ returns-in-Err-Sql-clause-defines c =
     refused_by (drop_table c.args.name.now) c.args.catalog.now c.remove.new.self c.args.stage.now c.in-Err-Sql.code refl
     (sym (ap (λ (s : Statement). ddl_refusal (objects_of c.args.catalog.now) s) c.requires.statement)
     ∙ refused_with c.in-Err-Sql.field-0 c.in-Err-Sql.code (view c.args.statement.now) (objects_of c.args.catalog.now) (objects_of c.remove.new.self) c.in-Err-Sql.field-0-is c.in-Err-Sql.ensures.made)
-    (stays_where c.in-Err-Sql.field-0 (view c.args.statement.now) (objects_of c.args.catalog.now) (objects_of c.remove.new.self) c.in-Err-Sql.ensures.made) c.requires.together.plain
+    c.in-Err-Sql.ensures.same

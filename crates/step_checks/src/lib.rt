@@ -1,0 +1,29 @@
+//! What refuses a step of a body before it runs.
+//!
+//! A step is a statement, or a condition, a DEFAULT or what is returned. Before it runs come the checks of the catalog,
+//! then that of a LIMIT by a local (30002), and that a statement changes no table in use (1442).
+//!
+//! - `checks`: [`check_statement`] and [`check_expression`]
+//! - `under_way`: [`is_named`], whether anything under way names a table; [`is_called`], whether a function is under way
+//! - `asking`: what is asked of a node; `statements`, `expressions`: the walk that asks it of all nodes
+//!
+//! In specs/ stand `Asking` (what is asked of a node), `Walking` (the walk over a tree) and `Checked` (where a body stands).
+//!
+//! # Proved
+//! - [`check_statement`] and [`check_expression`] refuse a step with just the error that comes first in the definition,
+//!   and let others through, without memory
+//! - [`is_named`] and [`is_called`] say just whether a table or a function is among what the definition has under way: the
+//!   tables that statements and expressions read or change, in parts that are not evaluated too
+//!
+//! # Only tested
+//! Nothing yet: steps run where a session's statements do.
+#![tactic(auto)]
+
+mod asking;
+mod checks;
+mod expressions;
+mod statements;
+mod under_way;
+
+pub use checks::{check_expression, check_statement};
+pub use under_way::{is_called, is_named};

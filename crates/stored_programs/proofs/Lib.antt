@@ -1,0 +1,9 @@
+pub mod Acting
+pub mod Turning
+pub mod Evaluated
+pub mod Assigned
+pub mod Declared
+pub mod Performed
+pub mod Stepping
+pub mod Calling
+pub mod Nesting
