@@ -1,0 +1,36 @@
+//! Groups and what an applier makes of them, which the checker computes.
+//!
+//! The table `t` has two numbers, `id` and `v`, of which the first is its key. Each event has 40 bytes, and the first behind BEGIN
+//! stands at 246.
+ghost use Rattle.std.specs.Prelude.{◌≡◌, ◌++◌, [], ◌∷◌, codes, pos};
+ghost use Rattle.val_types.specs.declared.value.Value.TheVariants.{Int};
+ghost use Rattle.event_codec.specs.Event.{table_map};
+ghost use Rattle.event_codec.specs.declared.event.RowsKind.TheVariants.{Write, Update, Delete};
+ghost use Rattle.applier_model.specs.Worked.{carried_on, leaves, pair, pair_bytes, rows_of, stops, t_map, text_of, wide_map};
+
+/// Rows of one item: two are put, one is changed, one is taken out.
+pub fn rows_carried()
+    ensures { carried_on (pair 5 50 ∷ []) (table_map t_map ∷ rows_of Write (pair_bytes 1 10 ++ pair_bytes 2 20) ∷ table_map t_map
+        ∷ rows_of Update (pair_bytes 1 10 ++ pair_bytes 1 11) ∷ table_map t_map ∷ rows_of Delete (pair_bytes 5 50) ∷ [])
+        ≡ leaves (pair 1 11 ∷ pair 2 20 ∷ []) }
+{}
+
+/// A row that is not there with just these values, a key that is taken, other columns.
+pub fn differing_rows()
+    ensures absent { carried_on (pair 1 10 ∷ []) (table_map t_map ∷ rows_of Delete (pair_bytes 1 11) ∷ []) ≡ stops 286 1032 (codes "t") (Int (pos 1) ∷ []) }
+    ensures taken { carried_on (pair 1 10 ∷ []) (table_map t_map ∷ rows_of Write (pair_bytes 2 20 ++ pair_bytes 1 30) ∷ []) ≡ stops 286 1062 (codes "t") (Int (pos 1) ∷ []) }
+    ensures columns { carried_on [] (table_map wide_map ∷ rows_of Write (0 ∷ 1 ∷ 0 ∷ 0 ∷ 0 ∷ 2 ∷ 0 ∷ 0 ∷ 0 ∷ 0 ∷ 0 ∷ 0 ∷ 0 ∷ []) ∷ []) ≡ stops 286 30010 (codes "t") [] }
+{}
+
+/// A text that runs, behind rows.
+pub fn texts_carried()
+    ensures { carried_on (pair 1 10 ∷ []) (table_map t_map ∷ rows_of Write (pair_bytes 2 20) ∷ text_of (codes "DELETE FROM t WHERE id = 1") ∷ []) ≡ leaves (pair 2 20 ∷ []) }
+{}
+
+/// Texts that are no statement, that may not stand in a transaction, and whose run is refused.
+pub fn texts_refused()
+    ensures text { carried_on [] (text_of (codes "SELECT 1 FORM t") ∷ []) ≡ stops 246 1064 [] [] }
+    ensures place { carried_on [] (text_of (codes "COMMIT") ∷ []) ≡ stops 246 30005 [] [] }
+    ensures check { carried_on [] (text_of (codes "DELETE FROM u") ∷ []) ≡ stops 246 1146 [] [] }
+    ensures run { carried_on (pair 1 10 ∷ []) (text_of (codes "INSERT INTO t VALUES (1, NULL)") ∷ []) ≡ stops 246 1048 [] [] }
+{}
