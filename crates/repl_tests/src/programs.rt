@@ -6,7 +6,8 @@ use std::test::Fail;
 use val_types::Bytes;
 
 /// Tables `t` and `u` of two numbers, whose key is `id`.
-const TABLES: &str = "s1: CREATE TABLE t (id INT, v INT, PRIMARY KEY (id)) //\ns1: CREATE TABLE u (id INT, v BIGINT, PRIMARY KEY (id)) //\n";
+const TABLES: &str =
+    "s1: CREATE TABLE t (id INT, v INT, PRIMARY KEY (id)) //\ns1: CREATE TABLE u (id INT, v BIGINT, PRIMARY KEY (id)) //\n";
 
 /// Scripts behind both tables, and the lines behind theirs.
 static SCRIPTS: [(&str, &str); 9] = [
@@ -115,8 +116,20 @@ fn made_then(alloc: Global, count: u32, last: &[&str]) -> Result<Bytes, Fail> {
 fn sixteen_programs_deep(rt: HostRuntime) -> Result<(), Fail> {
     let alloc = rt.alloc();
     let deepest = made_then(alloc, 16, &[" row 5\n", " rows 1\n"])?;
-    expect_lines(&rt, alloc, nested(alloc, 16)?, deepest.as_slice(), "16 programs")?;
+    expect_lines(
+        &rt,
+        alloc,
+        nested(alloc, 16)?,
+        deepest.as_slice(),
+        "16 programs",
+    )?;
     let too_deep = made_then(alloc, 17, &[" error 30003\n"])?;
-    expect_lines(&rt, alloc, nested(alloc, 17)?, too_deep.as_slice(), "17 programs")?;
+    expect_lines(
+        &rt,
+        alloc,
+        nested(alloc, 17)?,
+        too_deep.as_slice(),
+        "17 programs",
+    )?;
     Ok(())
 }
