@@ -20,7 +20,7 @@ fn script_of(alloc: Global, made: &str, rest: &str) -> Result<Bytes, Fail> {
 }
 
 /// Scripts behind the table `t`, and the lines behind `1 ok 0`.
-static OF_T: [(&str, &str); 11] = [
+static OF_T: [(&str, &str); 12] = [
     // a savepoint
     (
         "s1: BEGIN //\ns1: INSERT INTO t VALUES (1, 10) //\ns1: SAVEPOINT x //\ns1: INSERT INTO t VALUES (2, 20) //\ns1: ROLLBACK TO x //\ns1: COMMIT //\nreplica: SELECT * FROM t //\n",
@@ -65,6 +65,11 @@ static OF_T: [(&str, &str); 11] = [
     (
         "s1: SELECT 1 FORM t //\ns1: SELECT 1; SELECT 2 //\ns1: //\nreplica: SELECT 1 FORM t //\n",
         "2 error 1064 at 9\n3 error 1064 at 8\n4 error 1064 at 0\n5 error 1064 at 9\n",
+    ),
+    // a sum of nothing, and what arithmetic refuses
+    (
+        "s1: SELECT SUM(id) FROM t //\ns1: SELECT 9223372036854775807 + 1 //\ns1: SELECT 1 DIV 0 //\ns1: SELECT 'a' + 1 //\n",
+        "2 row NULL\n2 rows 1\n3 error 1690\n4 error 1365\n5 error 30002\n",
     ),
     // the clock, the draw and the identity of each node; the last draw repeats
     (
