@@ -6,10 +6,10 @@ use Rattle.std.proofs.lemmas.Bool.Decides.{nat_tests}
 use Rattle.val_types.specs.declared.definitions.TableDef.{TableDef}
 use Rattle.sql_tree.specs.declared.statements.CreateTable.{CreateTable}
 use Rattle.sql_tree.specs.declared.statements.Column.{Column}
-use Rattle.sql_tree.specs.Statement.{Statement, create_table}
+use Rattle.sql_tree.specs.Statement.{create_table}
 use Rattle.catalog_rules.specs.Objects as rules
 use Rattle.catalog_rules.specs.Defined.{definition_of}
-use Rattle.catalog_rules.specs.Creating.{Check, first_refusal, table_checks, ddl_checks, ddl_refusal, is_past_table_limits, is_ill_type}
+use Rattle.catalog_rules.specs.Creating.{Check, first_refusal, table_checks, ddl_refusal, is_past_table_limits, is_ill_type}
 use Rattle.catalog_objects.specs.declared.object.Object.{Object}
 use Rattle.catalog_objects.specs.declared.object.Object.TheVariants as kinds
 use Rattle.catalog_objects.specs.Keys.{seen, objects_of}

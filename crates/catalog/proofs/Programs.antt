@@ -1,6 +1,5 @@
 -- What a CREATE FUNCTION, PROCEDURE or TRIGGER that nothing refuses may rest on.
-use Rattle.std.proofs.Common.{◌≡◌, ℕ, Bool, true, false, ◌||◌, List, [], ◌∷◌, ◌++◌, Option, Some, None, refl, sym, ap, ◌∙◌}
-use Rattle.std.specs.Prelude.{is_some}
+use Rattle.std.proofs.Common.{◌≡◌, ℕ, List, [], ◌∷◌, Option, Some, None, refl, sym, ap, ◌∙◌}
 use Rattle.std.specs.Option.{option_map}
 use Rattle.sql_tree.specs.Statement.{Trigger, trigger, create_function, create_procedure, create_trigger}
 use Rattle.sql_tree.specs.StatementView.{view, view_program, view_trigger}
@@ -11,8 +10,8 @@ use Rattle.catalog_rules.specs.Objects as rules
 use Rattle.catalog_rules.specs.Creating.{first_refusal, trigger_checks, ddl_refusal}
 use Rattle.catalog_objects.specs.declared.object.Object.{Object}
 use Rattle.catalog_objects.specs.declared.object.Object.TheVariants as kinds
-use Rattle.catalog_objects.specs.Keys.{seen, objects_of, triggers_in}
-use Rattle.catalog_objects.specs.Lookups.{object_of, waiting_for, is_free, is_event_free}
+use Rattle.catalog_objects.specs.Keys.{objects_of}
+use Rattle.catalog_objects.specs.Lookups.{object_of, is_free, is_event_free}
 use Rattle.catalog_objects.proofs.Found.{same_tied, waiting_found}
 use Rattle.catalog_objects.proofs.Parts.{program_named, trigger_named, trigger_seen}
 use Rattle.program_creation.proofs.RefusedFirst.{ddl_is}
