@@ -1,18 +1,10 @@
 -- Whole statements in what is round them.
-use Rattle.std.proofs.Common.{refl, ◌≡◌, ℕ, true, List, [], Option, None, ℤ}
-use Rattle.val_types.specs.declared.value.Value.{Value}
-use Rattle.val_types.specs.declared.definitions.TableDef.{TableDef}
+use Rattle.std.proofs.Common.{refl, ◌≡◌, [], Option, None, ℤ}
 use Rattle.sql_tree.specs.Tree.{Trees}
 use Rattle.sql_tree.specs.Statement.{Statement}
-use Rattle.sql_tree.specs.declared.statements.Time.{Time}
-use Rattle.sql_tree.specs.declared.statements.Cause.{Cause}
 use Rattle.catalog_rules.specs.Nodes.{nodes_of, nodes_of_trees, no_sight}
-use Rattle.sql_meaning.specs.Scenes.{Scene, Ending, done, failed, Action, undone, put_back}
-use Rattle.sql_meaning.specs.Frames.{Setting, Running, Frame, only_locals}
-use Rattle.sql_meaning.specs.Changing.{Did}
+use Rattle.sql_meaning.specs.Scenes.{Scene, undone}
 use Rattle.sql_meaning.specs.Running.{perform, tables_named, forced_for, effect, evaluation}
-use Rattle.sql_stage.specs.declared.stage.Stage.{Stage}
-use Rattle.sql_stage.specs.Stage.{scene_of, EndsAs, EndsAsBy}
 use Rattle.sql_evaluation.specs.declared.world.Around.{Around}
 use Rattle.sql_evaluation.specs.Seen.{setting_of, world_of, frame_of, running_of, values_in}
 

@@ -1,5 +1,5 @@
 -- Statements on a stage, by what is round them.
-use Rattle.std.proofs.Common.{◌≡◌, ℕ, true, List, [], Option, None, ℤ, Result, sym, subst, ap, ◌∙◌}
+use Rattle.std.proofs.Common.{◌≡◌, ℕ, List, [], Option, None, ℤ, Result, sym, subst, ap, ◌∙◌}
 use Rattle.val_types.specs.declared.value.Value.{Value}
 use Rattle.val_types.specs.declared.refusal.SqlRefusal.{SqlRefusal}
 use Rattle.sql_tree.specs.Tree.{Trees}

@@ -1,5 +1,5 @@
 -- What a walk over a statement asks of each node.
-use Rattle.std.specs.Prelude.{ℕ, Bool, true, false, List, Option}
+use Rattle.std.specs.Prelude.{ℕ, Bool, false, List}
 use Rattle.std.specs.Option.{option_map_or}
 use Rattle.sql_tree.specs.Statement.{Statement}
 use Rattle.sql_tree.specs.declared.expressions.Count.{Count}

@@ -1,11 +1,10 @@
 -- Answers that leave the scene, and actions behind them.
-use Rattle.std.proofs.Common.{◌≡◌, ℕ, List, refl, ap, subst, sym, Result, Ok, Err}
+use Rattle.std.proofs.Common.{◌≡◌, ℕ, ap, subst, sym, Result, Ok, Err}
 use Rattle.val_types.specs.declared.refusal.SqlRefusal.{SqlRefusal}
-use Rattle.val_types.specs.declared.refusal.SqlRefusal.TheVariants.{Sql, NoMemory}
-use Rattle.sql_meaning.specs.Scenes.{Scene, Ending, Action, done, failed, then_do, ◌>>=◌}
+use Rattle.val_types.specs.declared.refusal.SqlRefusal.TheVariants.{Sql}
+use Rattle.sql_meaning.specs.Scenes.{Scene, Ending, Action, failed, then_do, ◌>>=◌}
 use Rattle.sql_stage.specs.Stage.{EndsAs, EndsAsBy}
 use Rattle.sql_evaluation.specs.Seen.{Anywhere}
-use Rattle.stored_programs.specs.Bodies.{AnywhereBy}
 
 -- what stands behind an answer
 pub behind : {A B : Type 0} (m : Action A) (a : A) (next : A → Action B) (scene : Scene) → Anywhere (Ok a) m → (m >>= next) scene ≡ next a scene

@@ -1,17 +1,14 @@
 -- SET of locals and of NEW, one step at a time.
-use Rattle.std.proofs.Common.{◌≡◌, ℕ, suc, ◌+◌, ◌<◌, ◌≤◌, List, [], ◌∷◌, ◌++◌, length, get_or, drop, map, zip, Option, Some, None, refl, sym, ap, ◌∙◌, Result, Ok, Err, append_assoc, append-nil}
+use Rattle.std.proofs.Common.{◌≡◌, ℕ, ◌+◌, ◌<◌, ◌≤◌, List, [], ◌∷◌, ◌++◌, length, get_or, drop, Option, Some, None, refl, sym, ap, ◌∙◌, Result, Ok, Err, append_assoc, append-nil}
 use Rattle.std.proofs.lemmas.List.{drop_all}
-use Rattle.std.specs.Prelude.{slice_get, slice_set}
 use Rattle.val_types.specs.declared.value.Value.{Value}
 use Rattle.val_types.specs.declared.refusal.SqlRefusal.{SqlRefusal}
 use Rattle.val_types.specs.declared.refusal.SqlRefusal.TheVariants.{Sql, NoMemory}
-use Rattle.val_types.specs.declared.definitions.ColumnDef.{ColumnDef}
-use Rattle.val_types.specs.declared.definitions.TableDef.{TableDef}
 use Rattle.val_types.specs.Fitting.{fitting}
 use Rattle.sql_tree.specs.Tree.{Tree}
 use Rattle.sql_tree.specs.View.{view_tree}
 use Rattle.sql_tree.specs.Statement.{Statement, set_all}
-use Rattle.sql_tree.specs.StatementView.{view_assignment, view_assignments}
+use Rattle.sql_tree.specs.StatementView.{view_assignments}
 use Rattle.sql_tree.specs.declared.statements.Assignment.{Assignment}
 use Rattle.sql_tree.specs.declared.statements.Target.{Target}
 use Rattle.sql_locals.specs.declared.locals.Local.{Local}
@@ -19,11 +16,11 @@ use Rattle.sql_locals.specs.Locals.{find_local, set_local}
 use Rattle.catalog_rules.specs.Names.{place_among}
 use Rattle.catalog_rules.specs.Nodes.{nodes_of}
 use Rattle.catalog_rules.specs.Objects.{columns_of}
-use Rattle.sql_meaning.specs.Scenes.{Scene, Ending, Action, done, failed, then_do, pure, fail, each, carried_on, needed, ◌>>=◌}
-use Rattle.sql_meaning.specs.Frames.{View, World}
+use Rattle.sql_meaning.specs.Scenes.{Scene, Ending, Action, done, failed, then_do, pure, fail, needed, ◌>>=◌}
+use Rattle.sql_meaning.specs.Frames.{World}
 use Rattle.sql_meaning.specs.Values.{value}
 use Rattle.sql_meaning.specs.Changing.{fitted, put_at}
-use Rattle.sql_meaning.specs.Running.{Body, Ended, also_running, assign_local, assign_new, assign_one, body_checked, body_set, frame_of, goes_on, with_new_row}
+use Rattle.sql_meaning.specs.Running.{Body, Ended, also_running, assign_local, assign_new, assign_one, body_checked, frame_of, goes_on, with_new_row}
 use Rattle.sql_stage.specs.declared.running.Running.{Running as Chain}
 use Rattle.sql_stage.specs.Stage.{EndsAs, EndsAsBy}
 use Rattle.sql_evaluation.specs.declared.world.Around.{Around}

@@ -10,7 +10,6 @@ use Rattle.sql_tree.specs.Statement.{Declared}
 use Rattle.sql_tree.specs.StatementView.{view_declaration, view_declarations}
 use Rattle.sql_tree.specs.declared.statements.Declaration.{Declaration}
 use Rattle.sql_tree.specs.declared.statements.SqlType.{SqlType}
-use Rattle.sql_locals.specs.declared.locals.Local.{Local}
 use Rattle.sql_locals.specs.Types.{column_type}
 use Rattle.sql_meaning.specs.Scenes.{Scene, Ending, Action, done, failed, then_do, carried_on}
 use Rattle.sql_meaning.specs.Running.{Body, declare, declare_name}

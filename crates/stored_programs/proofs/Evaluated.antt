@@ -1,5 +1,5 @@
 -- The value of an expression of a body, behind its checks.
-use Rattle.std.proofs.Common.{◌≡◌, ℕ, List, ◌++◌, Bool, Some, None, refl, sym, ap, ◌∙◌, rules, Result, Ok, Err, Option}
+use Rattle.std.proofs.Common.{◌≡◌, ℕ, List, ◌++◌, Bool, refl, sym, ap, ◌∙◌, rules, Result, Ok, Err, Option}
 use Rattle.std.specs.Borrow.{Bor}
 use Rattle.val_types.specs.declared.value.Value.{Value}
 use Rattle.val_types.specs.declared.value.Value.TheVariants.{Null}
@@ -14,7 +14,7 @@ use Rattle.sql_tree.specs.declared.expressions.Expr.{Expr}
 use Rattle.sql_tree.specs.declared.statements.Stmt.{Stmt}
 use Rattle.catalog_rules.specs.Checks.{expression_refusal}
 use Rattle.catalog_rules.specs.Nodes.{Node, no_sight, nodes_of, nodes_of_tree}
-use Rattle.sql_meaning.specs.Scenes.{Scene, Ending, Action, done, failed, then_do, answered, pure, ◌>>=◌}
+use Rattle.sql_meaning.specs.Scenes.{Scene, Ending, Action, done, failed, then_do, answered, pure}
 use Rattle.sql_meaning.specs.Frames.{Running, World}
 use Rattle.sql_meaning.specs.Values.{value, holds}
 use Rattle.sql_meaning.specs.Running.{Body, also_running, checked, frame_of, scope_of, tables_named}

@@ -1,5 +1,5 @@
 -- Calls and events at a level of nesting.
-use Rattle.std.proofs.Common.{◌≡◌, ◌<◌, ◌-◌, ◌==◌, ℕ, zero, suc, List, [], ◌∷◌, Bool, true, false, Option, Some, None, length, refl, sym, ap, ◌∙◌, rules, Result, Ok, arith}
+use Rattle.std.proofs.Common.{◌≡◌, ◌<◌, ◌-◌, ◌==◌, ℕ, zero, suc, List, Bool, true, false, Option, Some, None, length, refl, sym, ap, ◌∙◌, rules, Result, arith}
 use Rattle.std.specs.Borrow.{Bor}
 use Rattle.val_types.specs.declared.value.Value.{Value}
 use Rattle.val_types.specs.declared.refusal.SqlRefusal.{SqlRefusal}
@@ -15,7 +15,7 @@ use Rattle.catalog_rules.specs.Names.{is_among}
 use Rattle.catalog_rules.specs.Objects.{function_in, parameters_of, trigger_for}
 use Rattle.sql_meaning.specs.Scenes.{Scene, Action, done, failed, then_do, pure, fail, needed}
 use Rattle.sql_meaning.specs.Frames.{Setting, Running, Below, World}
-use Rattle.sql_meaning.specs.Running.{call_function, fire_trigger, function_body, in_function, level_of, one_level_down, run_trigger, start_function}
+use Rattle.sql_meaning.specs.Running.{call_function, fire_trigger, function_body, in_function, level_of, run_trigger, start_function}
 use Rattle.sql_stage.specs.Stage.{EndsAs, EndsAsBy}
 use Rattle.sql_stage.specs.declared.running.Running.{Running as Chain, Function, the_lemmas}
 use Rattle.sql_stage.specs.UnderWay.{under_way}

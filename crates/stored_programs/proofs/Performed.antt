@@ -1,5 +1,5 @@
 -- A change or DO, behind its checks.
-use Rattle.std.proofs.Common.{◌≡◌, ℕ, None, Option, refl, sym, ap, ◌∙◌, Ok, Err}
+use Rattle.std.proofs.Common.{◌≡◌, ℕ, None, Option, sym, ap, ◌∙◌, Ok, Err}
 use Rattle.val_types.specs.declared.value.Value.{Value}
 use Rattle.val_types.specs.declared.refusal.SqlRefusal.{SqlRefusal}
 use Rattle.val_types.specs.declared.refusal.SqlRefusal.TheVariants.{Sql, NoMemory}
@@ -8,7 +8,7 @@ use Rattle.catalog_rules.specs.Nodes.{nodes_of}
 use Rattle.sql_meaning.specs.Scenes.{Scene, Ending, done, failed, then_do, pure, ◌>>=◌}
 use Rattle.sql_meaning.specs.Frames.{World}
 use Rattle.sql_meaning.specs.Changing.{Did}
-use Rattle.sql_meaning.specs.Running.{Body, Ended, also_running, body_checked, body_perform, frame_of, goes_on, perform}
+use Rattle.sql_meaning.specs.Running.{Body, also_running, body_checked, body_perform, frame_of, goes_on, perform}
 use Rattle.sql_stage.specs.declared.running.Running.{Running as Chain}
 use Rattle.sql_stage.specs.Stage.{EndsAsBy}
 use Rattle.sql_statements.specs.declared.did.Did.{Did as Done}

@@ -1,13 +1,12 @@
 -- The steps of a body, one at a time.
-use Rattle.std.proofs.Common.{◌≡◌, ℕ, zero, suc, ◌+◌, ◌<◌, ◌≤◌, Bool, true, false, cond, List, [], ◌∷◌, length, get_or, drop, take, Option, Some, None, refl, sym, ap, ◌∙◌, Result, Ok, Err, arith, rules}
+use Rattle.std.proofs.Common.{◌≡◌, ℕ, zero, suc, ◌+◌, ◌<◌, ◌≤◌, Bool, true, false, cond, List, length, get_or, drop, take, Option, Some, None, refl, sym, ap, ◌∙◌, Result, Err, arith, rules}
 use Rattle.std.proofs.lemmas.List.{drop_all}
-use Rattle.std.specs.Prelude.{is_some}
 use Rattle.val_types.specs.declared.value.Value.{Value}
 use Rattle.val_types.specs.declared.refusal.SqlRefusal.{SqlRefusal}
 use Rattle.val_types.specs.declared.refusal.SqlRefusal.TheVariants.{Sql, NoMemory}
 use Rattle.sql_tree.specs.Tree.{Tree}
 use Rattle.sql_tree.specs.View.{view_tree}
-use Rattle.sql_tree.specs.Statement.{Declared, Statement, Statements, Branches, Otherwise, Program, Trigger, no_branch, branch, else_steps, no_else, statement}
+use Rattle.sql_tree.specs.Statement.{Declared, Statement, Statements, Branches, Otherwise, Program, Trigger, no_branch, branch, else_steps, no_else}
 use Rattle.sql_tree.specs.Statement.{create_table, create_function, create_procedure, create_trigger, drop_table, drop_function, drop_procedure, drop_trigger, truncate, insert_into, replace_into, update_rows, delete_rows, select, evaluate, set_all, call_procedure, begin, commit, rollback, savepoint, rollback_to, release_savepoint, block, if_steps, while_steps, return_value}
 use Rattle.sql_tree.specs.StatementView.{view, view_branch, view_branches, view_otherwise, view_statements, statement_step, branch_step, program_step, trigger_step}
 use Rattle.sql_tree.specs.declared.statements.Branch.{Branch, out-Branch}
@@ -16,7 +15,7 @@ use Rattle.sql_tree.specs.declared.statements.Stmt.{Stmt, If, the_lemmas}
 use Rattle.sql_tree.specs.declared.statements.Stmt.TheFolds.{fold_out-Branch}
 use Rattle.sql_meaning.specs.Scenes.{Scene, Ending, Action, done, failed, then_do, pure, fail, spend_turn, turn_spent, ◌>>=◌}
 use Rattle.sql_meaning.specs.Values.{holds}
-use Rattle.sql_meaning.specs.Running.{Body, Ended, body_perform, body_value, goes_on, leaves_block, step, steps, step_of_branches, steps_otherwise, turns, unless_returned}
+use Rattle.sql_meaning.specs.Running.{Body, Ended, body_perform, body_value, goes_on, leaves_block, steps, turns, unless_returned}
 use Rattle.sql_stage.specs.Stage.{EndsAs, EndsAsBy, LeadsOn, scene_of}
 use Rattle.sql_stage.specs.declared.stage.Stage.{Stage}
 use Rattle.sql_stage.proofs.Leading.{turns_led}

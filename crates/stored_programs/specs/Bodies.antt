@@ -3,12 +3,11 @@ use Rattle.std.specs.Prelude.{◌≡◌, ℕ, List, [], ◌∷◌, Option, Some,
 use Rattle.std.specs.Option.{option_map}
 use Rattle.val_types.specs.declared.value.Value.{Value}
 use Rattle.val_types.specs.declared.refusal.SqlRefusal.{SqlRefusal}
-use Rattle.sql_locals.specs.declared.locals.Local.{Local}
 use Rattle.catalog_rules.specs.Names.{place_among}
 use Rattle.catalog_rules.specs.Objects.{columns_of}
 use Rattle.sql_meaning.specs.Scenes.{Scene, Action, ◌>>=◌, needed}
 use Rattle.sql_meaning.specs.Changing.{put_at}
-use Rattle.sql_meaning.specs.Frames.{World, Frame, View}
+use Rattle.sql_meaning.specs.Frames.{World, View}
 use Rattle.sql_meaning.specs.Running.{Body, Ended}
 use Rattle.sql_stage.specs.Stage.{EndsAsBy}
 use Rattle.sql_stage.specs.declared.running.Running.{Running as UnderWay}

@@ -1,5 +1,5 @@
 -- The parts of a body that the code takes one by one.
-use Rattle.std.specs.Prelude.{ℕ, Bool, if◌then◌else◌, List, [], map, zip, Option, Some, None, true, false}
+use Rattle.std.specs.Prelude.{Bool, if◌then◌else◌, List, [], map, zip, Option, Some, None, true, false}
 use Rattle.val_types.specs.declared.value.Value.{Value}
 use Rattle.val_types.specs.declared.definitions.TableDef.{TableDef}
 use Rattle.sql_tree.specs.Tree.{Tree, Part}

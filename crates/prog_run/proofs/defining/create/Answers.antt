@@ -3,7 +3,7 @@ use Rattle.sql_tree.specs.Statement.{create_table}
 use Rattle.catalog_rules.specs.Defined.{definition_of}
 use Rattle.catalog_objects.specs.Keys.{objects_of}
 use Rattle.prog_run.specs.Runs.{contents_of}
-use Rattle.prog_run.proofs.Defined.{refused_by, refused_with, contents_stay, stays_free, is_there, was_free, makes_by, made_on, kept_on}
+use Rattle.prog_run.proofs.Defined.{refused_by, refused_with, contents_stay, stays_free, is_there, makes_by, made_on, kept_on}
 use Rattle.prog_run.proofs.defining.create.Goals as goal
 
 pub returns-in-Err-Sql-clause-defines : goal.returns-in-Err-Sql-clause-defines

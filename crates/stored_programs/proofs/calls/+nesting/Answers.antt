@@ -1,10 +1,9 @@
-use Rattle.std.proofs.Common.{◌≡◌, ◌<◌, ◌==◌, ℕ, Bool, List, Some, true, false, sym, ap, ◌∙◌, arith}
+use Rattle.std.proofs.Common.{◌≡◌, ◌==◌, true, false, sym, ap, ◌∙◌, arith}
 use Rattle.std.proofs.lemmas.Bool.Decides.{nat_tests}
 use Rattle.std.specs.Option.{option_copied}
 use Rattle.val_types.specs.declared.definitions.TableDef.{TableDef}
 use Rattle.sql_tree.specs.StatementView.{view_program, view_trigger}
 use Rattle.catalog_objects.specs.Keys.{objects_of}
-use Rattle.catalog_rules.specs.Names.{is_among}
 use Rattle.catalog_rules.specs.Objects.{trigger_for}
 use Rattle.sql_stage.specs.Stage.{scene_of}
 use Rattle.sql_evaluation.specs.Seen.{running_of}

@@ -1,4 +1,4 @@
-use Rattle.std.proofs.Common.{ℕ, ◌+◌, ◌*◌}
+use Rattle.std.proofs.Common.{◌+◌, ◌*◌}
 use Rattle.stored_programs.proofs.calls.+nesting.Given as goal
 
 abbrev pub decreases-call_function : goal.decreases-call_function

@@ -1,4 +1,4 @@
-use Rattle.std.proofs.Common.{◌≡◌, ◌+◌, ◌*◌, ℕ, drop}
+use Rattle.std.proofs.Common.{◌≡◌, ◌+◌, ◌*◌, drop}
 use Rattle.sql_tree.specs.Statement.{while_steps}
 use Rattle.sql_tree.specs.StatementView.{view_branches, view_statements}
 use Rattle.sql_tree.specs.View.{view_tree}
