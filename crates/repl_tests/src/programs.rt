@@ -85,11 +85,11 @@ fn put_number(alloc: Global, text: &mut Bytes, number: u32) -> Result<(), Fail> 
 /// Functions that call one another, so many deep, and a call of the outermost.
 fn nested(alloc: Global, depth: u32) -> Result<Bytes, Fail> {
     let mut script = bytes(alloc, "s1: CREATE FUNCTION f1() RETURNS INT RETURN 5 //\n")?;
-    for number in 2..=depth {
+    for number in 2..depth.saturating_add(1) {
         script.extend_from_slice(b"s1: CREATE FUNCTION f")?;
         put_number(alloc, &mut script, number)?;
         script.extend_from_slice(b"() RETURNS INT RETURN f")?;
-        put_number(alloc, &mut script, number - 1)?;
+        put_number(alloc, &mut script, number.saturating_sub(1))?;
         script.extend_from_slice(b"() //\n")?;
     }
     script.extend_from_slice(b"s1: SELECT f")?;
@@ -101,12 +101,12 @@ fn nested(alloc: Global, depth: u32) -> Result<Bytes, Fail> {
 /// What is written where so many functions are made, and then this line with the number behind it.
 fn made_then(alloc: Global, count: u32, last: &[&str]) -> Result<Bytes, Fail> {
     let mut lines = bytes(alloc, "")?;
-    for number in 1..=count {
+    for number in 1..count.saturating_add(1) {
         put_number(alloc, &mut lines, number)?;
         lines.extend_from_slice(b" ok 0\n")?;
     }
     for words in last {
-        put_number(alloc, &mut lines, count + 1)?;
+        put_number(alloc, &mut lines, count.saturating_add(1))?;
         lines.extend_from_slice(words.as_bytes())?;
     }
     Ok(lines)
