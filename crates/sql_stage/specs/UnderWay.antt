@@ -11,6 +11,7 @@ use Rattle.sql_stage.specs.declared.running.Running.TheOpen.{Running-F}
 abbrev under_step : Running-F Running → Running
 under_step Running-F.Nothing = record { tables = []; functions = [] }
 under_step (Running-F.Statement s outer) = record { tables = tables_named (nodes_of (view s.now)) ++ outer.now.tables; functions = outer.now.functions }
+under_step (Running-F.Tables names outer) = record { tables = names.now ++ outer.now.tables; functions = outer.now.functions }
 under_step (Running-F.Expressions es outer) =
     record { tables = tables_named (nodes_of_trees (view_trees es.now) no_sight) ++ outer.now.tables; functions = outer.now.functions }
 under_step (Running-F.Expression e outer) =

@@ -10,6 +10,8 @@ pub enum Running<'a> {
     Nothing,
     /// A statement.
     Statement(&'a Stmt, &'a Running<'a>),
+    /// A statement, by the names of the tables in it: gathered once, where many triggers may ask for them.
+    Tables(&'a List<Bytes>, &'a Running<'a>),
     /// Expressions that a session evaluates by themselves.
     Expressions(&'a List<Expr>, &'a Running<'a>),
     /// An expression of a body: a condition, a DEFAULT or what is returned.

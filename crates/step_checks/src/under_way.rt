@@ -10,6 +10,7 @@ ghost use Rattle.sql_evaluation.specs.Seen.{running_of};
 use crate::asking::Ask;
 use crate::expressions::{in_expr, in_exprs};
 use crate::statements::in_statement;
+use catalog_checks::is_among;
 use sql_stage::Running;
 use sql_tree::{Expr, Stmt};
 use val_types::{Bytes, List};
@@ -46,6 +47,8 @@ pub fn is_named(running: &Running<'_>, table: &Bytes) -> bool
     match running {
         Running::Nothing => false,
         Running::Statement(s, outer) => statement_names(table, s) || is_named(outer, table),
+        Running::Tables(names, outer) => is_among(names.as_slice(), table)
+            || is_named(outer, table),
         Running::Expressions(list, outer) => {
             expressions_name(table, list) || is_named(outer, table)
         }
@@ -61,6 +64,7 @@ pub fn is_called(running: &Running<'_>, name: &Bytes) -> bool
     match running {
         Running::Nothing => false,
         Running::Statement(_, outer) => is_called(outer, name),
+        Running::Tables(_, outer) => is_called(outer, name),
         Running::Expressions(_, outer) => is_called(outer, name),
         Running::Expression(_, outer) => is_called(outer, name),
         Running::Function(called, outer) => *name == **called || is_called(outer, name),
