@@ -1,6 +1,6 @@
 -- Entries are read again as their groups, and a front of one as nothing whole.
-use Rattle.std.proofs.Common.{◌≡◌, ℕ, ◌+◌, ◌≤◌, ◌<◌, ◌^◌, Bool, true, false, ltb, List, [], ◌∷◌, ◌++◌, map, length, Option, Some, refl, sym, ap, ◌∙◌, arith, subst}
-use Rattle.std.specs.Prelude.{flat_map, codes}
+use Rattle.std.proofs.Common.{◌≡◌, ℕ, ◌+◌, ◌≤◌, ◌<◌, ◌^◌, Bool, true, false, ltb, List, [], ◌∷◌, ◌++◌, map, length, Some, refl, sym, ap, ◌∙◌, arith, subst}
+use Rattle.std.specs.Prelude.{flat_map}
 use Rattle.std.proofs.lemmas.Bool.{lt-ltb, ltb-true, ltb-false}
 use Rattle.std.proofs.lemmas.List.{length-append}
 use Rattle.event_codec.specs.Event.{Body, query, xid, format_description}
@@ -10,8 +10,8 @@ use Rattle.byte_fields.specs.Field.{number_bytes}
 use Rattle.log_entries.specs.declared.entries.Item.{Item}
 use Rattle.log_entries.specs.declared.entries.Entry.{Entry}
 use Rattle.log_entries.specs.declared.entries.Entry.TheVariants.{Transaction, Definition, LogStart}
-use Rattle.log_model.specs.Events.{Place, Placed, events_from, stop_from}
-use Rattle.log_model.specs.Groups.{Stage, first, between, Move, go, close, refuse, move, Group, group, not_whole, group_of, group_at}
+use Rattle.log_model.specs.Events.{Place, events_from, stop_from}
+use Rattle.log_model.specs.Groups.{Stage, first, between, Move, go, close, refuse, move, Group, group, not_whole, group_at}
 use Rattle.log_model.specs.Items.{query_of, spelled, at_time, item_events, AreCarried}
 use Rattle.log_model.specs.Log.{LogPlace, begin_query, transaction, definition, description, version, entry_bytes, behind, counted, counted_all, written_to}
 use Rattle.log_model.specs.Spelling.{bodies_of, bodies, AreItems, ran, run, said, IsShort, IsBegin, IsFront}
