@@ -7,8 +7,7 @@ ghost use Rattle.sql_tree.specs.View.{view_aggregates, view_arms, view_from, vie
 ghost use Rattle.node_walk.specs.Walking.{in_aggregates, in_arms, in_count, in_limit, in_orders, in_origin, in_part, in_query, in_selected, in_tree, in_trees};
 
 use crate::asking::{
-    Ask, asks_built_in, asks_call, asks_limit, asks_random_number, asks_system_variable,
-    asks_table,
+    Ask, asks_built_in, asks_call, asks_limit, asks_random_number, asks_system_variable, asks_table,
 };
 use sql_tree::{Aggregate, Arm, Count, Expr, FromClause, Limit, OrderItem, Select, Selection};
 use val_types::{Boxed, Func, List};
