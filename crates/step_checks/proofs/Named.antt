@@ -1,17 +1,16 @@
 -- The tables that are named, the LIMITs that are ill, and the checks.
-use Rattle.std.proofs.Common.{◌≡◌, ℕ, Bool, true, false, ◌||◌, List, [], ◌∷◌, ◌++◌, filter_map, Option, Some, None, refl, sym, ap, ◌∙◌, Err, Ok}
+use Rattle.std.proofs.Common.{◌≡◌, ℕ, true, false, ◌||◌, List, [], ◌∷◌, ◌++◌, Option, Some, None, refl, sym, ap, ◌∙◌, Err, Ok}
 use Rattle.std.specs.List.{cons_option, list_any}
 use Rattle.std.specs.Option.{option_map_or}
 use Rattle.std.specs.Borrow.{Bor}
 use Rattle.std.proofs.lemmas.List.Folds.{list_any-append}
 use Rattle.val_types.specs.declared.refusal.SqlRefusal.TheVariants.{Sql}
-use Rattle.sql_tree.specs.Tree.{Tree, Trees}
 use Rattle.sql_tree.specs.Statement.{Statement}
 use Rattle.sql_locals.specs.declared.locals.Local.{Local}
 use Rattle.catalog_rules.specs.Names.{is_among, same_name}
-use Rattle.catalog_rules.specs.Nodes.{Node, a_name, a_column, a_new_column, an_old_column, an_inserted_value, a_user_variable, a_system_variable, a_built_in, a_random_number, a_function_call, a_table_read, a_limit, a_statement, no_sight, nodes_of, nodes_of_tree, nodes_of_trees, table_at, table_changed}
+use Rattle.catalog_rules.specs.Nodes.{Node, a_name, a_column, a_new_column, an_old_column, an_inserted_value, a_user_variable, a_system_variable, a_built_in, a_random_number, a_function_call, a_table_read, a_limit, a_statement, nodes_of, table_at}
 use Rattle.sql_meaning.specs.Frames.{World}
-use Rattle.sql_meaning.specs.Running.{Body, tables_named, is_ill_limit, is_ill_count, checked, body_checked, changes_running, scope_of}
+use Rattle.sql_meaning.specs.Running.{Body, tables_named, is_ill_limit, checked, body_checked, changes_running, scope_of}
 use Rattle.catalog_rules.specs.Checks.{statement_refusal}
 use Rattle.sql_evaluation.specs.Seen.{Anywhere}
 use Rattle.node_walk.specs.declared.asking.Ask.TheVariants.{IllLimit, Table}
