@@ -316,7 +316,6 @@ module _ (identity : Identity) (draw : Draw) (number : ℕ) where
       ap (λ (session : Session Item). with_count (text_turn item_call text (text_answer text) shared session)) (work_by o)
       ∙ ap (λ (t : Turn Item Answer). with_count t) (text_natural text (text_answer text) shared (at_work whole_call o))
 
-
 pub steps_kept : StepsAreKept
 unfolding step
 steps_kept identity state n text draw =
