@@ -1,5 +1,5 @@
 -- What each command of a session does: one definition a command.
-use Rattle.std.specs.Prelude.{ℕ, ◌+◌, ◌^◌, Bool, true, false, not, nat_lt, if◌then◌else◌, List, [], ◌∷◌, ◌++◌, length, filter, find, map, take, zip, Option, Some, None, Result, Ok, Err, is_some}
+use Rattle.std.specs.Prelude.{ℕ, ◌^◌, Bool, false, not, nat_lt, if◌then◌else◌, List, [], ◌∷◌, ◌++◌, length, filter, find, map, take, zip, Option, Some, None, Result, Ok, Err, is_some}
 use Rattle.std.specs.Option.{option_map}
 use Rattle.val_types.specs.declared.value.Value.{Value}
 use Rattle.sql_print.specs.StatementSpelling.{spelling}
@@ -11,6 +11,7 @@ use Rattle.catalog_rules.specs.Bases.{Base, defined}
 use Rattle.catalog_rules.specs.Checks.{session_scope, statement_refusal}
 use Rattle.catalog_rules.specs.Creating.{ddl_refusal}
 use Rattle.log_entries.specs.declared.carried.Carried.{Carried}
+use Rattle.log_entries.specs.declared.entries.Entry.{Entry}
 use Rattle.log_entries.specs.declared.entries.Entry.TheVariants.{Definition}
 use Rattle.answer_text.specs.declared.answer.Answer.{Answer}
 use Rattle.sql_meaning.specs.Frames.{Context}
@@ -19,7 +20,7 @@ use Rattle.sql_meaning.specs.Running.{most_nested}
 use Rattle.sql_reach.specs.Defining.{counters_after, is_still_refused}
 use Rattle.session_model.specs.Answers.{ok, refused}
 use Rattle.session_model.specs.Sessions.{Save, Open, just_opened, Session, Shared}
-use Rattle.session_model.specs.Running.{Call, full, Turn, Given, is_other, writing_refusal, lock_refusal, closed, commit_open, statement_run, expressions_run, given_answer}
+use Rattle.session_model.specs.Running.{Call, full, Turn, Given, is_other, writing_refusal, lock_refusal, closed, commit_open, counted_in, logged_by, statement_run, expressions_run, given_answer}
 use Rattle.session_ctx.specs.Variables.{setting, fitting, assigned}
 use Rattle.session_ctx.specs.declared.session.SessionVars.{SessionVars}
 use Rattle.log_entries.specs.Variables.{variable_set}
@@ -123,7 +124,7 @@ definition_carried context = record {
 
 abbrev pub definition_item : {I : Type 0} → Call I → List ℕ → Statement → Context → Shared → I
 definition_item call text s context shared =
-    call.note
+    call.known.note
     (record { text = text; carried = definition_carried context; rows = false; defs = []; changes = [] })
     (record {
       tree = s;
@@ -136,12 +137,17 @@ definition_item call text s context shared =
       uuids = full.uuids;
     })
 
+abbrev pub definition_entry : {I : Type 0} → Call I → List ℕ → Statement → Context → Shared → Entry I
+definition_entry call text s context shared =
+    Definition context.stamp call.identity.server_id (definition_item call text s context shared)
+
 -- a definition made is a transaction by itself
 abbrev pub defined_turn : {I : Type 0} → Call I → List ℕ → Statement → Base → Turn I (Unit {0}) → Turn I Answer
 defined_turn call text s base t = record {
-  shared = record (t.shared) { base = base; counters = counters_after s t.shared.counters; committed = t.shared.committed + 1 };
+  shared = counted_in (logged_by call (definition_entry call text s t.session.vars.context t.shared))
+      (record (t.shared) { base = base; counters = counters_after s t.shared.counters });
   session = t.session;
-  committed = t.committed ++ Definition t.session.vars.context.stamp call.identity.server_id (definition_item call text s t.session.vars.context t.shared) ∷ [];
+  committed = t.committed ++ definition_entry call text s t.session.vars.context t.shared ∷ [];
   given = ok 0;
 }
 

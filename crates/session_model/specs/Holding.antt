@@ -1,23 +1,29 @@
--- What holds of every run: the committed base is what its entries make of the first one, the open changes are those of the
--- writer's items, and a savepoint stands where it says.
-use Rattle.std.specs.Prelude.{◌≡◌, ℕ, ◌≤◌, ◌<◌, ◌==◌, Bool, true, false, not, List, [], ◌∷◌, length, flat_map, take, Option, Some, None, is_some, slice_index_or}
+-- What holds of every run: the committed base is what its entries make of the first one, and the log ends where they end; the open
+-- changes are those of the writer's items, and a savepoint stands where it says; items and entries are what statements made.
+use Rattle.std.specs.Prelude.{◌≡◌, ℕ, ◌≤◌, ◌<◌, ◌^◌, ◌==◌, Bool, true, false, not, List, [], ◌∷◌, length, map, flat_map, take, Option, Some, None, is_some, slice_index_or}
 use Rattle.std.specs.Option.{option_map_or, option_and_then}
 use Rattle.val_types.specs.declared.change.Change.{Change}
 use Rattle.auto_inc.specs.declared.counters.Counter.{Counter}
 use Rattle.port_traits.specs.declared.identity.Identity.{Identity}
 use Rattle.port_traits.specs.declared.identity.Draw.{Draw}
 use Rattle.table_rules.specs.Stored.{all_applied}
-use Rattle.catalog_rules.specs.Bases.{Base, defined}
+use Rattle.catalog_rules.specs.Bases.{Base, defined, empty_base}
+use Rattle.log_entries.specs.declared.entries.Entry.{Entry}
+use Rattle.log_entries.specs.declared.entries.Entry.TheVariants.{Transaction, Definition, LogStart}
 use Rattle.log_entries.specs.Entries.{after}
+use Rattle.log_model.specs.Log.{LogPlace, counted_all, written_to}
+use Rattle.transaction_sizes.specs.Sizes.{are_too_large}
 use Rattle.session_model.specs.Sessions.{Save, Open, Session, Shared}
 use Rattle.answer_text.specs.declared.answer.Answer.{Answer}
 use Rattle.answer_text.specs.declared.answer.End.{End}
 use Rattle.answer_text.specs.declared.answer.End.TheVariants as ends
 use Rattle.sql_meaning.specs.Frames.{Context}
+use Rattle.sql_reach.specs.Defining.{is_still_refused}
 use Rattle.sql_reach.specs.Reach.{is_definition}
 use Rattle.sql_tree.specs.Statement.{Statement, begin, set_all, call_procedure}
-use Rattle.session_model.specs.Running.{Call, Fuel, Turn, items_of, is_other, scene_for}
-use Rattle.session_model.specs.Machine.{Whole, whole, Machine, machine_after, first_state, step, statement_turn}
+use Rattle.text_answers.specs.Answers.{a_statement, text_answer}
+use Rattle.session_model.specs.Running.{Call, Fuel, Turn, definitions_changed, items_of, is_other, scene_for}
+use Rattle.session_model.specs.Machine.{Whole, whole, kept_of, kept_entry, Machine, machine_after, first_state, nowhere, opened, step, statement_turn}
 
 -- ---- entries of whole items
 
@@ -30,6 +36,39 @@ define i base = defined i.began.tree base
 
 abbrev pub changes_in : List Whole → List Change
 changes_in items = flat_map changes_of items
+
+-- ---- what statements made
+
+-- An item of a statement: it is logged by its rows, with the definitions of their tables, and it changed something.
+pub record IsMade (i : Whole) : Type 0 where
+  pub rows : i.kept.rows ≡ true
+  pub defs : i.kept.defs ≡ definitions_changed i.began.catalog i.kept.changes
+  pub some : 1 ≤ length i.kept.changes
+
+abbrev pub AreMade : List Whole → Type 0
+AreMade [] = Unit {0}
+AreMade (i ∷ is) = IsMade i × AreMade is
+
+-- items of one transaction, which have no more bytes than one may have
+pub record AreOne (items : List Whole) : Type 0 where
+  pub made : AreMade items
+  pub small : are_too_large (map kept_of items) ≡ false
+
+-- A definition: its text, which a command may have, is the statement that was carried out.
+pub record IsDefined (i : Whole) : Type 0 where
+  pub text : text_answer i.kept.text ≡ a_statement i.began.tree
+  pub short : length i.kept.text ≤ 2 ^ 20
+  pub is : is_definition i.began.tree ≡ true
+  pub allowed : is_still_refused i.began.tree ≡ false
+
+abbrev pub EntryMade : Entry Whole → Type 0
+EntryMade (Transaction stamp server items) = (1 ≤ length items) × AreOne items
+EntryMade (Definition stamp server i) = IsDefined i
+EntryMade (LogStart stamp server) = Unit {0}
+
+abbrev pub EntriesMade : List (Entry Whole) → Type 0
+EntriesMade [] = Unit {0}
+EntriesMade (e ∷ es) = EntryMade e × EntriesMade es
 
 -- ---- one session
 
@@ -50,6 +89,7 @@ pub record Owns (n : ℕ) (shared : Shared) (t : Option (Open Whole)) : Type 0 w
   pub own : holds_lock n shared.writer ≡ true → shared.changes ≡ changes_in (items_of t)
   pub none : holds_lock n shared.writer ≡ false → items_of t ≡ []
   pub saves : SavesFrom (items_of t) 0 (saves_of t)
+  pub one : AreOne (items_of t)
 
 -- ---- what all share
 
@@ -61,22 +101,40 @@ pub record SharedHolds (shared : Shared) : Type 0 where
 abbrev pub transaction_of : Option (Session Whole) → Option (Open Whole)
 transaction_of session = option_and_then (λ (s : Session Whole). s.transaction) session
 
--- a run that began with a base
-pub record Holds (base : Base) (m : Machine) : Type 0 where
-  pub entries : after changes_of define m.history base ≡ Some m.state.shared.base
+-- Where a run began: with a base, so many transactions committed, and a log that ends at a place.
+pub record Beginning : Type 0 where
+  pub base : Base
+  pub committed : ℕ
+  pub place : LogPlace
+
+-- with nothing, before the first log
+abbrev pub with_nothing : Beginning
+with_nothing = record { base = empty_base; committed = 0; place = nowhere }
+
+-- a run that began so
+pub record Holds (from : Beginning) (m : Machine) : Type 0 where
+  pub entries : after changes_of define m.history from.base ≡ Some m.state.shared.base
+  pub count : counted_all (map kept_entry m.history) from.committed ≡ m.state.shared.committed
+  pub place : written_to (map kept_entry m.history) from.committed from.place ≡ m.state.shared.place
+  pub made : EntriesMade m.history
   pub shared : SharedHolds m.state.shared
   pub each : (n : ℕ) → Owns n m.state.shared (transaction_of (slice_index_or m.state.sessions n None))
 
 -- ---- laws
 
 abbrev pub RunsBegin : Type 0
-RunsBegin = (base : Base) (counters : List Counter) (committed : ℕ) → Holds base (record { state = first_state base counters committed; history = [] })
+RunsBegin =
+    (from : Beginning) (counters : List Counter) → Holds from (record { state = first_state from.base counters from.committed from.place; history = [] })
+
+-- a source that begins without a store has put out the head of its first log
+abbrev pub RunsOpen : Type 0
+RunsOpen = (identity : Identity) (draw : Draw) → Holds with_nothing (opened identity draw)
 
 -- each step keeps it, whatever the command
 abbrev pub RunsGoOn : Type 0
 RunsGoOn =
-    (base : Base) (m : Machine) (identity : Identity) (n : ℕ) (text : List ℕ) (draw : Draw) → Holds base m → n < length m.state.sessions
-    → Holds base (machine_after m (step whole identity m.state n text draw))
+    (from : Beginning) (m : Machine) (identity : Identity) (n : ℕ) (text : List ℕ) (draw : Draw) → Holds from m → n < length m.state.sessions
+    → length text ≤ 2 ^ 20 → Holds from (machine_after m (step whole identity m.state n text draw))
 
 -- ---- errors and readers
 
@@ -98,6 +156,7 @@ pub record IsLeft {I : Type 0} (shared : Shared) (session : Session I) (t : Turn
   pub changes : t.shared.changes ≡ shared.changes
   pub writer : t.shared.writer ≡ shared.writer
   pub count : t.shared.committed ≡ shared.committed
+  pub place : t.shared.place ≡ shared.place
   pub transaction : t.session.transaction ≡ session.transaction
   pub entries : t.committed ≡ []
 

@@ -1,14 +1,15 @@
 -- The machine of sessions: what a command makes of a source, what it is answered, and which entries it puts out.
-use Rattle.std.specs.Prelude.{◌≡◌, ℕ, if◌then◌else◌, List, [], ◌++◌, map, replicate, Option, Some, None, slice_index_or, slice_set}
+use Rattle.std.specs.Prelude.{◌≡◌, ℕ, if◌then◌else◌, List, [], ◌∷◌, ◌++◌, map, replicate, take, drop, ◌==◌, Option, Some, None, slice_index_or, slice_set}
 use Rattle.std.specs.Option.{option_map}
 use Rattle.port_traits.specs.declared.identity.Identity.{Identity}
 use Rattle.port_traits.specs.declared.identity.Draw.{Draw}
 use Rattle.sql_tree.specs.Statement.{Statement, set_all, call_procedure, begin, commit, rollback, savepoint, rollback_to, release_savepoint}
 use Rattle.log_entries.specs.declared.entries.Item.{Item}
 use Rattle.log_entries.specs.declared.entries.Entry.{Entry}
-use Rattle.log_entries.specs.declared.entries.Entry.TheVariants.{Transaction, Definition, LogStart}
+use Rattle.log_entries.specs.declared.entries.Entry.TheVariants.{LogStart}
+use Rattle.log_model.specs.Log.{LogPlace, log}
 use Rattle.answer_text.specs.declared.answer.Answer.{Answer}
-use Rattle.catalog_rules.specs.Bases.{Base}
+use Rattle.catalog_rules.specs.Bases.{Base, empty_base}
 use Rattle.auto_inc.specs.declared.counters.Counter.{Counter}
 use Rattle.session_ctx.specs.Contexts.{new_context, at_command}
 use Rattle.session_ctx.specs.declared.session.SessionVars.{SessionVars}
@@ -16,7 +17,7 @@ use Rattle.sql_reach.specs.Reach.{is_definition}
 use Rattle.text_answers.specs.Answers.{TextAnswer, a_statement, a_syntax_error, too_deep, text_answer}
 use Rattle.session_model.specs.Answers.{refused, refused_at, row_count_after}
 use Rattle.session_model.specs.Sessions.{Open, Session, Shared, State}
-use Rattle.session_model.specs.Running.{Began, Call, Turn}
+use Rattle.session_model.specs.Running.{Began, Call, Known, Turn, entry_by}
 use Rattle.session_model.specs.Commands.{answered, begin_turn, commit_turn, rollback_turn, save_turn, back_turn, release_in, definition_turn, set_turn, call_turn, plain_turn}
 
 -- ---- one command
@@ -68,10 +69,10 @@ command call text shared session = with_count (text_turn call text (text_answer 
 abbrev pub session_slots : ℕ
 session_slots = 100
 
--- a source that starts from a base with its counters, and so many transactions committed
-abbrev pub first_state : {I : Type 0} → Base → List Counter → ℕ → State I
-first_state base counters committed = record {
-  shared = record { base = base; counters = counters; changes = []; writer = None; committed = committed };
+-- a source that starts from a base with its counters, so many transactions committed, and a log that ends at a place
+abbrev pub first_state : {I : Type 0} → Base → List Counter → ℕ → LogPlace → State I
+first_state base counters committed place = record {
+  shared = record { base = base; counters = counters; changes = []; writer = None; committed = committed; place = place };
   sessions = replicate session_slots None;
 }
 
@@ -89,9 +90,9 @@ stepped n state t = record {
 }
 
 -- the command of a session on a text, with its draw
-unfoldable pub step : {I : Type 0} → (Item → Began → I) → Identity → State I → ℕ → List ℕ → Draw → Step I
-step note identity state n text draw =
-    stepped n state (command (record { identity = identity; draw = draw; number = n; note = note }) text state.shared (slice_index_or state.sessions n None))
+unfoldable pub step : {I : Type 0} → Known I → Identity → State I → ℕ → List ℕ → Draw → Step I
+step known identity state n text draw =
+    stepped n state (command (record { identity = identity; draw = draw; number = n; known = known }) text state.shared (slice_index_or state.sessions n None))
 
 -- ---- the same with something else known of items
 
@@ -105,19 +106,8 @@ module _ {I J : Type 0} (f : I → J) where
   abbrev pub state_by : State I → State J
   state_by state = record { shared = state.shared; sessions = map (option_map session_by) state.sessions }
 
-  abbrev pub entry_by : Entry I → Entry J
-  entry_by (Transaction stamp server items) = Transaction stamp server (map f items)
-  entry_by (Definition stamp server item) = Definition stamp server (f item)
-  entry_by (LogStart stamp server) = LogStart stamp server
-
   abbrev pub step_by : Step I → Step J
-  step_by s = record { state = state_by s.state; answer = s.answer; committed = map entry_by s.committed }
-
--- a source does the same whatever is known of items: what is known by a function of what is known elsewhere, is the function of that
-abbrev pub StepsAreNatural : {I J : Type 0} → (I → J) → Type 0
-StepsAreNatural {I = I} {J = J} f =
-    (note : Item → Began → I) (identity : Identity) (state : State I) (n : ℕ) (text : List ℕ) (draw : Draw)
-    → step (λ item began. f (note item began)) identity (state_by f state) n text draw ≡ step_by f (step note identity state n text draw)
+  step_by s = record { state = state_by s.state; answer = s.answer; committed = map (entry_by f) s.committed }
 
 -- ---- whole items, and what a node keeps of them
 
@@ -126,17 +116,21 @@ pub record Whole : Type 0 where
   pub kept : Item
   pub began : Began
 
-abbrev pub whole : Item → Began → Whole
-whole item began = record { kept = item; began = began }
-
-abbrev pub kept : Item → Began → Item
-kept item began = item
-
 abbrev pub kept_of : Whole → Item
 kept_of i = i.kept
 
+-- a whole run knows all of an item, a node what the log has of it
+abbrev pub whole : Known Whole
+whole = record { note = λ item began. record { kept = item; began = began }; logged = kept_of }
+
+abbrev pub kept : Known Item
+kept = record { note = λ item began. item; logged = λ item. item }
+
 abbrev pub kept_state : State Whole → State Item
 kept_state state = state_by kept_of state
+
+abbrev pub kept_entry : Entry Whole → Entry Item
+kept_entry e = entry_by kept_of e
 
 abbrev pub kept_step : Step Whole → Step Item
 kept_step s = step_by kept_of s
@@ -154,3 +148,25 @@ pub record Machine : Type 0 where
 
 abbrev pub machine_after : Machine → Step Whole → Machine
 machine_after m s = record { state = s.state; history = m.history ++ s.committed }
+
+-- ---- a source that begins without a store
+
+-- before the first log
+abbrev pub nowhere : LogPlace
+nowhere = record { log = 0; pos = 0 }
+
+-- behind the head of the first log
+abbrev pub first_place : LogPlace
+first_place = record { log = 1; pos = 123 }
+
+-- nothing is there but the head of the first log, which opening writes at its draw
+abbrev pub opened : Identity → Draw → Machine
+opened identity draw = record { state = first_state empty_base [] 0 first_place; history = LogStart draw.now identity.server_id ∷ [] }
+
+-- the bytes of the first log, from its magic on: those of all entries
+abbrev pub log_of : Machine → List ℕ
+log_of m = log (map kept_entry m.history) 0 nowhere
+
+-- what the log with a number has from a position on, of so many bytes at the most; a source has just the first log
+abbrev pub log_bytes : List ℕ → LogPlace → ℕ → List ℕ
+log_bytes bytes place most = if place.log == 1 then take most (drop place.pos bytes) else []

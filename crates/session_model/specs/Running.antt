@@ -1,5 +1,5 @@
 -- What one statement of a session does to what is shared and to its session, and which entries it puts out.
-use Rattle.std.specs.Prelude.{ℕ, ◌+◌, ◌^◌, ◌-◌, ◌==◌, Bool, true, false, not, nat_le, if◌then◌else◌, List, [], ◌∷◌, ◌++◌, length, drop, filter, map, Option, Some, None, Result, Ok, Err, ℤ}
+use Rattle.std.specs.Prelude.{ℕ, ◌+◌, ◌^◌, ◌-◌, ◌==◌, ◌||◌, Bool, true, false, not, nat_le, if◌then◌else◌, List, [], ◌∷◌, ◌++◌, length, drop, filter, map, Option, Some, None, Result, Ok, Err, ℤ}
 use Rattle.std.specs.Option.{option_map_or}
 use Rattle.val_types.specs.declared.change.Change.{Change}
 use Rattle.val_types.specs.declared.definitions.TableDef.{TableDef}
@@ -15,7 +15,9 @@ use Rattle.catalog_rules.specs.Objects.{Object}
 use Rattle.catalog_rules.specs.Bases.{definitions_in}
 use Rattle.log_entries.specs.declared.entries.Item.{Item}
 use Rattle.log_entries.specs.declared.entries.Entry.{Entry}
-use Rattle.log_entries.specs.declared.entries.Entry.TheVariants.{Transaction}
+use Rattle.log_entries.specs.declared.entries.Entry.TheVariants.{Transaction, Definition, LogStart}
+use Rattle.log_model.specs.Log.{LogPlace, behind}
+use Rattle.transaction_sizes.specs.Sizes.{are_too_large}
 use Rattle.answer_text.specs.declared.answer.Answer.{Answer}
 use Rattle.sql_meaning.specs.Scenes.{Scene, Ending, done, failed}
 use Rattle.sql_meaning.specs.Frames.{Context, Setting}
@@ -41,13 +43,23 @@ pub record Began : Type 0 where
   pub turns : ℕ
   pub uuids : ℕ
 
--- What a command has round it: who the node is, the command's draw, the number of its session, and what is known of an item, by
--- what the log has of it and what it began with.
+-- What is known of items: by what the log has of one and what it began with; and what the log has of one by what is known of it.
+pub record Known (I : Type 0) : Type 0 where
+  pub note : Item → Began → I
+  pub logged : I → Item
+
+-- What a command has round it: who the node is, the command's draw, the number of its session, and what is known of items.
 pub record Call (I : Type 0) : Type 0 where
   pub identity : Identity
   pub draw : Draw
   pub number : ℕ
-  pub note : Item → Began → I
+  pub known : Known I
+
+-- the same entry with something else known of its items
+abbrev pub entry_by : {I J : Type 0} → (I → J) → Entry I → Entry J
+entry_by f (Transaction stamp server items) = Transaction stamp server (map f items)
+entry_by f (Definition stamp server item) = Definition stamp server (f item)
+entry_by f (LogStart stamp server) = LogStart stamp server
 
 -- What is left to a command: turns of WHILE, and how many UUIDs it made.
 pub record Fuel : Type 0 where
@@ -78,13 +90,18 @@ released n shared = if is_other n shared.writer then shared else record shared {
 abbrev pub most_committed : ℕ
 most_committed = 2 ^ 32 - 1
 
--- what refuses a statement that writes: 30008 too many transactions, 1205 another session writes
+-- a log that ends here takes no transaction more: there is no log behind the last one, or it is too long
+abbrev pub is_full : LogPlace → Bool
+is_full place = place.log == 60000 || nat_le (2 ^ 30) place.pos
+
+-- what refuses a statement that writes: 30008 too many transactions or too long a log, 1205 another session writes
 abbrev pub held_by : ℕ → Option ℕ → Option Answer
 held_by n None = None
 held_by n (Some w) = if w == n then None else Some (refused_by w)
 
 abbrev pub writing_refusal : ℕ → Shared → Option Answer
-writing_refusal n shared = if nat_le most_committed shared.committed then Some (refused 30008) else held_by n shared.writer
+writing_refusal n shared =
+    if nat_le most_committed shared.committed || is_full shared.place then Some (refused 30008) else held_by n shared.writer
 
 abbrev pub lock_refusal : ℕ → Shared → Statement → Option Answer
 lock_refusal n shared s = if writes shared.base.catalog s then writing_refusal n shared else None
@@ -95,30 +112,39 @@ abbrev pub items_of : {I : Type 0} → Option (Open I) → List I
 items_of None = []
 items_of (Some open') = open'.items
 
--- the open changes made to the committed base, as one transaction more
-abbrev pub all_committed : Shared → Shared
-all_committed shared = record shared {
-  base = record (shared.base) { tables = tables_with shared.changes shared.base.tables };
-  changes = [];
-  committed = shared.committed + 1;
-}
+-- one transaction more, whose entry goes behind the log's end
+abbrev pub counted_in : Entry Item → Shared → Shared
+counted_in entry shared = record shared { committed = shared.committed + 1; place = behind entry shared.committed shared.place }
+
+-- the open changes made to the committed base, as the transaction of an entry
+abbrev pub all_committed : Entry Item → Shared → Shared
+all_committed entry shared =
+    counted_in entry (record shared { base = record (shared.base) { tables = tables_with shared.changes shared.base.tables }; changes = [] })
 
 abbrev pub closed : {I : Type 0} → Session I → Session I
 closed session = record session { transaction = None }
 
--- the entry of a transaction; one without items puts out none
-abbrev pub commit_shared : {I : Type 0} → List I → Shared → Shared
-commit_shared [] shared = shared
-commit_shared (i ∷ is) shared = all_committed shared
+-- the entry of a transaction that is committed at the moment of a context
+abbrev pub transaction_of : {I : Type 0} → Call I → Context → List I → Entry I
+transaction_of call context items = Transaction context.stamp call.identity.server_id items
+
+-- as the log has it
+abbrev pub logged_by : {I : Type 0} → Call I → Entry I → Entry Item
+logged_by call entry = entry_by call.known.logged entry
+
+-- one without items commits nothing and puts out no entry
+abbrev pub commit_shared : {I : Type 0} → Call I → Context → List I → Shared → Shared
+commit_shared call context [] shared = shared
+commit_shared call context (i ∷ is) shared = all_committed (logged_by call (transaction_of call context (i ∷ is))) shared
 
 abbrev pub commit_entries : {I : Type 0} → Call I → Context → List I → List (Entry I)
 commit_entries call context [] = []
-commit_entries call context (i ∷ is) = Transaction context.stamp call.identity.server_id (i ∷ is) ∷ []
+commit_entries call context (i ∷ is) = transaction_of call context (i ∷ is) ∷ []
 
 -- the end of a transaction, with its changes
 abbrev pub commit_open : {I : Type 0} → Call I → Shared → Session I → Turn I (Unit {0})
 commit_open call shared session = record {
-  shared = released call.number (commit_shared (items_of session.transaction) shared);
+  shared = released call.number (commit_shared call session.vars.context (items_of session.transaction) shared);
   session = closed session;
   committed = commit_entries call session.vars.context (items_of session.transaction);
   given = tt;
@@ -136,7 +162,7 @@ by_rows = true
 
 abbrev pub item_of : {I : Type 0} → Call I → Fuel → List ℕ → Statement → Context → Shared → Option ℤ → List Change → I
 item_of call fuel text tree context shared first changes =
-    call.note
+    call.known.note
     (record {
       text = text;
       carried = carried shared.base.catalog tree context first;
@@ -156,21 +182,22 @@ item_of call fuel text tree context shared first changes =
     })
 
 -- outside a transaction an item is one by itself; in an open one it goes last, and the session keeps the lock
-abbrev pub kept_shared : {I : Type 0} → Call I → Option (Open I) → Scene → Shared → Shared
-kept_shared call None scene shared = all_committed (record shared { changes = scene.changes })
-kept_shared call (Some open') scene shared = record shared { changes = scene.changes; writer = Some call.number }
+abbrev pub kept_shared : {I : Type 0} → Call I → Context → I → Option (Open I) → Scene → Shared → Shared
+kept_shared call context item None scene shared =
+    all_committed (logged_by call (transaction_of call context (item ∷ []))) (record shared { changes = scene.changes })
+kept_shared call context item (Some open') scene shared = record shared { changes = scene.changes; writer = Some call.number }
 
 abbrev pub kept_open : {I : Type 0} → I → Option (Open I) → Option (Open I)
 kept_open item None = None
 kept_open item (Some open') = Some (record open' { items = open'.items ++ item ∷ []; changed = true })
 
 abbrev pub kept_entries : {I : Type 0} → Call I → Context → I → Option (Open I) → List (Entry I)
-kept_entries call context item None = Transaction context.stamp call.identity.server_id (item ∷ []) ∷ []
+kept_entries call context item None = transaction_of call context (item ∷ []) ∷ []
 kept_entries call context item (Some open') = []
 
 abbrev pub keep : {I : Type 0} {A : Type 0} → Call I → I → Scene → Shared → Session I → A → Turn I A
 keep call item scene shared session a = record {
-  shared = kept_shared call session.transaction scene shared;
+  shared = kept_shared call session.vars.context item session.transaction scene shared;
   session = record session { transaction = kept_open item session.transaction };
   committed = kept_entries call session.vars.context item session.transaction;
   given = a;
@@ -212,22 +239,32 @@ pub record Given (A : Type 0) : Type 0 where
 abbrev pub fuel_of : Scene → Fuel
 fuel_of scene = record { turns = scene.turns; uuids = scene.uuids }
 
--- a statement that changed nothing leaves no item
-abbrev pub settle : {I : Type 0} {A : Type 0} → Call I → (List Change → I) → List Change → Scene → Shared → Session I → Given A → Turn I (Given A)
-settle call item [] scene shared session given = record { shared = shared; session = session; committed = []; given = given }
-settle call item (c ∷ cs) scene shared session given = keep call (item (c ∷ cs)) scene shared session given
+-- an error: what the statement changed is taken back, and what it used stays used
+abbrev pub undone : {I : Type 0} {A : Type 0} → ℕ → Statement → Shared → Session I → Scene → Turn I (Given A)
+undone code tree shared session scene = record {
+  shared = with_counters scene shared;
+  session = with_context (context_after session.vars.context tree scene.seeds None) session;
+  committed = [];
+  given = record { result = Err code; fuel = fuel_of scene };
+}
+
+-- 1197: with one item more the transaction has too many bytes
+abbrev pub takes_too_much : {I : Type 0} → Call I → Option (Open I) → I → Bool
+takes_too_much call transaction item = are_too_large (map call.known.logged (items_of transaction ++ item ∷ []))
+
+-- the changes of a statement kept as its item; one that changed nothing leaves no item
+abbrev pub settle : {I : Type 0} {A : Type 0} → Call I → (List Change → I) → List Change → Scene → Shared → Session I → Given A → (refusal : Turn I (Given A)) → Turn I (Given A)
+settle call item [] scene shared session given refusal = record { shared = shared; session = session; committed = []; given = given }
+settle call item (c ∷ cs) scene shared session given refusal =
+    if takes_too_much call session.transaction (item (c ∷ cs)) then refusal else keep call (item (c ∷ cs)) scene shared session given
 
 -- how a statement that began on a scene ended: its text and its tree make the item
 abbrev pub ended : {I : Type 0} {A : Type 0} → Call I → Fuel → List ℕ → Statement → Shared → Session I → (A → Option ℤ) → (A → Option ℤ) → Scene → Ending A → Turn I (Given A)
 ended call fuel text tree shared session first last_id before (done a scene) =
     settle call (item_of call fuel text tree session.vars.context shared (first a)) (made_behind (is_other call.number shared.writer) before scene) scene (with_counters scene shared)
     (with_context (context_after session.vars.context tree scene.seeds (last_id a)) session) (record { result = Ok a; fuel = fuel_of scene })
-ended call fuel text tree shared session first last_id before (failed code scene) = record {
-  shared = with_counters scene shared;
-  session = with_context (context_after session.vars.context tree scene.seeds None) session;
-  committed = [];
-  given = record { result = Err code; fuel = fuel_of scene };
-}
+    (undone 1197 tree shared session scene)
+ended call fuel text tree shared session first last_id before (failed code scene) = undone code tree shared session scene
 
 -- a change, a SELECT or a DO
 abbrev pub statement_run : {I : Type 0} → Call I → Fuel → List ℕ → Statement → Shared → Session I → Turn I (Given Did)

@@ -8,6 +8,7 @@ use Rattle.auto_inc.specs.declared.counters.Counter.{Counter}
 use Rattle.table_rules.specs.Tables.{Table}
 use Rattle.table_rules.specs.Stored.{all_applied}
 use Rattle.catalog_rules.specs.Bases.{Base}
+use Rattle.log_model.specs.Log.{LogPlace}
 use Rattle.session_ctx.specs.declared.session.SessionVars.{SessionVars}
 
 -- ---- transactions
@@ -37,13 +38,14 @@ pub record Session (I : Type 0) : Type 0 where
 -- ---- what all sessions share
 
 -- The committed base, the counters, the changes of the open transaction that has the writer's lock, the session that has it,
--- and how many transactions were committed.
+-- how many transactions were committed, and where the log ends.
 pub record Shared : Type 0 where
   pub base : Base
   pub counters : List Counter
   pub changes : List Change
   pub writer : Option ℕ
   pub committed : ℕ
+  pub place : LogPlace
 
 -- the tables with the open changes made to them; these can always be made
 abbrev pub tables_with : List Change → List Table → List Table

@@ -1,13 +1,8 @@
 //! What holds of the machine of sessions.
-ghost use Rattle.session_model.specs.Holding.{ErrorsLeaveAll, ReadersSeeCommitted, RunsBegin, RunsGoOn};
-ghost use Rattle.session_model.specs.Machine.{StepsAreKept, StepsAreNatural};
+ghost use Rattle.session_model.specs.Holding.{ErrorsLeaveAll, ReadersSeeCommitted, RunsBegin, RunsGoOn, RunsOpen};
+ghost use Rattle.session_model.specs.Machine.{StepsAreKept};
 
 use sql_meaning::statements_end_well;
-
-/// A law: a source does the same whatever is known of items.
-pub fn steps_are_natural<I, J>()
-    ensures { (f : I → J) → StepsAreNatural f }
-{}
 
 /// A law: what a node keeps of a step on whole items is its step on what it keeps of them.
 pub fn steps_are_kept()
@@ -15,10 +10,12 @@ pub fn steps_are_kept()
 {}
 
 /// A law: in every run the committed base is what the entries that were put out make of the base that it
-/// began with; the open changes are those of the items of the session that has the lock, and no other
-/// session has an item; a savepoint stands at the changes of its items.
+/// began with, and the log ends where they end; the open changes are those of the items of the session that
+/// has the lock, and no other session has an item; a savepoint stands at the changes of its items; items and
+/// entries are what statements made, and no transaction has more bytes than one may have.
 pub fn runs_hold()
     ensures begins { RunsBegin }
+    ensures opens { RunsOpen }
     ensures goes_on { RunsGoOn }
 {
     statements_end_well();

@@ -12,21 +12,20 @@
 //! - `worked`: scripts by hand, which the checker computes from their texts to their answers
 //!
 //! # Proved
-//! - What a node keeps of a step on whole items is its step on what it keeps of them ([`steps_are_kept`]), since a source does
-//!   the same whatever is known of items ([`steps_are_natural`]).
-//! - In every run the committed base is what the entries that were put out make of the base that it began with; the open
-//!   changes are those of the items of the session that has the lock, and no other session has an item; a savepoint stands at
-//!   the changes of its items, so that ROLLBACK TO cuts rows and items at one place ([`runs_hold`]).
+//! - What a node keeps of a step on whole items is its step on what it keeps of them ([`steps_are_kept`]).
+//! - In every run the committed base is what the entries that were put out make of the base that it began with, and the log
+//!   ends where their bytes end; the open changes are those of the items of the session that has the lock, and no other session
+//!   has an item; a savepoint stands at the changes of its items, so that ROLLBACK TO cuts rows and items at one place; items
+//!   are logged by their rows, with the definitions of their tables, and no transaction has more bytes than one may have
+//!   ([`runs_hold`]).
 //! - A change, a SELECT, a DO or a statement on savepoints that is refused leaves all tables, the open transaction and what was
 //!   committed ([`errors_leave_all`]).
 //! - A session beside another one's open changes reads the rows that were last committed ([`readers_see_committed`]).
-//! - The worked scripts: a writer and a reader, savepoints, variables.
+//! - The worked scripts: a writer and a reader, savepoints, variables; where the log ends behind a row.
 #![tactic(auto)]
 
 mod laws;
 mod worked;
 
-pub use laws::{
-    errors_leave_all, readers_see_committed, runs_hold, steps_are_kept, steps_are_natural,
-};
-pub use worked::{savepoints_kept, variables_set, writers_and_readers};
+pub use laws::{errors_leave_all, readers_see_committed, runs_hold, steps_are_kept};
+pub use worked::{log_grows, logs_full, savepoints_kept, variables_set, writers_and_readers};

@@ -1,0 +1,16 @@
+//! How many bytes a transaction has: its items as events of a log, and its changes where they are kept.
+//!
+//! A transaction may have 64 MiB of each. A source asks that of the items that it keeps, a replica of the groups that it carries
+//! out; both stand on this crate.
+//!
+//! - `changes`: [`changes_size`]
+//!
+//! The definitions stand in specs/ (`Sizes`).
+//!
+//! # Proved
+//! - [`changes_size`] is how many bytes changes have, or the greatest number of 64 bits where they have more, and takes no memory
+#![tactic(auto)]
+
+mod changes;
+
+pub use changes::{change_size, changes_size};
