@@ -13,7 +13,7 @@ use Rattle.sql_tree.specs.Statement.{Statement, create_table, create_function, c
 use Rattle.catalog_rules.specs.Objects.{Object, function, procedure, reaction}
 use Rattle.catalog_rules.specs.Defined.{definition_of}
 use Rattle.catalog_rules.specs.Creating.{ddl_refusal, catalog_after}
-use Rattle.catalog_rules.specs.Bases.{Base, empty_base, tables_after, defined, definitions_in}
+use Rattle.catalog_rules.specs.Bases.{Base, tables_after, defined, definitions_in}
 use Rattle.log_entries.specs.declared.entries.Entry.{Entry}
 use Rattle.log_entries.specs.declared.entries.Entry.TheVariants.{Transaction, Definition, LogStart}
 use Rattle.log_entries.specs.Entries.{with_tables, entry_applied}
