@@ -15,7 +15,7 @@ use Rattle.catalog_objects.specs.declared.object.Object.{Object}
 use Rattle.catalog_objects.specs.Keys.{objects_of}
 use Rattle.applier_model.specs.Stops.{Differs, stop_at}
 use Rattle.applier_model.specs.Rows.{Store, carry_change}
-use Rattle.applier_model.specs.Sizes.{change_size, changes_size, most_bytes}
+use Rattle.transaction_sizes.specs.Sizes.{change_size, changes_size, most_bytes}
 use Rattle.applier_model.specs.Texts.{Applier, Needs, Progress, no_needs}
 use Rattle.applier_model.specs.Groups.{Applied, Going, and_then, applied_by, carry_changes, carry_rows, event_carried, first_place, going_from, is_too_large, item_ended, items_carried, rows_ended, store_of, with_bytes, with_needs, with_store}
 use Rattle.prog_run.specs.Contents.{Contents, base_of}
