@@ -1,0 +1,15 @@
+use Rattle.run_laws.proofs.Following.{no_apply_stops}
+use Rattle.run_laws.proofs.laws.no_apply_stops.Goals as goal
+
+pub returns : goal.returns
+returns c =
+    no_apply_stops (record {
+      have = c.entries_have_length.ensures;
+      heads = c.heads_have_length.ensures;
+      goes_on = c.log_goes_on.ensures;
+      ends = c.events_end.ensures;
+      bounds = c.groups_have_bounds.ensures;
+      start_is_read = c.start_relay_is_read.ensures;
+      is_read = c.relay_is_read.ensures;
+      can_on = c.entries_can_log_on.ensures;
+    }) c.bases_hold.ensures c.entry_is_carried.ensures
