@@ -1,5 +1,5 @@
 -- APPLY of a replica that follows its source.
-use Rattle.std.proofs.Common.{◌≡◌, ◌≤◌, ◌<◌, ℕ, ◌+◌, ◌-◌, zero, suc, Bool, true, false, List, [], ◌∷◌, ◌++◌, length, map, drop, Option, Some, None, Result, Ok, Err, refl, sym, ap, ◌∙◌, subst, append_assoc, arith, length-append}
+use Rattle.std.proofs.Common.{◌≡◌, ◌<◌, ℕ, ◌+◌, ◌-◌, zero, suc, Bool, true, false, List, [], ◌∷◌, ◌++◌, length, map, drop, Option, Some, None, Result, refl, sym, ap, ◌∙◌, subst, append_assoc, arith, length-append}
 use Rattle.std.specs.Prelude.{◌^◌, min, nat_le, if◌then◌else◌}
 use Rattle.std.specs.Option.{option_and_then}
 use Rattle.std.proofs.lemmas.List.{drop-drop}
@@ -20,11 +20,10 @@ use Rattle.entry_groups.specs.Laws.{Fetched, partly, wholly}
 use Rattle.session_model.specs.Machine.{Whole, kept_entry, Machine, log_of, nowhere, first_place}
 use Rattle.session_model.specs.Holding.{changes_of, define}
 use Rattle.replica_model.specs.Replica.{Replica, behind_group, size_of}
-use Rattle.replica_model.specs.Applying.{Going, going_from, next_at, one_more, carried_out, carry, by_form, by_next, go_on, apply}
-use Rattle.run_model.specs.Run.{Both}
+use Rattle.replica_model.specs.Applying.{Going, going_from, next_at, carried_out, carry, by_next, go_on, apply}
 use Rattle.run_model.specs.Following.{AreCommitted, reader_at, Follows}
-use Rattle.run_laws.proofs.Places.{begun, front_of, count_of, place_of, front_place, behind_front, behind_magic, first_event_length, front_last, count_last, place_last, reader_last}
-use Rattle.run_laws.proofs.Carrying.{stays, first_ones, last_ones, Carries, AllCarried}
+use Rattle.run_laws.proofs.Places.{begun, front_of, count_of, place_of, front_place, behind_front, behind_magic, first_event_length, count_last, place_last, reader_last}
+use Rattle.run_laws.proofs.Carrying.{stays, first_ones, last_ones, AllCarried}
 use Rattle.run_laws.proofs.Fetching.{Below, empty_front, none_whole, past_bytes, group_size, group_to, can_behind}
 
 -- ---- entries, one more
@@ -36,11 +35,11 @@ none_after (Some base) = refl
 
 after_last : (front : List (Entry Whole)) (e : Entry Whole) (base : Base) → after changes_of define (front ++ e ∷ []) base ≡ option_and_then (entry_applied changes_of define e) (after changes_of define front base)
 after_last [] e base = none_after (entry_applied changes_of define e base)
-after_last (x ∷ xs) e base = by (entry_applied changes_of define x base)
+after_last (x ∷ xs) e base = by (λ next. after_last xs e next) (entry_applied changes_of define x base)
   where
-    by : (o : Option Base) → option_and_then (after changes_of define (xs ++ e ∷ [])) o ≡ option_and_then (entry_applied changes_of define e) (option_and_then (after changes_of define xs) o)
-    by None = refl
-    by (Some next) = after_last xs e next
+    by : ((next : Base) → after changes_of define (xs ++ e ∷ []) next ≡ option_and_then (entry_applied changes_of define e) (after changes_of define xs next)) → (o : Option Base) → option_and_then (after changes_of define (xs ++ e ∷ [])) o ≡ option_and_then (entry_applied changes_of define e) (option_and_then (after changes_of define xs) o)
+    by rest None = refl
+    by rest (Some next) = rest next
 
 number_on : (n k l most : ℕ) → n ≡ min k most → l ≡ k + 1 → min (n + 1) most ≡ min l most
 number_on n k l most is more = omega (arith, is, more)

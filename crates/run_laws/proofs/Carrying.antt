@@ -10,7 +10,7 @@ use Rattle.log_entries.specs.declared.entries.Entry.{Entry}
 use Rattle.log_entries.specs.declared.entries.Entry.TheVariants.{Transaction, Definition, LogStart}
 use Rattle.log_entries.specs.Entries.{entry_applied, after}
 use Rattle.log_model.specs.Log.{LogPlace, behind, counted}
-use Rattle.applier_model.specs.Groups.{Applied, group_carried}
+use Rattle.applier_model.specs.Groups.{group_carried}
 use Rattle.entry_groups.specs.Entries.{group_of_entry, StaysInLog, CanLogAll}
 use Rattle.applier_laws.specs.Laws.{BaseHolds, BasesHold, AllOnCatalog, OnCatalog, EntryIsCarried}
 use Rattle.session_model.specs.Machine.{Whole, kept_entry, Machine}
@@ -55,7 +55,7 @@ on_catalog base (LogStart stamp server) give = tt
 -- ---- entries on their bases
 
 -- What is known of entries from a base on.
-record Ready (base last : Base) (es : List (Entry Whole)) : Type 0 where
+pub record Ready (base last : Base) (es : List (Entry Whole)) : Type 0 where
   pub holds : BaseHolds base
   pub made : EntriesMade es
   pub give : EntriesGive base es
@@ -80,10 +80,10 @@ step_on hold base last e es ready = by (entry_applied changes_of define e base) 
 
 -- the entries behind the first ones
 ready_behind : BasesHold → (front back : List (Entry Whole)) (base middle last : Base) → after changes_of define front base ≡ Some middle → Ready base last (front ++ back) → Ready middle last back
-ready_behind hold [] back base middle last is ready = at is ready
+ready_behind hold [] back base middle last is ready = at base middle is ready
   where
-    at : {a b : Base} → Some a ≡ Some b → Ready a last back → Ready b last back
-    at same r = let e : a ≡ b = cc in rw e at r
+    at : (a b : Base) → Some a ≡ Some b → Ready a last back → Ready b last back
+    at a b same r = let e : a ≡ b = cc in rw e at r
 ready_behind hold (e ∷ es) back base middle last is ready =
     let s : Stepped base last e (es ++ back) = step_on hold base last e (es ++ back) ready in
     ready_behind hold es back s.next middle last (sym (ap (option_and_then (after changes_of define es)) s.makes) ∙ is) s.ready

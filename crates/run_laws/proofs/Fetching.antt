@@ -1,5 +1,5 @@
 -- From where a replica fetches that follows its source.
-use Rattle.std.proofs.Common.{◌≡◌, ◌≤◌, ◌<◌, ℕ, ◌+◌, ◌-◌, zero, suc, List, [], ◌∷◌, ◌++◌, length, map, take, drop, refl, sym, ap, ◌∙◌, subst, append_assoc, arith, length-append}
+use Rattle.std.proofs.Common.{◌≡◌, ◌<◌, ℕ, ◌+◌, ◌-◌, zero, suc, List, [], ◌∷◌, ◌++◌, length, map, take, drop, refl, sym, ap, ◌∙◌, subst, append_assoc, arith, length-append}
 use Rattle.std.specs.Prelude.{◌^◌}
 use Rattle.std.proofs.Math.Seq.{drop-append_seam}
 use Rattle.std.proofs.lemmas.List.{drop-drop, map-append, take-append-drop}
@@ -7,8 +7,8 @@ use Rattle.log_entries.specs.declared.entries.Item.{Item}
 use Rattle.log_entries.specs.declared.entries.Entry.{Entry}
 use Rattle.log_entries.specs.declared.entries.Entry.TheVariants.{Transaction, Definition, LogStart}
 use Rattle.event_codec.specs.Reading.{none, short, reading}
-use Rattle.log_model.specs.Events.{events_from, stop_from, EventsEnd}
-use Rattle.log_model.specs.Groups.{Group, Next, group, not_whole, group_of, group_at}
+use Rattle.log_model.specs.Events.{EventsEnd}
+use Rattle.log_model.specs.Groups.{Group, Next, not_whole, group_at}
 use Rattle.log_model.specs.Log.{LogPlace, moved, behind, counted, description, entry_bytes, log, EntriesHaveLength, HeadsHaveLength, LogGoesOn}
 use Rattle.log_model.specs.Written.{bytes_of}
 use Rattle.entry_groups.specs.Entries.{group_of_entry, start_group, StaysInLog, CanLog, CanLogAll}
@@ -48,7 +48,7 @@ pub group_size : GroupsHaveBounds → (e : Entry Item) (number : ℕ) (p : LogPl
 group_size bounds e number p stay = let b = bounds e number p stay in size b.0 b.1
   where
     size : {first end at n : ℕ} → first ≡ at → end ≡ at + n → end - first ≡ n
-    size f e = omega (arith, f, e)
+    size f q = omega (arith, f, q)
 
 pub group_leads : (e : Entry Item) (number : ℕ) (p place : LogPlace) → StaysInLog e → CanLog e number p
     → behind_group place (group_of_entry e number p) ≡ record { log = place.log; pos = (group_of_entry e number p).end }
@@ -87,7 +87,8 @@ past_entries : Below → (most : ℕ) (es : List (Entry Whole)) (number : ℕ) (
 past_entries below zero es number p place bytes rest committed can is at = refl
 past_entries below (suc most) [] number p place bytes rest committed can is at = ap (past_next (past_groups most) place bytes) (none_whole below.ends bytes place.pos (empty_front bytes rest is))
 past_entries below (suc most) (e ∷ es) number p place bytes rest committed can is at =
-    by (below.is_read (kept_entry e) number p bytes rest (log (map kept_entry es) (counted (kept_entry e) number) (behind (kept_entry e) number p)) stay can.0 is)
+    by (λ more place' back to. past_entries below most es (counted (kept_entry e) number) (behind (kept_entry e) number p) place' more rest (others e es committed) can.1 back to)
+    (below.is_read (kept_entry e) number p bytes rest (log (map kept_entry es) (counted (kept_entry e) number) (behind (kept_entry e) number p)) stay can.0 is)
   where
     stay : StaysInLog (kept_entry e)
     stay = stays e es committed
@@ -95,19 +96,21 @@ past_entries below (suc most) (e ∷ es) number p place bytes rest committed can
     g = group_of_entry (kept_entry e) number p
     here : {x : Next} → group_at (record { bytes = bytes; pos = p.pos }) ≡ x → group_at (record { bytes = bytes; pos = place.pos }) ≡ x
     here q = ap (λ (k : LogPlace). group_at (record { bytes = bytes; pos = k.pos })) at ∙ q
-    ends_at : {n k l a b : ℕ} → a ≡ b + n → l ≡ n + k → a + k ≡ b + l
-    ends_at q s = omega (arith, q, s)
-    by : Fetched (entry_bytes (kept_entry e) number p) p.pos g bytes rest (log (map kept_entry es) (counted (kept_entry e) number) (behind (kept_entry e) number p))
+    ends_at : (n k l a b : ℕ) → a ≡ b + n → l ≡ n + k → a + k ≡ b + l
+    ends_at n k l a b q s = omega (arith, q, s)
+    by : ((more : List ℕ) (place' : LogPlace) → more ++ rest ≡ log (map kept_entry es) (counted (kept_entry e) number) (behind (kept_entry e) number p)
+        → place' ≡ behind (kept_entry e) number p → past_groups most place' more ≡ moved place' (length more))
+        → Fetched (entry_bytes (kept_entry e) number p) p.pos g bytes rest (log (map kept_entry es) (counted (kept_entry e) number) (behind (kept_entry e) number p))
         → past_groups (suc most) place bytes ≡ moved place (length bytes)
-    by (partly not) = ap (past_next (past_groups most) place bytes) (here not)
-    by (wholly more split back read) =
+    by next (partly not) = ap (past_next (past_groups most) place bytes) (here not)
+    by next (wholly more split back read) =
         let to : behind_group place g ≡ behind (kept_entry e) number p = group_to below.have below.bounds (kept_entry e) number p place stay can.0 (ap (λ (q : LogPlace). q.log) at) in
         let left : drop (size_of g) bytes ≡ more = past_bytes (entry_bytes (kept_entry e) number p) bytes more (size_of g) split (group_size below.bounds (kept_entry e) number p stay) in
         let end : g.end ≡ p.pos + length (entry_bytes (kept_entry e) number p) = (below.bounds (kept_entry e) number p stay).1 in
         let size : length bytes ≡ length (entry_bytes (kept_entry e) number p) + length more = ap length split ∙ length-append (entry_bytes (kept_entry e) number p) more in
-        let sum : g.end + length more ≡ place.pos + length bytes = ends_at (end ∙ ap (λ (q : LogPlace). q.pos + length (entry_bytes (kept_entry e) number p)) (sym at)) size in
+        let sum : g.end + length more ≡ place.pos + length bytes = ends_at (length (entry_bytes (kept_entry e) number p)) (length more) (length bytes) g.end place.pos (end ∙ ap (λ (q : LogPlace). q.pos + length (entry_bytes (kept_entry e) number p)) (sym at)) size in
         ap (past_next (past_groups most) place bytes) (here read) ∙ ap (past_groups most (behind_group place g)) left
-        ∙ past_entries below most es (counted (kept_entry e) number) (behind (kept_entry e) number p) (behind_group place g) more rest (others e es committed) can.1 back to
+        ∙ next more (behind_group place g) back to
         ∙ ap (λ (q : LogPlace). moved q (length more)) (group_leads (kept_entry e) number p place stay can.0) ∙ ap (λ (k : ℕ). record { log = place.log; pos = k }) sum
 
 -- from the beginning of the log on

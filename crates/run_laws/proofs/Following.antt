@@ -1,19 +1,19 @@
 -- The replica follows its source behind each command.
-use Rattle.std.proofs.Common.{◌≡◌, ℕ, List, [], ◌∷◌, ◌++◌, length, map, drop, take, Some, None, refl, sym, ap, ◌∙◌, subst, append_assoc, append-nil}
+use Rattle.std.proofs.Common.{◌≡◌, ℕ, List, [], ◌++◌, map, drop, take, Some, refl, sym, ap, ◌∙◌, subst, append_assoc, append-nil}
 use Rattle.port_traits.specs.declared.identity.Identity.{Identity}
 use Rattle.port_traits.specs.declared.identity.Draw.{Draw}
 use Rattle.catalog_rules.specs.Bases.{Base, empty_base}
 use Rattle.log_entries.specs.declared.entries.Entry.{Entry}
 use Rattle.log_entries.specs.Entries.{after}
-use Rattle.log_model.specs.Log.{log}
+use Rattle.log_model.specs.Log.{LogPlace, log, counted_all, written_to}
 use Rattle.entry_groups.specs.Entries.{CanLogAll}
 use Rattle.applier_laws.specs.Laws.{BasesHold, EntryIsCarried}
 use Rattle.session_model.specs.Machine.{Whole, whole, kept_entry, Machine, machine_after, Step, step, log_of, log_bytes, nowhere}
 use Rattle.session_model.specs.Holding.{changes_of, define}
 use Rattle.replica_model.specs.Replica.{want, fetched}
 use Rattle.replica_model.specs.Applying.{apply}
-use Rattle.run_model.specs.Asked.{Asked, say, select, take_bytes, take_groups}
-use Rattle.run_model.specs.Run.{Names, Both, first_both, next}
+use Rattle.run_model.specs.Asked.{say, select, take_bytes, take_groups}
+use Rattle.run_model.specs.Run.{Both, first_both}
 use Rattle.run_model.specs.Following.{AreCommitted, Follows}
 use Rattle.run_laws.specs.Laws.{IsSound, FollowsBegins, FollowsGoOn, NoApplyStops, AllCarriedIsEqual}
 use Rattle.run_laws.proofs.Places.{begun, count_of, place_of, log_grows}
@@ -43,7 +43,7 @@ follows_begins names src = record {
 said_follows : Below → (b : Both) (s : Step Whole) → AreCommitted s.committed → Follows b → Follows (record b { machine = machine_after b.machine s })
 said_follows below b s puts f =
     let m : Machine = b.machine in
-    let more : List ℕ = drop b.replica.place.pos (log_of (machine_after m s)) in
+    let committed : List ℕ = log (map kept_entry s.committed) (counted_all (map kept_entry m.history) 0) (written_to (map kept_entry m.history) 0 nowhere) in
     let on : List (Entry Whole) = f.more ++ s.committed in
     let assoc : (f.carried ++ f.more) ++ s.committed ≡ f.carried ++ on = append_assoc f.carried f.more s.committed in
     record {
@@ -56,9 +56,9 @@ said_follows below b s puts f =
       base = f.base;
       number = f.number;
       place = f.place;
-      rest = f.rest ++ log (map kept_entry s.committed) _ _;
-      relay = sym (append_assoc b.replica.relay f.rest _) ∙ ap (λ (bs : List ℕ). bs ++ _) f.relay
-          ∙ sym (log_grows below.heads below.goes_on m f.stamp f.server f.carried f.more s.committed b.replica.place.pos f.history (ap (λ q. q.pos) f.place));
+      rest = f.rest ++ committed;
+      relay = sym (append_assoc b.replica.relay f.rest committed) ∙ ap (λ (bs : List ℕ). bs ++ committed) f.relay
+          ∙ sym (log_grows below.heads below.goes_on m f.stamp f.server f.carried f.more s.committed b.replica.place.pos f.history (ap (λ (q : LogPlace). q.pos) f.place));
     }
 
 -- ---- FETCH

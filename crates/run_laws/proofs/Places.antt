@@ -1,5 +1,5 @@
 -- Where entries end in a log, and what stands behind them.
-use Rattle.std.proofs.Common.{◌≡◌, ◌≤◌, ℕ, ◌+◌, List, [], ◌∷◌, ◌++◌, length, map, drop, refl, sym, ap, ◌∙◌, subst, append_assoc, append-nil, arith, length-append}
+use Rattle.std.proofs.Common.{◌≡◌, ◌≤◌, ℕ, ◌+◌, List, [], ◌∷◌, ◌++◌, length, map, drop, refl, sym, ap, ◌∙◌, append-nil, arith, length-append}
 use Rattle.std.proofs.lemmas.List.{map-append, drop-append-le}
 use Rattle.std.proofs.Math.Seq.{drop-append_seam}
 use Rattle.log_entries.specs.declared.entries.Item.{Item}
@@ -7,7 +7,7 @@ use Rattle.log_entries.specs.declared.entries.Entry.{Entry}
 use Rattle.log_entries.specs.declared.entries.Entry.TheVariants.{Transaction, Definition, LogStart}
 use Rattle.log_model.specs.Log.{LogPlace, moved, magic, head, description, behind, counted, entry_bytes, log, written_to, counted_all, LogGoesOn, EntriesHaveLength, HeadsHaveLength}
 use Rattle.log_model.specs.Written.{bytes_of}
-use Rattle.session_model.specs.Machine.{Whole, kept_entry, Machine, log_of, nowhere, first_place}
+use Rattle.session_model.specs.Machine.{Whole, kept_of, kept_entry, Machine, log_of, nowhere, first_place}
 use Rattle.run_model.specs.Following.{AreCommitted, reader_at}
 
 -- ---- the first entries of a log, behind its beginning
@@ -46,10 +46,10 @@ pub written_place : EntriesHaveLength → (es : List (Entry Whole)) → AreCommi
 written_place have [] committed number p = ap (λ (n : ℕ). record { log = p.log; pos = n }) (let e : p.pos ≡ p.pos + 0 = omega arith in e)
 written_place have (Transaction stamp server items ∷ es) committed number p =
     let e : Entry Item = kept_entry (Transaction stamp server items) in
-    place_on e (map kept_entry es) number p (have.0 stamp server number _ p) (written_place have es committed (counted e number) (behind e number p))
+    place_on e (map kept_entry es) number p (have.0 stamp server number (map kept_of items) p) (written_place have es committed (counted e number) (behind e number p))
 written_place have (Definition stamp server i ∷ es) committed number p =
     let e : Entry Item = kept_entry (Definition stamp server i) in
-    place_on e (map kept_entry es) number p (have.1 stamp server number _ p) (written_place have es committed (counted e number) (behind e number p))
+    place_on e (map kept_entry es) number p (have.1 stamp server number (kept_of i) p) (written_place have es committed (counted e number) (behind e number p))
 written_place have (LogStart stamp server ∷ es) committed number p = absurd committed
 
 -- how long a beginning with entries is
@@ -128,12 +128,12 @@ reader_within heads goes_on m stamp server front back is =
     let back_bytes : List ℕ = log (map kept_entry back) (count_of stamp server front) (place_of stamp server front) in
     let parts : log_of m ≡ front_of stamp server front ++ back_bytes =
     ap (λ (es : List (Entry Whole)). log (map kept_entry es) 0 nowhere) is ∙ log_parts goes_on stamp server front back in
-    within front (front_length heads stamp server front) (ap length parts ∙ length-append (front_of stamp server front) back_bytes)
+    within front (length (log (map kept_entry front) 0 first_place)) (length back_bytes) (length (log_of m)) (front_length heads stamp server front) (ap length parts ∙ length-append (front_of stamp server front) back_bytes)
   where
-    within : (front : List (Entry Whole)) {n k l : ℕ} → length (front_of stamp server front) ≡ 123 + n → l ≡ length (front_of stamp server front) + k
+    within : (front : List (Entry Whole)) (n k l : ℕ) → length (front_of stamp server front) ≡ 123 + n → l ≡ length (front_of stamp server front) + k
         → reader_at (LogStart stamp server) front ≤ l
-    within [] front_is all_is = omega (arith, front_is, all_is)
-    within (x ∷ xs) front_is all_is = omega (arith, front_is, all_is)
+    within [] n k l front_is all_is = omega (arith, front_is, all_is)
+    within (x ∷ xs) n k l front_is all_is = omega (arith, front_is, all_is)
 
 -- ---- a log that grows
 

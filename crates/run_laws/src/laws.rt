@@ -1,7 +1,7 @@
 //! The replica follows its source.
 ghost use Rattle.run_laws.specs.Laws.{AllCarriedIsEqual, FollowsBegins, FollowsGoOn, NoApplyStops};
 
-use applier_laws::entry_is_carried;
+use applier_laws::{bases_hold, entry_is_carried};
 use entry_groups::{entries_can_log_on, groups_have_bounds, relay_is_read, start_relay_is_read};
 use log_model::{entries_have_length, events_end, heads_have_length, log_goes_on};
 
@@ -18,6 +18,7 @@ pub fn replica_follows()
     start_relay_is_read();
     relay_is_read();
     entries_can_log_on();
+    bases_hold();
     entry_is_carried();
 }
 
@@ -33,6 +34,7 @@ pub fn no_apply_stops()
     start_relay_is_read();
     relay_is_read();
     entries_can_log_on();
+    bases_hold();
     entry_is_carried();
 }
 
