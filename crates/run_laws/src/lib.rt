@@ -12,7 +12,7 @@
 //! - A replica follows its source behind each command of a run (`replica_follows`): its base is what the first entries that the
 //!   source committed make of an empty base, each carried out once and in their order; its place is behind the last of them in the
 //!   source's log, of which it has what follows, as far as it has fetched.
-//! - No APPLY stops (`no_apply_stops`): of a log that its source wrote, what is whole can be carried out, and what is not whole is
+//! - No APPLY stops (`replica_follows`): of a log that its source wrote, what is whole can be carried out, and what is not whole is
 //!   left for the next one.
 //! - A replica that has carried out all entries has the source's committed base: the same objects in the same order, with equal rows
 //!   (`all_carried_is_equal`).
@@ -20,4 +20,4 @@
 
 mod laws;
 
-pub use laws::{all_carried_is_equal, no_apply_stops, replica_follows};
+pub use laws::{all_carried_is_equal, replica_follows};
