@@ -23,7 +23,7 @@ use Rattle.replica_model.specs.Applying.{Going, Stop, apply}
 use Rattle.replica_model.specs.Lines.{applied_line, fetched_line}
 use Rattle.replica_model.specs.Selecting.{select_answer}
 use Rattle.replica_node.specs.declared.told.Applied.{Applied}
-use Rattle.replica_node.specs.Kept.{Kept}
+use Rattle.replica_node.specs.Kept.{Kept, replica_of}
 use Rattle.replica_node.specs.Steps.{IsTold, stop_of}
 use Rattle.run_model.specs.Asked.{Asked, say, select, take_bytes, take_groups}
 use Rattle.run_model.specs.Run.{Names, Both, first_both, next}
@@ -78,7 +78,7 @@ said nodes nodes' k n text draw old new answer lines can_on replays follows with
         replica_name = ap (λ (r : Kept). r.identity) replica ∙ t.replica_name;
         stands = given.1;
         slots = step_slots names.source b.machine.state n text draw ∙ t.slots;
-        replica = ap (λ (r : Kept). r.replica) replica ∙ t.replica;
+        replica = ap replica_of replica ∙ t.replica;
         sound = sound_on can_on replays names.source b.machine n text draw t.sound (omega (arith, within, t.slots)) short given.2;
         follows = follows names b (say n text) draw t.follows t.sound;
       };
@@ -86,7 +86,7 @@ said nodes nodes' k n text draw old new answer lines can_on replays follows with
 
 -- a SELECT of the replica
 pub selected : (nodes nodes' : Nodes) (k : ℕ) (text : List ℕ) (draw : Draw) (old new : Report) (answer : Answer) (lines : List ℕ) → nodes' ≡ nodes
-    → answer ≡ select_answer nodes.replica.identity draw nodes.replica.replica.counters nodes.replica.replica.base text
+    → answer ≡ select_answer nodes.replica.identity draw (replica_of nodes.replica).counters (replica_of nodes.replica).base text
     → lines ≡ shown k answer → Drew (select text) draw old new → new.now ≡ old.now
     → (names : Names) (b : Both) → Together names nodes b → CarriedOut names b k (select text) old new nodes' lines
 selected nodes nodes' k text draw old new answer lines same given lines_are drew stays names b t =
@@ -97,7 +97,7 @@ selected nodes nodes' k text draw old new answer lines same given lines_are drew
     })
 
 -- nodes of which the replica was changed
-replica_changed : (names : Names) (nodes nodes' : Nodes) (b : Both) (r : Replica) → nodes'.source ≡ nodes.source → nodes'.replica.identity ≡ nodes.replica.identity → nodes'.replica.replica ≡ r
+replica_changed : (names : Names) (nodes nodes' : Nodes) (b : Both) (r : Replica) → nodes'.source ≡ nodes.source → nodes'.replica.identity ≡ nodes.replica.identity → replica_of nodes'.replica ≡ r
     → Follows (record b { replica = r }) → Together names nodes b → Together names nodes' (record b { replica = r })
 replica_changed names nodes nodes' b r source identity replica follows t = record {
   source_name = rw source t.source_name;
@@ -110,28 +110,28 @@ replica_changed names nodes nodes' b r source identity replica follows t = recor
 }
 
 -- FETCH
-pub fetched_shown : (nodes nodes' : Nodes) (k n log pos : ℕ) (piece lines : List ℕ) → FollowsGoOn → nodes'.source ≡ nodes.source → record { log = log; pos = pos } ≡ want nodes.replica.replica
-    → piece ≡ log_bytes nodes.source.desk.log (record { log = log; pos = pos }) n → nodes'.replica ≡ record (nodes.replica) { replica = fetched piece nodes.replica.replica } → lines ≡ fetched_line k (length piece)
+pub fetched_shown : (nodes nodes' : Nodes) (k n log pos : ℕ) (piece lines : List ℕ) → FollowsGoOn → nodes'.source ≡ nodes.source → record { log = log; pos = pos } ≡ want (replica_of nodes.replica)
+    → piece ≡ log_bytes nodes.source.desk.log (record { log = log; pos = pos }) n → nodes'.replica.identity ≡ nodes.replica.identity → replica_of nodes'.replica ≡ fetched piece (replica_of nodes.replica) → lines ≡ fetched_line k (length piece)
     → (names : Names) (b : Both) (draw : Draw) → Together names nodes b → Shows names b k (take_bytes n) draw nodes' lines
-fetched_shown nodes nodes' k n log pos piece lines follows source wanted is replica lines_are names b draw t =
+fetched_shown nodes nodes' k n log pos piece lines follows source wanted is identity replica lines_are names b draw t =
     let bytes : piece ≡ log_bytes (log_of b.machine) (want b.replica) n =
     is ∙ ap (λ (p : LogPlace). log_bytes nodes.source.desk.log p n) wanted ∙ rw (t.stands.log, t.replica) refl in
-    let behind : nodes'.replica.replica ≡ fetched (log_bytes (log_of b.machine) (want b.replica) n) b.replica = ap (λ (r : Kept). r.replica) replica ∙ rw (bytes, t.replica) refl in
+    let behind : replica_of nodes'.replica ≡ fetched (log_bytes (log_of b.machine) (want b.replica) n) b.replica = replica ∙ rw (bytes, t.replica) refl in
     record {
       lines_are = lines_are ∙ ap (λ (bs : List ℕ). fetched_line k (length bs)) bytes;
       through = tt;
-      together = replica_changed names nodes nodes' b (fetched (log_bytes (log_of b.machine) (want b.replica) n) b.replica) source (ap (λ (r : Kept). r.identity) replica) behind
+      together = replica_changed names nodes nodes' b (fetched (log_bytes (log_of b.machine) (want b.replica) n) b.replica) source identity behind
           (follows names b (take_bytes n) draw t.follows t.sound) t;
     }
 
 -- APPLY
 pub applied : (nodes nodes' : Nodes) (k n : ℕ) (draw : Draw) (old new : Report) (told : Applied) (lines : List ℕ) → FollowsGoOn → NoApplyStops → nodes'.source ≡ nodes.source
-    → nodes'.replica.identity ≡ nodes.replica.identity → nodes'.replica.replica ≡ (apply n nodes.replica.identity draw nodes.replica.replica).replica
-    → IsTold told (apply n nodes.replica.identity draw nodes.replica.replica)
+    → nodes'.replica.identity ≡ nodes.replica.identity → replica_of nodes'.replica ≡ (apply n nodes.replica.identity draw (replica_of nodes.replica)).replica
+    → IsTold told (apply n nodes.replica.identity draw (replica_of nodes.replica))
     → lines ≡ applied_line k told.count (record { log = told.log; pos = told.pos }) (option_map stop_of told.stop) → Drew (take_groups n) draw old new → new.now ≡ old.now
     → (names : Names) (b : Both) → Together names nodes b → CarriedOut names b k (take_groups n) old new nodes' lines
 applied nodes nodes' k n draw old new told lines follows stops source identity replica is lines_are drew stays names b t =
-    let here : apply n nodes.replica.identity draw nodes.replica.replica ≡ apply n names.replica draw b.replica = rw (t.replica_name, t.replica) refl in
+    let here : apply n nodes.replica.identity draw (replica_of nodes.replica) ≡ apply n names.replica draw b.replica = rw (t.replica_name, t.replica) refl in
     let is' : IsTold told (apply n names.replica draw b.replica) = subst (λ (a : Going). IsTold told a) here is in
     shown_out names b k (take_groups n) draw old new nodes' lines drew stays (record {
       lines_are = lines_are ∙ rw (is'.count, is'.place, is'.stop) refl;
@@ -200,9 +200,9 @@ fetched_out (Ok lines) nodes' k n report names b shows = shown_out names b k (ta
 -- ---- both nodes opened
 
 pub opened_nodes : (nodes : Nodes) (report : Report) (src rep : Draw) (src_name rep_name : Identity) → ReplaysOpen → FollowsBegins → src.now < 2 ^ 32 → nodes.source.identity ≡ src_name
-    → nodes.replica ≡ record { identity = rep_name; replica = first_replica } → Stands nodes.source (opened src_name src) → report.src_identity ≡ Some src_name → report.rep_identity ≡ Some rep_name
+    → nodes.replica.identity ≡ rep_name → replica_of nodes.replica ≡ first_replica → Stands nodes.source (opened src_name src) → report.src_identity ≡ Some src_name → report.rep_identity ≡ Some rep_name
     → report.src_draws ≡ src ∷ [] → report.rep_draws ≡ rep ∷ [] → report.now ≡ first_mark → report.marks ≡ [] → Opened nodes report
-opened_nodes nodes report src rep src_name rep_name opens follows fits source replica stands src_is rep_is src_draws rep_draws stays marks =
+opened_nodes nodes report src rep src_name rep_name opens follows fits source identity replica stands src_is rep_is src_draws rep_draws stays marks =
     let names : Names = record { source = src_name; replica = rep_name } in
     record {
       names = names;
@@ -216,10 +216,10 @@ opened_nodes nodes report src rep src_name rep_name opens follows fits source re
       marks = marks;
       together = record {
         source_name = source;
-        replica_name = ap (λ (r : Kept). r.identity) replica;
+        replica_name = identity;
         stands = stands;
         slots = refl;
-        replica = ap (λ (r : Kept). r.replica) replica;
+        replica = replica;
         sound = record { replays = opens src_name src; logs = (fits, tt) };
         follows = follows names src;
       };

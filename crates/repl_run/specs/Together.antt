@@ -5,6 +5,7 @@ use Rattle.answer_text.specs.declared.report.Report.{Report}
 use Rattle.answer_text.specs.declared.status.Status.{Status}
 use Rattle.answer_text.specs.declared.status.Status.TheVariants.{WriteFault, NoMemory}
 use Rattle.source_node.specs.Standing.{Stands}
+use Rattle.replica_node.specs.Kept.{replica_of}
 use Rattle.run_model.specs.Asked.{Asked}
 use Rattle.run_model.specs.Run.{Names, Both, first_both, next, told_lines, is_said, is_drawn, kept_if, mark_at}
 use Rattle.run_model.specs.Following.{Follows}
@@ -20,7 +21,7 @@ pub record Together (names : Names) (nodes : Nodes) (b : Both) : Type 0 where
   pub replica_name : nodes.replica.identity ≡ names.replica
   pub stands : Stands nodes.source b.machine
   pub slots : length b.machine.state.sessions ≡ 100
-  pub replica : nodes.replica.replica ≡ b.replica
+  pub replica : replica_of nodes.replica ≡ b.replica
   pub sound : IsSound b.machine
   pub follows : Follows b
 
