@@ -69,7 +69,8 @@ put_may d row rows rest e = put_by (may_put d row rows) (with_row d row rows) re
 put_fits : (d : TableDef) (row : List Value) (rows : List (List Value)) → may_put d row rows ≡ true → row_fits d.columns row ≡ true
 put_fits d row rows e = (and_parts (row_fits d.columns row) (not (list_any (collide d row) rows)) e).0
 
-then_some : {A B : Type 0} (f : A → Option B) (o : Option A) (y : B) → option_and_then f o ≡ Some y → (z : A) × (o ≡ Some z) × (f z ≡ Some y)
+-- what follows on something that is there
+pub then_some : {A B : Type 0} (f : A → Option B) (o : Option A) (y : B) → option_and_then f o ≡ Some y → (z : A) × (o ≡ Some z) × (f z ≡ Some y)
 then_some f (Some z) y e = (z, refl, e)
 then_some f None y e = cc
 

@@ -1,7 +1,6 @@
 -- The events of items that are logged by their rows, carried out one after the other.
 use Rattle.std.proofs.Common.{◌≡◌, ℕ, ◌+◌, ◌≤◌, Bool, true, false, ◌||◌, cond, List, [], ◌∷◌, ◌++◌, map, Option, Some, None, Ok, Err, refl, sym, ap, subst, ◌∙◌, append_assoc, append-nil, arith}
 use Rattle.std.specs.Prelude.{flat_map, nat_lt}
-use Rattle.std.specs.Option.{option_and_then}
 use Rattle.std.proofs.lemmas.Bool.{le-ltb}
 use Rattle.val_types.specs.declared.change.Change.{Change}
 use Rattle.val_types.specs.declared.definitions.TableDef.{TableDef}
@@ -24,11 +23,7 @@ use Rattle.applier_model.specs.Stops.{stop_at}
 use Rattle.applier_model.specs.Texts.{Progress, Applier, no_needs}
 use Rattle.applier_model.specs.Groups.{Going, with_bytes, is_too_large, item_ended, and_then, rows_ended, first_place, carry_rows, event_carried, items_carried}
 use Rattle.applier_laws.proofs.Columns.{changed_among, MapsFit, maps_fit}
-use Rattle.applier_laws.proofs.Changes.{Stands, Reaches, changes_carried, changes_of_table}
-
-then_some : {A B : Type 0} (f : A → Option B) (o : Option A) (y : B) → option_and_then f o ≡ Some y → (z : A) × (o ≡ Some z) × (f z ≡ Some y)
-then_some f (Some z) y e = (z, refl, e)
-then_some f None y e = cc
+use Rattle.applier_laws.proofs.Changes.{then_some, Stands, Reaches, changes_carried, changes_of_table}
 
 -- ---- sizes
 
