@@ -14,11 +14,11 @@ use Rattle.log_entries.specs.Variables.{variable_set}
 use Rattle.log_model.specs.Events.{Placed}
 use Rattle.log_model.specs.Groups.{Form, start, next_log, ddl, txn, Group, find}
 use Rattle.log_model.specs.Images.{changes_of}
+use Rattle.transaction_sizes.specs.Sizes.{changes_size, most_bytes}
 use Rattle.sql_reach.specs.Defining.{counters_after, is_still_refused}
 use Rattle.sql_reach.specs.Reach.{is_definition}
 use Rattle.applier_model.specs.Stops.{Differs, stop_at}
 use Rattle.applier_model.specs.Rows.{Store, carry_change}
-use Rattle.applier_model.specs.Sizes.{changes_size, most_bytes}
 use Rattle.applier_model.specs.Texts.{Needs, no_needs, carried_of, Applier, Progress, carry_text, statement_in, stops_at}
 
 -- ---- a transaction under way
