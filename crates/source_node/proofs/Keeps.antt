@@ -84,22 +84,22 @@ module _ (identity : Identity) (draw : Draw) (n : ℕ) where
   pub in_open : (item : Item) (mark : ℕ) (old new : Desk) (vars : SessionVars) (open' later : Open Item) (kept : Bool) → kept ≡ not (are_too_large (open'.items ++ item ∷ [])) → later ≡ one_more_if kept item open'
       → kept ≡ true → shared_of new ≡ record (shared_of old) { writer = Some n } → new.log ≡ old.log
       → IsTurn old new (record { vars = vars; transaction = Some later }) kept (item_kept (call_of identity draw n) item mark (shared_of old) (record { vars = vars; transaction = Some open' }))
-  in_open item mark old new vars open' later kept is left yes taken same =
-      let more : later ≡ one_more_if true item open' = left ∙ ap (λ (b : Bool). one_more_if b item open') yes in
+  in_open item mark old new vars open' later kept is left stays taken same =
+      let more : later ≡ one_more_if true item open' = left ∙ ap (λ (b : Bool). one_more_if b item open') stays in
       turn_is old new (record { vars = vars; transaction = Some later }) kept (kept_if true (call_of identity draw n) item mark (shared_of old) (record { vars = vars; transaction = Some open' })) _
-      (ap (λ (b : Bool). kept_if b (call_of identity draw n) item mark (shared_of old) (record { vars = vars; transaction = Some open' })) (sym yes)
+      (ap (λ (b : Bool). kept_if b (call_of identity draw n) item mark (shared_of old) (record { vars = vars; transaction = Some open' })) (sym stays)
       ∙ item_is kept item mark (shared_of old) (record { vars = vars; transaction = Some open' }) is)
-      ((taken, ap (λ (o : Open Item). record { vars = vars; transaction = Some o }) more, (same, tt)), yes)
+      ((taken, ap (λ (o : Open Item). record { vars = vars; transaction = Some o }) more, (same, tt)), stays)
 
   pub not_in_open : (item : Item) (mark : ℕ) (old new : Desk) (vars : SessionVars) (open' later : Open Item) (kept : Bool) → kept ≡ not (are_too_large (open'.items ++ item ∷ [])) → later ≡ one_more_if kept item open'
       → kept ≡ false → shared_of new ≡ cut_to n mark (shared_of old) → new.log ≡ old.log
       → IsTurn old new (record { vars = vars; transaction = Some later }) kept (item_kept (call_of identity draw n) item mark (shared_of old) (record { vars = vars; transaction = Some open' }))
-  not_in_open item mark old new vars open' later kept is left no cut same =
-      let more : later ≡ open' = left ∙ ap (λ (b : Bool). one_more_if b item open') no in
+  not_in_open item mark old new vars open' later kept is left lost cut same =
+      let more : later ≡ open' = left ∙ ap (λ (b : Bool). one_more_if b item open') lost in
       turn_is old new (record { vars = vars; transaction = Some later }) kept (kept_if false (call_of identity draw n) item mark (shared_of old) (record { vars = vars; transaction = Some open' })) _
-      (ap (λ (b : Bool). kept_if b (call_of identity draw n) item mark (shared_of old) (record { vars = vars; transaction = Some open' })) (sym no)
+      (ap (λ (b : Bool). kept_if b (call_of identity draw n) item mark (shared_of old) (record { vars = vars; transaction = Some open' })) (sym lost)
       ∙ item_is kept item mark (shared_of old) (record { vars = vars; transaction = Some open' }) is)
-      ((cut, ap (λ (o : Open Item). record { vars = vars; transaction = Some o }) more, (same, tt)), no)
+      ((cut, ap (λ (o : Open Item). record { vars = vars; transaction = Some o }) more, (same, tt)), lost)
 
   -- ---- changes
 
@@ -117,18 +117,18 @@ module _ (identity : Identity) (draw : Draw) (n : ℕ) where
   pub some_changes : (item : List Change → Item) (changes : List Change) (mark : ℕ) (last_id : ℤ) (old new : Desk) (session after : Session Item) (kept : Bool) → 1 ≤ length changes → kept ≡ true
       → IsTurn old new after kept (item_kept (call_of identity draw n) (item changes) mark (shared_of old) session)
       → EndsAs (Ok tt) old new after (changes_kept (call_of identity draw n) item changes mark last_id (shared_of old) session)
-  some_changes item changes mark last_id old new session after kept some yes turn =
+  some_changes item changes mark last_id old new session after kept some stays turn =
       let t : Turn Item Bool = item_kept (call_of identity draw n) (item changes) mark (shared_of old) session in
-      let given : true ≡ t.given = sym yes ∙ turn.1 in
+      let given : true ≡ t.given = sym stays ∙ turn.1 in
       subst (λ u. EndsAs (Ok tt) old new after u) (some_kept item changes mark last_id (shared_of old) session some)
       (subst (λ (b : Bool). EndsAs (Ok tt) old new after (refused_unless b last_id t)) given (turn.0, refl))
 
   pub too_many_changes : (item : List Change → Item) (changes : List Change) (mark : ℕ) (last_id : ℤ) (old new : Desk) (session after : Session Item) (kept : Bool) → 1 ≤ length changes → kept ≡ false
       → IsTurn old new after kept (item_kept (call_of identity draw n) (item changes) mark (shared_of old) session)
       → EndsAs {A = Unit {0}} (Err (Sql 1197)) old new (with_last_id last_id after) (changes_kept (call_of identity draw n) item changes mark last_id (shared_of old) session)
-  too_many_changes item changes mark last_id old new session after kept some no turn =
+  too_many_changes item changes mark last_id old new session after kept some lost turn =
       let t : Turn Item Bool = item_kept (call_of identity draw n) (item changes) mark (shared_of old) session in
-      let given : false ≡ t.given = sym no ∙ turn.1 in
+      let given : false ≡ t.given = sym lost ∙ turn.1 in
       subst (λ u. EndsAs {A = Unit {0}} (Err (Sql 1197)) old new (with_last_id last_id after) u) (some_kept item changes mark last_id (shared_of old) session some)
       (subst (λ (b : Bool). EndsAs {A = Unit {0}} (Err (Sql 1197)) old new (with_last_id last_id after) (refused_unless b last_id t)) given
       ((turn.0.0, ap (with_last_id last_id) turn.0.1, turn.0.2), refl))

@@ -45,7 +45,7 @@ definition_place stamp server number item before bytes after is encodes =
     place_of before bytes after is ∙ ap (λ (bs : List ℕ). moved (in_log (length before)) (length bs)) encodes.bytes
     ∙ sym (definition_moves stamp server number item (in_log (length before)))
 
-logged_is : (es : List (Entry Item)) (bytes : List ℕ) (count : ℕ) → logged es bytes count ≡ bytes ++ log es count (in_log (length bytes))
+pub logged_is : (es : List (Entry Item)) (bytes : List ℕ) (count : ℕ) → logged es bytes count ≡ bytes ++ log es count (in_log (length bytes))
 logged_is [] bytes count = sym (append-nil bytes)
 logged_is (e ∷ es) bytes count = refl
 
