@@ -3,10 +3,12 @@ use Rattle.std.specs.Prelude.{ℕ, List, [], ◌∷◌, Option, Some, None, Resu
 use Rattle.script_read.specs.Commands.{What, of_session, source_checkpoint, source_flush, source_restart, fetch, apply, replica_checkpoint, replica_restart, replica_select, Command}
 use Rattle.script_read.specs.Script.{split_of}
 
--- A text of the session with this number; a SELECT of the replica.
+-- A text of the session with this number; of the replica a SELECT, so many bytes to be fetched, so many groups to be carried out.
 pub data Asked : Type 0 where
   say : ℕ → List ℕ → Asked
   select : List ℕ → Asked
+  take_bytes : ℕ → Asked
+  take_groups : ℕ → Asked
 
 -- what a command asks, None for what no node does yet
 abbrev pub asked_by : What → Option Asked
@@ -15,8 +17,8 @@ asked_by (replica_select text) = Some (select text)
 asked_by source_checkpoint = None
 asked_by source_flush = None
 asked_by source_restart = None
-asked_by (fetch n) = None
-asked_by (apply n) = None
+asked_by (fetch n) = Some (take_bytes n)
+asked_by (apply n) = Some (take_groups n)
 asked_by replica_checkpoint = None
 asked_by replica_restart = None
 

@@ -1,4 +1,4 @@
 pub mod Asked
-pub mod Selecting
 pub mod Run
+pub mod Following
 pub mod Worked

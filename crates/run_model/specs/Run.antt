@@ -1,17 +1,16 @@
--- A run of commands over a source and a replica: what they are answered, the lines that show it, and whose draw each took.
-use Rattle.std.specs.Prelude.{ℕ, ◌+◌, Bool, true, false, not, List, [], ◌∷◌, ◌++◌, unwrap_or}
+-- A run of commands over a source and a replica: what they are told, the lines that show it, and whose draw each took.
+use Rattle.std.specs.Prelude.{ℕ, ◌+◌, Bool, true, false, List, [], ◌∷◌, ◌++◌, length}
 use Rattle.port_traits.specs.declared.identity.Identity.{Identity}
 use Rattle.port_traits.specs.declared.identity.Draw.{Draw}
-use Rattle.log_entries.specs.declared.entries.Entry.{Entry}
-use Rattle.log_entries.specs.Entries.{after}
 use Rattle.answer_text.specs.declared.answer.Answer.{Answer}
 use Rattle.answer_text.specs.declared.report.Mark.{Mark}
 use Rattle.answer_text.specs.Shown.{shown}
-use Rattle.catalog_rules.specs.Bases.{Base, empty_base}
-use Rattle.session_model.specs.Holding.{changes_of, define}
-use Rattle.session_model.specs.Machine.{Whole, whole, Step, step, first_state, Machine, machine_after}
-use Rattle.run_model.specs.Asked.{Asked, say, select}
-use Rattle.run_model.specs.Selecting.{select_answer}
+use Rattle.session_model.specs.Machine.{Whole, whole, Step, step, Machine, machine_after, opened, log_of, log_bytes}
+use Rattle.replica_model.specs.Replica.{Replica, first_replica, fetched, want}
+use Rattle.replica_model.specs.Applying.{Going, apply}
+use Rattle.replica_model.specs.Selecting.{select_answer}
+use Rattle.replica_model.specs.Lines.{fetched_line, going_line}
+use Rattle.run_model.specs.Asked.{Asked, say, select, take_bytes, take_groups}
 
 -- ---- both nodes
 
@@ -20,53 +19,81 @@ pub record Names : Type 0 where
   pub source : Identity
   pub replica : Identity
 
--- a source without tables, on which no session has had a command
-abbrev pub first_machine : Machine
-first_machine = record { state = first_state empty_base [] 0; history = [] }
+-- A source with all that it committed, and a replica.
+pub record Both : Type 0 where
+  pub machine : Machine
+  pub replica : Replica
 
--- the base that all committed entries make of an empty one, which is what the replica has
-abbrev pub base_after : List (Entry Whole) → Base
-base_after entries = unwrap_or (after changes_of define entries empty_base) empty_base
+-- a source without tables, which has begun its log at the draw of its opening, and a replica that has nothing of it
+abbrev pub first_both : Names → Draw → Both
+first_both names src = record { machine = opened names.source src; replica = first_replica }
 
 -- ---- one command
 
+-- What a command is told: an answer, how many bytes were fetched, or how far groups were carried out.
+pub data Told : Type 0 where
+  answered : Answer → Told
+  got : ℕ → Told
+  went : Going → Told
+
 -- What a command leads to.
 pub record Next : Type 0 where
-  pub machine : Machine
-  pub answer : Answer
+  pub both : Both
+  pub told : Told
 
-abbrev pub said : Machine → Step Whole → Next
-said m s = record { machine = machine_after m s; answer = s.answer }
+abbrev pub said : Both → Step Whole → Next
+said b s = record { both = record b { machine = machine_after b.machine s }; told = answered s.answer }
 
--- a session's text is a step of the source. The replica's SELECT reads what was committed by then; the counters are the
--- source's, since no SELECT that the replica runs reads one
-abbrev pub next : Names → Machine → Asked → Draw → Next
-next names m (say n text) draw = said m (step whole names.source m.state n text draw)
-next names m (select text) draw =
-    record { machine = m; answer = select_answer names.replica draw m.state.shared.counters (base_after m.history) text }
+-- a piece of the source's log goes to the replica
+abbrev pub handed : Both → List ℕ → Next
+handed b piece = record { both = record b { replica = fetched piece b.replica }; told = got (length piece) }
 
--- ---- commands, each at its draw
+abbrev pub applied : Both → Going → Next
+applied b a = record { both = record b { replica = a.replica }; told = went a }
 
--- the source after commands, as many as there are draws
-abbrev pub end_of : Names → Machine → List Asked → List Draw → Machine
-end_of names m [] ds = m
-end_of names m (c ∷ cs) [] = m
-end_of names m (c ∷ cs) (d ∷ ds) = end_of names (next names m c d).machine cs ds
+-- a session's text is a step of the source; FETCH takes the next bytes of its log; APPLY carries out groups of those that were fetched;
+-- the replica's SELECT reads its rows
+abbrev pub next : Names → Both → Asked → Draw → Next
+next names b (say n text) draw = said b (step whole names.source b.machine.state n text draw)
+next names b (select text) draw = record { both = b; told = answered (select_answer names.replica draw b.replica.counters b.replica.base text) }
+next names b (take_bytes n) draw = handed b (log_bytes (log_of b.machine) (want b.replica) n)
+next names b (take_groups n) draw = applied b (apply n names.replica draw b.replica)
 
--- the lines that show their answers, from a number on
-abbrev pub lines_shown : Names → Machine → ℕ → List Asked → List Draw → List ℕ
-lines_shown names m k [] ds = []
-lines_shown names m k (c ∷ cs) [] = []
-lines_shown names m k (c ∷ cs) (d ∷ ds) = shown k (next names m c d).answer ++ lines_shown names (next names m c d).machine (k + 1) cs ds
+-- the lines that show it
+abbrev pub told_lines : ℕ → Told → List ℕ
+told_lines k (answered a) = shown k a
+told_lines k (got count) = fetched_line k count
+told_lines k (went a) = going_line k a
+
+-- ---- commands, each at its draw; FETCH takes none, and whichever stands there is not looked at
+
+-- both nodes after commands, as many as there are draws
+abbrev pub end_of : Names → Both → List Asked → List Draw → Both
+end_of names b [] ds = b
+end_of names b (c ∷ cs) [] = b
+end_of names b (c ∷ cs) (d ∷ ds) = end_of names (next names b c d).both cs ds
+
+-- the lines that show what they are told, from a number on
+abbrev pub lines_shown : Names → Both → ℕ → List Asked → List Draw → List ℕ
+lines_shown names b k [] ds = []
+lines_shown names b k (c ∷ cs) [] = []
+lines_shown names b k (c ∷ cs) (d ∷ ds) = told_lines k (next names b c d).told ++ lines_shown names (next names b c d).both (k + 1) cs ds
 
 -- ---- whose draws
 
+-- the source's commands that take a draw are those of sessions
 abbrev pub is_said : Asked → Bool
 is_said (say n text) = true
 is_said (select text) = false
+is_said (take_bytes n) = false
+is_said (take_groups n) = false
 
-abbrev pub is_selected : Asked → Bool
-is_selected c = not (is_said c)
+-- the replica's are SELECT and APPLY
+abbrev pub is_drawn : Asked → Bool
+is_drawn (say n text) = false
+is_drawn (select text) = true
+is_drawn (take_bytes n) = false
+is_drawn (take_groups n) = true
 
 abbrev pub kept_if : Bool → Draw → List Draw → List Draw
 kept_if true d ds = d ∷ ds
@@ -78,21 +105,20 @@ draws_of p [] ds = []
 draws_of p (c ∷ cs) [] = []
 draws_of p (c ∷ cs) (d ∷ ds) = kept_if (p c) d (draws_of p cs ds)
 
--- the source's commands are those of sessions, the others are the replica's
 abbrev pub of_source : List Asked → List Draw → List Draw
 of_source cs ds = draws_of is_said cs ds
 
 abbrev pub of_replica : List Asked → List Draw → List Draw
-of_replica cs ds = draws_of is_selected cs ds
+of_replica cs ds = draws_of is_drawn cs ds
 
 -- ---- where a run stands
 
--- before a command: its number, and how many transactions were committed; nothing is kept on a disk or applied from a log yet
-abbrev pub mark_at : ℕ → Machine → Mark
-mark_at k m = record { command = k; committed = m.state.shared.committed; src_calls = 0; applied = 0; rep_calls = 0 }
+-- before a command: its number, and how many transactions were committed and how many applied; nothing is kept on a disk yet
+abbrev pub mark_at : ℕ → Both → Mark
+mark_at k b = record { command = k; committed = b.machine.state.shared.committed; src_calls = 0; applied = b.replica.number; rep_calls = 0 }
 
 -- where the last of some commands began, `before` where there is none
-abbrev pub last_mark : Names → Machine → ℕ → List Asked → List Draw → Mark → Mark
-last_mark names m k [] ds before = before
-last_mark names m k (c ∷ cs) [] before = before
-last_mark names m k (c ∷ cs) (d ∷ ds) before = last_mark names (next names m c d).machine (k + 1) cs ds (mark_at k m)
+abbrev pub last_mark : Names → Both → ℕ → List Asked → List Draw → Mark → Mark
+last_mark names b k [] ds before = before
+last_mark names b k (c ∷ cs) [] before = before
+last_mark names b k (c ∷ cs) (d ∷ ds) before = last_mark names (next names b c d).both (k + 1) cs ds (mark_at k b)

@@ -1,26 +1,27 @@
 -- Small runs over both nodes, of which worked examples are made.
-use Rattle.std.specs.Prelude.{ℕ, ◌+◌, List, [], ◌∷◌, codes}
-use Rattle.port_traits.specs.declared.identity.Identity.{Identity}
-use Rattle.answer_text.specs.declared.answer.Answer.{Answer}
-use Rattle.session_model.specs.Machine.{Machine}
+use Rattle.std.specs.Prelude.{ℕ, zero, suc, ◌+◌, List, [], ◌∷◌, ◌++◌, codes, length}
+use Rattle.port_traits.specs.declared.identity.Draw.{Draw}
 use Rattle.session_model.specs.Worked.{root, draw_of}
-use Rattle.run_model.specs.Asked.{Asked, say}
-use Rattle.run_model.specs.Run.{Names, Next, first_machine, next}
+use Rattle.run_model.specs.Asked.{Asked, say, select}
+use Rattle.run_model.specs.Run.{Names, first_both, lines_shown}
 
 -- the source is server 1, the replica server 2
 abbrev pub names : Names
 names = record { source = root; replica = record { server_id = 2; user = codes "rep@localhost" } }
 
-abbrev pub answers_behind : (Machine → List Answer) → Next → List Answer
-answers_behind more n = n.answer ∷ more n.machine
+-- draws from a number on
+abbrev pub draws_from : ℕ → (count : ℕ) → List Draw
+draws_from i zero = []
+draws_from i (suc count) = draw_of i ∷ draws_from (i + 1) count
 
--- the answers of commands, where so many draws were taken before
-abbrev pub answers_from : ℕ → List Asked → Machine → List Answer
-answers_from i [] m = []
-answers_from i (c ∷ cs) m = answers_behind (answers_from (i + 1) cs) (next names m c (draw_of i))
+-- the lines that a run of commands writes; each node took the draw 0 at its opening
+abbrev pub lines_of : List Asked → List ℕ
+lines_of commands = lines_shown names (first_both names (draw_of 0)) 1 commands (draws_from 1 (length commands))
 
-abbrev pub answers_of : List Asked → List Answer
-answers_of commands = answers_from 0 commands first_machine
+-- lines, one after the other
+abbrev pub ended : List (List ℕ) → List ℕ
+ended [] = []
+ended (l ∷ ls) = (l ++ 0x0a ∷ []) ++ ended ls
 
 -- a table of two numbers, whose key is the first
 abbrev pub made_t : Asked

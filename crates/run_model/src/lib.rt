@@ -1,18 +1,19 @@
 //! A run of a script over a source and a replica: definitions and no code.
 //!
 //! A script's commands are asked of two nodes, each at a draw of its own environment. What sessions say is a step of the
-//! machine of `session_model`, which puts out what was committed; the replica reads what all of that makes of an empty base.
+//! machine of `session_model`, which puts out what was committed; the log of the source is the bytes of that. The replica fetches bytes
+//! of the log, carries out the groups among them and shows its rows (`replica_model`).
 //!
-//! The definitions stand in specs/: `Asked` (what a script asks), `Selecting` (a SELECT of the replica), `Run` (what commands
-//! lead to, the lines that show their answers, whose draw each took), `Worked`.
+//! The definitions stand in specs/: `Asked` (what a script asks), `Run` (what commands lead to, the lines that show it, whose draw each
+//! took), `Following` (a replica that follows its source: what equals what), `Worked`.
 //!
-//! - `worked`: runs by hand, which the checker computes from their texts to their answers
+//! - `worked`: runs by hand, which the checker computes from their texts to their lines
 //!
 //! # Proved
-//! - The worked runs: the replica does not see an open transaction, and sees it once it is committed; it refuses with the
-//!   numbers and places of the source.
+//! - The worked runs: a table and a row, logged, fetched and carried out, to their lines; what the replica refuses. That the replica
+//!   follows in every run is proved in `run_laws`.
 #![tactic(auto)]
 
 mod worked;
 
-pub use worked::{replica_only_reads, replica_reads_committed};
+pub use worked::{a_row_replicated, replica_only_reads};

@@ -1,0 +1,5 @@
+pub mod Replica
+pub mod Applying
+pub mod Selecting
+pub mod Lines
+pub mod Worked

@@ -1,0 +1,14 @@
+//! What a replica does: definitions and no code.
+//!
+//! A replica has a base, which began empty, and follows the log of its source: it fetches bytes, and carries out the whole groups among
+//! them, one after the other, each whole or not at all (`applier_model`). It shows its rows and changes none by itself.
+//!
+//! The definitions stand in specs/: `Replica` (what it keeps, and where it fetches), `Applying` (APPLY), `Selecting` (a SELECT of the
+//! replica), `Lines` (the lines that show FETCH and APPLY), `Worked`.
+//!
+//! - `worked`: small logs, fetched and carried out, which the checker computes
+#![tactic(auto)]
+
+mod worked;
+
+pub use worked::first_row_applied;

@@ -1,0 +1,1 @@
+//! Small logs, fetched and carried out, which the checker computes.
