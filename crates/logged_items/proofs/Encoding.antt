@@ -5,18 +5,20 @@ use Rattle.std.specs.Str.{bytes_eq}
 use Rattle.std.proofs.lemmas.Bool.Decides.{nat_tests}
 use Rattle.byte_fields.specs.Field.{number_bytes}
 use Rattle.event_codec.specs.declared.event.Step.{Step}
-use Rattle.event_codec.specs.Event.{Body, Query, query, xid}
-use Rattle.event_codec.specs.Writing.{size, query_bytes, step_bytes, CanWrite}
+use Rattle.event_codec.specs.Event.{Body, Query, format_description, query, xid}
+use Rattle.event_codec.specs.Writing.{size, format_description_bytes, layout_bytes, query_bytes, step_bytes, CanWrite}
 use Rattle.log_entries.specs.declared.entries.Item.{Item}
 use Rattle.log_entries.specs.declared.entries.Entry.TheVariants.{Transaction, Definition}
-use Rattle.log_model.specs.Items.{at_time, changes_item, item_events, item_size, spelled, step_of, text_of, AreCarried, IsCarried}
-use Rattle.log_model.specs.Log.{begin_query, definition, entry_bytes, transaction}
+use Rattle.sql_meaning.specs.Frames.{Context}
+use Rattle.log_model.specs.Items.{at_time, changes_item, item_events, item_size, query_of, step_of, text_of, AreCarried, IsCarried}
+use Rattle.log_model.specs.Log.{begin_query, description, entry_bytes, transaction, version}
 use Rattle.log_model.specs.Spelling.{Spelled, bodies_of}
 use Rattle.log_model.specs.Written.{Stamped, bytes_of, total, CanWriteAll}
 use Rattle.row_events.specs.Sizes.{bounded}
 use Rattle.row_events.proofs.GoingOn.{total_append}
 use Rattle.row_laws.proofs.Writable.{writable}
 use Rattle.transaction_sizes.specs.Sizes.{all_sizes, are_too_large, most_bytes}
+use Rattle.logged_items.specs.Items.{item_by_text}
 use Rattle.logged_items.specs.Logged.{AreLogged, Encodes, IsLogged, in_log}
 
 -- ---- items
@@ -121,6 +123,36 @@ pub definition_can : (q : Query) (stamp pos room near : ℕ) → IfSome q.step (
 definition_can q stamp pos room near counts words thread at is-room is-near few =
     let size = query_few q in
     (record { form = counts; end = omega (arith, size, is-room, is-near, few) }, (thread, words), at, tt)
+
+pub definition_encodes : (text : List ℕ) (context : Context) (server pos committed : ℕ) (before out : List ℕ) (stamp thread : ℕ) (step : Option Step) → stamp ≡ context.stamp → thread ≡ context.connection → step ≡ step_of context.increment context.offset
+    → bytes_eq text (codes "BEGIN") ≡ false → CanWriteAll pos (record { stamp = stamp; body = query (record { thread = thread; step = step; text = text }) } ∷ []) → before ≡ []
+    → out ≡ before ++ bytes_of server pos (record { stamp = stamp; body = query (record { thread = thread; step = step; text = text }) } ∷ [])
+    → Encodes (Definition context.stamp server (item_by_text text context)) committed pos out
+definition_encodes text context server pos committed before out stamp thread step at by so other can none is =
+    let same : record { stamp = stamp; body = query (record { thread = thread; step = step; text = text }) } ≡ record { stamp = context.stamp; body = query (query_of text (item_by_text text context).carried) } =
+    ap (λ (n : ℕ). record { stamp = n; body = query (record { thread = thread; step = step; text = text }) }) at
+    ∙ ap (λ (n : ℕ). record { stamp = context.stamp; body = query (record { thread = n; step = step; text = text }) }) by
+    ∙ ap (λ (s : Option Step). record { stamp = context.stamp; body = query (record { thread = context.connection; step = s; text = text }) }) so in
+    record {
+      bytes =
+          is ∙ ap (λ bs. bs ++ bytes_of server pos (record { stamp = stamp; body = query (record { thread = thread; step = step; text = text }) } ∷ [])) none
+          ∙ ap (λ (e : Stamped). bytes_of server pos (e ∷ [])) same;
+      can = (subst (λ (e : Stamped). CanWriteAll pos (e ∷ [])) same can, other);
+    }
+
+-- ---- the head of a log
+
+version_length : length version ≡ 50
+version_length = refl
+
+description_size : size (format_description version) ≡ 119
+unfolding size format_description_bytes layout_bytes number_bytes
+description_size = refl
+
+pub start_can : (stamp : ℕ) → stamp < 2 ^ 32 → CanWriteAll 4 (description stamp)
+start_can stamp at =
+    let size = description_size in
+    (record { form = version_length; end = omega (arith, size) }, tt, at, tt)
 
 -- ---- what is too large
 

@@ -5,7 +5,7 @@ use Rattle.log_entries.specs.declared.entries.Entry.{Entry}
 use Rattle.log_model.specs.Items.{CanCarryAll}
 use Rattle.log_model.specs.Log.{LogPlace, entry_bytes}
 use Rattle.row_laws.specs.Laws.{AreNamed}
-use Rattle.logged_items.specs.Entries.{CanLog}
+use Rattle.entry_groups.specs.Entries.{CanLog}
 
 -- It is logged by its rows, of which there are some, each of a table that the item defines; and its numbers have 32 bits.
 pub record IsLogged (i : Item) : Type 0 where

@@ -1,5 +1,5 @@
 //! The bytes of a CREATE, DROP or TRUNCATE.
-ghost use Rattle.std.specs.Prelude.{◌≡◌, ◌≤◌, ℕ, IfOk, IfSome};
+ghost use Rattle.std.specs.Prelude.{◌≡◌, ◌<◌, ◌≤◌, ◌^◌, ℕ, IfOk, IfSome};
 ghost use Rattle.log_entries.specs.declared.entries.Entry.TheVariants.{Definition};
 ghost use Rattle.log_model.specs.Items.{step_of};
 ghost use Rattle.logged_items.specs.Items.{item_by_text};
@@ -19,6 +19,7 @@ const HEAD: u64 = 40;
 fn step(context: &Ctx) -> Option<Step>
     ensures value { result ≡ step_of context.now.increment context.now.offset }
     ensures counts { IfSome result (λ step. (1 ≤ step.increment) × (1 ≤ step.offset)) }
+    ensures words { IfSome result (λ step. (step.increment < 2 ^ 16) × (step.offset < 2 ^ 16)) }
 {
     let (increment, offset) = (context.increment(), context.offset());
     if increment == 1 && offset == 1 {
@@ -40,7 +41,7 @@ pub fn encode_definition(
     ensures { (committed : ℕ) → IfOk result (λ bytes. Encodes (Definition context.now.stamp server_id (item_by_text text.now context.now)) committed pos bytes) }
 {
     let room = (text.len() as u64).saturating_add(HEAD);
-    if text == b"BEGIN" || pos.saturating_add(room) > LAST_END {
+    if text == b"BEGIN".as_slice() || pos.saturating_add(room) > LAST_END {
         return Err(AllocError);
     }
     let header = Header {

@@ -10,7 +10,7 @@ use Rattle.log_entries.specs.declared.entries.Item.{Item}
 use Rattle.log_entries.specs.declared.entries.Entry.{Entry}
 use Rattle.log_model.specs.Log.{LogPlace, counted_all, head, log, written_to}
 use Rattle.log_model.proofs.Growing.{goes_on}
-use Rattle.logged_items.specs.Entries.{CanLogAll}
+use Rattle.entry_groups.specs.Entries.{CanLogAll}
 use Rattle.logged_items.specs.Logged.{in_log}
 use Rattle.session_model.specs.Sessions.{Session, Shared, State}
 use Rattle.session_model.specs.Holding.{Holds, with_nothing}

@@ -6,7 +6,7 @@ use Rattle.log_entries.specs.declared.entries.Entry.{Entry}
 use Rattle.log_entries.specs.declared.entries.Entry.TheVariants.{Transaction, Definition, LogStart}
 use Rattle.log_model.specs.Log.{LogPlace, behind, counted, entry_bytes, log, moved}
 use Rattle.log_model.proofs.Growing.{definition_moves, transaction_moves}
-use Rattle.logged_items.specs.Entries.{CanLogAll}
+use Rattle.entry_groups.specs.Entries.{CanLogAll}
 use Rattle.logged_items.specs.Logged.{Encodes, in_log}
 use Rattle.session_model.specs.Sessions.{Session, Shared}
 use Rattle.session_model.specs.Running.{Turn, entry_by}

@@ -5,7 +5,7 @@ use Rattle.val_types.specs.declared.refusal.SqlRefusal.TheVariants.{Sql, NoMemor
 use Rattle.log_entries.specs.declared.entries.Item.{Item}
 use Rattle.log_entries.specs.declared.entries.Entry.{Entry}
 use Rattle.log_model.specs.Log.{log}
-use Rattle.logged_items.specs.Entries.{CanLogAll}
+use Rattle.entry_groups.specs.Entries.{CanLogAll}
 use Rattle.logged_items.specs.Logged.{in_log}
 use Rattle.session_model.specs.Sessions.{Session, Shared}
 use Rattle.session_model.specs.Running.{Turn}

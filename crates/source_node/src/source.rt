@@ -1,6 +1,6 @@
 //! The source.
 ghost use Rattle.std.specs.Prelude.{◌≡◌, ◌<◌, ◌≤◌, ◌^◌, length, map, replicate, IfOk};
-ghost use Rattle.logged_items.specs.Entries.{CanLogAll};
+ghost use Rattle.entry_groups.specs.Entries.{CanLogAll};
 ghost use Rattle.session_model.specs.Holding.{Holds, with_nothing};
 ghost use Rattle.session_model.specs.Machine.{Machine, kept, kept_entry, log_bytes, machine_after, opened, step, whole};
 ghost use Rattle.source_node.specs.Standing.{no_session, state_of, Stands};
