@@ -15,7 +15,8 @@ use Rattle.catalog_rules.specs.Objects.{table}
 use Rattle.log_model.specs.Events.{Placed}
 use Rattle.log_model.specs.Groups.{Group, txn}
 use Rattle.applier_model.specs.Stops.{Differs}
-use Rattle.applier_model.specs.Groups.{Applied, group_carried}
+use Rattle.applier_model.specs.Texts.{Progress, carried_of, carry_text, no_needs}
+use Rattle.applier_model.specs.Groups.{Applied, applier_of, group_carried}
 
 abbrev pub column : List ℕ → ColumnDef
 column name = record { name = name; kind = IntType; nullable = false; preset = None }
@@ -76,6 +77,15 @@ text_of text = query (record { thread = 1; step = None; text = text })
 
 abbrev pub carried_on : List (List Value) → List Body → Result Applied Differs
 carried_on rs bs = group_carried replica no_draw (t_with rs) [] (transaction_of bs)
+
+-- a transaction under way that has changed nothing yet, over some rows of the table
+abbrev pub progress_with : List (List Value) → Progress
+progress_with rs = record { store = record { tables = (t_with rs).tables; counters = [] }; changes = [] }
+
+-- what it comes to by a text alone, with nothing of the items before it
+abbrev pub text_run_on : List (List Value) → List ℕ → Result Progress ℕ
+text_run_on rs text =
+    carry_text (applier_of replica no_draw (t_with rs)) text (carried_of 7 (record { thread = 1; step = None; text = text }) no_needs) (progress_with rs)
 
 abbrev pub leaves : List (List Value) → Result Applied Differs
 leaves rs = Ok (record { base = t_with rs; counters = [] })

@@ -2,11 +2,12 @@
 //!
 //! The table `t` has two numbers, `id` and `v`, of which the first is its key. Each event has 40 bytes, and the first behind BEGIN
 //! stands at 246.
-ghost use Rattle.std.specs.Prelude.{◌≡◌, ◌++◌, [], ◌∷◌, codes, pos};
+ghost use Rattle.std.specs.Prelude.{◌≡◌, ◌++◌, [], ◌∷◌, codes, pos, Err, Ok};
 ghost use Rattle.val_types.specs.declared.value.Value.TheVariants.{Int};
+ghost use Rattle.val_types.specs.declared.change.Change.TheVariants.{Delete as Taken};
 ghost use Rattle.event_codec.specs.Event.{table_map};
 ghost use Rattle.event_codec.specs.declared.event.RowsKind.TheVariants.{Write, Update, Delete};
-ghost use Rattle.applier_model.specs.Worked.{carried_on, leaves, pair, pair_bytes, rows_of, stops, t_map, text_of, wide_map};
+ghost use Rattle.applier_model.specs.Worked.{carried_on, leaves, pair, pair_bytes, rows_of, stops, t_map, t_with, text_of, text_run_on, wide_map};
 
 /// Rows of one item: two are put, one is changed, one is taken out.
 pub fn rows_carried()
@@ -22,15 +23,22 @@ pub fn differing_rows()
     ensures columns { carried_on [] (table_map wide_map ∷ rows_of Write (0 ∷ 1 ∷ 0 ∷ 0 ∷ 0 ∷ 2 ∷ 0 ∷ 0 ∷ 0 ∷ 0 ∷ 0 ∷ 0 ∷ 0 ∷ []) ∷ []) ≡ stops 286 30010 (codes "t") [] }
 {}
 
-/// A text that runs, behind rows.
-pub fn texts_carried()
-    ensures { carried_on (pair 1 10 ∷ []) (table_map t_map ∷ rows_of Write (pair_bytes 2 20) ∷ text_of (codes "DELETE FROM t WHERE id = 1") ∷ []) ≡ leaves (pair 2 20 ∷ []) }
+/// A text in a transaction is refused at its place, whatever it is.
+pub fn texts_refused()
+    ensures first { carried_on (pair 1 10 ∷ []) (text_of (codes "DELETE FROM t WHERE id = 1") ∷ []) ≡ stops 246 30005 [] [] }
+    ensures behind { carried_on (pair 1 10 ∷ []) (table_map t_map ∷ rows_of Write (pair_bytes 2 20) ∷ text_of (codes "SELECT 1 FORM t") ∷ []) ≡ stops 326 30005 [] [] }
+{}
+
+/// What a text does where texts are run.
+pub fn texts_run()
+    ensures { text_run_on (pair 1 10 ∷ pair 2 20 ∷ []) (codes "DELETE FROM t WHERE id = 1")
+        ≡ Ok (record { store = record { tables = (t_with (pair 2 20 ∷ [])).tables; counters = [] }; changes = Taken (codes "t") (pair 1 10) ∷ [] }) }
 {}
 
 /// Texts that are no statement, that may not stand in a transaction, and whose run is refused.
-pub fn texts_refused()
-    ensures text { carried_on [] (text_of (codes "SELECT 1 FORM t") ∷ []) ≡ stops 246 1064 [] [] }
-    ensures place { carried_on [] (text_of (codes "COMMIT") ∷ []) ≡ stops 246 30005 [] [] }
-    ensures check { carried_on [] (text_of (codes "DELETE FROM u") ∷ []) ≡ stops 246 1146 [] [] }
-    ensures run { carried_on (pair 1 10 ∷ []) (text_of (codes "INSERT INTO t VALUES (1, NULL)") ∷ []) ≡ stops 246 1048 [] [] }
+pub fn texts_not_run()
+    ensures text { text_run_on [] (codes "SELECT 1 FORM t") ≡ Err 1064 }
+    ensures place { text_run_on [] (codes "COMMIT") ≡ Err 30005 }
+    ensures check { text_run_on [] (codes "DELETE FROM u") ≡ Err 1146 }
+    ensures run { text_run_on (pair 1 10 ∷ []) (codes "INSERT INTO t VALUES (1, NULL)") ≡ Err 1048 }
 {}

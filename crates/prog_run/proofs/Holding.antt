@@ -55,7 +55,7 @@ all_inverse_twice (x ∷ xs) =
 
 -- ---- what can be taken back
 
-can_be : (store : Store) (xs : List Change) → can_take_back store xs ≡ true → is_some (all_applied (all_inverse xs) store.tables) ≡ true
+pub can_be : (store : Store) (xs : List Change) → can_take_back store xs ≡ true → is_some (all_applied (all_inverse xs) store.tables) ≡ true
 unfolding can_take_back
 can_be store xs can = (and_parts (is_some (all_applied (all_inverse xs) store.tables)) (keeps_inverses store xs) can).0
 
@@ -63,7 +63,7 @@ without_is : (store : Store) (xs : List Change) → can_take_back store xs ≡ t
 without_is store xs can = is_its_value (all_applied (all_inverse xs) store.tables) store.tables (can_be store xs can)
 
 -- what is committed stays what it is where some changes are taken back
-value_is : {A : Type 0} (o p : Option A) (d e : A) → o ≡ p → is_some o ≡ true → unwrap_or p e ≡ unwrap_or o d
+pub value_is : {A : Type 0} (o p : Option A) (d e : A) → o ≡ p → is_some o ≡ true → unwrap_or p e ≡ unwrap_or o d
 value_is None p d e same some = cc
 value_is (Some a) p d e same some = ap (λ (o : Option _). unwrap_or o e) (sym same)
 

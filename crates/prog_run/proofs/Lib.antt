@@ -1,4 +1,5 @@
 pub mod Around
+pub mod Carried
 pub mod Defined
 pub mod Definitions
 pub mod Digits

@@ -27,7 +27,7 @@ use val_types::{Boxed, Bytes, NoMemory, SqlError, SqlRefusal, TableDef};
 const NOT_ALLOWED: SqlError = 30005;
 
 /// Whether a statement changes the catalog or empties a table.
-pub(crate) fn is_definition(statement: &Stmt) -> bool
+pub fn is_definition(statement: &Stmt) -> bool
     ensures { result ≡ is_definition (view statement.now) }
 {
     match statement {

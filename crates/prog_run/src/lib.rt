@@ -4,6 +4,7 @@
 //! see it as plain data (`Contents`), and a statement as the scene of the definitions of `sql_meaning` (`scene_at`).
 //!
 //! - `work`: [`Work`]; `reading`: a second one for a reader beside the open changes
+//! - `carrying`: rows put in, changed and taken out as they are, as an applier does it
 //! - `meter`: [`Meter`], what is left to a command, and [`Outcome`], what is told of a statement
 //! - `running`: [`run_stmt`] and [`eval_list`]
 //! - `defining`: CREATE, DROP and TRUNCATE
@@ -12,7 +13,8 @@
 //! - `context`, `number`, `under_way`: what a statement leaves of a context; the number from which UUID() counts; what is
 //!   under way where it runs
 //!
-//! The definitions in specs/ say what is worked on and what holds of it (`Contents`), and how statements end (`Runs`).
+//! The definitions in specs/ say what is worked on and what holds of it (`Contents`), how statements end (`Runs`), and what an
+//! applier's changes of rows leave as it was (`Carrying`).
 //!
 //! # Proved
 //! - [`run_stmt`] with a change, a SELECT or a DO ends as its effect in the definitions does, with its value or its error's
@@ -30,11 +32,15 @@
 //! - [`Work::take_back_to`] takes back just the changes behind a mark, without memory, and leaves what is committed;
 //!   [`Work::commit`] lets them stand; [`Work::reader`] has just the committed rows, and [`Work::take_counters`] takes
 //!   over the counters that its statement left
+//! - [`Work::insert_row`], [`Work::update_row`] and [`Work::delete_row`] store and note one change of a row, or refuse it with
+//!   just what is in its way, and run no trigger; [`Work::raise_counter`] raises one counter as its definition says;
+//!   [`Work::give_up`] takes all changes back and puts counters back, without memory
 //!
 //! # Only tested
 //! Nothing yet: that statements succeed with ample memory is tested where a source runs them.
 #![tactic(auto)]
 
+mod carrying;
 mod context;
 mod defining;
 mod meter;
@@ -47,6 +53,7 @@ mod under_way;
 mod undoing;
 mod work;
 
+pub use defining::is_definition;
 pub use meter::{Meter, Outcome};
 pub use running::{eval_list, run_stmt};
 pub use work::Work;
