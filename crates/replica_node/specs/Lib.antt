@@ -1,0 +1,3 @@
+pub mod Kept
+pub mod Reaching
+pub mod Steps
