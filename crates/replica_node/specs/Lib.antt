@@ -1,3 +1,2 @@
 pub mod Kept
-pub mod Reaching
 pub mod Steps

@@ -7,9 +7,9 @@ use Rattle.log_model.specs.Log.{moved}
 use Rattle.prog_run.specs.Contents.{Contents}
 use Rattle.replica_model.specs.Applying.{Going, Stop, differs, damaged, foreign}
 use Rattle.replica_model.specs.Replica.{Replica}
+use Rattle.relay_log.specs.declared.place.Walk.{Walk}
+use Rattle.relay_log.specs.Reaching.{Fetched, IsAhead, place_seen}
 use Rattle.stmt_apply.specs.Ends.{applied_in}
-use Rattle.replica_node.specs.Reaching.{Reaches, place_seen}
-use Rattle.replica_node.specs.declared.place.Walk.{Walk}
 use Rattle.replica_node.specs.declared.told.Applied as code_applied
 use Rattle.replica_node.specs.declared.told.Step.{Step}
 use Rattle.replica_node.specs.declared.told.Step.TheVariants.{Over, Moved, Carried, Waits, Stopped as StoppedBy}
@@ -45,11 +45,14 @@ CarriesOut (Some (stopped.Foreign pos kind)) before after carried = ⊥
 abbrev pub going_at : Replica → (passed count : ℕ) → Going
 going_at r passed count = record { replica = r; passed = passed; count = count; stop = None }
 
--- the place behind bytes that were passed over
-pub record IsAhead (r : Replica) (ahead : Walk) : Type 0 where
-  pub within : ahead.passed ≤ length r.relay
-  pub reaches : Reaches r.place r.relay ahead.passed (place_seen ahead.place)
-  pub place : place_seen ahead.place ≡ moved r.place ahead.passed
+-- what it has fetched, from the applied place on
+abbrev pub relay_of : Replica → Fetched
+relay_of r = record { place = r.place; bytes = r.relay }
+
+-- a place behind bytes that were passed over, of which whole groups and no end of a log were passed
+pub record IsOver (r : Replica) (walk : Walk) : Type 0 where
+  pub ahead : IsAhead (relay_of r) walk
+  pub place : place_seen walk.place ≡ moved r.place walk.passed
 
 -- how an APPLY goes on behind a step
 abbrev pub ended_by : (Going → Going) → Step → Replica → (passed count : ℕ) → Going
@@ -61,7 +64,7 @@ ended_by more (StoppedBy stop) r passed count = record (going_at r passed count)
 
 -- where it goes on, fewer bytes lie ahead of it than before
 abbrev pub GoesOn : Step → (left : ℕ) → Replica → Type 0
-GoesOn (Over ahead) left r = IsAhead r ahead × (length r.relay < ahead.passed + left)
+GoesOn (Over ahead) left r = IsOver r ahead × (length r.relay < ahead.passed + left)
 GoesOn Moved left r = length r.relay < left
 GoesOn Carried left r = length r.relay < left
 GoesOn Waits left r = Unit {0}

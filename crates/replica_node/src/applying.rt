@@ -4,19 +4,17 @@ ghost use Rattle.log_groups.specs.Views.{group_seen};
 ghost use Rattle.prog_run.specs.Contents.{base_of};
 ghost use Rattle.applier_model.specs.Groups.{group_carried};
 ghost use Rattle.replica_model.specs.Applying.{Going as Under, apply, by_next, next_at};
-ghost use Rattle.replica_node.specs.Steps.{CarriesOut, GoesOn, IsAhead, IsTold, ended_by, going_at};
+ghost use Rattle.replica_node.specs.Steps.{CarriesOut, GoesOn, IsOver, IsTold, ended_by, going_at};
 
-use crate::place::Walk;
 use crate::replica::ReplicaNode;
 use crate::told::{Applied, Step, Stopped};
-use crate::walking::behind;
 use log_groups::{Form, Group, Next};
 use node_answers::NodeFault;
 use port_traits::{Draw, Identity};
 use prog_run::Work;
+use relay_log::Walk;
 use std::alloc::Global;
 use stmt_apply::{Stop, apply_group};
-use whole_groups::groups_lie_within;
 
 /// Carries a group out and lets its changes stand, or says why it stops.
 fn carry_out(
@@ -55,27 +53,22 @@ impl ReplicaNode {
     /// What stands behind bytes that were passed over: the beginning of a log is passed over too, its end is passed, and a
     /// definition or a transaction is carried out.
     fn step(&mut self, ahead: &Walk, draw: &Draw) -> Result<Step, NodeFault>
-        requires { IsAhead self.old.replica ahead.now }
+        requires { IsOver self.old.replica ahead.now }
         ensures identity { self.new.identity ≡ self.old.identity }
         ensures step { IfOk result (λ step. (more : Under → Under) → (count : ℕ) → by_next more self.old.identity draw.entry.now (going_at self.old.replica ahead.now.passed count) (next_at (going_at self.old.replica ahead.now.passed count))
             ≡ ended_by more step self.new.replica ahead.now.passed count) }
         ensures goes_on { IfOk result (λ step. GoesOn step (length self.old.replica.relay - ahead.now.passed) self.new.replica) }
     {
-        groups_lie_within();
         match self.relay.next(ahead) {
             Next::NotWhole => Ok(Step::Waits),
             Next::Damaged { pos } => Ok(Step::Stopped(Stopped::Damaged { pos })),
             Next::Foreign { pos, kind } => Ok(Step::Stopped(Stopped::Foreign { pos, kind })),
             Next::Group(group) => {
-                let next = behind(ahead.place, &group);
-                let over = Walk {
-                    place: next.place,
-                    passed: ahead.passed + next.passed,
-                };
+                let behind = self.relay.behind(ahead, &group);
                 match &group.form {
-                    Form::Start => Ok(Step::Over(over)),
+                    Form::Start => Ok(Step::Over(behind)),
                     Form::Rotate { .. } => {
-                        self.relay.pass(over);
+                        self.relay.pass(&behind);
                         Ok(Step::Moved)
                     }
                     Form::Ddl(_) | Form::Txn { .. } => {
@@ -85,7 +78,7 @@ impl ReplicaNode {
                             return Ok(Step::Stopped(stop));
                         }
                         self.number = self.number.saturating_add(1);
-                        self.relay.pass(over);
+                        self.relay.pass(&behind);
                         Ok(Step::Carried)
                     }
                 }
@@ -108,17 +101,6 @@ impl ReplicaNode {
         }
     }
 
-    /// Where the next group is looked for: at the applied place.
-    fn here(&self) -> Walk
-        ensures { IsAhead self.now.replica result }
-        ensures passed { result.passed ≡ 0 }
-    {
-        Walk {
-            place: self.relay.place(),
-            passed: 0,
-        }
-    }
-
     /// Carries out up to so many definitions and transactions of what was fetched. It stops at one that differs from what is
     /// there, and at bytes that no group has; that group is left as it is, and a later call tries it again.
     #[tactic(auto, unfolding(replica_model::specs::Applying::apply))]
@@ -128,14 +110,14 @@ impl ReplicaNode {
         ensures told { IfOk result (λ told. IsTold told (apply wanted self.old.identity draw.entry.now self.old.replica)) }
     {
         let mut count: u32 = 0;
-        let mut ahead = self.here();
+        let mut ahead = self.relay.here();
         while count < wanted {
             match self.step(&ahead, draw)? {
                 Step::Over(next) => ahead = next,
-                Step::Moved => ahead = self.here(),
+                Step::Moved => ahead = self.relay.here(),
                 Step::Carried => {
                     count += 1;
-                    ahead = self.here();
+                    ahead = self.relay.here();
                 }
                 Step::Waits => return Ok(self.applied(count, None)),
                 Step::Stopped(stop) => return Ok(self.applied(count, Some(stop))),

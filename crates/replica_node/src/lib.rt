@@ -1,17 +1,15 @@
 //! A replica in memory: it fetches the bytes of its source's logs, carries out the whole groups among them, and shows its rows.
 //!
-//! It stands on `log_groups`, which reads groups, and `stmt_apply`, which carries one out; a run asks it by its commands. The
-//! definitions are `replica_model`'s.
+//! It stands on `relay_log`, which keeps what was fetched and reads groups of it, and `stmt_apply`, which carries one out; a run asks
+//! it by its commands. The definitions are `replica_model`'s.
 //!
 //! - `replica`: [`ReplicaNode`]: [`ReplicaNode::open`], [`ReplicaNode::number`], [`ReplicaNode::want`],
 //!   [`ReplicaNode::fetch`] and [`ReplicaNode::select`]
 //! - `applying`: [`ReplicaNode::apply`]; `told`: [`Applied`] and [`Stopped`], what it tells
 //! - `lines`: [`fetched_line`] and [`applied_line`], which show FETCH and APPLY
-//! - `relay`: the bytes that were fetched and are not carried out yet; `walking`: a walk over whole groups; `place`: places in logs
 //! - `selecting`: a text of a reader
 //!
-//! The definitions in specs/ say what contracts see of a node (`Kept`), where bytes lead (`Reaching`), and APPLY step by step
-//! (`Steps`).
+//! The definitions in specs/ say what contracts see of a node (`Kept`), and APPLY step by step (`Steps`).
 //!
 //! # Proved
 //! - [`ReplicaNode::open`] has the identity that it is given, and is the definition's first replica.
@@ -30,12 +28,9 @@
 
 mod applying;
 mod lines;
-mod place;
-mod relay;
 mod replica;
 mod selecting;
 mod told;
-mod walking;
 
 pub use lines::{applied_line, fetched_line};
 pub use replica::ReplicaNode;

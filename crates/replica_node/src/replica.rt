@@ -3,12 +3,12 @@ ghost use Rattle.std.specs.Prelude.{◌≡◌, ◌≤◌, ◌+◌, ◌^◌, leng
 ghost use Rattle.replica_model.specs.Replica.{fetched, first_replica, want};
 ghost use Rattle.replica_model.specs.Selecting.{select_answer};
 
-use crate::relay::Relay;
 use crate::selecting::answer;
 use answer_text::Answer;
 use node_answers::NodeFault;
 use port_traits::{Draw, Identity};
 use prog_run::Work;
+use relay_log::Relay;
 use std::alloc::Global;
 use std::marker::Model;
 use val_types::Bytes;

@@ -1,6 +1,6 @@
 //! What an APPLY tells.
 
-use crate::place::Walk;
+use relay_log::Walk;
 use val_types::{Bytes, Row, SqlError};
 
 /// Why no more was carried out.

@@ -2,14 +2,14 @@
 
 /// A place in the log with a number.
 #[derive(Clone, Copy)]
-pub(crate) struct Place {
+pub struct Place {
     pub log: u32,
     pub pos: u32,
 }
 
-/// A place and how many bytes lie before it, counted from another.
+/// A place, and how many bytes lie between it and another.
 #[derive(Clone, Copy)]
-pub(crate) struct Walk {
+pub struct Walk {
     pub place: Place,
     pub passed: usize,
 }
