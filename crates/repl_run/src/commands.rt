@@ -1,8 +1,7 @@
 //! The commands of a script, each answered before the next.
 ghost use Rattle.std.specs.Prelude.{◌≡◌, ◌≤◌, length, map, IfOk, IfErr, IsTrue, OnOk, OnErr};
 ghost use Rattle.std.specs.List.{list_all};
-ghost use Rattle.session_model.specs.Machine.{Machine};
-ghost use Rattle.run_model.specs.Run.{Names};
+ghost use Rattle.run_model.specs.Run.{Both, Names};
 ghost use Rattle.run_streams.specs.Reports.{AllTold, Drawn, DrewUntil, GoesOnDrawing, IsEmpty, StaysHandedOut, Tells};
 ghost use Rattle.run_streams.specs.Stops.{StopsWriting, failed_writes, status_of};
 ghost use Rattle.repl_run.specs.Asking.{asked_seen, is_fit};
@@ -12,10 +11,11 @@ ghost use Rattle.repl_run.specs.Together.{Grew, Lined, Opened, Stopped, Together
 
 use crate::asked::Asked;
 use crate::nodes::Nodes;
-use answer_text::{Report, Status, shown};
+use answer_text::{Report, Status};
 use node_answers::NodeFault;
 use port_traits::{Env, Sink};
 use replica_node::ReplicaNode;
+use run_laws::replica_follows;
 use run_streams::{open, write_line};
 use session_replays::transactions_replay;
 use source_node::SourceNode;
@@ -37,6 +37,7 @@ fn open_nodes<E: Env, F: Env>(
     ensures rep { Tells (F.told rep_env.old) (F.draws rep_env.old) report.new.rep_identity report.new.rep_draws }
 {
     transactions_replay();
+    replica_follows();
     let (src_name, src_draw) = open(
         alloc,
         src_env,
@@ -52,11 +53,11 @@ fn open_nodes<E: Env, F: Env>(
     )?;
     Ok(Nodes {
         source,
-        replica: ReplicaNode::open(rep_name, &rep_draw),
+        replica: ReplicaNode::open(alloc, rep_name, &rep_draw),
     })
 }
 
-/// Carries out the command with this number, and gives the lines that show its answer.
+/// Carries out the command with this number, and gives the lines that show what it is told.
 fn lines_of<E: Env, F: Env>(
     alloc: Global,
     number: u32,
@@ -67,8 +68,8 @@ fn lines_of<E: Env, F: Env>(
     report: &mut Report,
 ) -> Result<Bytes, NodeFault>
     requires { IsTrue (is_fit asked.now) }
-    ensures lined { (names : Names) (m : Machine) → Together names nodes.old m → IfOk result (λ lines.
-        Lined names m number (asked_seen asked.now) report.old report.new nodes.new lines) }
+    ensures lined { (names : Names) (b : Both) → Together names nodes.old b → IfOk result (λ lines.
+        Lined names b number (asked_seen asked.now) report.old report.new nodes.new lines) }
     ensures src_drawn { OnOk result (GoesOnDrawing (E.draws src_env.old) report.old.src_draws (E.draws src_env.new) report.new.src_draws) }
     ensures rep_drawn { OnOk result (GoesOnDrawing (F.draws rep_env.old) report.old.rep_draws (F.draws rep_env.new) report.new.rep_draws) }
     ensures src_handed { OnErr result (StaysHandedOut (E.draws src_env.old) report.old.src_draws report.new.src_draws) }
@@ -76,8 +77,7 @@ fn lines_of<E: Env, F: Env>(
     ensures grew { Grew report.old report.new }
 {
     report.now = nodes.mark(number);
-    let answer = nodes.carry_out(alloc, asked, src_env, rep_env, report)?;
-    Ok(shown(alloc, number, &answer)?)
+    nodes.carry_out(alloc, number, asked, src_env, rep_env, report)
 }
 
 /// Carries out the command with this number and shows its answer.
@@ -92,10 +92,10 @@ fn answer_command<K: Sink, E: Env, F: Env>(
     out: &mut K,
 ) -> Result<(), Status>
     requires { IsTrue (is_fit asked.now) }
-    ensures told { (names : Names) (m : Machine) → Together names nodes.old m → OnOk result
-        (Told names m number (asked_seen asked.now) report.old report.new nodes.new (K.written out.old) (K.written out.new)) }
-    ensures stopped { (names : Names) (m : Machine) → Together names nodes.old m → IfErr result (λ status.
-        Stopped status names m number (asked_seen asked.now) report.old report.new (K.written out.old) (K.written out.new)) }
+    ensures told { (names : Names) (b : Both) → Together names nodes.old b → OnOk result
+        (Told names b number (asked_seen asked.now) report.old report.new nodes.new (K.written out.old) (K.written out.new)) }
+    ensures stopped { (names : Names) (b : Both) → Together names nodes.old b → IfErr result (λ status.
+        Stopped status names b number (asked_seen asked.now) report.old report.new (K.written out.old) (K.written out.new)) }
     ensures src_drawn { DrewUntil (status_of result) (E.draws src_env.old) report.old.src_draws (E.draws src_env.new) report.new.src_draws }
     ensures rep_drawn { DrewUntil (status_of result) (F.draws rep_env.old) report.old.rep_draws (F.draws rep_env.new) report.new.rep_draws }
     ensures grew { Grew report.old report.new }

@@ -5,6 +5,7 @@
 //! - `playing`: a call of the program on a script
 //! - `answers`: scripts and what they write: transactions, generated values, limits of trees, errors and their order
 //! - `programs`: stored functions and triggers
+//! - `replication`: logs fetched in pieces and carried out in groups
 //! - `statuses`: words, scripts that do not split, streams that fail, what the report tells
 #![tactic(auto)]
 
@@ -14,5 +15,7 @@ mod answers;
 mod playing;
 #[cfg(test)]
 mod programs;
+#[cfg(test)]
+mod replication;
 #[cfg(test)]
 mod statuses;

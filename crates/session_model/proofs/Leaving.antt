@@ -13,14 +13,14 @@ use Rattle.sql_meaning.specs.Running.{effect, most_nested, context_after}
 use Rattle.sql_reach.specs.Defining.{number_of_bytes}
 use Rattle.session_model.specs.Answers.{ok, refused, showing}
 use Rattle.session_model.specs.Sessions.{Save, Open, Session, Shared, tables_with}
-use Rattle.session_model.specs.Running.{Call, full, Turn, is_other, lock_refusal, ended, scene_for, setting_of, settle, item_of, made_behind, with_counters, with_context, fuel_of}
+use Rattle.session_model.specs.Running.{Call, full, Turn, Given, is_other, lock_refusal, takes_too_much, undone, ended, scene_for, setting_of, settle, item_of, made_behind, with_counters, with_context, fuel_of}
 use Rattle.session_model.specs.Commands.{answered, unless_refused, is_save_of, saves_but, back_to_save, back_in, release_in, code_answer, given_turn, plain_turn}
 use Rattle.session_model.specs.Machine.{Whole}
 use Rattle.session_model.specs.Holding.{is_refused, IsLeft, ErrorsLeaveAll, ReadersSeeCommitted}
 
 module _ (call : Call Whole) (shared : Shared) (session : Session Whole) where
   as_it_was : (answer : Answer) → IsLeft shared session (answered answer shared session)
-  as_it_was answer = record { base = refl; changes = refl; writer = refl; count = refl; transaction = refl; entries = refl }
+  as_it_was answer = record { base = refl; changes = refl; writer = refl; count = refl; place = refl; transaction = refl; entries = refl }
 
   unless_as_it_was : (refusal : Option Answer) (t : Turn Whole Answer) → (is_refused t.given.end ≡ true → IsLeft shared session t)
       → is_refused (unless_refused refusal shared session t).given.end ≡ true → IsLeft shared session (unless_refused refusal shared session t)
@@ -34,16 +34,24 @@ module _ (call : Call Whole) (shared : Shared) (session : Session Whole) where
 
   ended_left : (text : List ℕ) (s : Statement) (before : Scene) (e : Ending Did) → let t = given_turn (ended call full text s shared session (λ (did : Did). did.first) (λ (did : Did). did.last_id) before e) in
       is_refused t.given.end ≡ true → IsLeft shared session t
-  ended_left text s before (done did scene) q = absurd (settled (made_behind (is_other call.number shared.writer) before scene) q)
+  ended_left text s before (done did scene) q = settled (made_behind (is_other call.number shared.writer) before scene) q
     where
       differ : {b : Bool} → b ≡ true → b ≡ false → ⊥
       differ x y = cc
 
-      settled : (made : List Change) → is_refused (given_turn (settle call (item_of call full text s session.vars.context shared did.first) made scene (with_counters scene shared)
-          (with_context (context_after session.vars.context s scene.seeds did.last_id) session) (record { result = Ok did; fuel = fuel_of scene }))).given.end ≡ true → ⊥
-      settled [] x = differ x (shown_or_counted did did.shown refl)
-      settled (c ∷ cs) x = differ x (shown_or_counted did did.shown refl)
-  ended_left text s before (failed code scene) q = record { base = refl; changes = refl; writer = refl; count = refl; transaction = refl; entries = refl }
+      -- an item is kept, or too much
+      kept_or_not : (b : Bool) (t : Turn Whole (Given Did)) → is_refused (given_turn t).given.end ≡ false → is_refused (given_turn (cond b (undone 1197 s shared session scene) t)).given.end ≡ true
+          → IsLeft shared session (given_turn (cond b (undone 1197 s shared session scene) t))
+      kept_or_not true t l x = record { base = refl; changes = refl; writer = refl; count = refl; place = refl; transaction = refl; entries = refl }
+      kept_or_not false t l x = absurd (differ x l)
+
+      settled : (made : List Change) → let t = given_turn (settle call (item_of call full text s session.vars.context shared did.first) made scene (with_counters scene shared)
+          (with_context (context_after session.vars.context s scene.seeds did.last_id) session) (record { result = Ok did; fuel = fuel_of scene }) (undone 1197 s shared session scene)) in
+          is_refused t.given.end ≡ true → IsLeft shared session t
+      settled [] x = absurd (differ x (shown_or_counted did did.shown refl))
+      settled (c ∷ cs) x =
+          kept_or_not (takes_too_much call session.transaction (item_of call full text s session.vars.context shared did.first (c ∷ cs))) _ (shown_or_counted did did.shown refl) x
+  ended_left text s before (failed code scene) q = record { base = refl; changes = refl; writer = refl; count = refl; place = refl; transaction = refl; entries = refl }
 
   plain_left : (text : List ℕ) (s : Statement) → is_refused (plain_turn call text s shared session).given.end ≡ true → IsLeft shared session (plain_turn call text s shared session)
   plain_left text s q =

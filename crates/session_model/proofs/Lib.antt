@@ -1,4 +1,6 @@
 pub mod Holding
 mod Leaving
+mod Logging
 pub mod Natural
+pub mod Owning
 mod Saving

@@ -156,6 +156,7 @@ pub record IsLeft {I : Type 0} (shared : Shared) (session : Session I) (t : Turn
   pub changes : t.shared.changes ≡ shared.changes
   pub writer : t.shared.writer ≡ shared.writer
   pub count : t.shared.committed ≡ shared.committed
+  pub place : t.shared.place ≡ shared.place
   pub transaction : t.session.transaction ≡ session.transaction
   pub entries : t.committed ≡ []
 

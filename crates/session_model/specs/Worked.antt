@@ -6,6 +6,7 @@ use Rattle.port_traits.specs.declared.identity.Identity.{Identity}
 use Rattle.port_traits.specs.declared.identity.Draw.{Draw}
 use Rattle.log_entries.specs.declared.entries.Item.{Item}
 use Rattle.log_entries.specs.declared.entries.Entry.{Entry}
+use Rattle.log_model.specs.Log.{LogPlace}
 use Rattle.answer_text.specs.declared.answer.Answer.{Answer}
 use Rattle.catalog_rules.specs.Bases.{empty_base}
 use Rattle.session_model.specs.Sessions.{State}
@@ -44,6 +45,21 @@ entries_from i (c ∷ cs) state = entries_behind (entries_from (i + 1) cs) (step
 
 abbrev pub entries_of : List Spoken → List (Entry Item)
 entries_of commands = entries_from 0 commands (first_state empty_base [] 0 first_place)
+
+abbrev pub places_behind : (State Item → List LogPlace) → Step Item → List LogPlace
+places_behind more s = s.state.shared.place ∷ more s.state
+
+-- where the log ends behind each of its commands
+abbrev pub places_from : ℕ → List Spoken → State Item → List LogPlace
+places_from i [] state = []
+places_from i (c ∷ cs) state = places_behind (places_from (i + 1) cs) (step kept root state c.0 c.1 (draw_of i))
+
+abbrev pub places_of : List Spoken → List LogPlace
+places_of commands = places_from 0 commands (first_state empty_base [] 0 first_place)
+
+-- a place in the first log
+abbrev pub first_at : ℕ → LogPlace
+first_at offset = record { log = 1; pos = offset }
 
 -- a command of the first session
 abbrev pub s1 : List ℕ → Spoken

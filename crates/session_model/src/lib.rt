@@ -21,11 +21,11 @@
 //! - A change, a SELECT, a DO or a statement on savepoints that is refused leaves all tables, the open transaction and what was
 //!   committed ([`errors_leave_all`]).
 //! - A session beside another one's open changes reads the rows that were last committed ([`readers_see_committed`]).
-//! - The worked scripts: a writer and a reader, savepoints, variables.
+//! - The worked scripts: a writer and a reader, savepoints, variables; where the log ends behind a row.
 #![tactic(auto)]
 
 mod laws;
 mod worked;
 
 pub use laws::{errors_leave_all, readers_see_committed, runs_hold, steps_are_kept};
-pub use worked::{savepoints_kept, variables_set, writers_and_readers};
+pub use worked::{log_grows, logs_full, savepoints_kept, variables_set, writers_and_readers};

@@ -1,10 +1,11 @@
-//! Scripts and their answers, which the checker computes.
+//! Scripts and their answers, and where the log ends behind them, which the checker computes.
 //!
 //! The table `t` has two numbers, `id` and `v`, of which the first is its key.
-ghost use Rattle.std.specs.Prelude.{◌≡◌, [], ◌∷◌, codes, pos};
+ghost use Rattle.std.specs.Prelude.{◌≡◌, [], ◌∷◌, codes, false, pos, true};
 ghost use Rattle.val_types.specs.declared.value.Value.TheVariants.{Int};
 ghost use Rattle.session_model.specs.Answers.{ok, refused, refused_at, refused_by, showing};
-ghost use Rattle.session_model.specs.Worked.{answers_of, made_t, pair, s1, s2};
+ghost use Rattle.session_model.specs.Running.{is_full};
+ghost use Rattle.session_model.specs.Worked.{answers_of, first_at, made_t, pair, places_of, s1, s2};
 
 /// A transaction under way: another session may not write, and reads what was committed before.
 pub fn writers_and_readers()
@@ -26,4 +27,17 @@ pub fn variables_set()
     ensures { answers_of (s1 (codes "SET nosuch = NULL") ∷ s1 (codes "SET auto_increment_offset = LENGTH('')") ∷ s1 (codes "SELECT @@auto_increment_offset")
         ∷ s1 (codes "SET rand_seed1 = 'a'") ∷ s1 (codes "SELECT 1 FORM t") ∷ s1 (codes "") ∷ [])
         ≡ refused 1193 ∷ ok 0 ∷ showing ((Int (pos 1) ∷ []) ∷ []) ∷ refused 1231 ∷ refused_at 9 ∷ refused_at 0 ∷ [] }
+{}
+
+/// Where the log ends behind a table that is created, and behind a row that is logged as such.
+pub fn log_grows()
+    ensures { places_of (made_t ∷ s1 (codes "INSERT INTO t VALUES (1, 10)") ∷ s1 (codes "SELECT * FROM t") ∷ [])
+        ≡ first_at 206 ∷ first_at 352 ∷ first_at 352 ∷ [] }
+{}
+
+/// A log takes no transaction more behind 1 GiB, and none is behind the log 60,000.
+pub fn logs_full()
+    ensures room { is_full (record { log = 59999; pos = 1073741823 }) ≡ false }
+    ensures long { is_full (first_at 1073741824) ≡ true }
+    ensures last { is_full (record { log = 60000; pos = 123 }) ≡ true }
 {}

@@ -1,5 +1,5 @@
 -- What one statement of a session leaves: its item gives its changes on the base, behind those of the items before it.
-use Rattle.std.proofs.Common.{◌≡◌, ℕ, ◌⊎◌, inl, inr, Bool, false, List, [], ◌∷◌, ◌++◌, Option, Some, None, Ok, ℤ, refl, sym, ◌∙◌, ap, subst, cond}
+use Rattle.std.proofs.Common.{◌≡◌, ℕ, ◌⊎◌, inl, inr, Bool, true, false, List, [], ◌∷◌, ◌++◌, Option, Some, None, Ok, ℤ, refl, sym, ◌∙◌, ap, subst, cond}
 use Rattle.val_types.specs.declared.change.Change.{Change}
 use Rattle.sql_tree.specs.Statement.{Statement}
 use Rattle.log_entries.specs.declared.entries.Entry.{Entry}
@@ -11,10 +11,10 @@ use Rattle.sql_meaning.specs.Leading.{EndsWell}
 use Rattle.session_ctx.specs.declared.session.SessionVars.{SessionVars}
 use Rattle.session_model.specs.Sessions.{Open, Session, Shared, tables_with}
 use Rattle.sql_reach.specs.Defining.{number_of_bytes}
-use Rattle.session_model.specs.Running.{Call, Fuel, Turn, Given, is_other, items_of, keep, made_behind, with_counters, scene_for, settle, ended, item_of, fuel_of, with_context, setting_of}
+use Rattle.session_model.specs.Running.{Known, Call, Fuel, Turn, Given, is_other, items_of, keep, made_behind, with_counters, scene_for, takes_too_much, undone, settle, ended, item_of, fuel_of, with_context, setting_of}
 use Rattle.session_model.specs.Machine.{Whole, whole}
 use Rattle.session_model.specs.Holding.{changes_in, Owns, SharedHolds}
-use Rattle.session_model.proofs.Holding.{own_changes, made_kept}
+use Rattle.session_model.proofs.Owning.{own_changes, made_kept}
 use Rattle.session_replays.specs.Again.{Gives, AllGive, EntriesGive}
 use Rattle.session_replays.proofs.Giving.{all_behind}
 
@@ -61,12 +61,12 @@ pub record WasDone (call : Call Whole) (shared : Shared) (context : Context) (tr
 
 module _ (call : Call Whole) (fuel : Fuel) (text : List ℕ) (tree : Statement) (shared : Shared) where
   -- its item gives its changes behind those of the items before
-  item_gives : (context : Context) (scene : Scene) (first : Option ℤ) (cs before : List Change) → call.note ≡ whole → is_other call.number shared.writer ≡ false
+  item_gives : (context : Context) (scene : Scene) (first : Option ℤ) (cs before : List Change) → call.known ≡ whole → is_other call.number shared.writer ≡ false
       → shared.changes ≡ before → scene.changes ≡ shared.changes ++ cs → WasDone call shared context tree (scene_for call.number fuel context shared) scene
       → Gives shared.base before (item_of call fuel text tree context shared first cs)
   item_gives context scene first cs before noted q own f d =
-      subst (λ (note : _). Gives shared.base before (item_of (record call { note = note }) fuel text tree context shared first cs)) (sym noted)
-      (subst (λ (ds : List Change). Gives shared.base ds (item_of (record call { note = whole }) fuel text tree context shared first cs)) own
+      subst (λ (known : Known Whole). Gives shared.base before (item_of (record call { known = known }) fuel text tree context shared first cs)) (sym noted)
+      (subst (λ (ds : List Change). Gives shared.base ds (item_of (record call { known = whole }) fuel text tree context shared first cs)) own
       (record {
         did = d.did;
         scene = scene;
@@ -87,21 +87,24 @@ module _ (call : Call Whole) (fuel : Fuel) (text : List ℕ) (tree : Statement) 
     frame = inl e;
   }
 
-  -- a statement that changed nothing leaves no item
-  settle_kept : {A : Type 0} (context : Context) (scene : Scene) (first : Option ℤ) (made : List Change) (session : Session Whole) (given : Given A) → call.note ≡ whole
+  -- a statement that changed nothing leaves no item, and so does one whose item is too much
+  settle_kept : {A : Type 0} (context : Context) (scene : Scene) (first : Option ℤ) (made : List Change) (session : Session Whole) (given : Given A) (refusal : Turn Whole (Given A)) → call.known ≡ whole
       → SharedHolds shared → Owns call.number shared session.transaction → AllGive shared.base [] (items_of session.transaction)
-      → WasDone call shared context tree (scene_for call.number fuel context shared) scene
+      → WasDone call shared context tree (scene_for call.number fuel context shared) scene → TurnKept call.number shared refusal
       → ((c : Change) (cs : List Change) → made ≡ c ∷ cs → (is_other call.number shared.writer ≡ false) × (scene.changes ≡ shared.changes ++ made))
-      → let turn : Turn Whole (Given A) = settle call (item_of call fuel text tree context shared first) made scene (with_counters scene shared) session given in
-      Kept call.number shared turn.shared turn.session.transaction turn.committed
-  settle_kept context scene first [] session given noted h o g d some = record { entries = tt; items = g; frame = inl refl }
-  settle_kept context scene first (c ∷ cs) session given noted h o g d some =
-      let k = some c cs refl in
-      keep_kept (item_of call fuel text tree context shared first (c ∷ cs)) scene (with_counters scene shared) session.vars session.transaction given refl k.0 g
-      (item_gives context scene first (c ∷ cs) (changes_in (items_of session.transaction)) noted k.0 (own_changes call.number shared session.transaction h o k.0) k.1 d)
+      → TurnKept call.number shared (settle call (item_of call fuel text tree context shared first) made scene (with_counters scene shared) session given refusal)
+  settle_kept context scene first [] session given refusal noted h o g d taken some = record { entries = tt; items = g; frame = inl refl }
+  settle_kept {A = A} context scene first (c ∷ cs) session given refusal noted h o g d taken some = by (takes_too_much call session.transaction (item_of call fuel text tree context shared first (c ∷ cs)))
+    where
+      by : (b : Bool) → TurnKept call.number shared (cond b refusal (keep call (item_of call fuel text tree context shared first (c ∷ cs)) scene (with_counters scene shared) session given))
+      by true = taken
+      by false =
+          let k = some c cs refl in
+          keep_kept (item_of call fuel text tree context shared first (c ∷ cs)) scene (with_counters scene shared) session.vars session.transaction given refl k.0 g
+          (item_gives context scene first (c ∷ cs) (changes_in (items_of session.transaction)) noted k.0 (own_changes call.number shared session.transaction h o k.0) k.1 d)
 
   -- a statement that ended, done or with an error
-  pub ended_kept : {A : Type 0} (session : Session Whole) (first last_id : A → Option ℤ) (e : Ending A) → call.note ≡ whole → SharedHolds shared → Owns call.number shared session.transaction
+  pub ended_kept : {A : Type 0} (session : Session Whole) (first last_id : A → Option ℤ) (e : Ending A) → call.known ≡ whole → SharedHolds shared → Owns call.number shared session.transaction
       → AllGive shared.base [] (items_of session.transaction) → EndsWell (scene_for call.number fuel session.vars.context shared) e
       → ((a : A) (scene : Scene) → e ≡ done a scene → WasDone call shared session.vars.context tree (scene_for call.number fuel session.vars.context shared) scene)
       → let turn : Turn Whole (Given A) = ended call fuel text tree shared session first last_id (scene_for call.number fuel session.vars.context shared) e in
@@ -109,6 +112,7 @@ module _ (call : Call Whole) (fuel : Fuel) (text : List ℕ) (tree : Statement) 
   ended_kept session first last_id (done a scene) noted h o g ends was =
       let before = scene_for call.number fuel session.vars.context shared in
       settle_kept session.vars.context scene (first a) (made_behind (is_other call.number shared.writer) before scene)
-      (with_context (context_after session.vars.context tree scene.seeds (last_id a)) session) (record { result = Ok a; fuel = fuel_of scene }) noted h o g (was a scene refl)
+      (with_context (context_after session.vars.context tree scene.seeds (last_id a)) session) (record { result = Ok a; fuel = fuel_of scene }) (undone 1197 tree shared session scene) noted h o g (was a scene refl)
+      (record { entries = tt; items = g; frame = inl refl })
       (λ c cs q. let k = made_kept call.number fuel session.vars.context shared scene h (is_other call.number shared.writer) refl ends c cs q in (k.0, k.1))
   ended_kept session first last_id (failed code scene) noted h o g ends was = record { entries = tt; items = g; frame = inl refl }

@@ -1,7 +1,8 @@
 -- The base and the lock behind the end of a transaction, and where changes are dropped.
 use Rattle.std.proofs.Common.{◌≡◌, ℕ, Bool, true, false, List, [], ◌∷◌, take, None, refl, sym, ◌∙◌, cond}
+use Rattle.sql_meaning.specs.Frames.{Context}
 use Rattle.session_model.specs.Sessions.{Save, Shared}
-use Rattle.session_model.specs.Running.{is_other, released, all_committed, commit_shared}
+use Rattle.session_model.specs.Running.{Call, is_other, released, commit_shared}
 use Rattle.session_model.specs.Commands.{dropped, changes_cut}
 use Rattle.session_model.specs.Machine.{Whole}
 
@@ -21,9 +22,10 @@ released_other n shared e = by (is_other n shared.writer) refl e
     by true q p = sym q ∙ p
     by false q p = refl
 
-pub commit_other : (n : ℕ) (shared : Shared) (is : List Whole) → is_other n (released n (commit_shared is shared)).writer ≡ false → is_other n shared.writer ≡ false
-commit_other n shared [] e = released_other n shared e
-commit_other n shared (i ∷ is) e = released_other n (all_committed shared) e
+pub commit_other : (call : Call Whole) (context : Context) (shared : Shared) (is : List Whole) → is_other call.number (released call.number (commit_shared call context is shared)).writer ≡ false
+    → is_other call.number shared.writer ≡ false
+commit_other call context shared [] e = released_other call.number shared e
+commit_other call context shared (i ∷ is) e = released_other call.number (commit_shared call context (i ∷ is) shared) e
 
 pub dropped_base : (n : ℕ) (shared : Shared) → (dropped n shared).base ≡ shared.base
 dropped_base n shared = by (is_other n shared.writer)

@@ -47,4 +47,4 @@ entries_again (e ∷ es) base last g made =
     behind e es base last (entry_applied changes_of define e base) g.0 refl (λ next q m. entries_again es next last (g.1 next q) m) made
 
 pub runs_again : RunsAgain
-runs_again base m r = entries_again m.history base m.state.shared.base r.history r.holds.entries
+runs_again from m r = entries_again m.history from.base m.state.shared.base r.history r.holds.entries

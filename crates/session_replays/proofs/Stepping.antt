@@ -2,18 +2,19 @@
 use Rattle.std.proofs.Common.{◌≡◌, ◌≢◌, ◌<◌, ℕ, ◌⊎◌, inl, inr, Bool, true, false, ◌==◌, List, [], length, Option, Some, None, refl, sym, subst}
 use Rattle.std.proofs.lemmas.List.{get_or-set_same, get_or-set_other}
 use Rattle.std.proofs.lemmas.Bool.{eqb-true, eqb-false}
-use Rattle.std.specs.Prelude.{slice_index_or, slice_set}
-use Rattle.catalog_rules.specs.Bases.{Base}
+use Rattle.std.specs.Prelude.{slice_index_or, slice_set, replicate}
+use Rattle.catalog_rules.specs.Bases.{Base, empty_base}
 use Rattle.answer_text.specs.declared.answer.Answer.{Answer}
 use Rattle.text_answers.specs.Answers.{text_answer}
 use Rattle.sql_meaning.specs.Leading.{StatementsEndWell, EvaluationsEndWell}
 use Rattle.session_model.specs.Sessions.{Open, Session, Shared}
 use Rattle.session_model.specs.Running.{Call, Turn, is_other, items_of}
 use Rattle.session_model.specs.Machine.{Whole, whole, text_turn, at_work, with_count, session_slots, step}
-use Rattle.session_model.specs.Holding.{Owns, transaction_of, RunsBegin, RunsGoOn}
-use Rattle.session_model.proofs.Holding.{none_there, not_both, work_same}
+use Rattle.session_model.specs.Holding.{Owns, transaction_of, RunsBegin, RunsOpen, RunsGoOn}
+use Rattle.session_model.proofs.Holding.{none_there, work_same}
+use Rattle.session_model.proofs.Owning.{not_both}
 use Rattle.session_replays.specs.Again.{AllGive}
-use Rattle.session_replays.specs.Replaying.{ReplaysBegin, ReplaysGoOn}
+use Rattle.session_replays.specs.Replaying.{ReplaysBegin, ReplaysOpen, ReplaysGoOn}
 use Rattle.session_replays.proofs.Giving.{none_give, entries_behind}
 use Rattle.session_replays.proofs.Turning.{command_kept}
 
@@ -40,8 +41,8 @@ each_gives n k old base sessions session within own frame owns each = by (k == n
 
 pub replays_go_on : StatementsEndWell → EvaluationsEndWell → RunsGoOn → ReplaysGoOn
 unfolding step
-replays_go_on statements evaluations goes_on base m identity n text draw r within =
-    let call : Call Whole = record { identity = identity; draw = draw; number = n; note = whole } in
+replays_go_on statements evaluations goes_on from m identity n text draw r within short =
+    let call : Call Whole = record { identity = identity; draw = draw; number = n; known = whole } in
     let session : Session Whole = at_work call (slice_index_or m.state.sessions n None) in
     let same : session.transaction ≡ transaction_of (slice_index_or m.state.sessions n None) = work_same call (slice_index_or m.state.sessions n None) in
     let own : Owns n m.state.shared session.transaction = subst (λ (t : Option (Open Whole)). Owns n m.state.shared t) (sym same) (r.holds.each n) in
@@ -50,16 +51,18 @@ replays_go_on statements evaluations goes_on base m identity n text draw r withi
     let turn : Turn Whole Answer = with_count (text_turn call text (text_answer text) m.state.shared session) in
     let kept = command_kept call refl m.state.shared session r.holds.shared own open_items statements evaluations text in
     record {
-      holds = goes_on base m identity n text draw r.holds within;
-      history = entries_behind m.history turn.committed base m.state.shared.base r.history r.holds.entries kept.entries;
+      holds = goes_on from m identity n text draw r.holds within short;
+      history = entries_behind m.history turn.committed from.base m.state.shared.base r.history r.holds.entries kept.entries;
       open_ones = λ k. each_gives n k m.state.shared turn.shared.base m.state.sessions turn.session within kept.items kept.frame r.holds.each r.open_ones;
     }
 
 -- ---- the beginning
 
+none_open : (base : Base) (n : ℕ) → AllGive base [] (items_of (transaction_of (slice_index_or {A = Option (Session Whole)} (replicate session_slots None) n None)))
+none_open base n = subst (λ (s : Option (Session Whole)). AllGive base [] (items_of (transaction_of s))) (sym (none_there session_slots n)) tt
+
 pub replays_begin : RunsBegin → ReplaysBegin
-replays_begin begins base counters committed = record {
-  holds = begins base counters committed;
-  history = tt;
-  open_ones = λ n. subst (λ (s : Option (Session Whole)). AllGive base [] (items_of (transaction_of s))) (sym (none_there session_slots n)) tt;
-}
+replays_begin begins from counters = record { holds = begins from counters; history = tt; open_ones = none_open from.base }
+
+pub replays_open : RunsOpen → ReplaysOpen
+replays_open opens identity draw = record { holds = opens identity draw; history = (tt, λ next made. tt); open_ones = none_open empty_base }

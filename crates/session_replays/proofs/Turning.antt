@@ -23,14 +23,14 @@ use Rattle.session_model.specs.Running.{Call, Turn, Given, is_other, released, i
 use Rattle.session_model.specs.Commands.{answered, unless_refused, begin_turn, dropped, rollback_turn, is_save_of, saves_but, changes_of_own, saved, save_turn, cut_back, changes_cut, back_to_save, back_in, release_in, with_answer, definition_item, made_turn, unless_answered, define_turn, definition_turn, assign_unless, first_refused, set_by, set_expressions, set_turn, code_answer, is_too_long, call_turn, plain_turn}
 use Rattle.session_model.specs.Machine.{Whole, whole, statement_turn, text_turn, with_count}
 use Rattle.session_model.specs.Holding.{Owns, SharedHolds}
-use Rattle.session_model.proofs.Holding.{held_not_other, must_own, free_to_write}
+use Rattle.session_model.proofs.Owning.{held_not_other, must_own, free_to_write}
 use Rattle.session_replays.specs.Again.{AllGive, without_values}
 use Rattle.session_replays.proofs.Giving.{all_front, define_behind}
 use Rattle.session_replays.proofs.Evaluating.{sets_run_as_dos}
 use Rattle.session_replays.proofs.Locking.{released_base, commit_other, dropped_base, cut_base}
 use Rattle.session_replays.proofs.Keeping.{Kept, TurnKept, nothing_kept, ended_kept}
 
-module _ (call : Call Whole) (noted : call.note ≡ whole) (shared : Shared) (session : Session Whole) (h : SharedHolds shared) (o : Owns call.number shared session.transaction)
+module _ (call : Call Whole) (noted : call.known ≡ whole) (shared : Shared) (session : Session Whole) (h : SharedHolds shared) (o : Owns call.number shared session.transaction)
     (g : AllGive shared.base [] (items_of session.transaction)) where
   same_kept : (answer : Answer) → TurnKept call.number shared (answered answer shared session)
   same_kept answer = nothing_kept call.number shared session.transaction g
@@ -48,7 +48,7 @@ module _ (call : Call Whole) (noted : call.note ≡ whole) (shared : Shared) (se
   stays new t e k = record { entries = tt; items = subst (λ (b : Base). AllGive b [] (items_of t)) (sym e) k; frame = inl e }
 
   -- ---- the end of a transaction
-  commit_by : (context : Context) (is : List Whole) → items_of session.transaction ≡ is → Kept call.number shared (released call.number (commit_shared is shared)) None (commit_entries call context is)
+  commit_by : (context : Context) (is : List Whole) → items_of session.transaction ≡ is → Kept call.number shared (released call.number (commit_shared call context is shared)) None (commit_entries call context is)
   commit_by context [] e = record { entries = tt; items = tt; frame = inl (released_base call.number shared) }
   commit_by context (i ∷ is) e = record {
     entries = (subst (λ (items : List Whole). AllGive shared.base [] items) e g, λ next made. tt);
@@ -119,7 +119,7 @@ module _ (call : Call Whole) (noted : call.note ≡ whole) (shared : Shared) (se
   define_kept text s t k =
       answered_kept (option_map refused (ddl_refusal t.shared.base.catalog s)) t _ (ended_same t k) (λ _.
       answered_kept (writing_refusal call.number t.shared) t _ (ended_same t k) (λ free.
-      made_kept text s (defined s t.shared.base) t k (free_to_write call (λ item began. ap (λ note. note item began) noted) shared session h o t.shared free)))
+      made_kept text s (defined s t.shared.base) t k (free_to_write call.number t.shared free)))
 
   still_kept : (text : List ℕ) (s : Statement) (b : Bool) (t : Turn Whole (Unit {0})) → Ended t → TurnKept call.number shared (cond b (with_answer (refused 30005) t) (define_turn call text s t))
   still_kept text s true t k = ended_same t k
@@ -127,7 +127,7 @@ module _ (call : Call Whole) (noted : call.note ≡ whole) (shared : Shared) (se
 
   definition_kept : (text : List ℕ) (s : Statement) → TurnKept call.number shared (definition_turn call text s shared session)
   definition_kept text s =
-      still_kept text s (is_still_refused s) (commit_open call shared session) (refl, commit_kept, commit_other call.number shared (items_of session.transaction))
+      still_kept text s (is_still_refused s) (commit_open call shared session) (refl, commit_kept, commit_other call session.vars.context shared (items_of session.transaction))
 
   -- ---- statements that are run
   module _ (statements : StatementsEndWell) (evaluations : EvaluationsEndWell) where

@@ -9,7 +9,7 @@ use Rattle.log_entries.specs.Entries.{with_tables}
 use Rattle.sql_meaning.specs.Scenes.{Scene, Ending, done, failed}
 use Rattle.session_model.specs.Sessions.{tables_with}
 use Rattle.session_model.specs.Machine.{Whole, Machine}
-use Rattle.session_model.specs.Holding.{define}
+use Rattle.session_model.specs.Holding.{Beginning, define}
 use Rattle.session_replays.specs.Again.{run_again}
 use Rattle.session_replays.specs.Replaying.{Replays}
 
@@ -38,4 +38,4 @@ after_again (e ∷ es) base = option_and_then (after_again es) (entry_again e ba
 
 -- the committed base is what the statements make of the first one
 abbrev pub RunsAgain : Type 0
-RunsAgain = (base : Base) (m : Machine) → Replays base m → after_again m.history base ≡ Some m.state.shared.base
+RunsAgain = (from : Beginning) (m : Machine) → Replays from m → after_again m.history from.base ≡ Some m.state.shared.base

@@ -6,7 +6,7 @@ use Rattle.table_rules.specs.Tables.{Table}
 use Rattle.catalog_rules.specs.Bases.{Base, empty_base}
 use Rattle.log_entries.specs.declared.entries.Entry.{Entry}
 use Rattle.session_model.specs.Sessions.{State}
-use Rattle.session_model.specs.Machine.{Whole, whole, first_state, step, Step}
+use Rattle.session_model.specs.Machine.{Whole, whole, first_place, first_state, step, Step}
 use Rattle.session_model.specs.Worked.{root, draw_of, Spoken}
 use Rattle.session_replays.specs.Rerun.{after_again}
 
@@ -20,7 +20,7 @@ history_from i (c ∷ cs) state = history_behind (history_from (i + 1) cs) (step
 
 -- those of a script on an empty source
 abbrev pub history_of : List Spoken → List (Entry Whole)
-history_of commands = history_from 0 commands (first_state empty_base [] 0)
+history_of commands = history_from 0 commands (first_state empty_base [] 0 first_place)
 
 -- the rows of each table where a script's committed statements run again
 abbrev pub rows_again : List Spoken → Option (List (List (List Value)))

@@ -1,6 +1,6 @@
 //! Committed statements, run one transaction after the other, give just the changes of the entries.
 ghost use Rattle.session_replays.specs.Again.{SetsRunAsDos};
-ghost use Rattle.session_replays.specs.Replaying.{ReplaysBegin, ReplaysGoOn};
+ghost use Rattle.session_replays.specs.Replaying.{ReplaysBegin, ReplaysGoOn, ReplaysOpen};
 ghost use Rattle.session_replays.specs.Rerun.{RunsAgain};
 
 use session_model::runs_hold;
@@ -16,6 +16,7 @@ pub fn sets_run_as_dos()
 /// entries; so do those of each open transaction, behind all entries.
 pub fn transactions_replay()
     ensures begins { ReplaysBegin }
+    ensures opens { ReplaysOpen }
     ensures goes_on { ReplaysGoOn }
 {
     statements_end_well();

@@ -58,7 +58,7 @@ fn raise(work: &mut Work, table: &Bytes, value: Option<i64>)
 }
 
 /// A row put into a table that takes it, with the counter that it raises: 1062.
-#[tactic(auto, using(crate::proofs::Making::inserting, crate::proofs::Staying::staying))]
+#[tactic(auto, using(crate::proofs::Staying::staying))]
 fn insert(
     alloc: Global,
     work: &mut Work,
@@ -86,7 +86,7 @@ fn insert(
 }
 
 /// A row that is there replaced by another: 1062.
-#[tactic(auto, using(crate::proofs::Making::replacing, crate::proofs::Staying::staying))]
+#[tactic(auto, using(crate::proofs::Staying::staying))]
 fn replace(
     alloc: Global,
     work: &mut Work,
@@ -99,6 +99,7 @@ fn replace(
         → Ends result (progress_in work.new) (change_carried pos m (Update table before after) (progress_in work.old)) }
     ensures rest { Stays work.old work.new }
 {
+    work.together();
     let put = key_in(alloc, work.tables(), &table, &after)?;
     if !work.tables().fits(&table, &after) {
         return Err(differs(pos, KEY_TAKEN, table, put));
@@ -112,7 +113,7 @@ fn replace(
 }
 
 /// A row of a table changed: 1032, then 1062.
-#[tactic(auto, using(crate::proofs::Making::updating, crate::proofs::Staying::staying))]
+#[tactic(auto, using(crate::proofs::Staying::staying))]
 fn update(
     alloc: Global,
     work: &mut Work,
@@ -124,6 +125,7 @@ fn update(
     ensures ends { (m : Map) → table_code m work.old.tables (Update table before after) ≡ None → Ends result (progress_in work.new) (change_carried pos m (Update table before after) (progress_in work.old)) }
     ensures rest { Stays work.old work.new }
 {
+    work.together();
     let key = key_in(alloc, work.tables(), &table, &before)?;
     if !is_there(work.tables(), &table, &key, &before) {
         return Err(differs(pos, ROW_ABSENT, table, key));
@@ -132,7 +134,7 @@ fn update(
 }
 
 /// A row taken out of a table: 1032.
-#[tactic(auto, using(crate::proofs::Making::deleting, crate::proofs::Staying::staying))]
+#[tactic(auto, using(crate::proofs::Staying::staying))]
 fn delete(
     alloc: Global,
     work: &mut Work,
@@ -143,6 +145,7 @@ fn delete(
     ensures ends { (m : Map) → table_code m work.old.tables (Delete table row) ≡ None → Ends result (progress_in work.new) (change_carried pos m (Delete table row) (progress_in work.old)) }
     ensures rest { Stays work.old work.new }
 {
+    work.together();
     let key = key_in(alloc, work.tables(), &table, &row)?;
     if !is_there(work.tables(), &table, &key, &row) {
         return Err(differs(pos, ROW_ABSENT, table, key));
@@ -170,8 +173,8 @@ fn make(alloc: Global, work: &mut Work, pos: u64, change: Change) -> Result<(), 
 }
 
 /// A change of an event at a place, by the map of its table.
-#[tactic(auto, using(crate::proofs::Making::refusing, crate::proofs::Staying::staying))]
-fn carry_change(
+#[tactic(auto, using(crate::proofs::Staying::staying))]
+pub(crate) fn carry_change(
     alloc: Global,
     work: &mut Work,
     pos: u64,

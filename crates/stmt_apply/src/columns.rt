@@ -23,7 +23,6 @@ fn is_same_type(a: ColType, b: ColType) -> bool
 }
 
 /// Whether the columns of a map are as many as a table's, and of the same types.
-#[tactic(auto, using(crate::proofs::Columns::type_differs, crate::proofs::Columns::type_goes_on, crate::proofs::Columns::too_many))]
 fn are_same_types(map: &MapView, definition: &TableDef) -> bool
     ensures { result ≡ are_same_types (map_types (map_of map.now)) (types_of definition.now) }
 {

@@ -1,12 +1,11 @@
 //! How many bytes changes have. What is past 64 bits counts as the greatest number of these.
 ghost use Rattle.std.specs.Prelude.{◌≡◌};
-ghost use Rattle.applier_model.specs.Sizes.{change_size, changes_size, row_size, value_size};
+ghost use Rattle.transaction_sizes.specs.Sizes.{change_size, changes_size, row_size, value_size};
 ghost use Rattle.stmt_apply.specs.UnderWay.{bounded};
 
 use val_types::{Change, List, Row, Value};
 
 /// The bytes of a value.
-#[tactic(auto, using(crate::proofs::Counting::counting))]
 fn value_size(value: &Value) -> u64
     ensures { result ≡ bounded (value_size value.now) }
 {
@@ -18,7 +17,6 @@ fn value_size(value: &Value) -> u64
 }
 
 /// The bytes of a row.
-#[tactic(auto, using(crate::proofs::Counting::counting))]
 fn row_size(row: &Row) -> u64
     ensures { result ≡ bounded (row_size row.now) }
 {
@@ -30,7 +28,6 @@ fn row_size(row: &Row) -> u64
 }
 
 /// The bytes of a change.
-#[tactic(auto, using(crate::proofs::Counting::counting))]
 fn change_size(change: &Change) -> u64
     ensures { result ≡ bounded (change_size change.now) }
 {
@@ -45,7 +42,6 @@ fn change_size(change: &Change) -> u64
 }
 
 /// The bytes of changes.
-#[tactic(auto, using(crate::proofs::Counting::counting))]
 pub(crate) fn changes_size(changes: &List<Change>) -> u64
     ensures { result ≡ bounded (changes_size changes.now) }
 {

@@ -23,7 +23,7 @@ const NO_SUCH_TABLE: SqlError = 1146;
 const COLUMNS_DIFFER: SqlError = 30010;
 
 /// The definition of the table of a name.
-#[tactic(auto, using(crate::proofs::Tables::definition_there, crate::proofs::Tables::no_definition))]
+#[tactic(auto, using(crate::proofs::Named::definition_there, crate::proofs::Named::no_definition))]
 fn definition_named<'a>(tables: &'a Tables, name: &Bytes) -> Option<&'a TableDef>
     ensures { option_copied result ≡ option_map definition_of (table_named name.now tables.now.tables) }
 {
@@ -34,7 +34,7 @@ fn definition_named<'a>(tables: &'a Tables, name: &Bytes) -> Option<&'a TableDef
 }
 
 /// Why the table of a change does not take it, whatever its rows: 1146, 30010.
-#[tactic(auto, using(crate::proofs::Tables::code_by))]
+#[tactic(auto, using(crate::proofs::Named::code_there, crate::proofs::Named::code_nowhere))]
 pub(crate) fn table_refusal(tables: &Tables, map: &MapView, change: &Change) -> Option<SqlError>
     ensures { result ≡ table_code (map_of map.now) tables.now.tables change.now }
 {
@@ -51,7 +51,7 @@ pub(crate) fn table_refusal(tables: &Tables, map: &MapView, change: &Change) -> 
 }
 
 /// The primary key of a row in the table of a name.
-#[tactic(auto, using(crate::proofs::Tables::its_definition))]
+#[tactic(auto, using(crate::proofs::Named::its_definition))]
 pub(crate) fn key_in(
     alloc: Global,
     tables: &Tables,
@@ -78,7 +78,7 @@ pub(crate) fn is_there(tables: &Tables, name: &Bytes, key: &Row, row: &Row) -> b
 
 /// The value of a row to which it raises the counter of its table: -1 where the AUTO_INCREMENT column has no number,
 /// which raises none, and None where there is no such column.
-#[tactic(auto, using(crate::proofs::Raising::raising))]
+#[tactic(auto, using(crate::proofs::Raising::raising_none, crate::proofs::Raising::raising_nothing, crate::proofs::Raising::raising_value))]
 pub(crate) fn auto_value(tables: &Tables, name: &Bytes, row: &Row) -> Option<i64>
     ensures { (counters : Items Counter) → raised_to name.now result counters ≡ counters_moved tables.now.tables (Insert name.now row.now) counters }
 {

@@ -3,7 +3,7 @@ ghost use Rattle.std.specs.Prelude.{◌≡◌, [], None, map, List as Items};
 ghost use Rattle.std.specs.Option.{option_map};
 ghost use Rattle.event_codec.specs.Event.{map_of};
 ghost use Rattle.log_model.specs.Groups.{find};
-ghost use Rattle.applier_model.specs.Groups.{Going, item_ended, rows_ended};
+ghost use Rattle.applier_model.specs.Groups.{Going, is_too_large, item_ended, rows_ended};
 ghost use Rattle.prog_run.specs.Contents.{Contents};
 ghost use Rattle.stmt_apply.specs.UnderWay.{Goes, Stands};
 
@@ -53,12 +53,18 @@ impl<'a> UnderWay<'a> {
         }
     }
 
+    /// Whether there are too many bytes.
+    fn is_too_large(&self) -> bool
+        ensures { (work : Contents) → (g : Going) → Stands work self.now g → result ≡ is_too_large g }
+    {
+        self.bytes > MOST_BYTES || self.changed > MOST_BYTES
+    }
+
     /// The end of an item, at the place of its first rows: 1197.
-    #[tactic(auto, using(crate::proofs::Going::ending))]
     fn end_item(&mut self, alloc: Global, first: u64) -> Result<(), Stop>
         ensures { (work : Contents) → (g : Going) → Stands work self.old g → Goes result work self.new (item_ended first g) }
     {
-        if self.bytes > MOST_BYTES || self.changed > MOST_BYTES {
+        if self.is_too_large() {
             return Err(stop_at(alloc, first, TOO_LARGE));
         }
         self.maps.clear();
@@ -67,7 +73,6 @@ impl<'a> UnderWay<'a> {
     }
 
     /// Rows that end their item, or do not.
-    #[tactic(auto, using(crate::proofs::Going::going_on))]
     pub fn end_rows(&mut self, alloc: Global, first: u64, ends: bool) -> Result<(), Stop>
         ensures { (work : Contents) → (g : Going) → Stands work self.old g → Goes result work self.new (rows_ended ends first g) }
     {

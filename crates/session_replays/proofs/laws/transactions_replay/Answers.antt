@@ -1,8 +1,11 @@
-use Rattle.session_replays.proofs.Stepping.{replays_begin, replays_go_on}
+use Rattle.session_replays.proofs.Stepping.{replays_begin, replays_open, replays_go_on}
 use Rattle.session_replays.proofs.laws.transactions_replay.Goals as goal
 
 pub returns-clause-begins : goal.returns-clause-begins
 returns-clause-begins c = replays_begin c.runs_hold.ensures.begins
+
+pub returns-clause-opens : goal.returns-clause-opens
+returns-clause-opens c = replays_open c.runs_hold.ensures.opens
 
 pub returns-clause-goes_on : goal.returns-clause-goes_on
 returns-clause-goes_on c = replays_go_on c.statements_end_well.ensures.statements c.statements_end_well.ensures.evaluations c.runs_hold.ensures.goes_on
