@@ -6,3 +6,6 @@ use Rattle.replica_model.specs.Replica.{Replica}
 pub record Kept : Type 0 where
   pub identity : Identity
   pub replica : Replica
+
+abbrev pub replica_of : Kept → Replica
+replica_of k = k.replica

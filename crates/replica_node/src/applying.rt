@@ -4,6 +4,7 @@ ghost use Rattle.log_groups.specs.Views.{group_seen};
 ghost use Rattle.prog_run.specs.Contents.{base_of};
 ghost use Rattle.applier_model.specs.Groups.{group_carried};
 ghost use Rattle.replica_model.specs.Applying.{Going as Under, apply, by_next, next_at};
+ghost use Rattle.replica_node.specs.Kept.{replica_of};
 ghost use Rattle.replica_node.specs.Steps.{CarriesOut, GoesOn, IsOver, IsTold, ended_by, going_at};
 
 use crate::replica::ReplicaNode;
@@ -53,11 +54,11 @@ impl ReplicaNode {
     /// What stands behind bytes that were passed over: the beginning of a log is passed over too, its end is passed, and a
     /// definition or a transaction is carried out.
     fn step(&mut self, ahead: &Walk, draw: &Draw) -> Result<Step, NodeFault>
-        requires { IsOver self.old.replica ahead.now }
+        requires { IsOver (replica_of self.old) ahead.now }
         ensures identity { self.new.identity ≡ self.old.identity }
-        ensures step { IfOk result (λ step. (more : Under → Under) → (count : ℕ) → by_next more self.old.identity draw.entry.now (going_at self.old.replica ahead.now.passed count) (next_at (going_at self.old.replica ahead.now.passed count))
-            ≡ ended_by more step self.new.replica ahead.now.passed count) }
-        ensures goes_on { IfOk result (λ step. GoesOn step (length self.old.replica.relay - ahead.now.passed) self.new.replica) }
+        ensures step { IfOk result (λ step. (more : Under → Under) → (count : ℕ) → by_next more self.old.identity draw.entry.now (going_at (replica_of self.old) ahead.now.passed count) (next_at (going_at (replica_of self.old) ahead.now.passed count))
+            ≡ ended_by more step (replica_of self.new) ahead.now.passed count) }
+        ensures goes_on { IfOk result (λ step. GoesOn step (length (replica_of self.old).relay - ahead.now.passed) (replica_of self.new)) }
     {
         match self.relay.next(ahead) {
             Next::NotWhole => Ok(Step::Waits),
@@ -89,7 +90,7 @@ impl ReplicaNode {
     /// What is told of so many groups that were carried out.
     fn applied(&self, count: u32, stop: Option<Stopped>) -> Applied
         ensures count { result.count ≡ count }
-        ensures place { record { log = result.log; pos = result.pos } ≡ self.now.replica.place }
+        ensures place { record { log = result.log; pos = result.pos } ≡ (replica_of self.now).place }
         ensures stop { result.stop ≡ stop }
     {
         let place = self.relay.place();
@@ -106,8 +107,8 @@ impl ReplicaNode {
     #[tactic(auto, unfolding(replica_model::specs::Applying::apply))]
     pub fn apply(&mut self, wanted: u32, draw: &Draw) -> Result<Applied, NodeFault>
         ensures identity { self.new.identity ≡ self.old.identity }
-        ensures replica { IfOk result (λ told. self.new.replica ≡ (apply wanted self.old.identity draw.entry.now self.old.replica).replica) }
-        ensures told { IfOk result (λ told. IsTold told (apply wanted self.old.identity draw.entry.now self.old.replica)) }
+        ensures replica { IfOk result (λ told. replica_of self.new ≡ (apply wanted self.old.identity draw.entry.now (replica_of self.old)).replica) }
+        ensures told { IfOk result (λ told. IsTold told (apply wanted self.old.identity draw.entry.now (replica_of self.old))) }
     {
         let mut count: u32 = 0;
         let mut ahead = self.relay.here();

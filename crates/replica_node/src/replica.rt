@@ -2,6 +2,7 @@
 ghost use Rattle.std.specs.Prelude.{◌≡◌, ◌≤◌, ◌+◌, ◌^◌, length, IfOk, OnErr, OnOk};
 ghost use Rattle.replica_model.specs.Replica.{fetched, first_replica, want};
 ghost use Rattle.replica_model.specs.Selecting.{select_answer};
+ghost use Rattle.replica_node.specs.Kept.{replica_of};
 
 use crate::selecting::answer;
 use answer_text::Answer;
@@ -41,7 +42,8 @@ impl Model for ReplicaNode {
 impl ReplicaNode {
     /// A replica that has fetched nothing. It uses nothing of its draw as long as it opens no files.
     pub fn open(alloc: Global, identity: Identity, draw: &Draw) -> ReplicaNode
-        ensures { result ≡ record { identity = identity; replica = first_replica } }
+        ensures identity { result.identity ≡ identity }
+        ensures replica { replica_of result ≡ first_replica }
     {
         let _ = draw;
         ReplicaNode {
@@ -55,7 +57,7 @@ impl ReplicaNode {
 
     /// How many definitions and transactions were carried out.
     pub fn number(&self) -> u64
-        ensures { result ≡ self.now.replica.number }
+        ensures { result ≡ (replica_of self.now).number }
     {
         self.number
     }
@@ -63,7 +65,7 @@ impl ReplicaNode {
     /// The log and the position from which the next bytes are fetched.
     #[tactic(auto, unfolding(replica_model::specs::Replica::want))]
     pub fn want(&self) -> (u32, u32)
-        ensures { record { log = result.0; pos = result.1 } ≡ want self.now.replica }
+        ensures { record { log = result.0; pos = result.1 } ≡ want (replica_of self.now) }
     {
         let place = self.relay.want();
         (place.log, place.pos)
@@ -72,8 +74,9 @@ impl ReplicaNode {
     /// Takes a piece of the source's log from the place that is wanted on, which ends within 4,294,967,295.
     #[tactic(auto, unfolding(replica_model::specs::Replica::want))]
     pub fn fetch(&mut self, piece: &Bytes) -> Result<(), NodeFault>
-        requires { (want self.old.replica).pos + length piece.now ≤ 4294967295 }
-        ensures ok { OnOk result (self.new ≡ record self.old { replica = fetched piece.now self.old.replica }) }
+        requires { (want (replica_of self.old)).pos + length piece.now ≤ 4294967295 }
+        ensures identity { self.new.identity ≡ self.old.identity }
+        ensures ok { OnOk result (replica_of self.new ≡ fetched piece.now (replica_of self.old)) }
         ensures err { OnErr result (self.new ≡ self.old) }
     {
         self.relay.append(piece.as_slice())?;
@@ -84,7 +87,7 @@ impl ReplicaNode {
     /// the error of the first of the catalog's checks, 1290 where it would change rows, then its own.
     pub fn select(&mut self, text: &[u8], draw: &Draw) -> Result<Answer, NodeFault>
         requires { length text.now ≤ 2 ^ 20 }
-        ensures answer { IfOk result (λ answer. answer ≡ select_answer self.old.identity draw.entry.now self.old.replica.counters self.old.replica.base text.now) }
+        ensures answer { IfOk result (λ answer. answer ≡ select_answer self.old.identity draw.entry.now (replica_of self.old).counters (replica_of self.old).base text.now) }
         ensures same { self.new ≡ self.old }
     {
         answer(self.alloc, &self.identity, &mut self.work, text, draw)
