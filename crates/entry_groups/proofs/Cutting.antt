@@ -21,7 +21,7 @@ use Rattle.entry_groups.proofs.Parting.{parted}
 abbrev pub Lacks : List ℕ → ℕ → Type 0
 Lacks bytes pos = (need : ℕ) × (reading bytes pos ≡ none (short need))
 
-no_header : (bytes : List ℕ) (pos : ℕ) → ltb (length bytes) 19 ≡ true → Lacks bytes pos
+pub no_header : (bytes : List ℕ) (pos : ℕ) → ltb (length bytes) 19 ≡ true → Lacks bytes pos
 unfolding reading
 no_header bytes pos few = (19, rw few refl)
 

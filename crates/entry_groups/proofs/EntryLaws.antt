@@ -1,19 +1,20 @@
 -- Entries are read again as their groups, and a front of one as nothing whole.
-use Rattle.std.proofs.Common.{◌≡◌, ℕ, ◌+◌, ◌≤◌, ◌<◌, ◌^◌, Bool, true, false, ltb, List, [], ◌∷◌, ◌++◌, map, length, Option, Some, refl, sym, ap, ◌∙◌, arith, subst}
-use Rattle.std.specs.Prelude.{flat_map, codes}
-use Rattle.std.proofs.lemmas.Bool.{ltb-true, ltb-false}
+use Rattle.std.proofs.Common.{◌≡◌, ℕ, ◌+◌, ◌≤◌, ◌<◌, ◌^◌, Bool, true, false, ltb, List, [], ◌∷◌, ◌++◌, map, length, Some, refl, sym, ap, ◌∙◌, arith, subst}
+use Rattle.std.specs.Prelude.{flat_map}
+use Rattle.std.proofs.lemmas.Bool.{lt-ltb, ltb-true, ltb-false}
 use Rattle.std.proofs.lemmas.List.{length-append}
-use Rattle.event_codec.specs.Event.{Body, query, rotate, xid, format_description}
+use Rattle.event_codec.specs.Event.{Body, query, xid, format_description}
+use Rattle.event_codec.specs.Reading.{short}
 use Rattle.event_codec.specs.Writing.{size, format_description_bytes, layout_bytes}
 use Rattle.byte_fields.specs.Field.{number_bytes}
 use Rattle.log_entries.specs.declared.entries.Item.{Item}
 use Rattle.log_entries.specs.declared.entries.Entry.{Entry}
 use Rattle.log_entries.specs.declared.entries.Entry.TheVariants.{Transaction, Definition, LogStart}
-use Rattle.log_model.specs.Events.{Place, Placed, events_from, stop_from}
-use Rattle.log_model.specs.Groups.{Stage, first, between, Move, go, close, refuse, move, Group, group, not_whole, group_of, group_at}
+use Rattle.log_model.specs.Events.{Place, events_from, stop_from}
+use Rattle.log_model.specs.Groups.{Stage, first, between, Move, go, close, refuse, move, Group, group, not_whole, group_at}
 use Rattle.log_model.specs.Items.{query_of, spelled, at_time, item_events, AreCarried}
-use Rattle.log_model.specs.Log.{LogPlace, begin_query, transaction, definition, rotation, description, version, entry_bytes, behind, counted, counted_all, written_to}
-use Rattle.log_model.specs.Spelling.{bodies_of, bodies, AreItems, ran, run, said, IsBegin, IsFront}
+use Rattle.log_model.specs.Log.{LogPlace, begin_query, transaction, definition, description, version, entry_bytes, behind, counted, counted_all, written_to}
+use Rattle.log_model.specs.Spelling.{bodies_of, bodies, AreItems, ran, run, said, IsShort, IsBegin, IsFront}
 use Rattle.log_model.specs.Written.{Stamped, body_of, bytes_of, placed, total, CanWriteAll}
 use Rattle.log_model.proofs.Carrying.{item_spelled}
 use Rattle.log_model.proofs.Growing.{start_read}
@@ -21,10 +22,11 @@ use Rattle.log_model.proofs.OneGroup.{one_transaction, one_definition}
 use Rattle.log_model.proofs.ReadAgain.{length-bytes_of}
 use Rattle.log_model.proofs.Running.{items_run}
 use Rattle.log_model.proofs.Scanning.{front_not_whole}
+use Rattle.log_model.proofs.Walking.{events_none, stop_none}
 use Rattle.entry_groups.specs.Entries.{start_group, group_of_entry, StaysInLog, CanLog, CanLogAll}
 use Rattle.entry_groups.specs.Laws.{Fetched, partly, wholly}
 use Rattle.entry_groups.proofs.Parting.{parted}
-use Rattle.entry_groups.proofs.Cutting.{Cut, cut}
+use Rattle.entry_groups.proofs.Cutting.{no_header, Cut, cut}
 
 abbrev place : List ℕ → ℕ → Place
 place bytes pos = record { bytes = bytes; pos = pos }
@@ -55,6 +57,15 @@ cut_is_not_whole : (pos : ℕ) (es : List Stamped) (front : List ℕ) (c : Cut p
 unfolding group_at
 cut_is_not_whole pos es front c is =
     front_not_whole (events_from (place front pos)) (stop_from (place front pos)) c.ends (subst IsFront (sym c.events) is)
+
+-- fewer bytes than a header has are the front of no event
+pub few_cut : (bytes : List ℕ) (pos : ℕ) → length bytes < 19 → group_at (record { bytes = bytes; pos = pos }) ≡ not_whole
+unfolding group_at
+few_cut bytes pos few =
+    let p : Place = place bytes pos in
+    let lacks = no_header bytes pos (lt-ltb _ _ few) in
+    front_not_whole (events_from p) (stop_from p) (subst IsShort (sym (stop_none p (short lacks.0) lacks.1)) tt)
+    (subst IsFront (sym (events_none p (short lacks.0) lacks.1)) tt)
 
 -- in front of one event none is whole
 none_before : (e : Stamped) (before : List Stamped) (next : Stamped) (after : List Stamped) (pos : ℕ) → e ∷ [] ≡ before ++ next ∷ after → IsFront (placed pos before)
@@ -155,11 +166,6 @@ pub start_cut : (stamp server : ℕ) (front rest : List ℕ) → stamp < 2 ^ 32 
     → group_at (record { bytes = front; pos = 4 }) ≡ not_whole
 start_cut stamp server front rest low same some =
     event_cut server 4 (record { stamp = stamp; body = format_description version }) front rest (can_begin stamp low) same some
-
-pub rotation_cut : (stamp next server pos : ℕ) (front rest : List ℕ) → CanWriteAll pos (rotation stamp next)
-    → front ++ rest ≡ bytes_of server pos (rotation stamp next) → 1 ≤ length rest → group_at (record { bytes = front; pos = pos }) ≡ not_whole
-rotation_cut stamp next server pos front rest can same some =
-    event_cut server pos (record { stamp = stamp; body = rotate next }) front rest can same some
 
 -- ---- fetched piece by piece
 

@@ -3,8 +3,8 @@ use Rattle.std.specs.Prelude.{◌≡◌, ◌<◌, ◌≤◌, ◌^◌, ℕ, ◌+�
 use Rattle.log_entries.specs.declared.entries.Item.{Item}
 use Rattle.log_entries.specs.declared.entries.Entry.{Entry}
 use Rattle.log_model.specs.Groups.{Group, group, not_whole, group_at}
-use Rattle.log_model.specs.Log.{LogPlace, description, rotation, entry_bytes, counted_all, written_to}
-use Rattle.log_model.specs.Written.{bytes_of, CanWriteAll}
+use Rattle.log_model.specs.Log.{LogPlace, description, entry_bytes, counted_all, written_to}
+use Rattle.log_model.specs.Written.{bytes_of}
 use Rattle.entry_groups.specs.Entries.{start_group, group_of_entry, StaysInLog, CanLog, CanLogAll}
 
 -- ---- groups have bounds
@@ -28,17 +28,15 @@ EntryIsRead = (e : Entry Item) (number : ℕ) (p : LogPlace) (more : List ℕ) �
 
 -- ---- cut
 
--- where some of its bytes lack, the first event of a log is not whole
+-- fewer bytes than a header has are not whole, wherever they stand
+abbrev pub FewAreCut : Type 0
+FewAreCut = (bytes : List ℕ) (pos : ℕ) → length bytes < 19 → group_at (record { bytes = bytes; pos = pos }) ≡ not_whole
+
+-- the first event of a log is not whole where some of its bytes are missing
 abbrev pub StartIsCut : Type 0
 StartIsCut = (stamp server : ℕ) (front rest : List ℕ) → stamp < 2 ^ 32
     → front ++ rest ≡ bytes_of server 4 (description stamp) → 1 ≤ length rest
     → group_at (record { bytes = front; pos = 4 }) ≡ not_whole
-
--- nor is the name of the next log
-abbrev pub RotationIsCut : Type 0
-RotationIsCut = (stamp next server pos : ℕ) (front rest : List ℕ) → CanWriteAll pos (rotation stamp next)
-    → front ++ rest ≡ bytes_of server pos (rotation stamp next) → 1 ≤ length rest
-    → group_at (record { bytes = front; pos = pos }) ≡ not_whole
 
 -- nor an entry
 abbrev pub EntryIsCut : Type 0
@@ -48,20 +46,20 @@ EntryIsCut = (e : Entry Item) (number : ℕ) (p : LogPlace) (front rest : List �
 
 -- ---- fetched piece by piece
 
--- what was fetched so far (relay), where some bytes that are read as a group stand before others (more) and the rest is still to
--- come: not all of these bytes; or all of them, and what of the others is there
+-- `relay` is there and `rest` still to come; together they are some bytes that are read as a group, and `more` behind them.
+-- Of these bytes some are missing, and nothing whole is read; or all are there, the group is read, and a front of `more` follows
 pub data Fetched (bytes : List ℕ) (pos : ℕ) (read : Group) (relay rest more : List ℕ) : Type 0 where
   partly : group_at (record { bytes = relay; pos = pos }) ≡ not_whole → Fetched bytes pos read relay rest more
   wholly : (relay' : List ℕ) → relay ≡ bytes ++ relay' → relay' ++ rest ≡ more
       → group_at (record { bytes = relay; pos = pos }) ≡ group read → Fetched bytes pos read relay rest more
 
--- so is the first event of a log
+-- so the first event of a log is fetched
 abbrev pub StartRelayIsRead : Type 0
 StartRelayIsRead = (stamp server : ℕ) (relay rest more : List ℕ) → stamp < 2 ^ 32
     → relay ++ rest ≡ bytes_of server 4 (description stamp) ++ more
     → Fetched (bytes_of server 4 (description stamp)) 4 start_group relay rest more
 
--- and an entry
+-- and so is an entry
 abbrev pub RelayIsRead : Type 0
 RelayIsRead = (e : Entry Item) (number : ℕ) (p : LogPlace) (relay rest more : List ℕ) → StaysInLog e → CanLog e number p
     → relay ++ rest ≡ entry_bytes e number p ++ more

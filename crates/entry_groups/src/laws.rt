@@ -1,5 +1,5 @@
 //! Laws of entries in a log: each function proves one, and does nothing.
-ghost use Rattle.entry_groups.specs.Laws.{EntriesCanLogOn, EntryIsCut, EntryIsRead, GroupsHaveBounds, RelayIsRead, RotationIsCut, StartIsCut, StartIsRead, StartRelayIsRead};
+ghost use Rattle.entry_groups.specs.Laws.{EntriesCanLogOn, EntryIsCut, EntryIsRead, FewAreCut, GroupsHaveBounds, RelayIsRead, StartIsCut, StartIsRead, StartRelayIsRead};
 
 /// The group of an entry begins at its place and has just its bytes.
 pub fn groups_have_bounds()
@@ -16,18 +16,23 @@ pub fn entry_is_read()
     ensures { EntryIsRead }
 {}
 
-/// Where some of its bytes lack, the first event of a log is not whole, nor is the name of the next one.
-pub fn start_is_cut()
-    ensures start { StartIsCut }
-    ensures rotation { RotationIsCut }
+/// Fewer bytes than a header has are not whole, wherever they stand.
+pub fn few_are_cut()
+    ensures { FewAreCut }
 {}
 
-/// Where some of its bytes lack, an entry is not whole.
+/// Where some of its bytes are missing, the first event of a log is not whole.
+pub fn start_is_cut()
+    ensures { StartIsCut }
+{}
+
+/// Where some of its bytes are missing, an entry is not whole.
 pub fn entry_is_cut()
     ensures { EntryIsCut }
 {}
 
-/// Where a log is fetched piece by piece, its start is not whole, or it is read and what follows is there.
+/// Where a log is fetched piece by piece, its start is not whole yet; or it is read, and a front of what
+/// follows is there.
 pub fn start_relay_is_read()
     ensures { StartRelayIsRead }
 {}

@@ -10,11 +10,10 @@
 //! # Proved
 //! - an entry that is logged is read as its group, whatever follows it ([`entry_is_read`]), and so is the
 //!   first event of a log ([`start_is_read`]); the group has just the entry's bytes ([`groups_have_bounds`])
-//! - where bytes of it lack, it is not whole ([`entry_is_cut`], [`start_is_cut`]): it is never read as
-//!   another group, nor as damaged
-//! - so what was fetched of a log begins with a group that is not whole, or with the whole group of its first
-//!   entry, and the remaining bytes are a front of the other entries' ([`relay_is_read`],
-//!   [`start_relay_is_read`])
+//! - while bytes of it are missing, nothing whole is read ([`entry_is_cut`], [`start_is_cut`]): no other
+//!   group, and nothing damaged; nor of fewer bytes than a header has ([`few_are_cut`])
+//! - so what was fetched of a log is not whole yet, or begins with the whole group of its first entry, and a
+//!   front of the other entries follows ([`relay_is_read`], [`start_relay_is_read`])
 //! - entries can be logged behind others just where they can be behind what those append
 //!   ([`entries_can_log_on`])
 #![tactic(auto)]
@@ -22,6 +21,6 @@
 mod laws;
 
 pub use laws::{
-    entries_can_log_on, entry_is_cut, entry_is_read, groups_have_bounds, relay_is_read,
-    start_is_cut, start_is_read, start_relay_is_read,
+    entries_can_log_on, entry_is_cut, entry_is_read, few_are_cut, groups_have_bounds,
+    relay_is_read, start_is_cut, start_is_read, start_relay_is_read,
 };

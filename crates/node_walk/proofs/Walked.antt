@@ -15,8 +15,8 @@ use Rattle.sql_tree.specs.declared.statements.Target.{Target}
 use Rattle.catalog_rules.specs.Nodes.{Node, Sight, a_limit, no_sight, in_sight, sight_in, sight_of_update, limit_nodes, count_nodes, nodes_of_tree, nodes_of_trees, nodes_of_arms, nodes_of_part, nodes_of_query, nodes_of_selected, nodes_of_aggregates, nodes_of_origin, nodes_of_orders}
 use Rattle.catalog_rules.specs.Nodes.{nodes_of_sets, nodes_of_rows, nodes_of_supply, nodes_of_assignments, nodes_of_declared, nodes_of, nodes_of_steps, nodes_of_branches, nodes_of_otherwise}
 use Rattle.node_walk.specs.declared.asking.Ask.{Ask}
-use Rattle.node_walk.specs.Asking.{asks_built_in, asks_call, asks_limit, asks_node, asks_random_number, asks_statement, asks_system_variable}
-use Rattle.node_walk.specs.Walking.{in_limit, in_tree, in_trees, in_arms, in_part, in_query, in_selected, in_aggregates, in_origin, in_orders, in_sets, in_rows, in_supply, in_assignments, in_declared, in_steps, in_branches, in_otherwise, in_statement}
+use Rattle.node_walk.specs.Asking.{asks_built_in, asks_call, asks_limit, asks_node, asks_random_number, asks_statement, asks_system_variable, asks_table}
+use Rattle.node_walk.specs.Walking.{in_count, in_limit, in_tree, in_trees, in_arms, in_part, in_query, in_selected, in_aggregates, in_origin, in_orders, in_sets, in_rows, in_supply, in_assignments, in_declared, in_steps, in_branches, in_otherwise, in_statement}
 
 -- whether what is asked holds of some nodes
 abbrev among : Ask → List Node → Bool
@@ -36,24 +36,20 @@ joined ask xs ys a b e f = list_any-append (asks_node ask) xs ys ∙ both _ _ _ 
 three : (ask : Ask) (xs ys zs : List Node) (a b c : Bool) → among ask xs ≡ a → among ask ys ≡ b → among ask zs ≡ c → among ask (xs ++ ys ++ zs) ≡ ((a || b) || c)
 three ask xs ys zs a b c e f g = joined ask (xs ++ ys) zs (a || b) c (joined ask xs ys a b e f) g
 
-kept : (b c : Bool) → (b ≡ false → c ≡ false) → (b || c) ≡ b
-kept true c none = refl
-kept false c none = none refl
-
-offset_none : (ask : Ask) (c : Option Count) → asks_limit ask ≡ false → among ask (option_map_or (λ c. a_limit c ∷ []) c []) ≡ false
-offset_none ask None e = refl
-offset_none ask (Some c) e = rw e refl
+offset_walked : (ask : Ask) (c : Option Count) → among ask (option_map_or (λ c. a_limit c ∷ []) c []) ≡ in_count ask c
+offset_walked ask None = refl
+offset_walked ask (Some c) = or_none (asks_limit ask c)
 
 limit_walked : (ask : Ask) (l : Option Limit) → among ask (limit_nodes l) ≡ in_limit ask l
 limit_walked ask None = refl
-limit_walked ask (Some l) = kept (asks_limit ask) _ (offset_none ask l.offset)
+limit_walked ask (Some l) = ap (λ b. asks_limit ask l.count || b) (offset_walked ask l.offset)
 
-count_walked : (ask : Ask) (c : Option Count) → among ask (count_nodes c) ≡ in_limit ask c
+count_walked : (ask : Ask) (c : Option Count) → among ask (count_nodes c) ≡ in_count ask c
 count_walked ask None = refl
-count_walked ask (Some c) = or_none (asks_limit ask)
+count_walked ask (Some c) = or_none (asks_limit ask c)
 
 mutual
-  tree_walked : (ask : Ask) (t : Tree) (sight : Sight) → among ask (nodes_of_tree t sight) ≡ in_tree ask t
+  pub tree_walked : (ask : Ask) (t : Tree) (sight : Sight) → among ask (nodes_of_tree t sight) ≡ in_tree ask t
   tree_walked ask (literal v) sight = refl
   tree_walked ask (name n) sight = refl
   tree_walked ask (column t c) sight = refl
@@ -73,7 +69,7 @@ mutual
   tree_walked ask (floor_rand a) sight = ap (λ b. asks_random_number ask || b) (tree_walked ask a sight)
   tree_walked ask (built_in f ts) sight = ap (λ b. asks_built_in ask f || b) (trees_walked ask ts sight)
 
-  trees_walked : (ask : Ask) (ts : Trees) (sight : Sight) → among ask (nodes_of_trees ts sight) ≡ in_trees ask ts
+  pub trees_walked : (ask : Ask) (ts : Trees) (sight : Sight) → among ask (nodes_of_trees ts sight) ≡ in_trees ask ts
   trees_walked ask no_tree sight = refl
   trees_walked ask (tree t ts) sight = joined ask (nodes_of_tree t sight) (nodes_of_trees ts sight) _ _ (tree_walked ask t sight) (trees_walked ask ts sight)
 
@@ -101,8 +97,9 @@ mutual
   origin_walked : (ask : Ask) (o : Origin) (sight : Sight) → among ask (nodes_of_origin o sight) ≡ in_origin ask o
   origin_walked ask no_origin sight = refl
   origin_walked ask (from_table t w os l) sight =
-      three ask (nodes_of_part w (in_sight t sight)) (nodes_of_orders os (in_sight t sight)) (limit_nodes l) _ _ _
-      (part_walked ask w (in_sight t sight)) (orders_walked ask os (in_sight t sight)) (limit_walked ask l)
+      ap (λ b. asks_table ask t || b)
+      (three ask (nodes_of_part w (in_sight t sight)) (nodes_of_orders os (in_sight t sight)) (limit_nodes l) _ _ _
+      (part_walked ask w (in_sight t sight)) (orders_walked ask os (in_sight t sight)) (limit_walked ask l))
 
   orders_walked : (ask : Ask) (os : Orders) (sight : Sight) → among ask (nodes_of_orders os sight) ≡ in_orders ask os
   orders_walked ask no_order sight = refl

@@ -6,14 +6,20 @@ use Rattle.sql_tree.specs.Tree.{Aggregates, no_aggregate, count_all, aggregate, 
 use Rattle.sql_tree.specs.Statement.{Supply, rows, rows_of, Declared}
 use Rattle.sql_tree.specs.Statement.{Statement, insert_into, replace_into, update_rows, delete_rows, select, evaluate, set_all, call_procedure, block, if_steps, while_steps, return_value}
 use Rattle.sql_tree.specs.Statement.{Statements, no_statement, statement, Branches, no_branch, branch, Otherwise, no_else, else_steps}
+use Rattle.sql_tree.specs.declared.expressions.Count.{Count}
+use Rattle.sql_tree.specs.declared.expressions.Limit.{Limit}
 use Rattle.sql_tree.specs.declared.statements.Target.{Target}
 use Rattle.node_walk.specs.declared.asking.Ask.{Ask}
-use Rattle.node_walk.specs.Asking.{asks_built_in, asks_call, asks_limit, asks_random_number, asks_statement, asks_system_variable}
+use Rattle.node_walk.specs.Asking.{asks_built_in, asks_call, asks_limit, asks_random_number, asks_statement, asks_system_variable, asks_table}
 
--- in a LIMIT, where there is one
-abbrev pub in_limit : {A : Type 0} → Ask → Option A → Bool
+-- LIMIT of a change, and LIMIT with its offset
+abbrev pub in_count : Ask → Option Count → Bool
+in_count ask None = false
+in_count ask (Some c) = asks_limit ask c
+
+abbrev pub in_limit : Ask → Option Limit → Bool
 in_limit ask None = false
-in_limit ask (Some l) = asks_limit ask
+in_limit ask (Some l) = asks_limit ask l.count || in_count ask l.offset
 
 abbrev mutual
   pub in_tree : Ask → Tree → Bool
@@ -63,7 +69,7 @@ abbrev mutual
 
   pub in_origin : Ask → Origin → Bool
   in_origin ask no_origin = false
-  in_origin ask (from_table t w os l) = in_part ask w || in_orders ask os || in_limit ask l
+  in_origin ask (from_table t w os l) = asks_table ask t || (in_part ask w || in_orders ask os || in_limit ask l)
 
   pub in_orders : Ask → Orders → Bool
   in_orders ask no_order = false
@@ -94,8 +100,8 @@ abbrev mutual
   pub in_parts : Ask → Statement → Bool
   in_parts ask (insert_into ignore t cs from us) = in_supply ask from || in_sets ask us
   in_parts ask (replace_into t cs from) = in_supply ask from
-  in_parts ask (update_rows t ss w os l) = in_sets ask ss || in_part ask w || in_orders ask os || in_limit ask l
-  in_parts ask (delete_rows t w os l) = in_part ask w || in_orders ask os || in_limit ask l
+  in_parts ask (update_rows t ss w os l) = in_sets ask ss || in_part ask w || in_orders ask os || in_count ask l
+  in_parts ask (delete_rows t w os l) = in_part ask w || in_orders ask os || in_count ask l
   in_parts ask (select q) = in_query ask q
   in_parts ask (evaluate ts) = in_trees ask ts
   in_parts ask (set_all as') = in_assignments ask as'

@@ -1,15 +1,20 @@
 //! What a walk over a statement asks of each node.
-ghost use Rattle.std.specs.Prelude.{◌≡◌};
+ghost use Rattle.std.specs.Prelude.{◌≡◌, false, is_some, not};
+ghost use Rattle.std.specs.Option.{option_map_or};
 ghost use Rattle.catalog_objects.specs.Keys.{objects_of};
-ghost use Rattle.catalog_rules.specs.Nodes.{a_statement};
+ghost use Rattle.catalog_rules.specs.Names.{same_name};
+ghost use Rattle.catalog_rules.specs.Nodes.{a_statement, table_changed};
+ghost use Rattle.sql_meaning.specs.Frames.{number_or_none};
+ghost use Rattle.sql_meaning.specs.Running.{is_ill_count};
 ghost use Rattle.sql_tree.specs.StatementView.{view, view_supply, view_trigger};
 ghost use Rattle.sql_reach.specs.Reach.{causes_event, is_change};
 ghost use Rattle.sql_reach.specs.Reasons.{comes_from_select, has_unique, ignores_select, inserts_counted, is_counted, is_unsafe_function, replaces_select, selects_counted, updates_by_two_keys, updates_select};
-ghost use Rattle.node_walk.specs.Asking.{asks_built_in, asks_call, asks_limit, asks_random_number, asks_statement, asks_system_variable};
+ghost use Rattle.node_walk.specs.Asking.{asks_built_in, asks_call, asks_limit, asks_random_number, asks_statement, asks_system_variable, asks_table};
 
 use catalog_objects::Objects;
-use sql_tree::{Cause, Source, Stmt, TriggerDef};
-use val_types::{Bytes, Func};
+use sql_locals::Locals;
+use sql_tree::{Cause, Count, Source, Stmt, TriggerDef};
+use val_types::{Bytes, Func, Value};
 
 /// What is asked of each node.
 #[derive(Clone, Copy)]
@@ -44,6 +49,10 @@ pub enum Ask<'a> {
     LastInsertId,
     /// Whether it is RAND().
     RandomNumber,
+    /// Whether it reads or changes the table of this name.
+    Table(&'a Bytes),
+    /// Whether it is a LIMIT by one of these locals that is no number from 0.
+    IllLimit(&'a Locals),
 }
 
 /// Whether a call of a function of a name is asked for.
@@ -93,11 +102,62 @@ pub(crate) fn asks_system_variable(ask: &Ask<'_>, name: &Bytes) -> bool
     }
 }
 
-/// Whether a LIMIT is asked for.
-pub(crate) fn asks_limit(ask: &Ask<'_>) -> bool
-    ensures { result ≡ asks_limit ask.now }
+/// Whether a table that is read or changed is asked for.
+pub(crate) fn asks_table(ask: &Ask<'_>, table: &Bytes) -> bool
+    ensures { result ≡ asks_table ask.now table.now }
 {
-    matches!(ask, Ask::Limit)
+    match ask {
+        Ask::Table(name) => **name == *table,
+        _ => false,
+    }
+}
+
+/// Whether a value is no number from 0.
+fn is_no_count(value: &Value) -> bool
+    ensures { result ≡ not (is_some (number_or_none value.now)) }
+{
+    match value {
+        Value::Int(number) => *number < 0,
+        Value::Null => true,
+        Value::Text(_) => true,
+    }
+}
+
+/// Whether a LIMIT is a local that is no number from 0.
+fn is_ill_count(locals: &Locals, count: &Count) -> bool
+    ensures { result ≡ is_ill_count locals.now count.now }
+{
+    match count {
+        Count::Number(_) => false,
+        Count::Name(name) => match locals.find(name) {
+            Some(local) => is_no_count(&local.value),
+            None => true,
+        },
+    }
+}
+
+/// Whether a LIMIT is asked for.
+pub(crate) fn asks_limit(ask: &Ask<'_>, count: &Count) -> bool
+    ensures { result ≡ asks_limit ask.now count.now }
+{
+    match ask {
+        Ask::Limit => true,
+        Ask::IllLimit(locals) => is_ill_count(locals, count),
+        _ => false,
+    }
+}
+
+/// Whether a statement changes a table.
+fn changes_table(name: &Bytes, s: &Stmt) -> bool
+    ensures { result ≡ option_map_or (same_name name.now) (table_changed (view s.now)) false }
+{
+    match s {
+        Stmt::Insert(i) => *name == i.table,
+        Stmt::Replace(r) => *name == r.table,
+        Stmt::Update(u) => *name == u.table,
+        Stmt::Delete(d) => *name == d.table,
+        _ => false,
+    }
 }
 
 /// Whether a statement changes rows.
@@ -236,6 +296,7 @@ pub(crate) fn asks_statement(ask: &Ask<'_>, s: &Stmt) -> bool
 {
     match ask {
         Ask::Trigger(trigger) => causes_event(&trigger.table, trigger.event, s),
+        Ask::Table(name) => changes_table(name, s),
         Ask::Change | Ask::Cause => is_change(s),
         Ask::SelectsCounted(objects) => selects_counted(objects, s),
         Ask::InsertsCounted(objects) => inserts_counted(objects, s),
@@ -244,6 +305,6 @@ pub(crate) fn asks_statement(ask: &Ask<'_>, s: &Stmt) -> bool
         Ask::ReplacesSelect => replaces_select(s),
         Ask::UpdatesSelect => updates_select(s),
         Ask::Function(_) | Ask::UnsafeFunction | Ask::ServerId => false,
-        Ask::Limit | Ask::LastInsertId | Ask::RandomNumber => false,
+        Ask::Limit | Ask::IllLimit(_) | Ask::LastInsertId | Ask::RandomNumber => false,
     }
 }

@@ -1,21 +1,34 @@
 //! Whether what is asked holds of a node of an expression or SELECT.
 ghost use Rattle.std.specs.Prelude.{◌≡◌};
+ghost use Rattle.std.specs.List.{list_any};
+ghost use Rattle.catalog_rules.specs.Nodes.{no_sight, nodes_of_tree, nodes_of_trees};
+ghost use Rattle.node_walk.specs.Asking.{asks_node};
 ghost use Rattle.sql_tree.specs.View.{view_aggregates, view_arms, view_from, view_orders, view_part, view_query, view_selected, view_tree, view_trees};
-ghost use Rattle.node_walk.specs.Walking.{in_aggregates, in_arms, in_limit, in_orders, in_origin, in_part, in_query, in_selected, in_tree, in_trees};
+ghost use Rattle.node_walk.specs.Walking.{in_aggregates, in_arms, in_count, in_limit, in_orders, in_origin, in_part, in_query, in_selected, in_tree, in_trees};
 
 use crate::asking::{
-    Ask, asks_built_in, asks_call, asks_limit, asks_random_number, asks_system_variable,
+    Ask, asks_built_in, asks_call, asks_limit, asks_random_number, asks_system_variable, asks_table,
 };
-use sql_tree::{Aggregate, Arm, Expr, FromClause, OrderItem, Select, Selection};
+use sql_tree::{Aggregate, Arm, Count, Expr, FromClause, Limit, OrderItem, Select, Selection};
 use val_types::{Boxed, Func, List};
 
-/// Whether a LIMIT, where there is one, is asked for.
-pub(crate) fn in_limit<T>(ask: &Ask<'_>, limit: &Option<T>) -> bool
+/// LIMIT of a change.
+pub(crate) fn in_count(ask: &Ask<'_>, count: &Option<Count>) -> bool
+    ensures { result ≡ in_count ask.now count.now }
+{
+    match count {
+        None => false,
+        Some(count) => asks_limit(ask, count),
+    }
+}
+
+/// LIMIT with its offset.
+fn in_limit(ask: &Ask<'_>, limit: &Option<Limit>) -> bool
     ensures { result ≡ in_limit ask.now limit.now }
 {
     match limit {
         None => false,
-        Some(_) => asks_limit(ask),
+        Some(limit) => asks_limit(ask, &limit.count) || in_count(ask, &limit.offset),
     }
 }
 
@@ -135,7 +148,10 @@ fn in_aggregates(ask: &Ask<'_>, list: &List<Aggregate>) -> bool
 fn in_from(ask: &Ask<'_>, from: &FromClause) -> bool
     ensures { result ≡ in_origin ask.now (view_from from.now) }
 {
-    in_boxed(ask, &from.filter) || in_order(ask, &from.order) || in_limit(ask, &from.limit)
+    asks_table(ask, &from.table)
+        || in_boxed(ask, &from.filter)
+        || in_order(ask, &from.order)
+        || in_limit(ask, &from.limit)
 }
 
 #[cycle(walk)]
@@ -148,4 +164,20 @@ pub(crate) fn in_order(ask: &Ask<'_>, list: &List<OrderItem>) -> bool
         }
     }
     false
+}
+
+/// Whether what is asked holds of a node of an expression.
+#[tactic(auto, using(crate::proofs::Walked::tree_walked))]
+pub fn in_expression(ask: &Ask<'_>, e: &Expr) -> bool
+    ensures { result ≡ list_any (asks_node ask.now) (nodes_of_tree (view_tree e.now) no_sight) }
+{
+    in_expr(ask, e)
+}
+
+/// Whether it holds of a node of one of some expressions.
+#[tactic(auto, using(crate::proofs::Walked::trees_walked))]
+pub fn in_expressions(ask: &Ask<'_>, list: &List<Expr>) -> bool
+    ensures { result ≡ list_any (asks_node ask.now) (nodes_of_trees (view_trees list.now) no_sight) }
+{
+    in_exprs(ask, list)
 }

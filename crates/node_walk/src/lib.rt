@@ -1,13 +1,15 @@
-//! Whether something that is asked holds of a node of a statement.
+//! Whether something that is asked holds of a node of a statement or an expression.
 //!
 //! - `asking`: [`Ask`], what is asked of each node, and [`is_change`]
-//! - `statements`, `expressions`: [`in_statement`], the walk that asks it of all nodes of a statement until it holds of one
+//! - `statements`, `expressions`: [`in_statement`], [`in_expression`] and [`in_expressions`], the walk that asks it of all nodes until
+//!   it holds of one
 //!
 //! In specs/ stand `Asking` (what is asked of a node) and `Walking` (the walk over a tree).
 //!
 //! # Proved
 //! - [`in_statement`] says for every statement whether what is asked holds of one of its nodes, and takes no memory;
-//!   [`is_change`] whether it is INSERT, REPLACE, UPDATE or DELETE
+//!   [`in_expression`] and [`in_expressions`] the same of expressions; [`is_change`] whether a statement is INSERT, REPLACE, UPDATE
+//!   or DELETE
 //!
 //! # Only tested
 //! Nothing.
@@ -18,4 +20,5 @@ mod expressions;
 mod statements;
 
 pub use asking::{Ask, is_change};
+pub use expressions::{in_expression, in_expressions};
 pub use statements::in_statement;

@@ -8,7 +8,7 @@ ghost use Rattle.sql_tree.specs.StatementView.{view, view_assignments, view_bran
 ghost use Rattle.node_walk.specs.Walking.{in_assignments, in_branches, in_declared, in_otherwise, in_part, in_parts, in_rows, in_sets, in_statement, in_steps, in_supply};
 
 use crate::asking::{Ask, asks_statement};
-use crate::expressions::{in_expr, in_exprs, in_limit, in_order, in_select};
+use crate::expressions::{in_count, in_expr, in_exprs, in_order, in_select};
 use sql_tree::{
     Assignment, Branch, ColumnSet, Declaration, DeleteStmt, Expr, InsertStmt, ReplaceStmt, Source,
     Stmt, UpdateStmt,
@@ -95,13 +95,13 @@ fn in_update(ask: &Ask<'_>, u: &UpdateStmt) -> bool
     in_sets(ask, &u.sets)
         || in_option(ask, &u.filter)
         || in_order(ask, &u.order)
-        || in_limit(ask, &u.limit)
+        || in_count(ask, &u.limit)
 }
 
 fn in_delete(ask: &Ask<'_>, d: &DeleteStmt) -> bool
     ensures { result ≡ in_parts ask.now (view_delete d.now) }
 {
-    in_option(ask, &d.filter) || in_order(ask, &d.order) || in_limit(ask, &d.limit)
+    in_option(ask, &d.filter) || in_order(ask, &d.order) || in_count(ask, &d.limit)
 }
 
 /// Whether it holds of a node within a statement.

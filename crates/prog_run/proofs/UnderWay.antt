@@ -4,13 +4,11 @@ use Rattle.std.specs.Borrow.{Bor}
 use Rattle.std.proofs.lemmas.List.{append-nil}
 use Rattle.val_types.specs.declared.list.List.{List as Items}
 use Rattle.sql_tree.specs.View.{view_trees}
-use Rattle.sql_tree.specs.StatementView.{view}
 use Rattle.sql_tree.specs.declared.expressions.Expr.{Expr}
-use Rattle.sql_tree.specs.declared.statements.Stmt.{Stmt}
-use Rattle.catalog_rules.specs.Nodes.{nodes_of, nodes_of_trees, no_sight}
+use Rattle.catalog_rules.specs.Nodes.{nodes_of_trees, no_sight}
 use Rattle.sql_meaning.specs.Frames.{Running}
 use Rattle.sql_meaning.specs.Running.{tables_named}
-use Rattle.sql_stage.specs.declared.running.Running.{Running as Chain, Statement, Expressions, the_lemmas}
+use Rattle.sql_stage.specs.declared.running.Running.{Running as Chain, Tables, Expressions, the_lemmas}
 use Rattle.sql_stage.specs.UnderWay.{under_way}
 
 abbrev pub nothing_running : Running
@@ -25,11 +23,11 @@ alone tables = record { tables = tables; functions = [] }
 behind : (tables : List (List ℕ)) (outer : Running) → outer ≡ nothing_running → over tables outer ≡ alone tables
 behind tables outer e = ap (over tables) e ∙ ap alone (append-nil tables)
 
-pub statement_alone : (s : Bor Stmt) (outer : Bor Chain) → under_way outer.now ≡ nothing_running
-    → under_way (Statement s outer) ≡ record { tables = tables_named (nodes_of (view s.now)); functions = [] }
-statement_alone s outer e =
-    let is : under_way (Statement s outer) ≡ record { tables = tables_named (nodes_of (view s.now)) ++ (under_way outer.now).tables; functions = (under_way outer.now).functions } = search (rules, the_lemmas) in
-    is ∙ behind (tables_named (nodes_of (view s.now))) (under_way outer.now) e
+pub tables_alone : (names : Bor (Items (Items ℕ))) (outer : Bor Chain) → under_way outer.now ≡ nothing_running
+    → under_way (Tables names outer) ≡ record { tables = names.now; functions = [] }
+tables_alone names outer e =
+    let is : under_way (Tables names outer) ≡ record { tables = names.now ++ (under_way outer.now).tables; functions = (under_way outer.now).functions } = search (rules, the_lemmas) in
+    is ∙ behind names.now (under_way outer.now) e
 
 pub expressions_alone : (es : Bor (Items Expr)) (outer : Bor Chain) → under_way outer.now ≡ nothing_running
     → under_way (Expressions es outer) ≡ record { tables = tables_named (nodes_of_trees (view_trees es.now) no_sight); functions = [] }

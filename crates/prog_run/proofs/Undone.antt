@@ -1,5 +1,5 @@
 -- An error takes back what was done.
-use Rattle.std.proofs.Common.{◌≡◌, ℕ, true, List, length, drop, sym, ap, subst, ◌∙◌, ◌≤◌, arith}
+use Rattle.std.proofs.Common.{◌≡◌, ℕ, true, List, length, drop, refl, sym, ap, subst, ◌∙◌, ◌≤◌, arith}
 use Rattle.std.specs.Prelude.{unwrap_or}
 use Rattle.val_types.specs.declared.change.Change.{Change}
 use Rattle.auto_inc.specs.declared.counters.Counter.{Counter}
@@ -46,6 +46,10 @@ undone_failed start now back m code e h = ap (undone_from (scene_of start)) e �
 
 pub undone_done : {A : Type 0} (start now : Stage) (m : Action A) (a : A) → m (scene_of start) ≡ done a (scene_of now) → undone m (scene_of start) ≡ done a (scene_of now)
 undone_done start now m a e = ap (undone_from (scene_of start)) e
+
+-- what is as it was is back
+pub stays_back : (s : Stage) → IsBack s s
+stays_back s = record { tables = refl; undo = refl }
 
 -- what a failed statement leaves
 pub is_back : (start now back : Stage) → StandsBack start now back → IsBack start back

@@ -74,7 +74,7 @@ impl Work {
     }
 
     /// Takes all changes back and puts counters in the place of its own: those of an earlier moment, of the same tables.
-    #[tactic(auto, using(crate::proofs::Carried::together_given_up, crate::proofs::Carried::all_taken_back, crate::proofs::Holding::may_take_back))]
+    #[tactic(auto, using(crate::proofs::Carried::all_taken_back, crate::proofs::Holding::may_take_back))]
     pub fn give_up(&mut self, counters: Counters)
         requires { tables_of counters ≡ tables_of self.old.counters }
         ensures { self.new ≡ given_up counters self.old }

@@ -11,7 +11,7 @@
 //! - `staged`, `undoing`, `programs`: a statement on a stage with its context, what an error takes back, and statements
 //!   with the stored programs that they reach
 //! - `context`, `number`, `under_way`: what a statement leaves of a context; the number from which UUID() counts; what is
-//!   under way where it runs
+//!   under way where it runs, a statement by the names of its tables, which are gathered once
 //!
 //! The definitions in specs/ say what is worked on and what holds of it (`Contents`), how statements end (`Runs`), and what an
 //! applier's changes of rows leave as it was (`Carrying`).

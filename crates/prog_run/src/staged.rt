@@ -11,7 +11,7 @@ ghost use Rattle.prog_run.specs.Runs.{Comes, Gives};
 
 use crate::context::{around, forced_for, settle};
 use crate::meter::Outcome;
-use crate::under_way::{expressions_alone, nothing, statement_alone};
+use crate::under_way::{expressions_alone, nothing, tables_alone};
 use crate::undoing::{undo_failed, undo_unknown};
 use catalog_objects::Objects;
 use session_ctx::Ctx;
@@ -20,10 +20,11 @@ use sql_stage::Stage;
 use sql_statements::Did;
 use sql_tree::{Expr, Stmt};
 use std::alloc::Global;
+use table_names::tables_of;
 use val_types::{List, SqlRefusal, Value};
 
 /// What a statement does to a stage.
-#[tactic(auto, using(crate::proofs::Effects::effect_ends))]
+#[tactic(auto, using(crate::proofs::Effects::effect_ends, crate::proofs::Undone::stays_back, sql_stage::proofs::Leading::stage_stays))]
 fn effect(
     alloc: Global,
     catalog: &Objects,
@@ -37,8 +38,9 @@ fn effect(
     ensures leads { LeadsOn stage.old stage.new }
     ensures back { OnErr result (IsBack stage.old stage.new) }
 {
+    let names = tables_of(alloc, statement)?;
     let nothing = nothing();
-    let running = statement_alone(statement, &nothing);
+    let running = tables_alone(&names, &nothing);
     let locals = Locals::new(alloc);
     let around = around(catalog, context, uuid, nesting, &running, &locals);
     undo_failed(

@@ -1,14 +1,13 @@
 //! What is under way where a session runs a statement.
 ghost use Rattle.std.specs.Prelude.{◌≡◌, []};
 ghost use Rattle.sql_tree.specs.View.{view_trees};
-ghost use Rattle.sql_tree.specs.StatementView.{view};
-ghost use Rattle.catalog_rules.specs.Nodes.{no_sight, nodes_of, nodes_of_trees};
+ghost use Rattle.catalog_rules.specs.Nodes.{no_sight, nodes_of_trees};
 ghost use Rattle.sql_meaning.specs.Running.{tables_named};
 ghost use Rattle.sql_evaluation.specs.Seen.{running_of};
 
 use sql_stage::Running;
-use sql_tree::{Expr, Stmt};
-use val_types::List;
+use sql_tree::Expr;
+use val_types::{Bytes, List};
 
 /// Nothing.
 pub(crate) fn nothing<'a>() -> Running<'a>
@@ -17,13 +16,13 @@ pub(crate) fn nothing<'a>() -> Running<'a>
     Running::Nothing
 }
 
-/// A statement by itself.
-#[tactic(auto, using(crate::proofs::UnderWay::statement_alone))]
-pub(crate) fn statement_alone<'a>(statement: &'a Stmt, nothing: &'a Running<'a>) -> Running<'a>
+/// A statement by itself, by the names of the tables in it.
+#[tactic(auto, using(crate::proofs::UnderWay::tables_alone))]
+pub(crate) fn tables_alone<'a>(names: &'a List<Bytes>, nothing: &'a Running<'a>) -> Running<'a>
     requires { running_of nothing.now ≡ record { tables = []; functions = [] } }
-    ensures { running_of result ≡ record { tables = tables_named (nodes_of (view statement.now)); functions = [] } }
+    ensures { running_of result ≡ record { tables = names.now; functions = [] } }
 {
-    Running::Statement(statement, nothing)
+    Running::Tables(names, nothing)
 }
 
 /// Expressions by themselves.

@@ -1,89 +1,74 @@
 -- The tables that are named, the LIMITs that are ill, and the checks.
-use Rattle.std.proofs.Common.{◌≡◌, ℕ, Bool, true, false, ◌||◌, List, [], ◌∷◌, ◌++◌, filter_map, Option, Some, None, refl, sym, ap, ◌∙◌, Err, Ok}
+use Rattle.std.proofs.Common.{◌≡◌, ℕ, true, false, ◌||◌, List, [], ◌∷◌, ◌++◌, Option, Some, None, refl, sym, ap, ◌∙◌, Err, Ok}
 use Rattle.std.specs.List.{cons_option, list_any}
 use Rattle.std.specs.Option.{option_map_or}
 use Rattle.std.specs.Borrow.{Bor}
 use Rattle.std.proofs.lemmas.List.Folds.{list_any-append}
 use Rattle.val_types.specs.declared.refusal.SqlRefusal.TheVariants.{Sql}
-use Rattle.sql_tree.specs.Tree.{Tree, Trees}
 use Rattle.sql_tree.specs.Statement.{Statement}
 use Rattle.sql_locals.specs.declared.locals.Local.{Local}
 use Rattle.catalog_rules.specs.Names.{is_among, same_name}
-use Rattle.catalog_rules.specs.Nodes.{Node, a_name, a_column, a_new_column, an_old_column, an_inserted_value, a_user_variable, a_system_variable, a_built_in, a_random_number, a_function_call, a_table_read, a_limit, a_statement, no_sight, nodes_of, nodes_of_tree, nodes_of_trees, table_at, table_changed}
+use Rattle.catalog_rules.specs.Nodes.{Node, a_name, a_column, a_new_column, an_old_column, an_inserted_value, a_user_variable, a_system_variable, a_built_in, a_random_number, a_function_call, a_table_read, a_limit, a_statement, nodes_of, table_at}
 use Rattle.sql_meaning.specs.Frames.{World}
-use Rattle.sql_meaning.specs.Running.{Body, tables_named, is_ill_limit, is_ill_count, checked, body_checked, changes_running, scope_of}
+use Rattle.sql_meaning.specs.Running.{Body, tables_named, is_ill_limit, checked, body_checked, changes_running, scope_of}
 use Rattle.catalog_rules.specs.Checks.{statement_refusal}
 use Rattle.sql_evaluation.specs.Seen.{Anywhere}
-use Rattle.step_checks.specs.declared.asking.Ask.TheVariants.{Table, Limit}
-use Rattle.step_checks.specs.Asking.{asks_node, asks_table}
-use Rattle.step_checks.specs.Walking.{in_tree, in_trees, in_statement}
-use Rattle.step_checks.proofs.Walked.{statement_walked, tree_walked, trees_walked}
+use Rattle.node_walk.specs.declared.asking.Ask.TheVariants.{IllLimit, Table}
+use Rattle.node_walk.specs.Asking.{asks_node}
 
 -- ---- tables
 
-first_named : (name : Bor (List ℕ)) (o : Option (List ℕ)) (ns : List Node) (b : Bool) → option_map_or (asks_table (Table name)) o false ≡ b
-    → list_any (same_name name.now) (cons_option o (filter_map table_at ns)) ≡ (b || list_any (same_name name.now) (filter_map table_at ns))
-first_named name None ns b e = ap (λ c. c || list_any (same_name name.now) (filter_map table_at ns)) e
-first_named name (Some t) ns b e = ap (λ c. c || list_any (same_name name.now) (filter_map table_at ns)) e
+-- a table that may be there, in front of others
+first_named : (name : List ℕ) (o : Option (List ℕ)) (rest : List (List ℕ)) → is_among (cons_option o rest) name ≡ (option_map_or (same_name name) o false || is_among rest name)
+first_named name None rest = refl
+first_named name (Some t) rest = refl
 
-named_there : (name : Bor (List ℕ)) (ns : List Node) → is_among (tables_named ns) name.now ≡ list_any (asks_node (Table name)) ns
+asks_its_table : (name : Bor (List ℕ)) (node : Node) → asks_node (Table name) node ≡ option_map_or (same_name name.now) (table_at node) false
+asks_its_table name (a_name sight n) = refl
+asks_its_table name (a_column sight t c) = refl
+asks_its_table name (a_new_column c) = refl
+asks_its_table name (an_old_column c) = refl
+asks_its_table name (an_inserted_value sight c) = refl
+asks_its_table name (a_user_variable n) = refl
+asks_its_table name (a_system_variable n) = refl
+asks_its_table name (a_built_in f) = refl
+asks_its_table name a_random_number = refl
+asks_its_table name (a_function_call n count) = refl
+asks_its_table name (a_table_read t) = refl
+asks_its_table name (a_limit c) = refl
+asks_its_table name (a_statement s) = refl
+
+pub named_there : (name : Bor (List ℕ)) (ns : List Node) → list_any (asks_node (Table name)) ns ≡ is_among (tables_named ns) name.now
 named_there name [] = refl
-named_there name (a_name sight n ∷ ns) = named_there name ns
-named_there name (a_column sight t c ∷ ns) = named_there name ns
-named_there name (a_new_column c ∷ ns) = named_there name ns
-named_there name (an_old_column c ∷ ns) = named_there name ns
-named_there name (an_inserted_value sight c ∷ ns) = named_there name ns
-named_there name (a_user_variable n ∷ ns) = named_there name ns
-named_there name (a_system_variable n ∷ ns) = named_there name ns
-named_there name (a_built_in f ∷ ns) = named_there name ns
-named_there name (a_random_number ∷ ns) = named_there name ns
-named_there name (a_function_call n count ∷ ns) = named_there name ns
-named_there name (a_table_read t ∷ ns) = ap (λ b. same_name name.now t || b) (named_there name ns)
-named_there name (a_limit c ∷ ns) = named_there name ns
-named_there name (a_statement s ∷ ns) =
-    first_named name (table_changed s) ns (option_map_or (asks_table (Table name)) (table_changed s) false) refl
-    ∙ ap (λ b. option_map_or (asks_table (Table name)) (table_changed s) false || b) (named_there name ns)
-
-pub statement_named : (name : Bor (List ℕ)) (s : Statement) → in_statement (Table name) s ≡ is_among (tables_named (nodes_of s)) name.now
-statement_named name s = sym (named_there name (nodes_of s) ∙ statement_walked (Table name) s)
-
-pub expression_named : (name : Bor (List ℕ)) (t : Tree) → in_tree (Table name) t ≡ is_among (tables_named (nodes_of_tree t no_sight)) name.now
-expression_named name t = sym (named_there name (nodes_of_tree t no_sight) ∙ tree_walked (Table name) t no_sight)
-
-pub expressions_named : (name : Bor (List ℕ)) (ts : Trees) → in_trees (Table name) ts ≡ is_among (tables_named (nodes_of_trees ts no_sight)) name.now
-expressions_named name ts = sym (named_there name (nodes_of_trees ts no_sight) ∙ trees_walked (Table name) ts no_sight)
+named_there name (node ∷ ns) =
+    ap (λ b. b || list_any (asks_node (Table name)) ns) (asks_its_table name node)
+    ∙ ap (λ b. option_map_or (same_name name.now) (table_at node) false || b) (named_there name ns)
+    ∙ sym (first_named name.now (table_at node) (tables_named ns))
 
 pub joined_names : (xs ys : List (List ℕ)) (name : List ℕ) → is_among (xs ++ ys) name ≡ (is_among xs name || is_among ys name)
 joined_names xs ys name = list_any-append (same_name name) xs ys
 
 -- ---- LIMITs
 
--- no statement is a LIMIT
-statement_asks_none : (locals : Bor (List Local)) (o : Option (List ℕ)) (a b : Bool) → a ≡ b → a ≡ (option_map_or (asks_table (Limit locals)) o false || b)
-statement_asks_none locals None a b e = e
-statement_asks_none locals (Some t) a b e = e
+asks_ill : (locals : Bor (List Local)) (node : Node) → asks_node (IllLimit locals) node ≡ is_ill_limit locals.now node
+asks_ill locals (a_name sight n) = refl
+asks_ill locals (a_column sight t c) = refl
+asks_ill locals (a_new_column c) = refl
+asks_ill locals (an_old_column c) = refl
+asks_ill locals (an_inserted_value sight c) = refl
+asks_ill locals (a_user_variable n) = refl
+asks_ill locals (a_system_variable n) = refl
+asks_ill locals (a_built_in f) = refl
+asks_ill locals a_random_number = refl
+asks_ill locals (a_function_call n count) = refl
+asks_ill locals (a_table_read t) = refl
+asks_ill locals (a_limit c) = refl
+asks_ill locals (a_statement s) = refl
 
-limited_there : (locals : Bor (List Local)) (ns : List Node) → list_any (is_ill_limit locals.now) ns ≡ list_any (asks_node (Limit locals)) ns
+pub limited_there : (locals : Bor (List Local)) (ns : List Node) → list_any (asks_node (IllLimit locals)) ns ≡ list_any (is_ill_limit locals.now) ns
 limited_there locals [] = refl
-limited_there locals (a_name sight n ∷ ns) = limited_there locals ns
-limited_there locals (a_column sight t c ∷ ns) = limited_there locals ns
-limited_there locals (a_new_column c ∷ ns) = limited_there locals ns
-limited_there locals (an_old_column c ∷ ns) = limited_there locals ns
-limited_there locals (an_inserted_value sight c ∷ ns) = limited_there locals ns
-limited_there locals (a_user_variable n ∷ ns) = limited_there locals ns
-limited_there locals (a_system_variable n ∷ ns) = limited_there locals ns
-limited_there locals (a_built_in f ∷ ns) = limited_there locals ns
-limited_there locals (a_random_number ∷ ns) = limited_there locals ns
-limited_there locals (a_function_call n count ∷ ns) = limited_there locals ns
-limited_there locals (a_table_read t ∷ ns) = limited_there locals ns
-limited_there locals (a_limit c ∷ ns) = ap (λ b. is_ill_count locals.now c || b) (limited_there locals ns)
-limited_there locals (a_statement s ∷ ns) = statement_asks_none locals (table_changed s) _ _ (limited_there locals ns)
-
-pub statement_limited : (locals : Bor (List Local)) (s : Statement) → in_statement (Limit locals) s ≡ list_any (is_ill_limit locals.now) (nodes_of s)
-statement_limited locals s = sym (limited_there locals (nodes_of s) ∙ statement_walked (Limit locals) s)
-
-pub expression_limited : (locals : Bor (List Local)) (t : Tree) → in_tree (Limit locals) t ≡ list_any (is_ill_limit locals.now) (nodes_of_tree t no_sight)
-expression_limited locals t = sym (limited_there locals (nodes_of_tree t no_sight) ∙ tree_walked (Limit locals) t no_sight)
+limited_there locals (node ∷ ns) =
+    ap (λ b. b || list_any (asks_node (IllLimit locals)) ns) (asks_ill locals node) ∙ ap (λ b. is_ill_limit locals.now node || b) (limited_there locals ns)
 
 -- ---- the checks of a step
 

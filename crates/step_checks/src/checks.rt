@@ -11,11 +11,9 @@ ghost use Rattle.sql_meaning.specs.Running.{body_checked, changes_running, check
 ghost use Rattle.sql_evaluation.specs.Seen.{Anywhere, running_of, setting_of, view_if, world_of};
 ghost use Rattle.step_checks.specs.Checked.{body_in};
 
-use crate::asking::Ask;
-use crate::expressions::in_expr;
-use crate::statements::in_statement;
 use crate::under_way::is_named;
 use catalog_checks::{expression_refusal, statement_refusal};
+use node_walk::{Ask, in_expression, in_statement};
 use sql_evaluation::{Around, View};
 use sql_locals::Locals;
 use sql_stage::Running;
@@ -39,19 +37,19 @@ fn definition_in<'a>(row: Option<&'a View>) -> Option<&'a TableDef>
 }
 
 /// Whether a LIMIT in an expression is a local that is no number from 0.
-#[tactic(auto, using(crate::proofs::Named::expression_limited))]
+#[tactic(auto, using(crate::proofs::Named::limited_there))]
 fn expression_has_ill_limit(locals: &Locals, e: &Expr) -> bool
     ensures { result ≡ list_any (is_ill_limit locals.now) (nodes_of_tree (view_tree e.now) no_sight) }
 {
-    in_expr(&Ask::Limit(locals), e)
+    in_expression(&Ask::IllLimit(locals), e)
 }
 
 /// The same in a statement.
-#[tactic(auto, using(crate::proofs::Named::statement_limited))]
+#[tactic(auto, using(crate::proofs::Named::limited_there))]
 fn statement_has_ill_limit(locals: &Locals, s: &Stmt) -> bool
     ensures { result ≡ list_any (is_ill_limit locals.now) (nodes_of (view s.now)) }
 {
-    in_statement(&Ask::Limit(locals), s)
+    in_statement(&Ask::IllLimit(locals), s)
 }
 
 /// Whether a statement changes a table that something under way names.

@@ -5,9 +5,8 @@
 //!
 //! - `checks`: [`check_statement`] and [`check_expression`]
 //! - `under_way`: [`is_named`], whether anything under way names a table; [`is_called`], whether a function is under way
-//! - `asking`: what is asked of a node; `statements`, `expressions`: the walk that asks it of all nodes
 //!
-//! In specs/ stand `Asking` (what is asked of a node), `Walking` (the walk over a tree) and `Checked` (where a body stands).
+//! The walk that asks all nodes of a step stands in `node_walk`. In specs/ stands `Checked` (where a body stands).
 //!
 //! # Proved
 //! - [`check_statement`] and [`check_expression`] refuse a step with just the error that comes first in the definition,
@@ -19,10 +18,7 @@
 //! Nothing yet: steps run where a session's statements do.
 #![tactic(auto)]
 
-mod asking;
 mod checks;
-mod expressions;
-mod statements;
 mod under_way;
 
 pub use checks::{check_expression, check_statement};

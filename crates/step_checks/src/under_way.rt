@@ -7,16 +7,14 @@ ghost use Rattle.catalog_rules.specs.Nodes.{nodes_of, nodes_of_tree, nodes_of_tr
 ghost use Rattle.sql_meaning.specs.Running.{tables_named};
 ghost use Rattle.sql_evaluation.specs.Seen.{running_of};
 
-use crate::asking::Ask;
-use crate::expressions::{in_expr, in_exprs};
-use crate::statements::in_statement;
 use catalog_checks::is_among;
+use node_walk::{Ask, in_expression, in_expressions, in_statement};
 use sql_stage::Running;
 use sql_tree::{Expr, Stmt};
 use val_types::{Bytes, List};
 
 /// Whether a statement names a table.
-#[tactic(auto, using(crate::proofs::Named::statement_named))]
+#[tactic(auto, using(crate::proofs::Named::named_there))]
 fn statement_names(table: &Bytes, s: &Stmt) -> bool
     ensures { result ≡ is_among (tables_named (nodes_of (view s.now))) table.now }
 {
@@ -24,19 +22,19 @@ fn statement_names(table: &Bytes, s: &Stmt) -> bool
 }
 
 /// Whether an expression does.
-#[tactic(auto, using(crate::proofs::Named::expression_named))]
+#[tactic(auto, using(crate::proofs::Named::named_there))]
 fn expression_names(table: &Bytes, e: &Expr) -> bool
     ensures { result ≡ is_among (tables_named (nodes_of_tree (view_tree e.now) no_sight)) table.now }
 {
-    in_expr(&Ask::Table(table), e)
+    in_expression(&Ask::Table(table), e)
 }
 
 /// Whether some expressions do.
-#[tactic(auto, using(crate::proofs::Named::expressions_named))]
+#[tactic(auto, using(crate::proofs::Named::named_there))]
 fn expressions_name(table: &Bytes, list: &List<Expr>) -> bool
     ensures { result ≡ is_among (tables_named (nodes_of_trees (view_trees list.now) no_sight)) table.now }
 {
-    in_exprs(&Ask::Table(table), list)
+    in_expressions(&Ask::Table(table), list)
 }
 
 /// Whether anything under way names a table.

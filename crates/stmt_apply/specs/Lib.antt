@@ -1,0 +1,4 @@
+pub mod Changes
+pub mod Defining
+pub mod Ends
+pub mod UnderWay

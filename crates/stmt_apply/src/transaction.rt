@@ -1,0 +1,151 @@
+//! The events of a transaction, one after the other.
+ghost use Rattle.std.specs.Prelude.{◌≡◌, [], reverse, OnErr};
+ghost use Rattle.event_codec.specs.Event.{body_of, map_of, rows_of, size_of};
+ghost use Rattle.log_model.specs.Groups.{find};
+ghost use Rattle.log_groups.specs.Views.{part_of, parts};
+ghost use Rattle.applier_model.specs.Groups.{Going, carry_changes, carry_rows, event_carried, with_bytes};
+ghost use Rattle.applier_model.specs.Texts.{Applier};
+ghost use Rattle.stmt_apply.specs.Ends.{Ends, Stays, applied_in, progress_in};
+ghost use Rattle.stmt_apply.specs.UnderWay.{ComesTo, Goes, Stands, items_from, transaction_carried};
+
+use crate::changing::carry_change;
+use crate::sizes::changes_size;
+use crate::stop::{Stop, stop_at};
+use crate::under_way::{UnderWay, find_map};
+use event_codec::{Event, MapView, RowsView};
+use log_groups::{Items, Part};
+use prog_run::Work;
+use row_image::rows_of;
+use std::alloc::Global;
+use val_types::{Change, Duplicate, List, SqlError};
+
+/// Until transactions are logged by their texts, none may stand in one (this project's number).
+const NOT_ALLOWED: SqlError = 30005;
+
+/// Changes from the last one on.
+fn backwards(changes: List<Change>) -> List<Change>
+    ensures { result ≡ reverse changes }
+{
+    let mut changes = changes.into_vec();
+    changes.reverse();
+    List::from_vec(changes)
+}
+
+/// The changes of an event at a place, one after the other, by the map of their table.
+#[tactic(auto, using(crate::proofs::Going::changes_step, crate::proofs::Staying::staying))]
+fn carry_changes(
+    alloc: Global,
+    work: &mut Work,
+    pos: u64,
+    map: &MapView,
+    changes: List<Change>,
+) -> Result<(), Stop>
+    ensures ends { Ends result (progress_in work.new) (carry_changes pos (map_of map.now) changes (progress_in work.old)) }
+    ensures rest { Stays work.old work.new }
+{
+    let mut left = backwards(changes);
+    while let Some(change) = left.pop() {
+        carry_change(alloc, work, pos, map, change)?;
+    }
+    Ok(())
+}
+
+/// The rows of an event at a place.
+#[tactic(auto, using(crate::proofs::Going::rows, crate::proofs::Staying::staying))]
+fn apply_rows(
+    alloc: Global,
+    work: &mut Work,
+    under_way: &mut UnderWay,
+    pos: u64,
+    rows: &RowsView,
+) -> Result<(), Stop>
+    ensures goes { (g : Going) → Stands work.old under_way.old g → Goes result work.new under_way.new (carry_rows pos (rows_of rows.now) g (find rows.now.id g.maps)) }
+    ensures rest { Stays work.old work.new }
+{
+    let Some(map) = find_map(under_way.maps.as_slice(), rows.id) else {
+        return Ok(());
+    };
+    let changes = rows_of(alloc, &map, rows)?;
+    let size = changes_size(&changes);
+    carry_changes(alloc, work, pos, &map, changes)?;
+    under_way.changed = under_way.changed.saturating_add(size);
+    under_way.end_rows(alloc, under_way.begun.unwrap_or(pos), rows.ends)
+}
+
+/// An event, whose bytes are counted.
+#[tactic(auto, using(crate::proofs::Going::bodies, crate::proofs::Staying::staying))]
+fn apply_body<'a>(
+    alloc: Global,
+    work: &mut Work,
+    under_way: &mut UnderWay<'a>,
+    part: &Part<'a>,
+) -> Result<(), Stop>
+    ensures goes { (a : Applier) → (g : Going) → Stands work.old under_way.old g → Goes result work.new under_way.new (event_carried a (part_of part.now) g (body_of part.now.event)) }
+    ensures rest { Stays work.old work.new }
+{
+    match &part.event {
+        Event::Query(_) => Err(stop_at(alloc, part.pos, NOT_ALLOWED)),
+        Event::TableMap(map) => {
+            under_way.maps.push(*map)?;
+            Ok(())
+        }
+        Event::Rows(rows) => apply_rows(alloc, work, under_way, part.pos, rows),
+        Event::Rotate { .. } => Ok(()),
+        Event::IntVar { .. } => Ok(()),
+        Event::Rand { .. } => Ok(()),
+        Event::UserVar(_) => Ok(()),
+        Event::FormatDescription { .. } => Ok(()),
+        Event::Xid { .. } => Ok(()),
+    }
+}
+
+/// An event.
+#[tactic(auto, using(crate::proofs::Going::counted))]
+fn apply_event<'a>(
+    alloc: Global,
+    work: &mut Work,
+    under_way: &mut UnderWay<'a>,
+    part: &Part<'a>,
+) -> Result<(), Stop>
+    ensures goes { (a : Applier) → (g : Going) → Stands work.old under_way.old g → Goes result work.new under_way.new (event_carried a (part_of part.now) (with_bytes (size_of part.now.event) g) (body_of part.now.event)) }
+    ensures rest { Stays work.old work.new }
+{
+    under_way.bytes = under_way.bytes.saturating_add(part.event.length());
+    apply_body(alloc, work, under_way, part)
+}
+
+/// The events of a transaction's items.
+#[tactic(auto, using(crate::proofs::Going::items, crate::proofs::Staying::staying))]
+fn apply_items(alloc: Global, work: &mut Work, items: Items<'_>) -> Result<(), Stop>
+    requires { work.old.changes ≡ [] }
+    ensures comes { (a : Applier) → ComesTo result work.new (items_from a (parts items.entry) work.old) }
+    ensures rest { Stays work.old work.new }
+{
+    let mut walk = items;
+    let mut under_way = UnderWay::new(alloc);
+    while let Some(part) = walk.next() {
+        apply_event(alloc, work, &mut under_way, &part)?;
+    }
+    Ok(())
+}
+
+/// The changes of a transaction, all of them or none, as want of memory makes none.
+#[tactic(auto, using(crate::proofs::Going::whole, crate::proofs::Staying::given_back))]
+pub(crate) fn apply_transaction(
+    alloc: Global,
+    work: &mut Work,
+    items: Items<'_>,
+) -> Result<(), Stop>
+    requires { work.old.changes ≡ [] }
+    ensures ends { (a : Applier) → Ends result (applied_in work.new) (transaction_carried a (parts items.entry) work.old) }
+    ensures err { OnErr result (work.new ≡ work.old) }
+{
+    let counters = work.counters().duplicate(alloc)?;
+    match apply_items(alloc, work, items) {
+        Ok(()) => Ok(()),
+        Err(stop) => {
+            work.give_up(counters);
+            Err(stop)
+        }
+    }
+}
