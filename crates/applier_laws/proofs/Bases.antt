@@ -1,7 +1,7 @@
 -- What holds of bases holds behind each entry.
 use Rattle.std.proofs.Common.{◌≡◌, ℕ, true, List, [], ◌∷◌, Option, Some, None, refl, sym, ap, subst, ◌∙◌}
 use Rattle.std.specs.List.{list_any}
-use Rattle.std.specs.Option.{option_map, option_and_then}
+use Rattle.std.specs.Option.{option_map}
 use Rattle.val_types.specs.declared.change.Change.{Change}
 use Rattle.table_rules.specs.Tables.{Table}
 use Rattle.table_rules.specs.Changes.{applied}
@@ -13,7 +13,7 @@ use Rattle.sql_tree.specs.Statement.{Statement, create_table, create_function, c
 use Rattle.catalog_rules.specs.Objects.{Object, function, procedure, reaction}
 use Rattle.catalog_rules.specs.Defined.{definition_of}
 use Rattle.catalog_rules.specs.Creating.{ddl_refusal, catalog_after}
-use Rattle.catalog_rules.specs.Bases.{Base, empty_base, tables_after, defined, definitions_in}
+use Rattle.catalog_rules.specs.Bases.{Base, tables_after, defined, definitions_in}
 use Rattle.log_entries.specs.declared.entries.Entry.{Entry}
 use Rattle.log_entries.specs.declared.entries.Entry.TheVariants.{Transaction, Definition, LogStart}
 use Rattle.log_entries.specs.Entries.{with_tables, entry_applied}
@@ -21,6 +21,7 @@ use Rattle.session_model.specs.Machine.{Whole}
 use Rattle.session_model.specs.Holding.{changes_of, define, changes_in}
 use Rattle.applier_laws.specs.Laws.{BaseHolds, BasesHold}
 use Rattle.applier_laws.proofs.Catalogs.{named, beside, created_free, names_more, definitions_more, definitions_behind, kept_more, tables_beside_are, objects_beside_are, names_fewer, kept_fewer, cleared_are, kept_cleared, functions_out, procedures_out, triggers_out, program_made}
+use Rattle.applier_laws.proofs.Changes.{then_some}
 
 -- ---- definitions
 
@@ -68,10 +69,6 @@ pub definition_holds : (s : Statement) (base next : Base) → BaseHolds base →
 definition_holds s base next h e = by_refusal s base next (ddl_refusal base.catalog s) refl h e
 
 -- ---- transactions
-
-then_some : {A B : Type 0} (f : A → Option B) (o : Option A) (y : B) → option_and_then f o ≡ Some y → (z : A) × (o ≡ Some z) × (f z ≡ Some y)
-then_some f (Some z) y e = (z, refl, e)
-then_some f None y e = cc
 
 -- changes leave the definitions
 all_definitions : (xs : List Change) (ts after : List Table) → all_applied xs ts ≡ Some after → definitions_of after ≡ definitions_of ts

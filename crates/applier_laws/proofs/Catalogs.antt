@@ -1,16 +1,16 @@
 -- What CREATE, DROP and TRUNCATE leave of the tables of a catalog.
-use Rattle.std.proofs.Common.{◌≡◌, ℕ, Bool, true, false, not, ◌&&◌, ◌||◌, cond, List, [], ◌∷◌, ◌++◌, Option, Some, None, refl, sym, ap, subst, ◌∙◌}
+use Rattle.std.proofs.Common.{◌≡◌, ℕ, Bool, true, false, not, ◌||◌, cond, List, [], ◌∷◌, ◌++◌, Option, Some, None, refl, sym, ap, subst, ◌∙◌}
 use Rattle.std.specs.Prelude.{nat_eq, is_some}
-use Rattle.std.specs.List.{list_any, AllByRecursion}
+use Rattle.std.specs.List.{list_any}
 use Rattle.std.specs.Cmp.Lexicographic.{pointwise}
 use Rattle.std.proofs.lemmas.List.{map-append, append-nil}
 use Rattle.std.proofs.lemmas.List.Elements.{filter_map-append}
 use Rattle.std.proofs.lemmas.Bool.{and_parts, and_from, or_parts, true≢false}
 use Rattle.val_types.specs.declared.definitions.TableDef.{TableDef}
 use Rattle.val_types.specs.Lookup.{remove_first}
-use Rattle.table_rules.specs.Tables.{Table, IsKept}
+use Rattle.table_rules.specs.Tables.{Table}
 use Rattle.table_rules.specs.Changes.{AreKept}
-use Rattle.table_rules.specs.Stored.{has_name, all_applied, tables_beside, tables_cleared}
+use Rattle.table_rules.specs.Stored.{has_name, tables_beside, tables_cleared}
 use Rattle.table_rules.specs.Stores.{definitions_of, names_differ}
 use Rattle.table_rules.proofs.Places.{name_is, name_self}
 use Rattle.table_rules.proofs.Taking.{is_kept}

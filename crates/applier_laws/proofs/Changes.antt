@@ -1,5 +1,5 @@
 -- Changes that can be made, carried out by an applier through the map of their table.
-use Rattle.std.proofs.Common.{◌≡◌, ℕ, zero, suc, Bool, true, false, not, ◌&&◌, ◌||◌, cond, List, [], ◌∷◌, ◌++◌, map, Option, Some, None, Result, Ok, Err, refl, sym, ap, subst, ◌∙◌, append_assoc, append-nil}
+use Rattle.std.proofs.Common.{◌≡◌, ℕ, zero, suc, Bool, true, false, not, ◌||◌, cond, List, [], ◌∷◌, ◌++◌, map, Option, Some, None, Result, Ok, refl, sym, ap, subst, ◌∙◌, append_assoc, append-nil}
 use Rattle.std.specs.Prelude.{is_some, is_ok, unwrap_or}
 use Rattle.std.specs.List.{list_any, list_all}
 use Rattle.std.specs.Option.{option_map, option_and_then, option_map_or}
@@ -15,7 +15,7 @@ use Rattle.val_types.specs.declared.value.Value.{Value}
 use Rattle.val_types.specs.Fitting.{fitting, is_null, may_hold, row_fits}
 use Rattle.val_types.specs.Keys.{collide}
 use Rattle.byte_fields.specs.Unroll.{unrolled, unroll, all_from}
-use Rattle.table_rules.specs.Tables.{Table, IsKept}
+use Rattle.table_rules.specs.Tables.{Table}
 use Rattle.table_rules.specs.Changes.{without, with_row, may_put, put, rows_after, applied, AreKept}
 use Rattle.table_rules.specs.Stored.{table_named, all_applied}
 use Rattle.table_rules.specs.Stores.{definitions_of}
@@ -29,7 +29,7 @@ use Rattle.log_model.specs.Images.{Read, row_at, change_at, changes_at, changes_
 use Rattle.log_model.specs.Images as images
 use Rattle.log_model.specs.Items.{types_in, kind_of}
 use Rattle.applier_model.specs.Stops.{Differs}
-use Rattle.applier_model.specs.Rows.{Store, Refusal, is_same_type, are_same_types, types_of, takes_row, images_of, matches, taken_if, replacing, removing, storing_refusal, table_refusal, change_refusal, with_change, change_if, carry_change}
+use Rattle.applier_model.specs.Rows.{Store, is_same_type, are_same_types, types_of, takes_row, images_of, matches, taken_if, replacing, removing, storing_refusal, table_refusal, change_refusal, with_change, change_if, carry_change}
 use Rattle.applier_model.specs.Texts.{Progress}
 use Rattle.applier_model.specs.Groups.{and_then, with_store, carry_changes}
 use Rattle.applier_laws.proofs.Columns.{columns_of_named}
@@ -69,7 +69,8 @@ put_may d row rows rest e = put_by (may_put d row rows) (with_row d row rows) re
 put_fits : (d : TableDef) (row : List Value) (rows : List (List Value)) → may_put d row rows ≡ true → row_fits d.columns row ≡ true
 put_fits d row rows e = (and_parts (row_fits d.columns row) (not (list_any (collide d row) rows)) e).0
 
-then_some : {A B : Type 0} (f : A → Option B) (o : Option A) (y : B) → option_and_then f o ≡ Some y → (z : A) × (o ≡ Some z) × (f z ≡ Some y)
+-- what follows on something that is there
+pub then_some : {A B : Type 0} (f : A → Option B) (o : Option A) (y : B) → option_and_then f o ≡ Some y → (z : A) × (o ≡ Some z) × (f z ≡ Some y)
 then_some f (Some z) y e = (z, refl, e)
 then_some f None y e = cc
 
@@ -156,27 +157,49 @@ AllOfTable name (c ∷ cs) = (table_of c ≡ name) × AllOfTable name cs
 abbrev more_carried : (place : ℕ) → Map → Change → List Change → Progress → Store → Result Progress Differs
 more_carried place m c cs p s = carry_changes place m cs (with_store c s p)
 
+carried_front : (place : ℕ) (m : Map) (c : Change) (cs : List Change) (p p' : Progress) (s : Store) → carry_change place m c p.store ≡ Ok s
+    → carry_changes place m cs (with_store c s p) ≡ Ok p' → carry_changes place m (c ∷ cs) p ≡ Ok p'
+carried_front place m c cs p p' s one more = ap (and_then (more_carried place m c cs p)) one ∙ more
+
+-- the tables after one change stand, too
+stands_after : (all : List TableDef) (c : Change) (p : Progress) (s : Store) (mid : List Table) → Stands all p → applied c p.store.tables ≡ Some mid → s.tables ≡ mid
+    → Stands all (with_store c s p)
+stands_after all c p s mid stands e same = record {
+  kept = subst (λ (us : List Table). AreKept us) (sym same) (tables_reversible c p.store.tables mid stands.kept e).1;
+  theirs = ap definitions_of same ∙ definitions_kept c p.store.tables mid e ∙ stands.theirs;
+}
+
+-- What changes come to: they are carried out, and lead to these tables.
+pub record AreCarriedOut (all : List TableDef) (place : ℕ) (m : Map) (cs : List Change) (p : Progress) (next : List Table) : Type 0 where
+  pub progress : Progress
+  pub carried : carry_changes place m cs p ≡ Ok progress
+  pub reaches : Reaches all next (p.changes ++ cs) progress
+
 pub changes_carried : (all : List TableDef) (place : ℕ) (m : Map) (cs : List Change) (p : Progress) (next : List Table) → Stands all p → AllOfTable m.name cs
-    → map_types m ≡ types_in all m.name → all_applied cs p.store.tables ≡ Some next
-    → (p' : Progress) × (carry_changes place m cs p ≡ Ok p') × Reaches all next (p.changes ++ cs) p'
-changes_carried all place m [] p next stands of types e =
-    (p, refl, record { tables = some_same p.store.tables next (sym (applied_none p.store.tables) ∙ e); changes = sym (append-nil p.changes); stands = stands })
+    → map_types m ≡ types_in all m.name → all_applied cs p.store.tables ≡ Some next → AreCarriedOut all place m cs p next
+changes_carried all place m [] p next stands of types e = record {
+  progress = p;
+  carried = refl;
+  reaches = record { tables = some_same p.store.tables next (sym (applied_none p.store.tables) ∙ e); changes = sym (append-nil p.changes); stands = stands };
+}
 changes_carried all place m (c ∷ cs) p next stands of types e =
     let ts : List Table = p.store.tables in
     let mid = then_some (all_applied cs) (applied c ts) next (sym (applied_front c cs ts) ∙ e) in
-    let own : map_types m ≡ types_in (definitions_of ts) (table_of c) =
-    types ∙ ap (types_in all) (sym of.0) ∙ ap (λ (ds : List TableDef). types_in ds (table_of c)) (sym stands.theirs) in
-    let one = change_carried place m c p.store mid.0 stands.kept mid.1 own in
-    let q : Progress = with_store c (with_change c p.store) p in
-    let q_stands : Stands all q = record {
-      kept = subst (λ (us : List Table). AreKept us) (sym one.1) (tables_reversible c ts mid.0 stands.kept mid.1).1;
-      theirs = ap definitions_of one.1 ∙ definitions_kept c ts mid.0 mid.1 ∙ stands.theirs;
-    } in
-    let more = changes_carried all place m cs q next q_stands of.1 types (ap (all_applied cs) one.1 ∙ mid.2) in (
-      more.0,
-      ap (and_then (more_carried place m c cs p)) one.0 ∙ more.1,
-      record { tables = more.2.tables; changes = more.2.changes ∙ append_assoc p.changes (c ∷ []) cs; stands = more.2.stands },
-    )
+    let own : types_in all m.name ≡ types_in (definitions_of ts) (table_of c) =
+    ap (types_in all) (sym of.0) ∙ ap (λ (ds : List TableDef). types_in ds (table_of c)) (sym stands.theirs) in
+    let one = change_carried place m c p.store mid.0 stands.kept mid.1 (types ∙ own) in
+    by (λ q q-stands made. changes_carried all place m cs q next q-stands of.1 types made) (with_change c p.store) one.0
+    (stands_after all c p (with_change c p.store) mid.0 stands mid.1 one.1) (ap (all_applied cs) one.1 ∙ mid.2)
+  where
+    by : ((q : Progress) → Stands all q → all_applied cs q.store.tables ≡ Some next → AreCarriedOut all place m cs q next) → (s : Store) → carry_change place m c p.store ≡ Ok s
+        → Stands all (with_store c s p) → all_applied cs s.tables ≡ Some next → AreCarriedOut all place m (c ∷ cs) p next
+    by later s one s-stands made =
+        let more = later (with_store c s p) s-stands made in
+        record {
+          progress = more.progress;
+          carried = carried_front place m c cs p more.progress s one more.carried;
+          reaches = record { tables = more.reaches.tables; changes = more.reaches.changes ∙ append_assoc p.changes (c ∷ []) cs; stands = more.reaches.stands };
+        }
 
 -- ---- the changes of rows are of the table of their map
 

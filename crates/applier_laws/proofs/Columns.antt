@@ -1,14 +1,13 @@
 -- The columns of a table by its definition, by the definitions that an item has, and by the map of its events.
-use Rattle.std.proofs.Common.{◌≡◌, ℕ, zero, suc, ◌+◌, Bool, true, false, not, ◌||◌, cond, List, [], ◌∷◌, ◌++◌, map, filter, take, drop, Option, Some, None, refl, sym, ap, subst, ◌∙◌, append_assoc, arith}
+use Rattle.std.proofs.Common.{◌≡◌, ℕ, ◌+◌, Bool, true, false, not, ◌||◌, cond, List, [], ◌∷◌, ◌++◌, map, filter, Option, Some, refl, sym, ap, subst, ◌∙◌, append_assoc, arith}
 use Rattle.std.specs.Prelude.{nat_eq, ◌==◌, flat_map}
-use Rattle.std.specs.List.{list_any, AllByRecursion}
+use Rattle.std.specs.List.{AllByRecursion}
 use Rattle.std.specs.Cmp.Lexicographic.{pointwise}
 use Rattle.std.proofs.lemmas.List.{drop_at}
 use Rattle.val_types.specs.declared.change.Change.{Change}
 use Rattle.val_types.specs.Changes.{table_of}
 use Rattle.val_types.specs.declared.definitions.ColType.{ColType}
 use Rattle.val_types.specs.declared.definitions.ColType.TheVariants.{Int as IntType, BigInt, Varchar}
-use Rattle.val_types.specs.declared.definitions.ColumnDef.{ColumnDef}
 use Rattle.val_types.specs.declared.definitions.TableDef.{TableDef}
 use Rattle.byte_fields.specs.Field.{number_bytes}
 use Rattle.byte_fields.proofs.FieldLaws.{field_again, field_width}

@@ -1,5 +1,5 @@
 -- The group of an entry, carried out on the base before it.
-use Rattle.std.proofs.Common.{◌≡◌, ℕ, ◌+◌, ◌≤◌, ◌^◌, Bool, true, false, cond, List, [], ◌∷◌, map, length, Option, Some, None, Result, Ok, Err, refl, sym, ap, subst, ◌∙◌, arith}
+use Rattle.std.proofs.Common.{◌≡◌, ℕ, ◌+◌, ◌≤◌, ◌^◌, Bool, true, false, cond, List, [], ◌∷◌, map, length, Option, Some, None, Result, Ok, Err, refl, sym, ap, ◌∙◌, arith}
 use Rattle.std.specs.Prelude.{flat_map, nat_lt}
 use Rattle.std.specs.Option.{option_map}
 use Rattle.std.proofs.lemmas.Bool.{or_parts, ltb-false, le-ltb}
@@ -20,24 +20,22 @@ use Rattle.catalog_rules.specs.Bases.{Base, tables_after, defined, definitions_i
 use Rattle.event_codec.specs.Event.{query}
 use Rattle.event_codec.specs.Writing.{size}
 use Rattle.log_entries.specs.declared.entries.Item.{Item}
-use Rattle.log_entries.specs.declared.entries.Entry.{Entry}
 use Rattle.log_entries.specs.declared.entries.Entry.TheVariants.{Transaction, Definition, LogStart}
-use Rattle.log_entries.specs.Entries.{with_tables, entry_applied}
+use Rattle.log_entries.specs.Entries.{with_tables}
 use Rattle.log_model.specs.Items.{item_events, AreCarried}
-use Rattle.log_model.specs.Log.{LogPlace, begin_query}
+use Rattle.log_model.specs.Log.{begin_query}
 use Rattle.log_model.specs.Written.{placed}
-use Rattle.entry_groups.specs.Entries.{group_of_entry, CanLog}
-use Rattle.transaction_sizes.specs.Sizes.{changes_size, all_sizes, all_changes_size, most_bytes, are_too_large}
-use Rattle.text_answers.specs.Answers.{TextAnswer, a_statement, text_answer}
+use Rattle.transaction_sizes.specs.Sizes.{all_sizes, all_changes_size, most_bytes}
+use Rattle.text_answers.specs.Answers.{a_statement, text_answer}
 use Rattle.sql_reach.specs.Defining.{counters_after, is_still_refused}
 use Rattle.sql_reach.specs.Reach.{is_definition}
 use Rattle.session_model.specs.Running.{definitions_changed}
-use Rattle.session_model.specs.Machine.{Whole, kept_of, kept_entry}
-use Rattle.session_model.specs.Holding.{changes_of, define, changes_in, IsMade, AreMade, AreOne, IsDefined, EntryMade}
-use Rattle.applier_model.specs.Stops.{Differs, stop_at}
-use Rattle.applier_model.specs.Texts.{Progress, Applier, statement_by, statement_in, stops_at}
+use Rattle.session_model.specs.Machine.{Whole, kept_of}
+use Rattle.session_model.specs.Holding.{changes_of, define, AreMade, AreOne, IsDefined}
+use Rattle.applier_model.specs.Stops.{Differs}
+use Rattle.applier_model.specs.Texts.{Progress, statement_by, statement_in, stops_at}
 use Rattle.applier_model.specs.Groups.{Going, Applied, and_then, going_from, items_carried, applied_by, define_if, define_allowed, applier_of, store_of, group_carried}
-use Rattle.applier_laws.specs.Laws.{BaseHolds, IsGroup, AllOnCatalog, OnCatalog, EntryIsCarried}
+use Rattle.applier_laws.specs.Laws.{BaseHolds, AllOnCatalog, EntryIsCarried}
 use Rattle.applier_laws.proofs.Columns.{changed_among}
 use Rattle.applier_laws.proofs.Changes.{Stands}
 use Rattle.applier_laws.proofs.Items.{item_changes, AllByRows, AllRead, all_read}
@@ -74,9 +72,22 @@ module _ (identity : Identity) (draw : Draw) (base : Base) (counters : List Coun
   tables_made None next e = cc
   tables_made (Some tables) next e = (tables, refl, some_same (with_tables base tables) next e)
 
+  -- what an applier makes of the events of items
+  abbrev items_done : (pos : ℕ) → List Item → Result Applied Differs
+  items_done pos items =
+      and_then (λ g. Ok (applied_by base g)) (items_carried (applier_of identity draw base) (placed pos (flat_map item_events items)) (going_from (store_of base counters)))
+
+  read_leaves : (pos : ℕ) (items : List Item) (tables : List Table) (next : Base) → AllRead (applier_of identity draw base) all pos items begun 0 tables → with_tables base tables ≡ next
+      → Leaves (items_done pos items) next
+  read_leaves pos items tables next read e = (
+    read.progress.store.counters,
+    ap (and_then (λ (g : Going). Ok (applied_by base g))) read.carried
+        ∙ ap (λ (ts : List Table). Ok (record { base = with_tables base ts; counters = read.progress.store.counters })) read.tables
+        ∙ ap (λ (b : Base). Ok (record { base = b; counters = read.progress.store.counters })) e,
+  )
+
   transaction_carried : (items : List Whole) (pos : ℕ) (next : Base) → AreOne items → AllOnCatalog base.catalog items → AreCarried (map kept_of items)
-      → option_map (with_tables base) (all_applied (flat_map changes_of items) base.tables) ≡ Some next
-      → Leaves (and_then (λ g. Ok (applied_by base g)) (items_carried (applier_of identity draw base) (placed pos (flat_map item_events (map kept_of items))) (going_from (store_of base counters)))) next
+      → option_map (with_tables base) (all_applied (flat_map changes_of items) base.tables) ≡ Some next → Leaves (items_done pos (map kept_of items)) next
   transaction_carried items pos next one on are e =
       let made = tables_made (all_applied (flat_map changes_of items) base.tables) next e in
       let kept : List Item = map kept_of items in
@@ -84,14 +95,9 @@ module _ (identity : Identity) (draw : Draw) (base : Base) (counters : List Coun
       let sizes = or_parts (nat_lt most_bytes (all_sizes kept)) (nat_lt most_bytes (all_changes_size kept)) one.small in
       let bytes = ltb-false most_bytes (all_sizes kept) sizes.0 in
       let changes = ltb-false most_bytes (all_changes_size kept) sizes.1 in
-      let read = all_read (applier_of identity draw base) all kept pos begun 0 made.0 (by_rows all base.catalog items h.theirs one.made on) are stands
-      (ap (λ (cs : List Change). all_applied cs base.tables) same ∙ made.1) (omega (arith, bytes)) (omega (arith, changes)) in
-      (
-        read.progress.store.counters,
-        ap (and_then (λ (g : Going). Ok (applied_by base g))) read.carried
-            ∙ ap (λ (ts : List Table). Ok (record { base = with_tables base ts; counters = read.progress.store.counters })) read.tables
-            ∙ ap (λ (b : Base). Ok (record { base = b; counters = read.progress.store.counters })) made.2,
-      )
+      read_leaves pos kept made.0 next
+      (all_read (applier_of identity draw base) all kept pos begun 0 made.0 (by_rows all base.catalog items h.theirs one.made on) are stands
+      (ap (λ (cs : List Change). all_applied cs base.tables) same ∙ made.1) (omega (arith, bytes)) (omega (arith, changes))) made.2
 
   -- ---- definitions
 

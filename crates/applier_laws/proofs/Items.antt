@@ -1,11 +1,8 @@
 -- The events of items that are logged by their rows, carried out one after the other.
-use Rattle.std.proofs.Common.{◌≡◌, ℕ, ◌+◌, ◌≤◌, Bool, true, false, ◌||◌, cond, List, [], ◌∷◌, ◌++◌, map, length, Option, Some, None, Result, Ok, Err, refl, sym, ap, subst, ◌∙◌, append_assoc, append-nil, arith}
+use Rattle.std.proofs.Common.{◌≡◌, ℕ, ◌+◌, ◌≤◌, Bool, true, false, ◌||◌, cond, List, [], ◌∷◌, ◌++◌, map, Option, Some, None, Ok, Err, refl, sym, ap, subst, ◌∙◌, append_assoc, append-nil, arith}
 use Rattle.std.specs.Prelude.{flat_map, nat_lt}
-use Rattle.std.specs.Option.{option_and_then}
 use Rattle.std.proofs.lemmas.Bool.{le-ltb}
-use Rattle.std.proofs.lemmas.Grind.{flat_map-append}
 use Rattle.val_types.specs.declared.change.Change.{Change}
-use Rattle.val_types.specs.declared.change.Change.TheVariants.{Insert, Update, Delete}
 use Rattle.val_types.specs.declared.definitions.TableDef.{TableDef}
 use Rattle.table_rules.specs.Tables.{Table}
 use Rattle.table_rules.specs.Stored.{all_applied}
@@ -16,21 +13,17 @@ use Rattle.event_codec.specs.Writing.{size}
 use Rattle.log_entries.specs.declared.entries.Item.{Item}
 use Rattle.log_model.specs.Events.{Placed}
 use Rattle.log_model.specs.Groups.{find}
-use Rattle.log_model.specs.Images.{are_rows, changes_of, map_types}
-use Rattle.log_model.specs.Items.{tables_of, types_in, maps_from, pieces_of, all_rows, changes_item, spelled, text_of, at_time, item_events, item_size, IsCarried, AreCarried, changes_by, CanCarryAll}
+use Rattle.log_model.specs.Images.{changes_of}
+use Rattle.log_model.specs.Items.{tables_of, maps_from, pieces_of, all_rows, changes_item, spelled, text_of, at_time, item_events, item_size, IsCarried, AreCarried, changes_by, CanCarryAll}
 use Rattle.log_model.specs.Spelling.{rows_item, maps_before, bodies_of, FitsOne, EndWell, IsItem}
 use Rattle.log_model.specs.Written.{Stamped, placed, total}
 use Rattle.log_model.proofs.Carrying.{carried, item_spelled}
-use Rattle.transaction_sizes.specs.Sizes.{change_size, changes_size, all_sizes, all_changes_size, most_bytes}
-use Rattle.applier_model.specs.Stops.{Differs, stop_at}
+use Rattle.transaction_sizes.specs.Sizes.{changes_size, all_sizes, all_changes_size, most_bytes}
+use Rattle.applier_model.specs.Stops.{stop_at}
 use Rattle.applier_model.specs.Texts.{Progress, Applier, no_needs}
-use Rattle.applier_model.specs.Groups.{Going, with_bytes, is_too_large, item_ended, and_then, carry_changes, rows_ended, first_place, carry_rows, event_carried, items_carried}
+use Rattle.applier_model.specs.Groups.{Going, with_bytes, is_too_large, item_ended, and_then, rows_ended, first_place, carry_rows, event_carried, items_carried}
 use Rattle.applier_laws.proofs.Columns.{changed_among, MapsFit, maps_fit}
-use Rattle.applier_laws.proofs.Changes.{Stands, Reaches, AllOfTable, changes_carried, changes_of_table}
-
-then_some : {A B : Type 0} (f : A → Option B) (o : Option A) (y : B) → option_and_then f o ≡ Some y → (z : A) × (o ≡ Some z) × (f z ≡ Some y)
-then_some f (Some z) y e = (z, refl, e)
-then_some f None y e = cc
+use Rattle.applier_laws.proofs.Changes.{then_some, Stands, Reaches, changes_carried, changes_of_table}
 
 -- ---- sizes
 
@@ -75,7 +68,19 @@ AllByRows all (i ∷ is) = IsByRows all i × AllByRows all is
 abbrev pub item_changes : Item → List Change
 item_changes i = i.changes
 
+-- an event at a place
+abbrev placed_at : (pos stamp : ℕ) → Body → Placed
+placed_at pos stamp body = record { pos = pos; event = record { stamp = stamp; size = size body; body = body } }
+
 module _ (a : Applier) (all : List TableDef) where
+  -- one event, and those behind it
+  went : (e : Placed) (rest : List Placed) (g now : Going) → event_carried a e (with_bytes e.event.size g) e.event.body ≡ Ok now → items_carried a (e ∷ rest) g ≡ items_carried a rest now
+  went e rest g now step = ap (and_then (items_carried a rest)) step
+
+  same_bytes : (place : ℕ) (more : List Stamped) (p : Progress) (bytes now : ℕ) → bytes ≡ now
+      → items_carried a (placed place more) (between p bytes) ≡ items_carried a (placed place more) (between p now)
+  same_bytes place more p bytes now e = ap (λ (n : ℕ). items_carried a (placed place more) (between p n)) e
+
   -- ---- maps
 
   -- What stands behind the maps of an item, where bodies are still to come: the maps, and the bytes of their events.
@@ -117,9 +122,9 @@ module _ (a : Applier) (all : List TableDef) where
     event_by r pos p bytes begun next (Some m) e fits stands made =
         let them = changes_carried all pos m (changes_of m r) p next stands (changes_of_table m r) (fit r.id m e) made in
         record {
-          progress = them.0;
-          carried = ap (and_then (λ (q : Progress). rows_ended r.ends (first_place pos begun) (going q bytes ms begun))) them.1;
-          reaches = them.2;
+          progress = them.progress;
+          carried = ap (and_then (λ (q : Progress). rows_ended r.ends (first_place pos begun) (going q bytes ms begun))) them.carried;
+          reaches = them.reaches;
         }
 
     event_read : (r : Rows) (pos : ℕ) (p : Progress) (bytes : ℕ) (begun : Option ℕ) (next : List Table) → FitsOne (find r.id ms) r → Stands all p
@@ -134,45 +139,62 @@ module _ (a : Applier) (all : List TableDef) where
           ≡ items_carried a (placed place more) (between progress (bytes + total (at_time stamp (map rows rs))))
       reaches : Reaches all next (p.changes ++ flat_map read_by rs) progress
 
+    -- behind the last rows, which end the item
+    last_read : (r : Rows) (stamp pos : ℕ) (p : Progress) (bytes : ℕ) (begun : Option ℕ) (next : List Table) (more : List Stamped) → r.ends ≡ true
+        → (one : EventRead r pos p (bytes + size (rows r)) begun next (find r.id ms)) → bytes + total (at_time stamp (map rows (r ∷ []))) ≤ most_bytes
+        → changes_size (p.changes ++ flat_map read_by (r ∷ [])) ≤ most_bytes → RowsRead (r ∷ []) stamp pos p bytes begun next more
+    last_read r stamp pos p bytes begun next more last one low few =
+        let changes : p.changes ++ flat_map read_by (r ∷ []) ≡ p.changes ++ read_by r = ap (λ (cs : List Change). p.changes ++ cs) (append-nil (read_by r)) in
+        let size_now : changes_size one.progress.changes ≤ most_bytes = subst (λ (cs : List Change). changes_size cs ≤ most_bytes) (changes ∙ sym one.reaches.changes) few in
+        let ended = ends (first_place pos begun) one.progress (bytes + size (rows r)) ms begun (omega (arith, low)) size_now in
+        let done : carry_rows pos r (going p (bytes + size (rows r)) ms begun) (find r.id ms) ≡ Ok (between one.progress (bytes + size (rows r))) =
+        one.carried ∙ ap (λ (b : Bool). rows_ended b (first_place pos begun) (going one.progress (bytes + size (rows r)) ms begun)) last ∙ ended in
+        record {
+          place = pos + size (rows r);
+          progress = one.progress;
+          carried = went (placed_at pos stamp (rows r)) (placed (pos + size (rows r)) more) (going p bytes ms begun) (between one.progress (bytes + size (rows r))) done
+              ∙ same_bytes (pos + size (rows r)) more one.progress (bytes + size (rows r)) (bytes + total (at_time stamp (map rows (r ∷ [])))) (omega arith);
+          reaches = record { tables = one.reaches.tables; changes = one.reaches.changes ∙ sym changes; stands = one.reaches.stands };
+        }
+
+    -- behind rows that others follow
+    more_read : (r s : Rows) (rs : List Rows) (stamp pos : ℕ) (p : Progress) (bytes : ℕ) (begun : Option ℕ) (mid next : List Table) (more : List Stamped) → r.ends ≡ false
+        → (one : EventRead r pos p (bytes + size (rows r)) begun mid (find r.id ms))
+        → RowsRead (s ∷ rs) stamp (pos + size (rows r)) one.progress (bytes + size (rows r)) (Some (first_place pos begun)) next more
+        → RowsRead (r ∷ s ∷ rs) stamp pos p bytes begun next more
+    more_read r s rs stamp pos p bytes begun mid next more last one later =
+        let rest : List Change = flat_map read_by (s ∷ rs) in
+        let done : carry_rows pos r (going p (bytes + size (rows r)) ms begun) (find r.id ms) ≡ Ok (going one.progress (bytes + size (rows r)) ms (Some (first_place pos begun))) =
+        one.carried ∙ ap (λ (b : Bool). rows_ended b (first_place pos begun) (going one.progress (bytes + size (rows r)) ms begun)) last in
+        record {
+          place = later.place;
+          progress = later.progress;
+          carried = went (placed_at pos stamp (rows r)) (placed (pos + size (rows r)) (at_time stamp (map rows (s ∷ rs)) ++ more)) (going p bytes ms begun)
+              (going one.progress (bytes + size (rows r)) ms (Some (first_place pos begun))) done
+              ∙ later.carried
+              ∙ same_bytes later.place more later.progress (bytes + size (rows r) + total (at_time stamp (map rows (s ∷ rs)))) (bytes + total (at_time stamp (map rows (r ∷ s ∷ rs)))) (omega arith);
+          reaches = record {
+            tables = later.reaches.tables;
+            changes = later.reaches.changes ∙ ap (λ (cs : List Change). cs ++ rest) one.reaches.changes ∙ append_assoc p.changes (read_by r) rest;
+            stands = later.reaches.stands;
+          };
+        }
+
     rows_read : (rs : List Rows) (stamp pos : ℕ) (p : Progress) (bytes : ℕ) (begun : Option ℕ) (next : List Table) (more : List Stamped) → EndWell ms rs → Stands all p
         → all_applied (flat_map read_by rs) p.store.tables ≡ Some next → bytes + total (at_time stamp (map rows rs)) ≤ most_bytes
         → changes_size (p.changes ++ flat_map read_by rs) ≤ most_bytes → RowsRead rs stamp pos p bytes begun next more
     rows_read [] stamp pos p bytes begun next more well stands made low few = absurd well
     rows_read (r ∷ []) stamp pos p bytes begun next more well stands made low few =
         let here : all_applied (read_by r) p.store.tables ≡ Some next = ap (λ (cs : List Change). all_applied cs p.store.tables) (sym (append-nil (read_by r))) ∙ made in
-        let now : ℕ = bytes + size (rows r) in
-        let one = event_read r pos p now begun next well.0 stands here in
-        let changes : p.changes ++ flat_map read_by (r ∷ []) ≡ p.changes ++ read_by r = ap (λ (cs : List Change). p.changes ++ cs) (append-nil (read_by r)) in
-        let size_now : changes_size one.progress.changes ≤ most_bytes = subst (λ (cs : List Change). changes_size cs ≤ most_bytes) (changes ∙ sym one.reaches.changes) few in
-        let all_bytes : now ≡ bytes + total (at_time stamp (map rows (r ∷ []))) = omega arith in
-        let ended = ends (first_place pos begun) one.progress now ms begun (omega (arith, low)) size_now in
-        let done : carry_rows pos r (going p now ms begun) (find r.id ms) ≡ Ok (between one.progress now) =
-        one.carried ∙ ap (λ (b : Bool). rows_ended b (first_place pos begun) (going one.progress now ms begun)) well.1 ∙ ended in
-        record {
-          place = pos + size (rows r);
-          progress = one.progress;
-          carried = ap (and_then (items_carried a (placed (pos + size (rows r)) more))) done
-              ∙ ap (λ (n : ℕ). items_carried a (placed (pos + size (rows r)) more) (between one.progress n)) all_bytes;
-          reaches = record { tables = one.reaches.tables; changes = one.reaches.changes ∙ sym changes; stands = one.reaches.stands };
-        }
+        last_read r stamp pos p bytes begun next more well.1 (event_read r pos p (bytes + size (rows r)) begun next well.0 stands here) low few
     rows_read (r ∷ s ∷ rs) stamp pos p bytes begun next more well stands made low few =
         let rest : List Change = flat_map read_by (s ∷ rs) in
         let mid = then_some (all_applied rest) (all_applied (read_by r) p.store.tables) next (sym (all_applied_behind (read_by r) rest p.store.tables) ∙ made) in
-        let now : ℕ = bytes + size (rows r) in
-        let one = event_read r pos p now begun mid.0 well.0 stands mid.1 in
-        let done : carry_rows pos r (going p now ms begun) (find r.id ms) ≡ Ok (going one.progress now ms (Some (first_place pos begun))) =
-        one.carried ∙ ap (λ (b : Bool). rows_ended b (first_place pos begun) (going one.progress now ms begun)) well.1 in
-        let changes : one.progress.changes ++ rest ≡ p.changes ++ (read_by r ++ rest) = ap (λ (cs : List Change). cs ++ rest) one.reaches.changes ∙ append_assoc p.changes (read_by r) rest in
-        let sum : now + total (at_time stamp (map rows (s ∷ rs))) ≡ bytes + total (at_time stamp (map rows (r ∷ s ∷ rs))) = omega arith in
-        let later = rows_read (s ∷ rs) stamp (pos + size (rows r)) one.progress now (Some (first_place pos begun)) next more well.2 one.reaches.stands
-        (ap (all_applied rest) one.reaches.tables ∙ mid.2) (omega (arith, low, sum)) (subst (λ (cs : List Change). changes_size cs ≤ most_bytes) (sym changes) few) in
-        record {
-          place = later.place;
-          progress = later.progress;
-          carried = ap (and_then (items_carried a (placed (pos + size (rows r)) (at_time stamp (map rows (s ∷ rs)) ++ more)))) done ∙ later.carried
-              ∙ ap (λ (n : ℕ). items_carried a (placed later.place more) (between later.progress n)) sum;
-          reaches = record { tables = later.reaches.tables; changes = later.reaches.changes ∙ changes; stands = later.reaches.stands };
-        }
+        let one = event_read r pos p (bytes + size (rows r)) begun mid.0 well.0 stands mid.1 in
+        let changes : p.changes ++ (read_by r ++ rest) ≡ one.progress.changes ++ rest = sym (append_assoc p.changes (read_by r) rest) ∙ ap (λ (cs : List Change). cs ++ rest) (sym one.reaches.changes) in
+        more_read r s rs stamp pos p bytes begun mid.0 next more well.1 one
+        (rows_read (s ∷ rs) stamp (pos + size (rows r)) one.progress (bytes + size (rows r)) (Some (first_place pos begun)) next more well.2 one.reaches.stands
+        (ap (all_applied rest) one.reaches.tables ∙ mid.2) (omega (arith, low)) (subst (λ (cs : List Change). changes_size cs ≤ most_bytes) changes few))
 
   -- ---- one item
 
@@ -234,6 +256,11 @@ module _ (a : Applier) (all : List TableDef) where
     pub carried : items_carried a (placed pos (flat_map item_events is)) (between p bytes) ≡ Ok (between progress now)
     pub tables : progress.store.tables ≡ next
 
+  item_behind : (i : Item) (is : List Item) (pos : ℕ) (p : Progress) (bytes : ℕ) (mid next : List Table)
+      → (one : ItemRead i.carried.stamp pos (bodies_of (spelled i)) i.changes p bytes mid (flat_map item_events is)) → AllRead one.place is one.progress (bytes + item_size i) next
+      → AllRead pos (i ∷ is) p bytes next
+  item_behind i is pos p bytes mid next one later = record { progress = later.progress; now = later.now; carried = one.carried ∙ later.carried; tables = later.tables }
+
   pub all_read : (is : List Item) (pos : ℕ) (p : Progress) (bytes : ℕ) (next : List Table) → AllByRows all is → AreCarried is → Stands all p
       → all_applied (flat_map item_changes is) p.store.tables ≡ Some next → bytes + all_sizes is ≤ most_bytes → changes_size p.changes + all_changes_size is ≤ most_bytes
       → AllRead pos is p bytes next
@@ -245,6 +272,6 @@ module _ (a : Applier) (all : List TableDef) where
       let sizes = changes_size_both p.changes i.changes in
       let one = item_read i pos p bytes mid.0 (flat_map item_events is) by-rows.0 are.0 stands mid.1 (omega (arith, low)) (omega (arith, sizes, few)) in
       let size_now : changes_size one.progress.changes ≡ changes_size p.changes + changes_size i.changes = ap changes_size one.reaches.changes ∙ sizes in
-      let later = all_read is one.place one.progress (bytes + item_size i) next by-rows.1 are.1 one.reaches.stands (ap (all_applied rest) one.reaches.tables ∙ mid.2)
-      (omega (arith, low)) (omega (arith, size_now, few)) in
-      record { progress = later.progress; now = later.now; carried = one.carried ∙ later.carried; tables = later.tables }
+      item_behind i is pos p bytes mid.0 next one
+      (all_read is one.place one.progress (bytes + item_size i) next by-rows.1 are.1 one.reaches.stands (ap (all_applied rest) one.reaches.tables ∙ mid.2)
+      (omega (arith, low)) (omega (arith, size_now, few)))

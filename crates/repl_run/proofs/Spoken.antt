@@ -91,7 +91,8 @@ pub selected : (nodes nodes' : Nodes) (k : ℕ) (text : List ℕ) (draw : Draw) 
     → (names : Names) (b : Both) → Together names nodes b → CarriedOut names b k (select text) old new nodes' lines
 selected nodes nodes' k text draw old new answer lines same given lines_are drew stays names b t =
     shown_out names b k (select text) draw old new nodes' lines drew stays (record {
-      lines_are = lines_are ∙ ap (shown k) (rw (t.replica_name, t.replica) at given);
+      lines_are = lines_are ∙ ap (shown k) (given ∙ ap (λ (i : Identity). select_answer i draw (replica_of nodes.replica).counters (replica_of nodes.replica).base text) t.replica_name
+          ∙ ap (λ (r : Replica). select_answer names.replica draw r.counters r.base text) t.replica);
       through = tt;
       together = rw same t;
     })
@@ -115,8 +116,10 @@ pub fetched_shown : (nodes nodes' : Nodes) (k n log pos : ℕ) (piece lines : Li
     → (names : Names) (b : Both) (draw : Draw) → Together names nodes b → Shows names b k (take_bytes n) draw nodes' lines
 fetched_shown nodes nodes' k n log pos piece lines follows source wanted is identity replica lines_are names b draw t =
     let bytes : piece ≡ log_bytes (log_of b.machine) (want b.replica) n =
-    is ∙ ap (λ (p : LogPlace). log_bytes nodes.source.desk.log p n) wanted ∙ rw (t.stands.log, t.replica) refl in
-    let behind : replica_of nodes'.replica ≡ fetched (log_bytes (log_of b.machine) (want b.replica) n) b.replica = replica ∙ rw (bytes, t.replica) refl in
+    is ∙ ap (λ (p : LogPlace). log_bytes nodes.source.desk.log p n) wanted ∙ ap (λ (bs : List ℕ). log_bytes bs (want (replica_of nodes.replica)) n) t.stands.log
+    ∙ ap (λ (r : Replica). log_bytes (log_of b.machine) (want r) n) t.replica in
+    let behind : replica_of nodes'.replica ≡ fetched (log_bytes (log_of b.machine) (want b.replica) n) b.replica =
+    replica ∙ ap (λ (bs : List ℕ). fetched bs (replica_of nodes.replica)) bytes ∙ ap (fetched (log_bytes (log_of b.machine) (want b.replica) n)) t.replica in
     record {
       lines_are = lines_are ∙ ap (λ (bs : List ℕ). fetched_line k (length bs)) bytes;
       through = tt;
@@ -131,10 +134,13 @@ pub applied : (nodes nodes' : Nodes) (k n : ℕ) (draw : Draw) (old new : Report
     → lines ≡ applied_line k told.count (record { log = told.log; pos = told.pos }) (option_map stop_of told.stop) → Drew (take_groups n) draw old new → new.now ≡ old.now
     → (names : Names) (b : Both) → Together names nodes b → CarriedOut names b k (take_groups n) old new nodes' lines
 applied nodes nodes' k n draw old new told lines follows stops source identity replica is lines_are drew stays names b t =
-    let here : apply n nodes.replica.identity draw (replica_of nodes.replica) ≡ apply n names.replica draw b.replica = rw (t.replica_name, t.replica) refl in
+    let here : apply n nodes.replica.identity draw (replica_of nodes.replica) ≡ apply n names.replica draw b.replica =
+    ap (λ (i : Identity). apply n i draw (replica_of nodes.replica)) t.replica_name ∙ ap (apply n names.replica draw) t.replica in
+    let a : Going = apply n names.replica draw b.replica in
     let is' : IsTold told (apply n names.replica draw b.replica) = subst (λ (a : Going). IsTold told a) here is in
     shown_out names b k (take_groups n) draw old new nodes' lines drew stays (record {
-      lines_are = lines_are ∙ rw (is'.count, is'.place, is'.stop) refl;
+      lines_are = lines_are ∙ ap (λ (c : ℕ). applied_line k c (record { log = told.log; pos = told.pos }) (option_map stop_of told.stop)) is'.count
+          ∙ ap (λ (p : LogPlace). applied_line k a.count p (option_map stop_of told.stop)) is'.place ∙ ap (applied_line k a.count a.replica.place) is'.stop;
       through = stops names.replica draw n b t.follows t.sound;
       together = replica_changed names nodes nodes' b (apply n names.replica draw b.replica).replica source identity (replica ∙ ap (λ (a : Going). a.replica) here)
           (follows names b (take_groups n) draw t.follows t.sound) t;

@@ -1,5 +1,5 @@
 //! The commands of a script, each answered before the next.
-ghost use Rattle.std.specs.Prelude.{◌≡◌, ◌≤◌, length, map, IfOk, IfErr, IsTrue, OnOk, OnErr};
+ghost use Rattle.std.specs.Prelude.{◌≡◌, ◌<◌, ◌≤◌, ◌^◌, length, map, IfOk, IfErr, IsTrue, OnOk, OnErr};
 ghost use Rattle.std.specs.List.{list_all};
 ghost use Rattle.run_model.specs.Run.{Both, Names};
 ghost use Rattle.run_streams.specs.Reports.{AllTold, Drawn, DrewUntil, GoesOnDrawing, IsEmpty, StaysHandedOut, Tells};
@@ -21,6 +21,13 @@ use session_replays::transactions_replay;
 use source_node::SourceNode;
 use std::alloc::Global;
 use val_types::{Bytes, List};
+
+/// A law: a moment is below 2^32.
+fn moment_fits(moment: u32)
+    ensures { moment < 2 ^ 32 }
+{
+    let _ = moment;
+}
 
 /// Opens the source, then the replica, each with who it is and its first draw.
 pub(crate) fn open_nodes<E: Env, F: Env>(
@@ -44,6 +51,7 @@ pub(crate) fn open_nodes<E: Env, F: Env>(
         &mut report.src_identity,
         &mut report.src_draws,
     )?;
+    moment_fits(src_draw.now);
     let source = SourceNode::open(alloc, src_name, &src_draw)?;
     let (rep_name, rep_draw) = open(
         alloc,

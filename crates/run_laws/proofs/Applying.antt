@@ -151,7 +151,7 @@ module _ (below : Below) (identity : Identity) (draw : Draw) (m : Machine) (stam
       → Came m (by_next f identity draw a (next_at a))
   turn f next carried [] number p rest a way =
       let bytes : List ℕ = drop a.passed a.replica.relay in
-      let none : next_at a ≡ not_whole = none_whole below.ends bytes (a.replica.place.pos + a.passed) (empty_front bytes rest way.tail) in
+      let none : next_at a ≡ not_whole = none_whole below.few bytes (a.replica.place.pos + a.passed) (empty_front bytes rest way.tail) in
       subst (λ (x : Next). Came m (by_next f identity draw a x)) (sym none) (came carried [] number p rest a way)
   turn f next carried (e ∷ es) number p rest a way =
       by (below.is_read (kept_entry e) number p (drop a.passed a.replica.relay) rest (log (map kept_entry es) (counted (kept_entry e) number) (behind (kept_entry e) number p)) stay way.can.0 way.tail)

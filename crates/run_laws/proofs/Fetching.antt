@@ -6,13 +6,11 @@ use Rattle.std.proofs.lemmas.List.{drop-drop, map-append, take-append-drop}
 use Rattle.log_entries.specs.declared.entries.Item.{Item}
 use Rattle.log_entries.specs.declared.entries.Entry.{Entry}
 use Rattle.log_entries.specs.declared.entries.Entry.TheVariants.{Transaction, Definition, LogStart}
-use Rattle.event_codec.specs.Reading.{none, short, reading}
-use Rattle.log_model.specs.Events.{EventsEnd}
 use Rattle.log_model.specs.Groups.{Group, Next, not_whole, group_at}
 use Rattle.log_model.specs.Log.{LogPlace, moved, behind, counted, description, entry_bytes, log, EntriesHaveLength, HeadsHaveLength, LogGoesOn}
 use Rattle.log_model.specs.Written.{bytes_of}
 use Rattle.entry_groups.specs.Entries.{group_of_entry, start_group, StaysInLog, CanLog, CanLogAll}
-use Rattle.entry_groups.specs.Laws.{Fetched, partly, wholly, EntriesCanLogOn, GroupsHaveBounds, RelayIsRead, StartRelayIsRead}
+use Rattle.entry_groups.specs.Laws.{Fetched, partly, wholly, EntriesCanLogOn, FewAreCut, GroupsHaveBounds, RelayIsRead, StartRelayIsRead}
 use Rattle.session_model.specs.Machine.{Whole, kept_entry, Machine, log_of, log_bytes, nowhere, first_place}
 use Rattle.replica_model.specs.Replica.{Replica, behind_group, size_of, past_next, past_groups, want, log_begin}
 use Rattle.run_model.specs.Following.{AreCommitted, reader_at}
@@ -26,16 +24,9 @@ pub empty_front : (xs ys : List ℕ) → xs ++ ys ≡ [] → xs ≡ []
 empty_front [] ys is = refl
 empty_front (x ∷ xs) ys is = cc
 
-no_reading : (pos : ℕ) → reading [] pos ≡ none (short 19)
-unfolding reading
-no_reading pos = refl
-
 -- no bytes are no group
-pub none_whole : EventsEnd → (bytes : List ℕ) (pos : ℕ) → bytes ≡ [] → group_at (record { bytes = bytes; pos = pos }) ≡ not_whole
-unfolding group_at
-none_whole law bytes pos is =
-    let ends = law (record { bytes = bytes; pos = pos }) (short 19) (ap (λ (bs : List ℕ). reading bs pos) is ∙ no_reading pos) in
-    rw (ends.0, ends.1) refl
+pub none_whole : FewAreCut → (bytes : List ℕ) (pos : ℕ) → bytes ≡ [] → group_at (record { bytes = bytes; pos = pos }) ≡ not_whole
+none_whole law bytes pos is = law bytes pos (let size : length bytes ≡ 0 = ap length is in omega (arith, size))
 
 -- behind the bytes of a group
 pub past_bytes : (bytes relay more : List ℕ) (n : ℕ) → relay ≡ bytes ++ more → n ≡ length bytes → drop n relay ≡ more
@@ -75,7 +66,7 @@ pub record Below : Type 0 where
   pub have : EntriesHaveLength
   pub heads : HeadsHaveLength
   pub goes_on : LogGoesOn
-  pub ends : EventsEnd
+  pub few : FewAreCut
   pub bounds : GroupsHaveBounds
   pub start_is_read : StartRelayIsRead
   pub is_read : RelayIsRead
@@ -85,7 +76,7 @@ pub record Below : Type 0 where
 past_entries : Below → (most : ℕ) (es : List (Entry Whole)) (number : ℕ) (p place : LogPlace) (bytes rest : List ℕ) → AreCommitted es → CanLogAll (map kept_entry es) number p
     → bytes ++ rest ≡ log (map kept_entry es) number p → place ≡ p → past_groups most place bytes ≡ moved place (length bytes)
 past_entries below zero es number p place bytes rest committed can is at = refl
-past_entries below (suc most) [] number p place bytes rest committed can is at = ap (past_next (past_groups most) place bytes) (none_whole below.ends bytes place.pos (empty_front bytes rest is))
+past_entries below (suc most) [] number p place bytes rest committed can is at = ap (past_next (past_groups most) place bytes) (none_whole below.few bytes place.pos (empty_front bytes rest is))
 past_entries below (suc most) (e ∷ es) number p place bytes rest committed can is at =
     by (λ more place' back to. past_entries below most es (counted (kept_entry e) number) (behind (kept_entry e) number p) place' more rest (others e es committed) can.1 back to)
     (below.is_read (kept_entry e) number p bytes rest (log (map kept_entry es) (counted (kept_entry e) number) (behind (kept_entry e) number p)) stay can.0 is)

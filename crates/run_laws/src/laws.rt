@@ -2,8 +2,10 @@
 ghost use Rattle.run_laws.specs.Laws.{AllCarriedIsEqual, FollowsBegins, FollowsGoOn, NoApplyStops};
 
 use applier_laws::{bases_hold, entry_is_carried};
-use entry_groups::{entries_can_log_on, groups_have_bounds, relay_is_read, start_relay_is_read};
-use log_model::{entries_have_length, events_end, heads_have_length, log_goes_on};
+use entry_groups::{
+    entries_can_log_on, few_are_cut, groups_have_bounds, relay_is_read, start_relay_is_read,
+};
+use log_model::{entries_have_length, heads_have_length, log_goes_on};
 
 /// A law: a replica that begins with nothing follows its source behind each command, however FETCH cuts the log, and no APPLY
 /// of it stops.
@@ -15,7 +17,7 @@ pub fn replica_follows()
     entries_have_length();
     heads_have_length();
     log_goes_on();
-    events_end();
+    few_are_cut();
     groups_have_bounds();
     start_relay_is_read();
     relay_is_read();

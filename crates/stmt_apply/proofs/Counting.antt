@@ -3,7 +3,7 @@ use Rattle.std.proofs.Common.{◌≡◌, ℕ, ◌+◌, ◌<◌, ◌≤◌, List,
 use Rattle.std.specs.Prelude.{min, nat_lt}
 use Rattle.val_types.specs.declared.change.Change.{Change}
 use Rattle.val_types.specs.declared.value.Value.{Value}
-use Rattle.applier_model.specs.Sizes.{change_size, changes_size, value_size, values_size}
+use Rattle.transaction_sizes.specs.Sizes.{change_size, changes_size, value_size, values_size}
 use Rattle.stmt_apply.specs.UnderWay.{bounded}
 
 pub more : (a n s r : ℕ) → a ≡ bounded n → r ≡ min (a + s) 18446744073709551615 → r ≡ bounded (n + s)

@@ -2,7 +2,7 @@
 use Rattle.std.specs.Prelude.{◌≡◌, ℕ, ◌-◌, ◌^◌, min, List, map, Result, Ok, Err}
 use Rattle.event_codec.specs.Event.{map_of}
 use Rattle.log_model.specs.Events.{Placed}
-use Rattle.applier_model.specs.Sizes.{changes_size}
+use Rattle.transaction_sizes.specs.Sizes.{changes_size}
 use Rattle.applier_model.specs.Stops.{Differs}
 use Rattle.applier_model.specs.Texts.{Applier}
 use Rattle.applier_model.specs.Groups.{Going, Applied, and_then, applied_by, going_from, items_carried, store_of}

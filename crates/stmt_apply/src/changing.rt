@@ -174,7 +174,7 @@ fn make(alloc: Global, work: &mut Work, pos: u64, change: Change) -> Result<(), 
 
 /// A change of an event at a place, by the map of its table.
 #[tactic(auto, using(crate::proofs::Staying::staying))]
-fn carry_change(
+pub(crate) fn carry_change(
     alloc: Global,
     work: &mut Work,
     pos: u64,

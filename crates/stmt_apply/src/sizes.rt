@@ -1,6 +1,6 @@
 //! How many bytes changes have. What is past 64 bits counts as the greatest number of these.
 ghost use Rattle.std.specs.Prelude.{◌≡◌};
-ghost use Rattle.applier_model.specs.Sizes.{change_size, changes_size, row_size, value_size};
+ghost use Rattle.transaction_sizes.specs.Sizes.{change_size, changes_size, row_size, value_size};
 ghost use Rattle.stmt_apply.specs.UnderWay.{bounded};
 
 use val_types::{Change, List, Row, Value};

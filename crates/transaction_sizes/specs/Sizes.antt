@@ -2,7 +2,7 @@
 --
 -- A change is kept as its kind 1, the length of its table's name 1, the name, and each of its rows as a count 1 and its values. NULL has
 -- 1 byte, a number 9, a text 5 and its bytes.
-use Rattle.std.specs.Prelude.{ℕ, ◌+◌, ◌||◌, nat_lt, Bool, List, [], ◌∷◌, flat_map, length}
+use Rattle.std.specs.Prelude.{ℕ, ◌+◌, ◌||◌, nat_lt, Bool, List, [], ◌∷◌, length}
 use Rattle.val_types.specs.declared.change.Change.{Change}
 use Rattle.val_types.specs.declared.change.Change.TheVariants.{Insert, Update, Delete}
 use Rattle.val_types.specs.declared.value.Value.{Value}

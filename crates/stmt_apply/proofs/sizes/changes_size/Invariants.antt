@@ -1,5 +1,5 @@
 use Rattle.std.proofs.Common.{◌≡◌, ◌+◌, ◌-◌, ◌^◌, ◌≤◌, drop}
-use Rattle.applier_model.specs.Sizes.{changes_size}
+use Rattle.transaction_sizes.specs.Sizes.{changes_size}
 use Rattle.stmt_apply.specs.UnderWay.{bounded}
 use Rattle.stmt_apply.proofs.sizes.changes_size.Given as goal
 

@@ -1,5 +1,6 @@
 use Rattle.std.proofs.Common.{◌≡◌, ◌+◌, ◌-◌, ◌^◌, ◌≤◌, drop}
-use Rattle.transaction_sizes.specs.Sizes.{bounded, changes_size}
+use Rattle.row_events.specs.Sizes.{bounded}
+use Rattle.transaction_sizes.specs.Sizes.{changes_size}
 use Rattle.transaction_sizes.proofs.changes.changes_size.Given as goal
 
 abbrev pub invariant-loop-change : goal.invariant-loop-change

@@ -1,5 +1,6 @@
 use Rattle.std.proofs.Common.{◌≡◌, ◌+◌, ◌-◌, ◌^◌, ◌≤◌, drop}
-use Rattle.transaction_sizes.specs.Sizes.{bounded, row_size, values_size}
+use Rattle.row_events.specs.Sizes.{bounded}
+use Rattle.transaction_sizes.specs.Sizes.{row_size, values_size}
 use Rattle.transaction_sizes.proofs.changes.row_size.Given as goal
 
 abbrev pub invariant-loop-value : goal.invariant-loop-value
