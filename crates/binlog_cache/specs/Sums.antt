@@ -7,20 +7,31 @@ use Rattle.log_model.specs.Log.{begin_query}
 use Rattle.log_model.specs.Written.{Stamped}
 use Rattle.log_model.specs.Items.{item_size}
 use Rattle.row_events.specs.Sizes.{bounded}
+use Rattle.transaction_sizes.specs.Sizes.{changes_size}
 use Rattle.binlog_cache.specs.declared.kept.Kept.{Kept}
 
 abbrev pub items_of : List Kept → List Item
 items_of ks = map (λ k. k.item) ks
 
--- how many bytes items have
-abbrev pub all_sizes : List Item → ℕ
-all_sizes [] = 0
-all_sizes (i ∷ is) = item_size i + all_sizes is
+-- each is kept with a sum over those before it and itself
+abbrev pub AreSummed : (sum : Kept → ℕ) (size : Item → ℕ) (before : ℕ) → List Kept → Type 0
+AreSummed sum size before [] = Unit {0}
+AreSummed sum size before (k ∷ ks) = (sum k ≡ bounded (before + size k.item)) × AreSummed sum size (before + size k.item) ks
 
--- each is kept with the bytes of those before it and its own
-abbrev pub AreSummed : (before : ℕ) → List Kept → Type 0
-AreSummed before [] = Unit {0}
-AreSummed before (k ∷ ks) = (k.until ≡ bounded (before + item_size k.item)) × AreSummed (before + item_size k.item) ks
+-- in a log, and as changes
+abbrev pub log_sum : Kept → ℕ
+log_sum k = k.until.log
+
+abbrev pub changes_sum : Kept → ℕ
+changes_sum k = k.until.changes
+
+abbrev pub changes_of_item : Item → ℕ
+changes_of_item i = changes_size i.changes
+
+-- each is kept with both sums
+pub record AreCounted (ks : List Kept) : Type 0 where
+  pub log : AreSummed log_sum item_size 0 ks
+  pub changes : AreSummed changes_sum changes_of_item 0 ks
 
 -- the first and the last event of a transaction
 abbrev pub begin_event : Carried → List Stamped

@@ -4,15 +4,17 @@ ghost use Rattle.log_model.specs.Items.{AreCarried};
 ghost use Rattle.log_model.specs.Log.{transaction};
 ghost use Rattle.log_model.specs.Written.{bytes_of, CanWriteAll};
 ghost use Rattle.row_events.specs.Sizes.{bounded};
-ghost use Rattle.binlog_cache.specs.Sums.{all_sizes, items_of, AreSummed};
+ghost use Rattle.transaction_sizes.specs.Sizes.{all_changes_size, all_sizes};
+ghost use Rattle.binlog_cache.specs.Sums.{items_of, AreCounted};
 
 use crate::encoding::encode_items;
-use crate::kept::Kept;
+use crate::kept::{Kept, Sums};
 use event_codec::Header;
 use item_events::item_size;
 use log_entries::Item;
 use std::alloc::Global;
 use std::marker::Model;
+use transaction_sizes::changes_size;
 use val_types::{Bytes, List, NoMemory};
 
 /// How many bytes BEGIN and XID have beside the items.
@@ -27,13 +29,13 @@ pub struct Cache {
 impl Model for Cache {
     ghost use Rattle.std.specs.Prelude.{List};
     ghost use Rattle.log_entries.specs.declared.entries.Item.{Item as CachedItem};
-    ghost use Rattle.binlog_cache.specs.Sums.{items_of, AreSummed};
+    ghost use Rattle.binlog_cache.specs.Sums.{items_of, AreCounted};
 
     ghost Value = { List CachedItem };
 
     ghost view = { λ c. items_of c.kept };
 
-    ghost invariant = { λ c. AreSummed 0 c.kept };
+    ghost invariant = { λ c. AreCounted c.kept };
 }
 
 impl Cache {
@@ -51,7 +53,11 @@ impl Cache {
         ensures ok { OnOk result (self.new ≡ self.old ++ item ∷ []) }
         ensures err { OnErr result (self.new ≡ self.old) }
     {
-        let until = last_sum(&self.kept).saturating_add(item_size(&item));
+        let before = last_sums(&self.kept);
+        let until = Sums {
+            log: before.log.saturating_add(item_size(&item)),
+            changes: before.changes.saturating_add(changes_size(item.changes.as_slice())),
+        };
         self.kept.push(Kept { item, until })?;
         Ok(())
     }
@@ -60,7 +66,15 @@ impl Cache {
     pub fn bytes(&self) -> u64
         ensures { result ≡ bounded (all_sizes self.now) }
     {
-        last_sum(&self.kept)
+        last_sums(&self.kept).log
+    }
+
+    /// How many bytes the changes of the items have, or the greatest number of 64 bits where they have
+    /// more.
+    pub fn changes_bytes(&self) -> u64
+        ensures { result ≡ bounded (all_changes_size self.now) }
+    {
+        last_sums(&self.kept).changes
     }
 
     /// How many items there are: the mark of a savepoint.
@@ -85,18 +99,19 @@ impl Cache {
         requires events { CanWriteAll header.now.pos (transaction header.now.stamp xid self.now) }
         ensures { IfOk result (λ bytes. bytes ≡ bytes_of header.now.server_id header.now.pos (transaction header.now.stamp xid self.now)) }
     {
-        let room = last_sum(&self.kept).saturating_add(ENDS);
+        let room = last_sums(&self.kept).log.saturating_add(ENDS);
         encode_items(alloc, &self.kept, room, xid, header)
     }
 }
 
 /// How many bytes items have that are kept with their sums.
-fn last_sum(kept: &List<Kept>) -> u64
-    requires { AreSummed 0 kept.now }
-    ensures { result ≡ bounded (all_sizes (items_of kept.now)) }
+fn last_sums(kept: &List<Kept>) -> Sums
+    requires { AreCounted kept.now }
+    ensures log { result.log ≡ bounded (all_sizes (items_of kept.now)) }
+    ensures changes { result.changes ≡ bounded (all_changes_size (items_of kept.now)) }
 {
     match kept.as_slice() {
         [.., last] => last.until,
-        [] => 0,
+        [] => Sums { log: 0, changes: 0 },
     }
 }

@@ -2,10 +2,17 @@
 
 use log_entries::Item;
 
-/// An item, and how many bytes the items up to it have in a log, or the greatest number of 64 bits
+/// How many bytes items have in a log, and how many their changes, or the greatest number of 64 bits
 /// where they have more.
+#[derive(Clone, Copy)]
+pub struct Sums {
+    pub log: u64,
+    pub changes: u64,
+}
+
+/// An item, and how many bytes the items up to it have.
 #[derive(Drop)]
 pub struct Kept {
     pub item: Item,
-    pub until: u64,
+    pub until: Sums,
 }

@@ -10,8 +10,8 @@
 //! # Proved
 //! - [`Cache::add`] puts an item behind the others, or wants memory and leaves them; [`Cache::mark`] is
 //!   their count, and [`Cache::cut`] leaves those before a mark.
-//! - [`Cache::bytes`] is how many bytes the items have in a log, or the greatest number of 64 bits,
-//!   always.
+//! - [`Cache::bytes`] is how many bytes the items have in a log, and [`Cache::changes_bytes`] how many
+//!   their changes, or the greatest number of 64 bits, always.
 //! - [`Cache::encode`] gives exactly the bytes of the transaction of the items, or want of memory. It
 //!   asks that items by their rows have what those need, and that each event can be written at its
 //!   place.

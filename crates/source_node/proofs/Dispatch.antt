@@ -12,12 +12,10 @@ use Rattle.text_answers.specs.Answers.{TextAnswer, a_statement}
 use Rattle.session_model.specs.Running.{Call, full, lock_refusal, statement_run}
 use Rattle.session_model.specs.Commands.{code_answer, definition_turn, given_turn, plain_turn, unless_refused}
 use Rattle.session_model.specs.Machine.{statement_turn, text_turn}
-use Rattle.source_node.specs.Nothing.{Nothing}
-use Rattle.source_node.specs.Turned.{Left, left_by}
-use Rattle.source_node.proofs.SetParts.{left_is}
+use Rattle.log_entries.specs.declared.entries.Item.{Item}
 use Rattle.source_node.specs.Other.{is_call, is_of_transaction, is_set, other_turn}
 
-pub other_is : (call : Call Nothing) (text : List ℕ) (s : Statement) (shared : Shared) (session : Session Nothing) → is_of_transaction s ≡ false → is_set s ≡ false → is_call s ≡ false
+pub other_is : (call : Call Item) (text : List ℕ) (s : Statement) (shared : Shared) (session : Session Item) → is_of_transaction s ≡ false → is_set s ≡ false → is_call s ≡ false
     → other_turn call text s shared session ≡ statement_turn call text s shared session
 other_is call text (create_table t) shared session no_turn no_set no_call = refl
 other_is call text (create_function p) shared session no_turn no_set no_call = refl
@@ -47,14 +45,6 @@ other_is call text (if_steps bs o) shared session no_turn no_set no_call = refl
 other_is call text (while_steps c ss) shared session no_turn no_set no_call = refl
 other_is call text (return_value t) shared session no_turn no_set no_call = refl
 
--- an answer to one is an answer to the other
-pub other_answers : {E : Type 0} (r : Result Answer E) (call : Call Nothing) (text : List ℕ) (s : Statement) (shared new : Shared) (session session' : Session Nothing)
-    → is_of_transaction s ≡ false → is_set s ≡ false → is_call s ≡ false
-    → IfOk r (λ answer. record { shared = new; session = session'; given = answer } ≡ left_by (other_turn call text s shared session))
-    → IfOk r (λ answer. record { shared = new; session = session'; given = answer } ≡ left_by (statement_turn call text s shared session))
-other_answers r call text s shared new session session' no_turn no_set no_call ok =
-    left_is r new session' (left_by (other_turn call text s shared session)) (left_by (statement_turn call text s shared session)) (ap left_by (other_is call text s shared session no_turn no_set no_call)) ok
-
 -- ---- views
 
 pub view_begin : view Stmt.Begin ≡ begin
@@ -69,27 +59,27 @@ view_rollback = search (rules, the_lemmas)
 pub view_savepoint : (name : List ℕ) → view (Stmt.Savepoint name) ≡ savepoint name
 view_savepoint name = search (rules, the_lemmas)
 
--- what is left by the turn of a statement is left by that of an equal one
-pub turn_of : (call : Call Nothing) (text : List ℕ) (s t : Statement) (shared : Shared) (session : Session Nothing) (l : Left Answer) → s ≡ t
-    → l ≡ left_by (statement_turn call text t shared session) → l ≡ left_by (statement_turn call text s shared session)
-turn_of call text s t shared session l same e = e ∙ ap (λ (u : Statement). left_by (statement_turn call text u shared session)) (sym same)
-
 -- ---- where nothing refuses
 
-pub plain_goes : (call : Call Nothing) (text : List ℕ) (s : Statement) (refusal : Option ℕ) (shared : Shared) (session : Session Nothing)
+pub plain_goes : (call : Call Item) (text : List ℕ) (s : Statement) (refusal : Option ℕ) (shared : Shared) (session : Session Item)
     → refusal ≡ statement_refusal shared.base.catalog session_scope s → refusal ≡ None → None ≡ lock_refusal call.number shared s
-    → left_by (given_turn (statement_run call full text s shared session)) ≡ left_by (plain_turn call text s shared session)
+    → given_turn (statement_run call full text s shared session) ≡ plain_turn call text s shared session
 plain_goes call text s refusal shared session is none free =
-    ap (λ (o : Option Answer). left_by (unless_refused o shared session (given_turn (statement_run call full text s shared session)))) free
-    ∙ ap (λ (r : Option ℕ). left_by (unless_refused (code_answer r) shared session (unless_refused (lock_refusal call.number shared s) shared session (given_turn (statement_run call full text s shared session))))) (sym none ∙ is)
+    ap (λ (o : Option Answer). unless_refused o shared session (given_turn (statement_run call full text s shared session))) free
+    ∙ ap (λ (r : Option ℕ). unless_refused (code_answer r) shared session (unless_refused (lock_refusal call.number shared s) shared session (given_turn (statement_run call full text s shared session)))) (sym none ∙ is)
 
-pub definition_goes : (call : Call Nothing) (text : List ℕ) (s : Statement) (shared : Shared) (session : Session Nothing) → is_definition s ≡ true
-    → left_by (definition_turn call text s shared session) ≡ left_by (other_turn call text s shared session)
+pub definition_goes : (call : Call Item) (text : List ℕ) (s : Statement) (shared : Shared) (session : Session Item) → is_definition s ≡ true
+    → definition_turn call text s shared session ≡ other_turn call text s shared session
 definition_goes call text s shared session e =
-    ap (λ (b : Bool). left_by (if b then definition_turn call text s shared session else plain_turn call text s shared session)) (sym e)
+    ap (λ (b : Bool). if b then definition_turn call text s shared session else plain_turn call text s shared session) (sym e)
+
+pub plain_comes : (call : Call Item) (text : List ℕ) (s : Statement) (shared : Shared) (session : Session Item) → is_definition s ≡ false
+    → plain_turn call text s shared session ≡ other_turn call text s shared session
+plain_comes call text s shared session e =
+    ap (λ (b : Bool). if b then definition_turn call text s shared session else plain_turn call text s shared session) (sym e)
 
 -- ---- texts
 
-pub text_goes : (call : Call Nothing) (text : List ℕ) (answer : TextAnswer) (s : Statement) (shared : Shared) (session : Session Nothing) → answer ≡ a_statement s
-    → left_by (statement_turn call text s shared session) ≡ left_by (text_turn call text answer shared session)
-text_goes call text answer s shared session e = ap (λ (a : TextAnswer). left_by (text_turn call text a shared session)) (sym e)
+pub text_goes : (call : Call Item) (text : List ℕ) (answer : TextAnswer) (s : Statement) (shared : Shared) (session : Session Item) → answer ≡ a_statement s
+    → statement_turn call text s shared session ≡ text_turn call text answer shared session
+text_goes call text answer s shared session e = ap (λ (a : TextAnswer). text_turn call text a shared session) (sym e)

@@ -1,8 +1,10 @@
-pub mod Places
-pub mod Zipping
+pub mod Turns
 pub mod Bases
 pub mod Settling
-pub mod SetParts
+pub mod Keeps
 pub mod Making
+pub mod Places
+pub mod SetParts
 pub mod Dispatch
 pub mod Standings
+pub mod Zipping

@@ -1,5 +1,5 @@
 -- A definition, as the machine makes it.
-use Rattle.std.proofs.Common.{◌≡◌, ℕ, ◌+◌, List, [], ◌∷◌, Bool, false, if◌then◌else◌, Option, Some, None, unwrap_or, refl, sym, ap, ◌∙◌}
+use Rattle.std.proofs.Common.{◌≡◌, ℕ, ◌+◌, List, [], ◌∷◌, ◌++◌, Bool, true, false, if◌then◌else◌, length, Option, Some, None, unwrap_or, refl, sym, ap, ◌∙◌, subst, append-nil}
 use Rattle.std.specs.Option.{option_map}
 use Rattle.port_traits.specs.declared.identity.Draw.{Draw}
 use Rattle.port_traits.specs.declared.identity.Identity.{Identity}
@@ -14,19 +14,26 @@ use Rattle.catalog_objects.specs.Keys.{objects_of}
 use Rattle.sql_tree.specs.Statement.{Statement, create_table}
 use Rattle.sql_tree.specs.declared.statements.CreateTable.{CreateTable}
 use Rattle.catalog_rules.specs.Objects.{Object}
+use Rattle.sql_meaning.specs.Frames.{Context}
 use Rattle.sql_reach.specs.Defining.{counters_after, is_still_refused}
+use Rattle.log_entries.specs.declared.entries.Item.{Item}
+use Rattle.log_entries.specs.declared.entries.Entry.{Entry}
+use Rattle.log_entries.specs.declared.entries.Entry.TheVariants.{Definition}
+use Rattle.log_model.specs.Log.{LogPlace, behind}
+use Rattle.logged_items.specs.Items.{item_by_text}
+use Rattle.logged_items.specs.Logged.{Encodes, in_log}
 use Rattle.prog_run.specs.declared.meter.Outcome.{Outcome}
 use Rattle.prog_run.specs.Contents.{Contents, base_of, committed_tables, without_changes}
 use Rattle.prog_run.specs.Runs.{Makes}
 use Rattle.session_model.specs.Answers.{ok, refused}
 use Rattle.session_model.specs.Sessions.{Session, Shared}
-use Rattle.session_model.specs.Running.{Turn, commit_open, writing_refusal}
+use Rattle.session_model.specs.Running.{Turn, commit_entries, commit_open, commit_shared, counted_in, is_other, items_of, transaction_of, writing_refusal}
 use Rattle.session_model.specs.Commands.{define_turn, definition_turn, made_turn, unless_answered, with_answer}
-use Rattle.source_node.specs.Defining.{answered_or, define_left, made_left, refused_or}
-use Rattle.source_node.specs.Desk.{shared_by}
-use Rattle.source_node.specs.Nothing.{Nothing, call_of}
-use Rattle.source_node.specs.Settled.{has_any}
-use Rattle.source_node.specs.Turned.{Left, left_by}
+use Rattle.source_node.specs.declared.desk.Desk.{Desk}
+use Rattle.source_node.specs.Calls.{call_of}
+use Rattle.source_node.specs.Desk.{has_any, shared_by, shared_of}
+use Rattle.source_node.specs.Turned.{IsTurn, Logs, Moves, behind_turn, not_begun}
+use Rattle.source_node.proofs.Turns.{definition_place, log_on, logs_from, one_logged, same_entry, turn_is}
 
 pub none_if : (cs : List Change) → has_any cs ≡ false → cs ≡ []
 none_if [] e = refl
@@ -36,63 +43,101 @@ none_if (c ∷ cs) e = cc
 pub none_open : (c : Contents) → c.changes ≡ [] → committed_tables c ≡ c.tables
 none_open c none = ap (λ cs. without_changes cs c.tables) none ∙ ap (λ o. unwrap_or o c.tables) (applied_none c.tables)
 
-made_shared : (s : Statement) (told : Outcome) (old new : Contents) (writer : Option ℕ) (count : ℕ) → old.changes ≡ [] → Makes s told old new
-    → shared_by new writer (count + 1) ≡ record (shared_by old writer count) { base = base_of new; counters = counters_after s old.counters; committed = count + 1 }
-made_shared s told old new writer count none makes =
-    ap (λ (ts : List Table). record { base = record { catalog = objects_of new.objects; tables = ts }; counters = new.counters; changes = new.changes; writer = writer; committed = count + 1 }) (none_open new (makes.changes ∙ none))
-    ∙ ap (λ (cs : List Change). record { base = base_of new; counters = new.counters; changes = cs; writer = writer; committed = count + 1 }) makes.changes
-    ∙ ap (λ (ks : List Counter). record { base = base_of new; counters = ks; changes = old.changes; writer = writer; committed = count + 1 }) makes.counters
+made_shared : (s : Statement) (told : Outcome) (old new : Contents) (writer : Option ℕ) (count : ℕ) (place later : LogPlace) → old.changes ≡ [] → Makes s told old new
+    → shared_by new writer (count + 1) later ≡ record (shared_by old writer count place) { base = base_of new; counters = counters_after s old.counters; committed = count + 1; place = later }
+made_shared s told old new writer count place later none makes =
+    ap (λ (ts : List Table). record { base = record { catalog = objects_of new.objects; tables = ts }; counters = new.counters; changes = new.changes; writer = writer; committed = count + 1; place = later }) (none_open new (makes.changes ∙ none))
+    ∙ ap (λ (cs : List Change). record { base = base_of new; counters = new.counters; changes = cs; writer = writer; committed = count + 1; place = later }) makes.changes
+    ∙ ap (λ (ks : List Counter). record { base = base_of new; counters = ks; changes = old.changes; writer = writer; committed = count + 1; place = later }) makes.counters
 
-pub made_now : (s : Statement) (told : Outcome) (old new : Contents) (writer : Option ℕ) (count next : ℕ) (answer : Answer) → old.changes ≡ [] → next ≡ count + 1 → Makes s told old new → answer ≡ ok 0
-    → (shared_by new writer next, answer) ≡ made_left s (defined s (shared_by old writer count).base) (shared_by old writer count)
-made_now s told old new writer count next answer none more makes said =
-    ap (λ (k : ℕ). (shared_by new writer k, answer)) more
-    ∙ ap (λ (a : Answer). (shared_by new writer (count + 1), a)) said
-    ∙ ap (λ (shared : Shared). (shared, ok 0)) (made_shared s told old new writer count none makes)
-    ∙ ap (λ (o : Option Base). made_left s o (shared_by old writer count)) (sym makes.base
-    ∙ ap (λ (ts : List Table). defined s (record { catalog = objects_of old.objects; tables = ts })) (sym (none_open old none)))
+made_base : (s : Statement) (told : Outcome) (old new : Contents) (writer : Option ℕ) (count : ℕ) (place : LogPlace) → old.changes ≡ [] → Makes s told old new
+    → defined s (shared_by old writer count place).base ≡ Some (base_of new)
+made_base s told old new writer count place none makes =
+    ap (λ (ts : List Table). defined s (record { catalog = objects_of old.objects; tables = ts })) (none_open old none) ∙ makes.base
 
 -- ---- a turn
 
 module _ (identity : Identity) (draw : Draw) (n : ℕ) (text : List ℕ) (s : Statement) where
-  with_session : Session Nothing → Shared × Answer → Left Answer
-  with_session session p = record { shared = p.0; session = session; given = p.1 }
+  -- the entry of a definition
+  abbrev entry_in : Context → Entry Item
+  entry_in context = Definition context.stamp identity.server_id (item_by_text text context)
 
-  made_by : (made : Option Base) (t : Turn Nothing (Unit {0})) → left_by (made_turn (call_of identity draw n) text s made t) ≡ with_session t.session (made_left s made t.shared)
-  unfolding with_session
-  made_by None t = refl
-  made_by (Some base) t = refl
+  pub made_now : (told : Outcome) (old new : Desk) (work : Contents) (session after : Session Item) (bytes : List ℕ) (answer : Answer) → old.work.changes ≡ [] → new.committed ≡ old.committed + 1 → new.lock ≡ old.lock → new.work ≡ work
+      → Makes s told old.work work → new.log ≡ old.log ++ bytes → Encodes (entry_in session.vars.context) old.committed (length old.log) bytes → after ≡ session → answer ≡ ok 0
+      → IsTurn old new after answer (made_turn (call_of identity draw n) text s (defined s (shared_of old).base) (not_begun (shared_of old) session))
+  made_now told old new work session after bytes answer none more lock is makes appended encodes same said =
+      let place : in_log (length new.log) ≡ behind (entry_in session.vars.context) old.committed (in_log (length old.log)) =
+      definition_place session.vars.context.stamp identity.server_id old.committed (item_by_text text session.vars.context) old.log bytes new.log appended encodes in
+      let shared : shared_of new ≡ counted_in (entry_in session.vars.context) (record (shared_of old) { base = base_of work; counters = counters_after s old.work.counters }) =
+      ap (λ (c : Contents). shared_by c new.lock new.committed (in_log (length new.log))) is
+      ∙ ap (λ (w : Option ℕ). shared_by work w new.committed (in_log (length new.log))) lock
+      ∙ ap (λ (k : ℕ). shared_by work old.lock k (in_log (length new.log))) more
+      ∙ ap (λ (p : LogPlace). shared_by work old.lock (old.committed + 1) p) place
+      ∙ made_shared s told old.work work old.lock old.committed (in_log (length old.log)) (behind (entry_in session.vars.context) old.committed (in_log (length old.log))) none makes in
+      subst (λ (o : Option Base). IsTurn old new after answer (made_turn (call_of identity draw n) text s o (not_begun (shared_of old) session)))
+      (sym (made_base s told old.work work old.lock old.committed (in_log (length old.log)) none makes))
+      ((shared, same, one_logged (entry_in session.vars.context) old new bytes appended encodes), said)
 
-  answered_by : (o : Option Answer) (t : Turn Nothing (Unit {0})) (u : Turn Nothing Answer) (left : Shared × Answer) → left_by u ≡ with_session t.session left
-      → left_by (unless_answered o t u) ≡ with_session t.session (answered_or o t.shared left)
-  unfolding with_session
-  answered_by None t u left e = e
-  answered_by (Some answer) t u left e = refl
+  -- ---- behind the implicit commit
 
-  refused_by : (o : Option ℕ) (t : Turn Nothing (Unit {0})) (u : Turn Nothing Answer) (left : Shared × Answer) → left_by u ≡ with_session t.session left
-      → left_by (unless_answered (option_map refused o) t u) ≡ with_session t.session (refused_or o t.shared left)
-  unfolding with_session
-  refused_by None t u left e = e
-  refused_by (Some code) t u left e = refl
+  made_behind : (made : Option Base) (t : Turn Item (Unit {0})) → made_turn (call_of identity draw n) text s made t ≡ behind_turn t (made_turn (call_of identity draw n) text s made (not_begun t.shared t.session))
+  made_behind None t = ap (λ (es : List (Entry Item)). record { shared = t.shared; session = t.session; committed = es; given = refused 30005 }) (sym (append-nil t.committed))
+  made_behind (Some base) t = refl
 
-  defined_by : (t : Turn Nothing (Unit {0})) → left_by (define_turn (call_of identity draw n) text s t) ≡ with_session t.session (define_left n s t.shared)
-  defined_by t =
-      refused_by (ddl_refusal t.shared.base.catalog s) t (unless_answered (writing_refusal n t.shared) t (made_turn (call_of identity draw n) text s (defined s t.shared.base) t)) (answered_or (writing_refusal n t.shared) t.shared (made_left s (defined s t.shared.base) t.shared))
-      (answered_by (writing_refusal n t.shared) t (made_turn (call_of identity draw n) text s (defined s t.shared.base) t) (made_left s (defined s t.shared.base) t.shared)
-      (made_by (defined s t.shared.base) t))
+  answered_behind : (o : Option Answer) (t : Turn Item (Unit {0})) (u v : Turn Item Answer) → u ≡ behind_turn t v
+      → unless_answered o t u ≡ behind_turn t (unless_answered o (not_begun t.shared t.session) v)
+  answered_behind None t u v e = e
+  answered_behind (Some answer) t u v e = ap (λ (es : List (Entry Item)). record { shared = t.shared; session = t.session; committed = es; given = answer }) (sym (append-nil t.committed))
 
-  -- behind the implicit commit
-  pub defined_left : (shared ran new : Shared) (session session' : Session Nothing) (answer : Answer) → is_still_refused s ≡ false
-      → ran ≡ (commit_open (call_of identity draw n) shared session).shared → session' ≡ (commit_open (call_of identity draw n) shared session).session
-      → (new, answer) ≡ define_left n s ran
-      → record { shared = new; session = session'; given = answer } ≡ left_by (definition_turn (call_of identity draw n) text s shared session)
-  unfolding with_session
-  defined_left shared ran new session session' answer allowed at kept left =
-      let t : Turn Nothing (Unit {0}) = commit_open (call_of identity draw n) shared session in
-      ap (λ (p : Shared × Answer). record { shared = p.0; session = session'; given = p.1 }) (left ∙ ap (define_left n s) at)
-      ∙ ap (λ (one : Session Nothing). record { shared = (define_left n s t.shared).0; session = one; given = (define_left n s t.shared).1 }) kept
-      ∙ sym (defined_by t)
-      ∙ ap (λ (b : Bool). left_by (if b then with_answer (refused 30005) t else define_turn (call_of identity draw n) text s t)) (sym allowed)
+  defined_behind : (t : Turn Item (Unit {0})) → define_turn (call_of identity draw n) text s t ≡ behind_turn t (define_turn (call_of identity draw n) text s (not_begun t.shared t.session))
+  defined_behind t =
+      answered_behind (option_map refused (ddl_refusal t.shared.base.catalog s)) t (unless_answered (writing_refusal n t.shared) t (made_turn (call_of identity draw n) text s (defined s t.shared.base) t))
+      (unless_answered (writing_refusal n t.shared) (not_begun t.shared t.session) (made_turn (call_of identity draw n) text s (defined s t.shared.base) (not_begun t.shared t.session)))
+      (answered_behind (writing_refusal n t.shared) t (made_turn (call_of identity draw n) text s (defined s t.shared.base) t) (made_turn (call_of identity draw n) text s (defined s t.shared.base) (not_begun t.shared t.session))
+      (made_behind (defined s t.shared.base) t))
+
+  -- what the implicit commit logs, with what is logged behind it
+  commit_logs : (context : Context) (items : List Item) (es : List (Entry Item)) (old ran new : Desk) → ran.committed ≡ (commit_shared (call_of identity draw n) context items (shared_of old)).committed
+      → in_log (length ran.log) ≡ (commit_shared (call_of identity draw n) context items (shared_of old)).place
+      → Logs (commit_entries (call_of identity draw n) context items) old ran → Logs es ran new → Logs (commit_entries (call_of identity draw n) context items ++ es) old new
+  commit_logs context [] es old ran new count place first second = logs_from es old ran new first.0 count second
+  commit_logs context (i ∷ is) es old ran new count place first second =
+      let e : Entry Item = transaction_of (call_of identity draw n) context (i ∷ is) in
+      log_on e es old ran new count (place ∙ ap (λ (x : Entry Item). behind x old.committed (in_log (length old.log))) (same_entry e)) first second
+
+  released_count : (shared : Shared) (b : Bool) → (if b then shared else record shared { writer = None }).committed ≡ shared.committed
+  released_count shared true = refl
+  released_count shared false = refl
+
+  released_place : (shared : Shared) (b : Bool) → (if b then shared else record shared { writer = None }).place ≡ shared.place
+  released_place shared true = refl
+  released_place shared false = refl
+
+  pub defined_left : (old ran new : Desk) (session after later : Session Item) (answer : Answer) → is_still_refused s ≡ false
+      → Moves old ran after (commit_open (call_of identity draw n) (shared_of old) session)
+      → IsTurn ran new later answer (define_turn (call_of identity draw n) text s (not_begun (shared_of ran) after))
+      → IsTurn old new later answer (definition_turn (call_of identity draw n) text s (shared_of old) session)
+  defined_left old ran new session after later answer allowed moves turn =
+      let t : Turn Item (Unit {0}) = commit_open (call_of identity draw n) (shared_of old) session in
+      let u : Turn Item Answer = define_turn (call_of identity draw n) text s (not_begun t.shared t.session) in
+      let committed : Shared = commit_shared (call_of identity draw n) session.vars.context (items_of session.transaction) (shared_of old) in
+      let there : IsTurn ran new later answer u =
+      subst (λ (one : Session Item). IsTurn ran new later answer (define_turn (call_of identity draw n) text s (not_begun t.shared one))) moves.1
+      (subst (λ (shared : Shared). IsTurn ran new later answer (define_turn (call_of identity draw n) text s (not_begun shared after))) moves.0 turn) in
+      let count : ran.committed ≡ committed.committed = ap (λ (shared : Shared). shared.committed) moves.0 ∙ released_count committed (is_other n committed.writer) in
+      let place : in_log (length ran.log) ≡ committed.place = ap (λ (shared : Shared). shared.place) moves.0 ∙ released_place committed (is_other n committed.writer) in
+      let both : IsTurn old new later answer (behind_turn t u) =
+      ((there.0.0, there.0.1, commit_logs session.vars.context (items_of session.transaction) u.committed old ran new count place moves.2 there.0.2), there.1) in
+      turn_is old new later answer (behind_turn t u) (definition_turn (call_of identity draw n) text s (shared_of old) session)
+      (sym (defined_behind t) ∙ ap (λ (b : Bool). if b then with_answer (refused 30005) t else define_turn (call_of identity draw n) text s t) (sym allowed)) both
+
+  pub refused_left : (old ran : Desk) (session after : Session Item) (answer : Answer) → is_still_refused s ≡ true
+      → Moves old ran after (commit_open (call_of identity draw n) (shared_of old) session) → answer ≡ refused 30005
+      → IsTurn old ran after answer (definition_turn (call_of identity draw n) text s (shared_of old) session)
+  refused_left old ran session after answer kept moves said =
+      let t : Turn Item (Unit {0}) = commit_open (call_of identity draw n) (shared_of old) session in
+      turn_is old ran after answer (with_answer (refused 30005) t) (definition_turn (call_of identity draw n) text s (shared_of old) session)
+      (ap (λ (b : Bool). if b then with_answer (refused 30005) t else define_turn (call_of identity draw n) text s t) (sym kept)) (moves, said)
 
 -- ---- the checks of CREATE TABLE
 

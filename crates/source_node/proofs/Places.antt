@@ -1,26 +1,12 @@
--- Savepoints by their places, and items that are counted.
-use Rattle.std.proofs.Common.{◌≡◌, ℕ, zero, suc, ◌+◌, List, [], ◌∷◌, ◌++◌, Bool, true, false, cond, take, min, Option, Some, None, is_some, refl, sym, ap, ◌∙◌, arith}
+-- Savepoints by their places.
+use Rattle.std.proofs.Common.{◌≡◌, ℕ, zero, suc, ◌+◌, List, [], ◌∷◌, ◌++◌, Bool, true, false, cond, length, take, min, Option, Some, None, is_some, refl, sym, ap, ◌∙◌, arith}
 use Rattle.std.specs.Prelude.{find, position, slice_get, unwrap_or}
 use Rattle.std.specs.Option.{option_map}
 use Rattle.table_rules.proofs.Places.{place, at_place}
 use Rattle.session_model.specs.Sessions.{Open, Save}
 use Rattle.session_model.specs.Commands.{is_save_of, saves_up_to}
-use Rattle.source_node.specs.Nothing.{Nothing, items_counted}
+use Rattle.log_entries.specs.declared.entries.Item.{Item}
 use Rattle.source_node.specs.Saving.{changes_at, marks_of, went_back}
-
--- ---- items
-
-pub counted_last : (n : ℕ) → items_counted n ++ tt ∷ [] ≡ items_counted (suc n)
-counted_last zero = refl
-counted_last (suc n) = ap (λ is. tt ∷ is) (counted_last n)
-
-pub counted_cut : (n k : ℕ) → take k (items_counted n) ≡ items_counted (min n k)
-counted_cut zero zero = let none : min 0 0 ≡ 0 = omega arith in ap items_counted (sym none)
-counted_cut zero (suc k) = let none : min 0 (suc k) ≡ 0 = omega arith in ap items_counted (sym none)
-counted_cut (suc n) zero = let none : min (suc n) 0 ≡ 0 = omega arith in ap items_counted (sym none)
-counted_cut (suc n) (suc k) =
-    let smaller : min (suc n) (suc k) ≡ suc (min n k) = omega arith in
-    ap (λ is. tt ∷ is) (counted_cut n k) ∙ ap items_counted (sym smaller)
 
 -- ---- places
 
@@ -60,38 +46,45 @@ has_place name ss = has_by name ss (position (is_save_of name) ss) refl
 
 -- ---- going back
 
-gone_by : (name : List ℕ) (n : ℕ) (ss : List Save) (changed : Bool) (found : Option Save) (i items changes : ℕ) → saves_up_to name ss ≡ take (suc i) ss → Some (items, changes) ≡ marks_of found
+take_fewer : (k : ℕ) (is : List Item) → take (min k (length is)) is ≡ take k is
+take_fewer zero [] = let none : min 0 0 ≡ 0 = omega arith in ap (λ (n : ℕ). take n []) none
+take_fewer (suc k) [] = let none : min (suc k) 0 ≡ 0 = omega arith in ap (λ (n : ℕ). take n []) none
+take_fewer zero (i ∷ is) = let none : min 0 (suc (length is)) ≡ 0 = omega arith in ap (λ (n : ℕ). take n (i ∷ is)) none
+take_fewer (suc k) (i ∷ is) =
+    let one : min (suc k) (suc (length is)) ≡ suc (min k (length is)) = omega arith in
+    ap (λ (n : ℕ). take n (i ∷ is)) one ∙ ap (λ rest. i ∷ rest) (take_fewer k is)
+
+gone_by : (name : List ℕ) (is is' : List Item) (ss : List Save) (changed : Bool) (found : Option Save) (i items changes : ℕ) → saves_up_to name ss ≡ take (suc i) ss → Some (items, changes) ≡ marks_of found → is' ≡ take (min items (length is)) is
     → (Some changes ≡ changes_at found)
-    × (record { items = items_counted (min n items); saves = take (suc i) ss; changed = changed } ≡ went_back name found (record { items = items_counted n; saves = ss; changed = changed }))
-gone_by name n ss changed None i items changes up marks = cc
-gone_by name n ss changed (Some save) i items changes up marks =
+    × (record { items = is'; saves = take (suc i) ss; changed = changed } ≡ went_back name found (record { items = is; saves = ss; changed = changed }))
+gone_by name is is' ss changed None i items changes up marks cut = cc
+gone_by name is is' ss changed (Some save) i items changes up marks cut =
     let one : items ≡ save.items = ap (λ (o : Option (ℕ × ℕ)). (unwrap_or o (0, 0)).0) marks in
     let two : changes ≡ save.changes = ap (λ (o : Option (ℕ × ℕ)). (unwrap_or o (0, 0)).1) marks in (
       ap (λ (k : ℕ). Some k) two,
-      ap (λ (k : ℕ). record { items = items_counted (min n k); saves = take (suc i) ss; changed = changed }) one
-          ∙ ap (λ (is : List Nothing). record { items = is; saves = take (suc i) ss; changed = changed }) (sym (counted_cut n save.items))
-          ∙ ap (λ (rest : List Save). record { items = take save.items (items_counted n); saves = rest; changed = changed }) (sym up),
+      ap (λ (rest : List Item). record { items = rest; saves = take (suc i) ss; changed = changed }) (cut ∙ take_fewer items is ∙ ap (λ (k : ℕ). take k is) one)
+          ∙ ap (λ (rest : List Save). record { items = take save.items is; saves = rest; changed = changed }) (sym up),
     )
 
 -- back to the savepoint at a place
-pub gone : (name : List ℕ) (n : ℕ) (ss : List Save) (changed : Bool) (i items changes : ℕ) → Some i ≡ position (is_save_of name) ss → Some (items, changes) ≡ marks_of (slice_get ss i)
+pub gone : (name : List ℕ) (is is' : List Item) (ss : List Save) (changed : Bool) (i items changes : ℕ) → Some i ≡ position (is_save_of name) ss → Some (items, changes) ≡ marks_of (slice_get ss i) → is' ≡ take (min items (length is)) is
     → (Some changes ≡ changes_at (find (is_save_of name) ss))
-    × (record { items = items_counted (min n items); saves = take (i + 1) ss; changed = changed } ≡ went_back name (find (is_save_of name) ss) (record { items = items_counted n; saves = ss; changed = changed }))
-gone name n ss changed i items changes at marks =
+    × (record { items = is'; saves = take (i + 1) ss; changed = changed } ≡ went_back name (find (is_save_of name) ss) (record { items = is; saves = ss; changed = changed }))
+gone name is is' ss changed i items changes at marks cut =
     let next : i + 1 ≡ suc i = omega arith in
-    rw next (gone_by name n ss changed (find (is_save_of name) ss) i items changes (up_to name ss i (sym at)) (marks ∙ ap marks_of (at_place (is_save_of name) ss i (sym at)).0))
+    rw next (gone_by name is is' ss changed (find (is_save_of name) ss) i items changes (up_to name ss i (sym at)) (marks ∙ ap marks_of (at_place (is_save_of name) ss i (sym at)).0) cut)
 
 -- nothing where there is none
-pub stayed : (name : List ℕ) (o : Open Nothing) → None ≡ position (is_save_of name) o.saves
+pub stayed : (name : List ℕ) (o : Open Item) → None ≡ position (is_save_of name) o.saves
     → (None ≡ changes_at (find (is_save_of name) o.saves)) × (o ≡ went_back name (find (is_save_of name) o.saves) o)
 stayed name o at =
     let none : find (is_save_of name) o.saves ≡ None = missing (is_save_of name) o.saves (sym at) in
     (ap changes_at (sym none), ap (λ (found : Option Save). went_back name found o) (sym none))
 
-pub stayed_too : (name : List ℕ) (o : Open Nothing) (i : ℕ) → Some i ≡ position (is_save_of name) o.saves → None ≡ marks_of (slice_get o.saves i)
+pub stayed_too : (name : List ℕ) (o : Open Item) (i : ℕ) → Some i ≡ position (is_save_of name) o.saves → None ≡ marks_of (slice_get o.saves i)
     → (None ≡ changes_at (find (is_save_of name) o.saves)) × (o ≡ went_back name (find (is_save_of name) o.saves) o)
 stayed_too name o i at none = stayed_by name o (find (is_save_of name) o.saves) (none ∙ ap marks_of (at_place (is_save_of name) o.saves i (sym at)).0)
   where
-    stayed_by : (name : List ℕ) (o : Open Nothing) (found : Option Save) → None ≡ marks_of found → (None ≡ changes_at found) × (o ≡ went_back name found o)
+    stayed_by : (name : List ℕ) (o : Open Item) (found : Option Save) → None ≡ marks_of found → (None ≡ changes_at found) × (o ≡ went_back name found o)
     stayed_by name o None e = (refl, refl)
     stayed_by name o (Some save) e = cc

@@ -1,15 +1,19 @@
 -- A statement that ended, as the machine settles it.
-use Rattle.std.proofs.Common.{◌≡◌, ℕ, suc, ◌+◌, List, [], ◌∷◌, ◌++◌, Bool, true, false, nat_lt, if◌then◌else◌, length, drop, Option, Some, None, Ok, Err, refl, sym, ap, ◌∙◌, subst, arith, append-nil}
-use Rattle.std.proofs.lemmas.Bool.Decides.{nat_tests}
-use Rattle.std.proofs.lemmas.List.{length-append}
+use Rattle.std.proofs.Common.{◌≡◌, ℕ, suc, ◌+◌, ◌≤◌, List, [], ◌∷◌, ◌++◌, Bool, true, false, if◌then◌else◌, length, drop, take, Option, Some, None, Result, Ok, Err, IfOk, ℤ, refl, sym, ap, ◌∙◌, subst, arith, append-nil}
+use Rattle.std.proofs.lemmas.List.{take-append-le}
+use Rattle.std.proofs.Math.Seq.{take-length}
 use Rattle.val_types.specs.declared.change.Change.{Change}
 use Rattle.val_types.specs.declared.value.Value.{Value}
+use Rattle.val_types.specs.declared.refusal.SqlRefusal.{SqlRefusal}
+use Rattle.val_types.specs.declared.refusal.SqlRefusal.TheVariants.{Sql, NoMemory}
 use Rattle.port_traits.specs.declared.identity.Draw.{Draw}
 use Rattle.port_traits.specs.declared.identity.Identity.{Identity}
-use Rattle.answer_text.specs.declared.answer.Answer.{Answer}
+use Rattle.log_entries.specs.declared.entries.Item.{Item}
 use Rattle.sql_tree.specs.Tree.{Trees}
 use Rattle.sql_tree.specs.Statement.{Statement, evaluate}
 use Rattle.session_ctx.specs.declared.session.SessionVars.{SessionVars}
+use Rattle.catalog_rules.specs.Objects.{Object}
+use Rattle.sql_reach.specs.Carrying.{carried}
 use Rattle.sql_reach.specs.Defining.{number_of_bytes}
 use Rattle.sql_meaning.specs.Scenes.{Scene}
 use Rattle.sql_meaning.specs.Frames.{Context}
@@ -18,15 +22,22 @@ use Rattle.sql_meaning.specs.Running.{most_nested, context_after}
 use Rattle.sql_meaning.specs.Leading.{EndsWell, Leads}
 use Rattle.sql_meaning.proofs.LedBodies.{statements_end, evaluations_end}
 use Rattle.prog_run.specs.declared.meter.Outcome.{Outcome}
-use Rattle.session_model.specs.Answers.{refused}
+use Rattle.prog_run.specs.Runs.{outcome_of}
+use Rattle.logged_items.specs.Items.{numbers_of}
 use Rattle.session_model.specs.Sessions.{Open, Session, Shared}
-use Rattle.session_model.specs.Running.{Given, ended, expressions_run, fuel_of, full, given_answer, is_other, item_of, keep, made_behind, scene_for, setting_of, settle, statement_run, with_context, with_counters}
-use Rattle.session_model.specs.Commands.{changes_of_own, given_turn}
-use Rattle.source_node.specs.Nothing.{Nothing, call_of}
-use Rattle.source_node.specs.Turned.{Left, left_by}
-use Rattle.source_node.specs.Ran.{Came, Fails, Gave, effect_for, evaluation_for, kept_in, one_more_in, place_at, shared_behind, shared_kept, transaction_kept}
-use Rattle.source_node.specs.Settled.{has_any, shared_with}
-use Rattle.node_answers.specs.Telling.{told_answer}
+use Rattle.session_model.specs.Running.{Fuel, Given, Turn, ended, expressions_run, fuel_of, full, is_other, item_of, keep, made_behind, scene_for, setting_of, settle, statement_run, takes_too_much, undone, with_context, with_counters}
+use Rattle.session_model.specs.Commands.{changes_of_own}
+use Rattle.source_node.specs.Assigning.{result_of}
+use Rattle.source_node.specs.Calls.{call_of}
+use Rattle.source_node.specs.Desk.{cut_to, own_behind}
+use Rattle.source_node.specs.Keeping.{changes_kept, item_kept, item_made, kept_if, refused_unless, with_last_id}
+use Rattle.source_node.specs.Ran.{Came, Fails, Gave, effect_for, evaluation_for, place_at, shared_behind, told_of, told_result}
+use Rattle.source_node.specs.Turned.{giving}
+
+-- what a statement came to, unless it is refused when it is kept
+abbrev pub came_to : {A : Type 0} → A → Result (Unit {0}) ℕ → Result A ℕ
+came_to a (Ok done) = Ok a
+came_to a (Err code) = Err code
 
 -- ---- changes behind those before
 
@@ -34,182 +45,151 @@ drop_front : (cs more : List Change) → drop (length cs) (cs ++ more) ≡ more
 drop_front [] more = refl
 drop_front (c ∷ cs) more = drop_front cs more
 
-more_than : (cs more : List Change) → nat_lt (length cs) (length (cs ++ more)) ≡ has_any more
-more_than cs [] =
-    let same : length (cs ++ []) ≡ length cs = ap length (append-nil cs) in
-    let test : nat_lt (length cs) (length cs) ≡ false = grind (arith, nat_tests) in
-    ap (nat_lt (length cs)) same ∙ test
-more_than cs (c ∷ more) =
-    let longer : length (cs ++ c ∷ more) ≡ length cs + suc (length more) = length-append cs (c ∷ more) in
-    let test : nat_lt (length cs) (length cs + suc (length more)) ≡ true = grind (arith, nat_tests) in
-    ap (nat_lt (length cs)) longer ∙ test
+take_front : (cs more : List Change) → take (length cs) (cs ++ more) ≡ cs
+take_front [] more = refl
+take_front (c ∷ cs) more = ap (λ rest. c ∷ rest) (take_front cs more)
 
-with_own : (more : List Change) (scene : Scene) (shared : Shared) → scene.changes ≡ shared.changes ++ more → record shared { changes = scene.changes } ≡ shared_with more scene shared
-with_own [] scene shared added = ap (λ (cs : List Change). record shared { changes = cs }) (added ∙ append-nil shared.changes)
-with_own (c ∷ cs) scene shared added = refl
-
--- what is shared, and whether something was changed, by the changes that the statement made
-pub record Settles (n : ℕ) (before scene : Scene) (old new : Shared) : Type 0 where
-  pub shared : new ≡ shared_with (made_behind (is_other n old.writer) before scene) scene (with_counters scene old)
-  pub changed : nat_lt (changes_of_own n old) (changes_of_own n new) ≡ has_any (made_behind (is_other n old.writer) before scene)
-
-settles_own : (n : ℕ) (before scene : Scene) (old : Shared) (more : List Change) → is_other n old.writer ≡ false → before.changes ≡ old.changes → scene.changes ≡ old.changes ++ more
-    → Settles n before scene old (record (with_counters scene old) { changes = scene.changes })
-settles_own n before scene old more own at added =
-    let made : drop (length before.changes) scene.changes ≡ more =
-    ap (λ (cs : List Change). drop (length cs) scene.changes) at ∙ ap (drop (length old.changes)) added ∙ drop_front old.changes more in
-    record {
-      shared = rw own (with_own more scene (with_counters scene old) added ∙ ap (λ (cs : List Change). shared_with cs scene (with_counters scene old)) (sym made));
-      changed = rw own (ap (λ (cs : List Change). nat_lt (length old.changes) (length cs)) added ∙ more_than old.changes more ∙ ap has_any (sym made));
-    }
-
-settles_beside : (n : ℕ) (before scene : Scene) (old : Shared) → is_other n old.writer ≡ true → Settles n before scene old (with_counters scene old)
-settles_beside n before scene old other = record { shared = rw other refl; changed = rw other refl }
-
-settles_by : (b : Bool) (n : ℕ) (before scene : Scene) (old new : Shared) (more : List Change) → is_other n old.writer ≡ b
-    → before.changes ≡ (if b then [] else old.changes) → scene.changes ≡ before.changes ++ more → new ≡ (if b then with_counters scene old else record (with_counters scene old) { changes = scene.changes })
-    → Settles n before scene old new
-settles_by true n before scene old new more is at added left = subst (λ (s : Shared). Settles n before scene old s) (sym left) (settles_beside n before scene old is)
-settles_by false n before scene old new more is at added left =
-    subst (λ (s : Shared). Settles n before scene old s) (sym left) (settles_own n before scene old more is at (added ∙ ap (λ (cs : List Change). cs ++ more) at))
-
-pub settles : (n : ℕ) (context : Context) (scene : Scene) (old new : Shared) → Leads (scene_for n full context old) scene → new ≡ shared_behind n old scene
-    → Settles n (scene_for n full context old) scene old new
-settles n context scene old new led left = settles_by (is_other n old.writer) n (scene_for n full context old) scene old new led.more refl refl led.added left
-
--- ---- kept
+-- ---- an item kept, or refused
 
 module _ (identity : Identity) (draw : Draw) (n : ℕ) where
-  kept_left : {A : Type 0} (item : Nothing) (scene : Scene) (shared : Shared) (vars : SessionVars) (transaction : Option (Open Nothing)) (a : A)
-      → left_by (keep (call_of identity draw n) item scene shared (record { vars = vars; transaction = transaction }) a)
-      ≡ record { shared = kept_in n transaction (record shared { changes = scene.changes }); session = record { vars = vars; transaction = one_more_in transaction }; given = a }
-  kept_left item scene shared vars None a = refl
-  kept_left item scene shared vars (Some open') a = refl
+  -- a refusal, as it is taken back
+  abbrev IsRefusal : {A : Type 0} → ℤ → Shared → Session Item → Turn Item (Given A) → Type 0
+  IsRefusal last_id shared session refusal = giving result_of refusal ≡ record { shared = shared; session = with_last_id last_id session; committed = []; given = Err 1197 }
 
-  pub settled : {A : Type 0} (item : List Change → Nothing) (made : List Change) (scene : Scene) (shared : Shared) (session : Session Nothing) (given : Given A)
-      → left_by (settle (call_of identity draw n) item made scene shared session given)
-      ≡ record { shared = shared_kept (has_any made) n session.transaction (shared_with made scene shared); session = record session { transaction = transaction_kept (has_any made) session.transaction }; given = given }
-  settled item [] scene shared session given = refl
-  settled item (c ∷ cs) scene shared session given = kept_left (item (c ∷ cs)) scene shared session.vars session.transaction given
+  keeps_by : {A : Type 0} (a : A) (fuel : Fuel) (item : Item) (b : Bool) (mark : ℕ) (scene : Scene) (shared : Shared) (vars : SessionVars) (transaction : Option (Open Item)) (last_id : ℤ) (refusal : Turn Item (Given A))
+      → IsRefusal last_id (cut_to n mark (record shared { changes = scene.changes })) (record { vars = vars; transaction = transaction }) refusal
+      → giving result_of (if b then refusal else keep (call_of identity draw n) item scene shared (record { vars = vars; transaction = transaction }) (record { result = Ok a; fuel = fuel }))
+      ≡ giving (came_to a) (refused_unless
+      (if b then kept_if false (call_of identity draw n) item mark (record shared { changes = scene.changes }) (record { vars = vars; transaction = transaction }) else kept_if true (call_of identity draw n) item mark (record shared { changes = scene.changes }) (record { vars = vars; transaction = transaction })).given
+      last_id
+      (if b then kept_if false (call_of identity draw n) item mark (record shared { changes = scene.changes }) (record { vars = vars; transaction = transaction }) else kept_if true (call_of identity draw n) item mark (record shared { changes = scene.changes }) (record { vars = vars; transaction = transaction })))
+  keeps_by a fuel item true mark scene shared vars transaction last_id refusal e = e
+  keeps_by a fuel item false mark scene shared vars None last_id refusal e = refl
+  keeps_by a fuel item false mark scene shared vars (Some open') last_id refusal e = refl
 
-  -- the changes of a statement kept, where what it left settles so
-  pub settled_so : {A : Type 0} (item : List Change → Nothing) (before scene : Scene) (old new : Shared) (session : Session Nothing) (given : Given A) → Settles n before scene old new
-      → left_by (settle (call_of identity draw n) item (made_behind (is_other n old.writer) before scene) scene (with_counters scene old) session given)
-      ≡ record {
-        shared = shared_kept (nat_lt (changes_of_own n old) (changes_of_own n new)) n session.transaction new;
-        session = record session { transaction = transaction_kept (nat_lt (changes_of_own n old) (changes_of_own n new)) session.transaction };
-        given = given;
-      }
-  settled_so item before scene old new session given so =
-      settled item (made_behind (is_other n old.writer) before scene) scene (with_counters scene old) session given
-      ∙ ap (λ (s : Shared). record {
-        shared = shared_kept (has_any (made_behind (is_other n old.writer) before scene)) n session.transaction s;
-        session = record session { transaction = transaction_kept (has_any (made_behind (is_other n old.writer) before scene)) session.transaction };
-        given = given;
-      }) (sym so.shared)
-      ∙ ap (λ (h : Bool). record {
-        shared = shared_kept h n session.transaction new;
-        session = record session { transaction = transaction_kept h session.transaction };
-        given = given;
-      }) (sym so.changed)
+  -- beside no other session's open changes
+  settles_own : {A : Type 0} (a : A) (fuel : Fuel) (item : List Change → Item) (more : List Change) (scene : Scene) (old : Shared) (session : Session Item) (mark : ℕ) (last_id : ℤ) (refusal : Turn Item (Given A))
+      → is_other n old.writer ≡ false → scene.changes ≡ old.changes ++ more → mark ≡ length old.changes → IsRefusal last_id (with_counters scene old) session refusal
+      → giving result_of (settle (call_of identity draw n) item more scene (with_counters scene old) session (record { result = Ok a; fuel = fuel }) refusal)
+      ≡ giving (came_to a) (changes_kept (call_of identity draw n) item more mark last_id (record (with_counters scene old) { changes = scene.changes }) session)
+  settles_own a fuel item [] scene old session mark last_id refusal own added at e =
+      ap (λ (cs : List Change). record { shared = record (with_counters scene old) { changes = cs }; session = session; committed = []; given = Ok a }) (sym (added ∙ append-nil old.changes))
+  settles_own a fuel item (c ∷ cs) scene old session mark last_id refusal own added at e =
+      let cut : take mark scene.changes ≡ old.changes =
+      ap (λ (k : ℕ). take k scene.changes) at ∙ ap (take (length old.changes)) added ∙ take_front old.changes (c ∷ cs) in
+      let back : cut_to n mark (record (with_counters scene old) { changes = scene.changes }) ≡ with_counters scene old =
+      rw own (ap (λ (ds : List Change). record (with_counters scene old) { changes = ds }) cut) in
+      keeps_by a fuel (item (c ∷ cs)) (takes_too_much (call_of identity draw n) session.transaction (item (c ∷ cs))) mark scene (with_counters scene old) session.vars session.transaction last_id refusal
+      (e ∙ ap (λ (s : Shared). record { shared = s; session = with_last_id last_id session; committed = []; given = Err 1197 }) (sym back))
+
+  same_kept : (item item' : List Change → Item) (changes : List Change) (mark : ℕ) (last_id : ℤ) (shared : Shared) (session : Session Item) → item changes ≡ item' changes
+      → changes_kept (call_of identity draw n) item changes mark last_id shared session ≡ changes_kept (call_of identity draw n) item' changes mark last_id shared session
+  same_kept item item' [] mark last_id shared session same = refl
+  same_kept item item' (c ∷ cs) mark last_id shared session same =
+      ap (λ (i : Item). refused_unless (item_kept (call_of identity draw n) i mark shared session).given last_id (item_kept (call_of identity draw n) i mark shared session)) same
+
+  -- what is kept, by the list that the code has
+  module _ {A : Type 0} (a : A) (fuel : Fuel) (item item' : List Change → Item) (same : (cs : List Change) → item cs ≡ item' cs) (context : Context) (scene : Scene) (old ran : Shared) (session : Session Item) (mark : ℕ) (last_id : ℤ) (refusal : Turn Item (Given A))
+      (led : Leads (scene_for n full context old) scene) (left : ran ≡ shared_behind n old scene) (at : mark ≡ changes_of_own n old) (e : IsRefusal last_id (with_counters scene old) session refusal) where
+    kept_by : (b : Bool) → is_other n old.writer ≡ b
+        → giving result_of (settle (call_of identity draw n) item (made_behind (is_other n old.writer) (scene_for n full context old) scene) scene (with_counters scene old) session (record { result = Ok a; fuel = fuel }) refusal)
+        ≡ giving (came_to a) (changes_kept (call_of identity draw n) item' (own_behind n mark ran) mark last_id ran session)
+    kept_by true other =
+        let now : ran ≡ with_counters scene old = left ∙ ap (λ (b : Bool). if b then with_counters scene old else record (with_counters scene old) { changes = scene.changes }) other in
+        let none : own_behind n mark (with_counters scene old) ≡ [] = ap (λ (b : Bool). if b then [] else drop mark old.changes) other in
+        ap (λ (b : Bool). giving result_of (settle (call_of identity draw n) item (made_behind b (scene_for n full context old) scene) scene (with_counters scene old) session (record { result = Ok a; fuel = fuel }) refusal)) other
+        ∙ sym (ap (λ (cs : List Change). giving (came_to a) (changes_kept (call_of identity draw n) item' cs mark last_id (with_counters scene old) session)) none)
+        ∙ sym (ap (λ (s : Shared). giving (came_to a) (changes_kept (call_of identity draw n) item' (own_behind n mark s) mark last_id s session)) now)
+    kept_by false own =
+        let begun : (scene_for n full context old).changes ≡ old.changes = ap (λ (b : Bool). if b then [] else old.changes) own in
+        let added : scene.changes ≡ old.changes ++ led.more = led.added ∙ ap (λ (cs : List Change). cs ++ led.more) begun in
+        let count : mark ≡ length old.changes = at ∙ ap (λ (b : Bool). if b then 0 else length old.changes) own in
+        let now : ran ≡ record (with_counters scene old) { changes = scene.changes } =
+        left ∙ ap (λ (b : Bool). if b then with_counters scene old else record (with_counters scene old) { changes = scene.changes }) own in
+        let made : made_behind (is_other n old.writer) (scene_for n full context old) scene ≡ led.more =
+        ap (λ (b : Bool). made_behind b (scene_for n full context old) scene) own ∙ ap (λ (cs : List Change). drop (length cs) scene.changes) begun ∙ ap (drop (length old.changes)) added ∙ drop_front old.changes led.more in
+        let mine : own_behind n mark (record (with_counters scene old) { changes = scene.changes }) ≡ led.more =
+        ap (λ (b : Bool). if b then [] else drop mark scene.changes) own ∙ ap (λ (k : ℕ). drop k scene.changes) count ∙ ap (drop (length old.changes)) added ∙ drop_front old.changes led.more in
+        ap (λ (cs : List Change). giving result_of (settle (call_of identity draw n) item cs scene (with_counters scene old) session (record { result = Ok a; fuel = fuel }) refusal)) made
+        ∙ settles_own a fuel item led.more scene old session mark last_id refusal own added count e
+        ∙ ap (giving (came_to a)) (same_kept item item' led.more mark last_id (record (with_counters scene old) { changes = scene.changes }) session (same led.more))
+        ∙ sym (ap (λ (cs : List Change). giving (came_to a) (changes_kept (call_of identity draw n) item' cs mark last_id (record (with_counters scene old) { changes = scene.changes }) session)) mine)
+        ∙ sym (ap (λ (s : Shared). giving (came_to a) (changes_kept (call_of identity draw n) item' (own_behind n mark s) mark last_id s session)) now)
+
+    kept_so : giving result_of (settle (call_of identity draw n) item (made_behind (is_other n old.writer) (scene_for n full context old) scene) scene (with_counters scene old) session (record { result = Ok a; fuel = fuel }) refusal)
+        ≡ giving (came_to a) (changes_kept (call_of identity draw n) item' (own_behind n mark ran) mark last_id ran session)
+    kept_so = kept_by (is_other n old.writer) refl
+
+  -- ---- the item
+
+  same_item : (text : List ℕ) (s : Statement) (context : Context) (seeds : ℕ × ℕ) (first last_id : Option ℤ) (old : Shared) (catalog : List Object) (changes : List Change) → catalog ≡ old.base.catalog
+      → item_of (call_of identity draw n) full text s context old first changes ≡ item_made text s (numbers_of context) first catalog (context_after context s seeds last_id) changes
+  unfolding carried
+  same_item text s context seeds first last_id old catalog changes is =
+      ap (λ (objects : List Object). item_made text s (numbers_of context) first objects (context_after context s seeds last_id) changes) (sym is)
+
+  catalog_stays : (old ran : Shared) (scene : Scene) (b : Bool) → is_other n old.writer ≡ b → ran ≡ shared_behind n old scene → ran.base.catalog ≡ old.base.catalog
+  catalog_stays old ran scene true is left =
+      ap (λ (s : Shared). s.base.catalog) (left ∙ ap (λ (b : Bool). if b then with_counters scene old else record (with_counters scene old) { changes = scene.changes }) is)
+  catalog_stays old ran scene false is left =
+      ap (λ (s : Shared). s.base.catalog) (left ∙ ap (λ (b : Bool). if b then with_counters scene old else record (with_counters scene old) { changes = scene.changes }) is)
 
   -- ---- a whole statement
 
-  -- what is left of a statement that came to something
-  pub came_left : (text : List ℕ) (s : Statement) (told : Outcome) (old ran : Shared) (session : Session Nothing) (context : Context)
-      → (came : Came n draw s told (place_at old session.vars.context) (place_at ran context))
-      → left_by (statement_run (call_of identity draw n) full text s old session)
-      ≡ record {
-        shared = shared_kept (nat_lt (changes_of_own n old) (changes_of_own n ran)) n session.transaction ran;
-        session = record { vars = record (session.vars) { context = context }; transaction = transaction_kept (nat_lt (changes_of_own n old) (changes_of_own n ran)) session.transaction };
-        given = record { result = Ok came.did; fuel = fuel_of came.scene };
-      }
-  came_left text s told old ran session context came =
+  told_so : (did : Did) (told : Outcome) (r : Result (Unit {0}) ℕ) → told ≡ outcome_of did → told_of (came_to did r) ≡ came_to told r
+  told_so did told (Ok done) is = ap (λ (o : Outcome). Ok o) (sym is)
+  told_so did told (Err code) is = refl
+
+  -- one that came to something, as it is kept from where it left
+  pub came_kept : (text : List ℕ) (s : Statement) (told : Outcome) (old ran : Shared) (session : Session Item) (context : Context) (mark : ℕ)
+      → (came : Came n draw s told (place_at old session.vars.context) (place_at ran context)) → mark ≡ changes_of_own n old
+      → giving told_result (statement_run (call_of identity draw n) full text s old session)
+      ≡ giving (came_to told) (changes_kept (call_of identity draw n) (item_made text s (numbers_of session.vars.context) told.first ran.base.catalog context) (own_behind n mark ran) mark session.vars.context.last_id ran (with_context context session))
+  came_kept text s told old ran session context mark came at =
       let before : Scene = scene_for n full session.vars.context old in
       let well = statements_end (setting_of old.base.catalog session.vars.context (number_of_bytes 0 draw.uuid)) most_nested [] s before in
       let led : Leads before came.scene = subst (λ e. EndsWell before e) came.ends well in
-      ap (λ e. left_by (ended (call_of identity draw n) full text s old session (λ (did : Did). did.first) (λ (did : Did). did.last_id) before e)) came.ends
-      ∙ settled_so (item_of (call_of identity draw n) full text s session.vars.context old came.did.first) before came.scene old ran
-      (with_context (context_after session.vars.context s came.scene.seeds came.did.last_id) session) (record { result = Ok came.did; fuel = fuel_of came.scene })
-      (settles n session.vars.context came.scene old ran led came.leaves.shared)
-      ∙ ap (λ (c : Context). record {
-        shared = shared_kept (nat_lt (changes_of_own n old) (changes_of_own n ran)) n session.transaction ran;
-        session = record { vars = record (session.vars) { context = c }; transaction = transaction_kept (nat_lt (changes_of_own n old) (changes_of_own n ran)) session.transaction };
-        given = record { result = Ok came.did; fuel = fuel_of came.scene };
-      }) (sym came.leaves.context)
+      let after : Context = context_after session.vars.context s came.scene.seeds came.did.last_id in
+      let catalog : ran.base.catalog ≡ old.base.catalog = catalog_stays old ran came.scene (is_other n old.writer) refl came.leaves.shared in
+      let u : Turn Item (Result (Unit {0}) ℕ) = changes_kept (call_of identity draw n) (item_made text s (numbers_of session.vars.context) came.did.first ran.base.catalog after) (own_behind n mark ran) mark session.vars.context.last_id ran (with_context after session) in
+      ap (λ e. giving told_result (ended (call_of identity draw n) full text s old session (λ (did : Did). did.first) (λ (did : Did). did.last_id) before e)) came.ends
+      ∙ ap (giving told_of) (kept_so came.did (fuel_of came.scene) (item_of (call_of identity draw n) full text s session.vars.context old came.did.first) (item_made text s (numbers_of session.vars.context) came.did.first ran.base.catalog after)
+      (λ cs. same_item text s session.vars.context came.scene.seeds came.did.first came.did.last_id old ran.base.catalog cs catalog) session.vars.context came.scene old ran (with_context after session) mark session.vars.context.last_id
+      (undone 1197 s old session came.scene) led came.leaves.shared at refl)
+      ∙ ap (λ (r : Result Outcome ℕ). record { shared = u.shared; session = u.session; committed = u.committed; given = r }) (told_so came.did told u.given came.outcome)
+      ∙ ap (λ (o : Outcome). giving (came_to told) (changes_kept (call_of identity draw n) (item_made text s (numbers_of session.vars.context) o.first ran.base.catalog after) (own_behind n mark ran) mark session.vars.context.last_id ran (with_context after session))) (sym came.outcome)
+      ∙ ap (λ (c : Context). giving (came_to told) (changes_kept (call_of identity draw n) (item_made text s (numbers_of session.vars.context) told.first ran.base.catalog c) (own_behind n mark ran) mark session.vars.context.last_id ran (with_context c session))) (sym came.leaves.context)
 
-  -- what is left of one that failed
-  pub failed_left : (text : List ℕ) (s : Statement) (code : ℕ) (old ran : Shared) (session : Session Nothing) (context : Context)
+  -- one that failed
+  pub failed_kept : (text : List ℕ) (s : Statement) (code : ℕ) (old ran : Shared) (session : Session Item) (context : Context)
       → (fails : Fails s code (effect_for n draw s (place_at old session.vars.context)) (place_at old session.vars.context) (place_at ran context))
-      → left_by (statement_run (call_of identity draw n) full text s old session)
-      ≡ record { shared = ran; session = record session { vars = record (session.vars) { context = context } }; given = record { result = Err code; fuel = fuel_of fails.scene } }
-  failed_left text s code old ran session context fails =
-      ap (λ e. left_by (ended (call_of identity draw n) full text s old session (λ (did : Did). did.first) (λ (did : Did). did.last_id) (scene_for n full session.vars.context old) e)) fails.ends
-      ∙ ap (λ (shared : Shared). record { shared = shared; session = with_context (context_after session.vars.context s fails.scene.seeds None) session; given = record { result = Err code; fuel = fuel_of fails.scene } }) (sym fails.shared)
-      ∙ ap (λ (c : Context). record { shared = ran; session = record session { vars = record (session.vars) { context = c } }; given = record { result = Err code; fuel = fuel_of fails.scene } }) (sym fails.context)
+      → record { shared = ran; session = with_context context session; committed = []; given = Err code } ≡ giving told_result (statement_run (call_of identity draw n) full text s old session)
+  failed_kept text s code old ran session context fails =
+      ap (λ (c : Context). record { shared = ran; session = with_context c session; committed = []; given = Err code }) fails.context
+      ∙ ap (λ (shared : Shared). record { shared = shared; session = with_context (context_after session.vars.context s fails.scene.seeds None) session; committed = []; given = Err code }) fails.shared
+      ∙ sym (ap (λ e. giving told_result (ended (call_of identity draw n) full text s old session (λ (did : Did). did.first) (λ (did : Did). did.last_id) (scene_for n full session.vars.context old) e)) fails.ends)
 
   -- the same of expressions
-  pub gave_left : (text : List ℕ) (ts : Trees) (vs : List Value) (old ran : Shared) (session : Session Nothing) (context : Context)
-      → (gave : Gave n draw ts vs (place_at old session.vars.context) (place_at ran context))
-      → left_by (expressions_run (call_of identity draw n) full text ts old session)
-      ≡ record {
-        shared = shared_kept (nat_lt (changes_of_own n old) (changes_of_own n ran)) n session.transaction ran;
-        session = record { vars = record (session.vars) { context = context }; transaction = transaction_kept (nat_lt (changes_of_own n old) (changes_of_own n ran)) session.transaction };
-        given = record { result = Ok vs; fuel = fuel_of gave.scene };
-      }
-  gave_left text ts vs old ran session context gave =
+  pub gave_kept : (text : List ℕ) (ts : Trees) (vs : List Value) (old ran : Shared) (session : Session Item) (context : Context) (mark : ℕ)
+      → (gave : Gave n draw ts vs (place_at old session.vars.context) (place_at ran context)) → mark ≡ changes_of_own n old
+      → giving result_of (expressions_run (call_of identity draw n) full text ts old session)
+      ≡ giving (came_to vs) (changes_kept (call_of identity draw n) (item_made text (evaluate ts) (numbers_of session.vars.context) None ran.base.catalog context) (own_behind n mark ran) mark session.vars.context.last_id ran (with_context context session))
+  gave_kept text ts vs old ran session context mark gave at =
       let before : Scene = scene_for n full session.vars.context old in
       let well = evaluations_end (setting_of old.base.catalog session.vars.context (number_of_bytes 0 draw.uuid)) most_nested [] ts before in
       let led : Leads before gave.scene = subst (λ e. EndsWell before e) gave.ends well in
-      ap (λ e. left_by (ended (call_of identity draw n) full text (evaluate ts) old session (λ (vs : List Value). None) (λ (vs : List Value). None) before e)) gave.ends
-      ∙ settled_so (item_of (call_of identity draw n) full text (evaluate ts) session.vars.context old None) before gave.scene old ran
-      (with_context (context_after session.vars.context (evaluate ts) gave.scene.seeds None) session) (record { result = Ok vs; fuel = fuel_of gave.scene })
-      (settles n session.vars.context gave.scene old ran led gave.leaves.shared)
-      ∙ ap (λ (c : Context). record {
-        shared = shared_kept (nat_lt (changes_of_own n old) (changes_of_own n ran)) n session.transaction ran;
-        session = record { vars = record (session.vars) { context = c }; transaction = transaction_kept (nat_lt (changes_of_own n old) (changes_of_own n ran)) session.transaction };
-        given = record { result = Ok vs; fuel = fuel_of gave.scene };
-      }) (sym gave.leaves.context)
+      let after : Context = context_after session.vars.context (evaluate ts) gave.scene.seeds None in
+      let catalog : ran.base.catalog ≡ old.base.catalog = catalog_stays old ran gave.scene (is_other n old.writer) refl gave.leaves.shared in
+      ap (λ e. giving result_of (ended (call_of identity draw n) full text (evaluate ts) old session (λ (vs : List Value). None) (λ (vs : List Value). None) before e)) gave.ends
+      ∙ kept_so vs (fuel_of gave.scene) (item_of (call_of identity draw n) full text (evaluate ts) session.vars.context old None) (item_made text (evaluate ts) (numbers_of session.vars.context) None ran.base.catalog after)
+      (λ cs. same_item text (evaluate ts) session.vars.context gave.scene.seeds None None old ran.base.catalog cs catalog) session.vars.context gave.scene old ran (with_context after session) mark session.vars.context.last_id
+      (undone 1197 (evaluate ts) old session gave.scene) led gave.leaves.shared at refl
+      ∙ ap (λ (c : Context). giving (came_to vs) (changes_kept (call_of identity draw n) (item_made text (evaluate ts) (numbers_of session.vars.context) None ran.base.catalog c) (own_behind n mark ran) mark session.vars.context.last_id ran (with_context c session))) (sym gave.leaves.context)
 
-  pub not_given_left : (text : List ℕ) (ts : Trees) (code : ℕ) (old ran : Shared) (session : Session Nothing) (context : Context)
+  pub not_given_kept : (text : List ℕ) (ts : Trees) (code : ℕ) (old ran : Shared) (session : Session Item) (context : Context)
       → (fails : Fails (evaluate ts) code (evaluation_for n draw ts (place_at old session.vars.context)) (place_at old session.vars.context) (place_at ran context))
-      → left_by (expressions_run (call_of identity draw n) full text ts old session)
-      ≡ record { shared = ran; session = record session { vars = record (session.vars) { context = context } }; given = record { result = Err code; fuel = fuel_of fails.scene } }
-  not_given_left text ts code old ran session context fails =
-      ap (λ e. left_by (ended (call_of identity draw n) full text (evaluate ts) old session (λ (vs : List Value). None) (λ (vs : List Value). None) (scene_for n full session.vars.context old) e)) fails.ends
-      ∙ ap (λ (shared : Shared). record { shared = shared; session = with_context (context_after session.vars.context (evaluate ts) fails.scene.seeds None) session; given = record { result = Err code; fuel = fuel_of fails.scene } }) (sym fails.shared)
-      ∙ ap (λ (c : Context). record { shared = ran; session = record session { vars = record (session.vars) { context = c } }; given = record { result = Err code; fuel = fuel_of fails.scene } }) (sym fails.context)
-
-  -- ---- with its answer
-
-  abbrev answer_left : Left (Given Did) → Left Answer
-  answer_left l = record { shared = l.shared; session = l.session; given = given_answer l.given }
-
-  pub plain_came : (text : List ℕ) (s : Statement) (told : Outcome) (old ran new : Shared) (session session' : Session Nothing) (context : Context) (h : Bool) (answer : Answer)
-      → Came n draw s told (place_at old session.vars.context) (place_at ran context) → h ≡ nat_lt (changes_of_own n old) (changes_of_own n ran)
-      → new ≡ shared_kept h n session.transaction ran → session' ≡ record { vars = record (session.vars) { context = context }; transaction = transaction_kept h session.transaction }
-      → answer ≡ told_answer told
-      → record { shared = new; session = session'; given = answer } ≡ left_by (given_turn (statement_run (call_of identity draw n) full text s old session))
-  plain_came text s told old ran new session session' context h answer came test kept kept' said =
-      ap (λ (shared : Shared). record { shared = shared; session = session'; given = answer }) kept
-      ∙ ap (λ (one : Session Nothing). record { shared = shared_kept h n session.transaction ran; session = one; given = answer }) kept'
-      ∙ ap (λ (b : Bool). record {
-        shared = shared_kept b n session.transaction ran;
-        session = record { vars = record (session.vars) { context = context }; transaction = transaction_kept b session.transaction };
-        given = answer;
-      }) test
-      ∙ ap (λ (a : Answer). record {
-        shared = shared_kept (nat_lt (changes_of_own n old) (changes_of_own n ran)) n session.transaction ran;
-        session = record { vars = record (session.vars) { context = context }; transaction = transaction_kept (nat_lt (changes_of_own n old) (changes_of_own n ran)) session.transaction };
-        given = a;
-      }) (said ∙ ap told_answer came.outcome)
-      ∙ sym (ap answer_left (came_left text s told old ran session context came))
-
-  pub plain_failed : (text : List ℕ) (s : Statement) (code : ℕ) (old ran : Shared) (session session' : Session Nothing) (context : Context) (answer : Answer)
-      → Fails s code (effect_for n draw s (place_at old session.vars.context)) (place_at old session.vars.context) (place_at ran context)
-      → session' ≡ record session { vars = record (session.vars) { context = context } } → answer ≡ refused code
-      → record { shared = ran; session = session'; given = answer } ≡ left_by (given_turn (statement_run (call_of identity draw n) full text s old session))
-  plain_failed text s code old ran session session' context answer fails moved said =
-      ap (λ (one : Session Nothing). record { shared = ran; session = one; given = answer }) moved
-      ∙ ap (λ (a : Answer). record { shared = ran; session = record session { vars = record (session.vars) { context = context } }; given = a }) said
-      ∙ sym (ap answer_left (failed_left text s code old ran session context fails))
+      → record { shared = ran; session = with_context context session; committed = []; given = Err code } ≡ giving result_of (expressions_run (call_of identity draw n) full text ts old session)
+  not_given_kept text ts code old ran session context fails =
+      ap (λ (c : Context). record { shared = ran; session = with_context c session; committed = []; given = Err code }) fails.context
+      ∙ ap (λ (shared : Shared). record { shared = shared; session = with_context (context_after session.vars.context (evaluate ts) fails.scene.seeds None) session; committed = []; given = Err code }) fails.shared
+      ∙ sym (ap (λ e. giving result_of (ended (call_of identity draw n) full text (evaluate ts) old session (λ (vs : List Value). None) (λ (vs : List Value). None) (scene_for n full session.vars.context old) e)) fails.ends)

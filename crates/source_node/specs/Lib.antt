@@ -1,10 +1,9 @@
-pub mod Nothing
+pub mod Calls
+pub mod Desk
 pub mod Turned
 pub mod Saving
-pub mod Desk
-pub mod Assigning
+pub mod Keeping
 pub mod Standing
 pub mod Ran
-pub mod Settled
-pub mod Defining
+pub mod Assigning
 pub mod Other

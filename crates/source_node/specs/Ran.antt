@@ -1,5 +1,5 @@
 -- How a statement of a session ends, by the scene that it left.
-use Rattle.std.specs.Prelude.{◌≡◌, ℕ, Bool, true, false, if◌then◌else◌, List, [], Option, Some, None, Result, Ok, Err, ℤ}
+use Rattle.std.specs.Prelude.{◌≡◌, ℕ, Bool, true, false, if◌then◌else◌, List, [], Option, None, Result, Ok, Err, ℤ}
 use Rattle.val_types.specs.declared.value.Value.{Value}
 use Rattle.val_types.specs.declared.refusal.SqlRefusal.{SqlRefusal}
 use Rattle.val_types.specs.declared.refusal.SqlRefusal.TheVariants.{Sql, NoMemory}
@@ -14,10 +14,8 @@ use Rattle.sql_meaning.specs.Running.{most_nested, most_turns, effect, evaluatio
 use Rattle.prog_run.specs.declared.meter.Meter.{Meter}
 use Rattle.prog_run.specs.declared.meter.Outcome.{Outcome}
 use Rattle.prog_run.specs.Runs.{outcome_of}
-use Rattle.session_model.specs.Sessions.{Open, Shared}
-use Rattle.session_model.specs.Running.{all_committed, full, is_other, scene_for, setting_of, with_counters}
-use Rattle.source_node.specs.Nothing.{Nothing}
-use Rattle.source_node.specs.Saving.{one_more}
+use Rattle.session_model.specs.Sessions.{Shared}
+use Rattle.session_model.specs.Running.{Given, full, is_other, scene_for, setting_of, with_counters}
 
 -- where a statement begins and ends: what is shared, and the context of its session
 pub record Place : Type 0 where
@@ -78,26 +76,14 @@ Gives n draw ts (Ok vs) old new = Gave n draw ts vs old new
 Gives n draw ts (Err (Sql code)) old new = Fails (evaluate ts) code (evaluation_for n draw ts old) old new
 Gives n draw ts (Err NoMemory) old new = Unit {0}
 
--- ---- changes kept
-
--- changes outside a transaction are one by itself; in an open one the session keeps the lock
-abbrev pub kept_in : ℕ → Option (Open Nothing) → Shared → Shared
-kept_in n None shared = all_committed shared
-kept_in n (Some open') shared = record shared { writer = Some n }
-
-abbrev pub one_more_in : Option (Open Nothing) → Option (Open Nothing)
-one_more_in None = None
-one_more_in (Some open') = Some (one_more open')
-
--- the same where a statement changed something, and nothing else
-abbrev pub shared_kept : Bool → ℕ → Option (Open Nothing) → Shared → Shared
-shared_kept true n transaction shared = kept_in n transaction shared
-shared_kept false n transaction shared = shared
-
-abbrev pub transaction_kept : Bool → Option (Open Nothing) → Option (Open Nothing)
-transaction_kept true transaction = one_more_in transaction
-transaction_kept false transaction = transaction
-
 -- what is left to a command at its beginning
 abbrev pub full_meter : Meter
 full_meter = record { depth = most_nested; turns = most_turns; uuids = 0 }
+
+-- what a caller is told of a statement, without what is left of turns
+abbrev pub told_of : Result Did ℕ → Result Outcome ℕ
+told_of (Ok did) = Ok (outcome_of did)
+told_of (Err code) = Err code
+
+abbrev pub told_result : Given Did → Result Outcome ℕ
+told_result given = told_of given.result

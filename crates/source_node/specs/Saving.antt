@@ -1,17 +1,18 @@
--- What going back to a savepoint makes of a transaction that has just a count of items.
-use Rattle.std.specs.Prelude.{ℕ, Bool, true, false, List, [], ◌∷◌, ◌++◌, Option, Some, None}
+-- What adding an item and going back to a savepoint make of a transaction.
+use Rattle.std.specs.Prelude.{ℕ, Bool, true, false, if◌then◌else◌, List, [], ◌∷◌, ◌++◌, Option, Some, None}
+use Rattle.log_entries.specs.declared.entries.Item.{Item}
+use Rattle.transaction_sizes.specs.Sizes.{are_too_large}
 use Rattle.session_model.specs.Sessions.{Open, Save}
 use Rattle.session_model.specs.Commands.{cut_back}
-use Rattle.source_node.specs.Nothing.{Nothing}
-
--- whether there is an item
-abbrev pub has_items : List Nothing → Bool
-has_items [] = false
-has_items (i ∷ is) = true
 
 -- a transaction with an item more, which has changed a row
-abbrev pub one_more : Open Nothing → Open Nothing
-one_more open' = record open' { items = open'.items ++ tt ∷ []; changed = true }
+abbrev pub one_more : Item → Open Item → Open Item
+one_more item open' = record open' { items = open'.items ++ item ∷ []; changed = true }
+
+-- as long as it has not too many bytes then
+abbrev pub one_more_if : Bool → Item → Open Item → Open Item
+one_more_if true item open' = one_more item open'
+one_more_if false item open' = open'
 
 -- how many changes a transaction had at a savepoint
 abbrev pub changes_at : Option Save → Option ℕ
@@ -19,7 +20,7 @@ changes_at None = None
 changes_at (Some save) = Some save.changes
 
 -- a transaction as it stood at a savepoint, or as it is where there is none
-abbrev pub went_back : List ℕ → Option Save → Open Nothing → Open Nothing
+abbrev pub went_back : List ℕ → Option Save → Open Item → Open Item
 went_back name None open' = open'
 went_back name (Some save) open' = cut_back name save open'
 

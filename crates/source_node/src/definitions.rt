@@ -1,23 +1,23 @@
 //! CREATE, DROP and TRUNCATE.
-ghost use Rattle.std.specs.Prelude.{◌≡◌, ℕ, [], List as Items, false, true, IfOk, OnOk};
-ghost use Rattle.port_traits.specs.declared.identity.Identity.{Identity as Who};
+ghost use Rattle.std.specs.Prelude.{◌≡◌, [], false, true, IfOk, OnOk};
 ghost use Rattle.sql_tree.specs.StatementView.{view};
 ghost use Rattle.catalog_rules.specs.Bases.{defined};
 ghost use Rattle.prog_run.specs.Runs.{Makes};
 ghost use Rattle.sql_reach.specs.Defining.{is_still_refused};
 ghost use Rattle.sql_reach.specs.Reach.{is_definition};
-ghost use Rattle.session_model.specs.Commands.{definition_turn};
-ghost use Rattle.source_node.specs.Defining.{define_left, made_left};
+ghost use Rattle.session_model.specs.Commands.{define_turn, definition_turn, made_turn};
+ghost use Rattle.source_node.specs.Calls.{called};
 ghost use Rattle.source_node.specs.Desk.{shared_of};
-ghost use Rattle.source_node.specs.Nothing.{call_of};
-ghost use Rattle.source_node.specs.Turned.{left_by};
+ghost use Rattle.source_node.specs.Turned.{IsTurn, not_begun};
 
+use crate::call::Call;
 use crate::desk::Desk;
 use crate::running::full;
 use crate::session::Session;
 use crate::transactions::commit_open;
 use crate::writing::{definition_refusal, is_still_refused};
 use answer_text::Answer;
+use logged_items::encode_definition;
 use node_answers::{NodeFault, ok, refused};
 use port_traits::Draw;
 use prog_run::{Outcome, run_stmt};
@@ -42,6 +42,7 @@ fn run_definition(
     ensures made { IfOk result (λ told. Makes (view statement.now) told (desk.old.work) (desk.new.work)) }
     ensures lock { desk.new.lock ≡ desk.old.lock }
     ensures committed { desk.new.committed ≡ desk.old.committed }
+    ensures log { desk.new.log ≡ desk.old.log }
     ensures context { OnOk result (context.new ≡ context.old) }
 {
     let mut meter = full();
@@ -52,18 +53,18 @@ fn run_definition(
     }
 }
 
-/// Makes a definition, which nothing refuses before. In a run no change is open then, since a transaction that has one
-/// has an item, and was committed.
+/// Makes a definition, which nothing refuses before, and logs it. In a run no change is open then, since a transaction that
+/// has one has an item, and was committed.
 fn make(
     alloc: Global,
+    call: &Call<'_>,
     desk: &mut Desk,
+    session: &mut Session,
+    text: &[u8],
     statement: &Stmt,
-    context: &mut Ctx,
-    draw: &Draw,
 ) -> Result<Answer, NodeFault>
     requires definition { is_definition (view statement.now) ≡ true }
-    ensures made { IfOk result (λ answer. (shared_of desk.new, answer) ≡ made_left (view statement.now) (defined (view statement.now) ((shared_of desk.old).base)) (shared_of desk.old)) }
-    ensures context { OnOk result (context.new ≡ context.old) }
+    ensures { IfOk result (λ answer. IsTurn desk.old desk.new session.new answer (made_turn (called call.now) text.now (view statement.now) (defined (view statement.now) ((shared_of desk.old).base)) (not_begun (shared_of desk.old) session.old))) }
 {
     let Some(committed) = desk.committed.checked_add(1) else {
         return Err(NodeFault::NoMemory);
@@ -71,8 +72,12 @@ fn make(
     if desk.has_changes() {
         return Err(NodeFault::NoMemory);
     }
-    let told = run_definition(alloc, desk, statement, context, draw)?;
+    let place = desk.log.len() as u64;
+    let context = &mut session.vars.context;
+    let bytes = encode_definition(alloc, text, context, call.identity.server_id, place)?;
+    let told = run_definition(alloc, desk, statement, context, call.draw)?;
     let _ = told.affected;
+    desk.log.append(bytes)?;
     desk.committed = committed;
     Ok(ok(alloc, 0))
 }
@@ -81,48 +86,40 @@ fn make(
 /// made.
 fn define_next(
     alloc: Global,
+    call: &Call<'_>,
     desk: &mut Desk,
-    number: u8,
+    session: &mut Session,
+    text: &[u8],
     statement: &Stmt,
-    context: &mut Ctx,
-    draw: &Draw,
 ) -> Result<Answer, NodeFault>
     requires definition { is_definition (view statement.now) ≡ true }
     requires allowed { is_still_refused (view statement.now) ≡ false }
-    ensures made { IfOk result (λ answer. (shared_of desk.new, answer) ≡ define_left number (view statement.now) (shared_of desk.old)) }
-    ensures context { OnOk result (context.new ≡ context.old) }
+    ensures { IfOk result (λ answer. IsTurn desk.old desk.new session.new answer (define_turn (called call.now) text.now (view statement.now) (not_begun (shared_of desk.old) session.old))) }
 {
     if let Some(code) = definition_refusal(desk, statement) {
         return Ok(refused(alloc, code));
     }
-    if let Some(answer) = desk.writing_refusal(alloc, number) {
+    if let Some(answer) = desk.writing_refusal(alloc, call.number) {
         return Ok(answer);
     }
-    make(alloc, desk, statement, context, draw)
+    make(alloc, call, desk, session, text, statement)
 }
 
 /// A definition: the open transaction is committed first, whatever comes of it.
 pub(crate) fn define(
     alloc: Global,
+    call: &Call<'_>,
     desk: &mut Desk,
     session: &mut Session,
-    number: u8,
+    text: &[u8],
     statement: &Stmt,
-    draw: &Draw,
 ) -> Result<Answer, NodeFault>
     requires { is_definition (view statement.now) ≡ true }
-    ensures { (identity : Who) → (text : Items ℕ) → IfOk result (λ answer. record { shared = shared_of desk.new; session = session.new; given = answer } ≡ left_by (definition_turn (call_of identity draw.entry.now number) text (view statement.now) (shared_of desk.old) session.old)) }
+    ensures { IfOk result (λ answer. IsTurn desk.old desk.new session.new answer (definition_turn (called call.now) text.now (view statement.now) (shared_of desk.old) session.old)) }
 {
-    commit_open(desk, session, number)?;
+    commit_open(alloc, call, desk, session)?;
     if is_still_refused(statement) {
         return Ok(refused(alloc, NOT_ALLOWED));
     }
-    define_next(
-        alloc,
-        desk,
-        number,
-        statement,
-        &mut session.vars.context,
-        draw,
-    )
+    define_next(alloc, call, desk, session, text, statement)
 }

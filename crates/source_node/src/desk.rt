@@ -1,36 +1,53 @@
 //! What all sessions share.
-ghost use Rattle.std.specs.Prelude.{◌≡◌, [], None, Some, OnOk};
+ghost use Rattle.std.specs.Prelude.{◌≡◌, ◌≤◌, [], ◌∷◌, length, None, Some, IfOk, OnOk};
 ghost use Rattle.catalog_rules.specs.Bases.{empty_base};
+ghost use Rattle.log_entries.specs.declared.entries.Entry.TheVariants.{Transaction};
+ghost use Rattle.logged_items.specs.Logged.{in_log};
 ghost use Rattle.session_model.specs.Running.{all_committed, is_other, released, writing_refusal};
 ghost use Rattle.session_model.specs.Commands.{changes_of_own, dropped};
-ghost use Rattle.source_node.specs.Desk.{cut_to, shared_of};
-ghost use Rattle.source_node.specs.Settled.{has_any};
+ghost use Rattle.source_node.specs.Desk.{cut_to, has_any, own_behind, shared_of};
+ghost use Rattle.source_node.specs.Turned.{Logs};
 
 use answer_text::Answer;
+use event_codec::Header;
+use logged_items::Items;
 use node_answers::{refused, refused_by};
 use prog_run::Work;
 use std::alloc::{AllocError, Global};
 use txn_lock::WriterLock;
-use val_types::NoMemory;
+use val_types::{Bytes, Change, List, NoMemory};
 
-/// The rows with the open changes, the session that writes, and how many transactions were committed.
+/// How many transactions may be committed.
+const MOST_COMMITTED: u64 = 4_294_967_295;
+
+/// A log of so many bytes takes no transaction more.
+const FULL_LOG: usize = 1_073_741_824;
+
+/// There are too many transactions, or the log is too long.
+const TOO_MANY: u16 = 30008;
+
+/// The rows with the open changes, the session that writes, how many transactions were committed, and the bytes of the log,
+/// from its magic on.
 #[derive(Drop)]
 pub struct Desk {
     pub(crate) work: Work,
     pub(crate) lock: WriterLock,
     pub(crate) committed: u64,
+    pub(crate) log: Bytes,
 }
 
 impl Desk {
-    /// No table, no change and no writer.
+    /// No table, no change and no writer, with the head of the log.
     #[tactic(auto, using(crate::proofs::Bases::nothing_shared))]
-    pub(crate) fn new(alloc: Global) -> Desk
-        ensures { shared_of result ≡ record { base = empty_base; counters = []; changes = []; writer = None; committed = 0 } }
+    pub(crate) fn new(alloc: Global, head: Bytes) -> Desk
+        ensures shared { shared_of result ≡ record { base = empty_base; counters = []; changes = []; writer = None; committed = 0; place = in_log (length head) } }
+        ensures log { result.log ≡ head }
     {
         Desk {
             work: Work::new(alloc),
             lock: WriterLock::new(),
             committed: 0,
+            log: head,
         }
     }
 
@@ -59,8 +76,8 @@ impl Desk {
     pub(crate) fn writing_refusal(&self, alloc: Global, session: u8) -> Option<Answer>
         ensures { result ≡ writing_refusal session (shared_of self.now) }
     {
-        if self.committed >= 4_294_967_295 {
-            return Some(refused(alloc, 30008));
+        if self.committed >= MOST_COMMITTED || self.log.len() >= FULL_LOG {
+            return Some(refused(alloc, TOO_MANY));
         }
         match self.lock.other(session) {
             None => None,
@@ -70,7 +87,8 @@ impl Desk {
 
     /// The session writes from here on.
     pub(crate) fn take_lock(&mut self, session: u8)
-        ensures { shared_of self.new ≡ record (shared_of self.old) { writer = Some session } }
+        ensures shared { shared_of self.new ≡ record (shared_of self.old) { writer = Some session } }
+        ensures log { self.new.log ≡ self.old.log }
     {
         let mut lock = WriterLock::new();
         let _ = lock.take(session);
@@ -79,18 +97,34 @@ impl Desk {
 
     /// Frees the writer's lock where the session has it.
     pub(crate) fn release(&mut self, session: u8)
-        ensures { shared_of self.new ≡ released session (shared_of self.old) }
+        ensures shared { shared_of self.new ≡ released session (shared_of self.old) }
+        ensures log { self.new.log ≡ self.old.log }
     {
         self.lock.release(session);
     }
 
-    /// Commits the open changes as one transaction more.
-    pub(crate) fn commit(&mut self) -> Result<(), NoMemory>
-        ensures { OnOk result (shared_of self.new ≡ all_committed (shared_of self.old)) }
+    /// Commits the open changes as the transaction of some items, and logs it. Its bytes are made before anything is kept.
+    pub(crate) fn commit(
+        &mut self,
+        alloc: Global,
+        stamp: u32,
+        server_id: u32,
+        items: &Items,
+    ) -> Result<(), NoMemory>
+        requires { 1 ≤ length items.now }
+        ensures shared { OnOk result (shared_of self.new ≡ all_committed (Transaction stamp server_id items.now) (shared_of self.old)) }
+        ensures log { OnOk result (Logs (Transaction stamp server_id items.now ∷ []) self.old self.new) }
     {
+        let header = Header {
+            stamp,
+            server_id,
+            pos: self.log.len() as u64,
+        };
         let Some(committed) = self.committed.checked_add(1) else {
             return Err(AllocError);
         };
+        let bytes = items.encode(alloc, self.committed, &header)?;
+        self.log.append(bytes)?;
         self.work.together();
         self.work.commit();
         self.committed = committed;
@@ -99,7 +133,8 @@ impl Desk {
 
     /// Drops the open changes of a session, with its lock.
     pub(crate) fn drop_changes(&mut self, session: u8)
-        ensures { shared_of self.new ≡ dropped session (shared_of self.old) }
+        ensures shared { shared_of self.new ≡ dropped session (shared_of self.old) }
+        ensures log { self.new.log ≡ self.old.log }
     {
         if !self.is_other(session) {
             self.work.take_back_to(0);
@@ -118,9 +153,25 @@ impl Desk {
         }
     }
 
+    /// Copies of the changes of a session behind so many.
+    pub(crate) fn changes_since(
+        &self,
+        alloc: Global,
+        session: u8,
+        mark: u64,
+    ) -> Result<List<Change>, NoMemory>
+        ensures { IfOk result (λ changes. changes ≡ own_behind session mark (shared_of self.now)) }
+    {
+        if self.is_other(session) || mark >= self.work.undo().mark() {
+            return Ok(List::new(alloc));
+        }
+        self.work.undo().since(mark)
+    }
+
     /// Takes the changes of a session back to so many.
     pub(crate) fn cut(&mut self, session: u8, count: u64)
-        ensures { shared_of self.new ≡ cut_to session count (shared_of self.old) }
+        ensures shared { shared_of self.new ≡ cut_to session count (shared_of self.old) }
+        ensures log { self.new.log ≡ self.old.log }
     {
         if !self.is_other(session) {
             self.work.take_back_to(count);

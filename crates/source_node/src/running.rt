@@ -39,7 +39,9 @@ fn run_own(
 ) -> Result<Outcome, SqlRefusal>
     requires own { is_other number (desk.old.lock) ≡ false }
     requires plain { is_definition (view statement.now) ≡ false }
-    ensures { Comes number draw.entry.now (view statement.now) result (place_at (shared_of desk.old) context.old) (place_at (shared_of desk.new) context.new) }
+    ensures comes { Comes number draw.entry.now (view statement.now) result (place_at (shared_of desk.old) context.old) (place_at (shared_of desk.new) context.new) }
+    ensures log { desk.new.log ≡ desk.old.log }
+    ensures committed { desk.new.committed ≡ desk.old.committed }
 {
     let mut meter = full();
     desk.work.together();
@@ -58,7 +60,9 @@ fn run_beside(
 ) -> Result<Outcome, SqlRefusal>
     requires other { is_other number (desk.old.lock) ≡ true }
     requires plain { is_definition (view statement.now) ≡ false }
-    ensures { Comes number draw.entry.now (view statement.now) result (place_at (shared_of desk.old) context.old) (place_at (shared_of desk.new) context.new) }
+    ensures comes { Comes number draw.entry.now (view statement.now) result (place_at (shared_of desk.old) context.old) (place_at (shared_of desk.new) context.new) }
+    ensures log { desk.new.log ≡ desk.old.log }
+    ensures committed { desk.new.committed ≡ desk.old.committed }
 {
     let mut meter = full();
     let mut copy = desk.work.reader()?;
@@ -77,7 +81,9 @@ pub(crate) fn run(
     draw: &Draw,
 ) -> Result<Outcome, SqlRefusal>
     requires { is_definition (view statement.now) ≡ false }
-    ensures { Comes number draw.entry.now (view statement.now) result (place_at (shared_of desk.old) context.old) (place_at (shared_of desk.new) context.new) }
+    ensures comes { Comes number draw.entry.now (view statement.now) result (place_at (shared_of desk.old) context.old) (place_at (shared_of desk.new) context.new) }
+    ensures log { desk.new.log ≡ desk.old.log }
+    ensures committed { desk.new.committed ≡ desk.old.committed }
 {
     if desk.is_other(number) {
         run_beside(alloc, desk, number, statement, context, draw)
@@ -96,7 +102,9 @@ fn evaluate_own(
     draw: &Draw,
 ) -> Result<List<Value>, SqlRefusal>
     requires own { is_other number (desk.old.lock) ≡ false }
-    ensures { Gives number draw.entry.now (view_trees expressions.now) result (place_at (shared_of desk.old) context.old) (place_at (shared_of desk.new) context.new) }
+    ensures gives { Gives number draw.entry.now (view_trees expressions.now) result (place_at (shared_of desk.old) context.old) (place_at (shared_of desk.new) context.new) }
+    ensures log { desk.new.log ≡ desk.old.log }
+    ensures committed { desk.new.committed ≡ desk.old.committed }
 {
     let mut meter = full();
     let locals = Locals::new(alloc);
@@ -122,7 +130,9 @@ fn evaluate_beside(
     draw: &Draw,
 ) -> Result<List<Value>, SqlRefusal>
     requires other { is_other number (desk.old.lock) ≡ true }
-    ensures { Gives number draw.entry.now (view_trees expressions.now) result (place_at (shared_of desk.old) context.old) (place_at (shared_of desk.new) context.new) }
+    ensures gives { Gives number draw.entry.now (view_trees expressions.now) result (place_at (shared_of desk.old) context.old) (place_at (shared_of desk.new) context.new) }
+    ensures log { desk.new.log ≡ desk.old.log }
+    ensures committed { desk.new.committed ≡ desk.old.committed }
 {
     let mut meter = full();
     let locals = Locals::new(alloc);
@@ -149,7 +159,9 @@ pub(crate) fn evaluate(
     context: &mut Ctx,
     draw: &Draw,
 ) -> Result<List<Value>, SqlRefusal>
-    ensures { Gives number draw.entry.now (view_trees expressions.now) result (place_at (shared_of desk.old) context.old) (place_at (shared_of desk.new) context.new) }
+    ensures gives { Gives number draw.entry.now (view_trees expressions.now) result (place_at (shared_of desk.old) context.old) (place_at (shared_of desk.new) context.new) }
+    ensures log { desk.new.log ≡ desk.old.log }
+    ensures committed { desk.new.committed ≡ desk.old.committed }
 {
     if desk.is_other(number) {
         evaluate_beside(alloc, desk, number, expressions, context, draw)

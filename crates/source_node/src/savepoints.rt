@@ -1,12 +1,12 @@
 //! SAVEPOINT, ROLLBACK TO and RELEASE SAVEPOINT.
-ghost use Rattle.std.specs.Prelude.{◌≡◌, find, is_some, IfOk, OnOk};
-ghost use Rattle.port_traits.specs.declared.identity.Identity.{Identity as Who};
-ghost use Rattle.port_traits.specs.declared.identity.Draw.{Draw as Drawn};
+ghost use Rattle.std.specs.Prelude.{◌≡◌, IfOk};
+ghost use Rattle.log_entries.specs.declared.entries.Item.{Item as LoggedItem};
 ghost use Rattle.session_model.specs.Commands.{back_turn, release_in, save_turn};
-ghost use Rattle.source_node.specs.Nothing.{Nothing, call_of};
+ghost use Rattle.source_node.specs.Calls.{called};
 ghost use Rattle.source_node.specs.Desk.{shared_of};
-ghost use Rattle.source_node.specs.Turned.{left_by};
+ghost use Rattle.source_node.specs.Turned.{IsTurn};
 
+use crate::call::Call;
 use crate::desk::Desk;
 use crate::session::Session;
 use answer_text::Answer;
@@ -20,14 +20,14 @@ const NO_SUCH_SAVEPOINT: u16 = 1305;
 /// SAVEPOINT: one of the name moves; outside a transaction it does nothing.
 pub(crate) fn save(
     alloc: Global,
+    call: &Call<'_>,
     desk: &Desk,
     session: &mut Session,
-    number: u8,
     name: &Bytes,
 ) -> Result<Answer, NoMemory>
-    ensures { (identity : Who) → (draw : Drawn) → IfOk result (λ answer. record { shared = shared_of desk.now; session = session.new; given = answer } ≡ left_by (save_turn (call_of identity draw number) name.now (shared_of desk.now) session.old)) }
+    ensures { IfOk result (λ answer. IsTurn desk.now desk.now session.new answer (save_turn (called call.now) name.now (shared_of desk.now) session.old)) }
 {
-    let changes = desk.own_changes(number);
+    let changes = desk.own_changes(call.number);
     if let Some(mut open) = session.transaction.take() {
         open.save(alloc, name, changes)?;
         session.transaction = Some(open);
@@ -39,12 +39,12 @@ pub(crate) fn save(
 /// where there is no savepoint of the name.
 pub(crate) fn back(
     alloc: Global,
+    call: &Call<'_>,
     desk: &mut Desk,
     session: &mut Session,
-    number: u8,
     name: &Bytes,
 ) -> Answer
-    ensures { (identity : Who) → (draw : Drawn) → record { shared = shared_of desk.new; session = session.new; given = result } ≡ left_by (back_turn (call_of identity draw number) name.now (shared_of desk.old) session.old) }
+    ensures { IsTurn desk.old desk.new session.new result (back_turn (called call.now) name.now (shared_of desk.old) session.old) }
 {
     let Some(mut open) = session.transaction.take() else {
         return refused(alloc, NO_SUCH_SAVEPOINT);
@@ -54,7 +54,7 @@ pub(crate) fn back(
     match changes {
         None => refused(alloc, NO_SUCH_SAVEPOINT),
         Some(changes) => {
-            desk.cut(number, changes);
+            desk.cut(call.number, changes);
             ok(alloc, 0)
         }
     }
@@ -62,7 +62,7 @@ pub(crate) fn back(
 
 /// RELEASE SAVEPOINT: drops that of the name alone. 1305 as above.
 pub(crate) fn release(alloc: Global, desk: &Desk, session: &mut Session, name: &Bytes) -> Answer
-    ensures { record { shared = shared_of desk.now; session = session.new; given = result } ≡ left_by (release_in {I = Nothing} name.now (session.old.transaction) (shared_of desk.now) session.old) }
+    ensures { IsTurn desk.now desk.now session.new result (release_in {I = LoggedItem} name.now (session.old.transaction) (shared_of desk.now) session.old) }
 {
     let Some(mut open) = session.transaction.take() else {
         return refused(alloc, NO_SUCH_SAVEPOINT);

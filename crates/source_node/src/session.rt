@@ -1,32 +1,34 @@
 //! Sessions and their open transactions.
-ghost use Rattle.std.specs.Prelude.{◌≡◌, find, is_some, OnErr, OnOk};
+ghost use Rattle.std.specs.Prelude.{◌≡◌, ◌∷◌, ◌++◌, [], not, find, is_some, IfOk, OnOk};
 ghost use Rattle.std.specs.Option.{option_map};
 ghost use Rattle.session_model.specs.Sessions.{just_opened};
 ghost use Rattle.session_model.specs.Commands.{is_save_of, saved, saves_but};
-ghost use Rattle.source_node.specs.Saving.{changes_at, has_items, one_more, went_back};
+ghost use Rattle.source_node.specs.Saving.{changes_at, one_more_if, went_back};
+ghost use Rattle.transaction_sizes.specs.Sizes.{are_too_large};
 
 use crate::saves::{Save, marks_at, place_of, take_out};
+use log_entries::Item;
+use logged_items::Items;
 use session_ctx::SessionVars;
-use std::alloc::{AllocError, Global};
+use std::alloc::Global;
 use std::marker::Model;
 use val_types::{Bytes, Duplicate, NoMemory};
 
-/// An open transaction: how many items it has, its savepoints, the oldest first, and whether a row was ever
-/// changed in it.
+/// An open transaction: its items, its savepoints, the oldest first, and whether a row was ever changed in it.
 #[derive(Drop)]
 pub struct Open {
-    items: u64,
+    items: Items,
     saves: Vec<Save>,
     changed: bool,
 }
 
 impl Model for Open {
     ghost use Rattle.session_model.specs.Sessions.{Open as Transaction};
-    ghost use Rattle.source_node.specs.Nothing.{Nothing, items_counted};
+    ghost use Rattle.log_entries.specs.declared.entries.Item.{Item as LoggedItem};
 
-    ghost Value = { Transaction Nothing };
+    ghost Value = { Transaction LoggedItem };
 
-    ghost view = { λ o. record { items = items_counted o.items; saves = o.saves.items; changed = o.changed } };
+    ghost view = { λ o. record { items = o.items; saves = o.saves.items; changed = o.changed } };
 }
 
 impl Open {
@@ -35,30 +37,32 @@ impl Open {
         ensures { result ≡ just_opened }
     {
         Open {
-            items: 0,
+            items: Items::new(alloc),
             saves: Vec::new(alloc),
             changed: false,
         }
     }
 
-    /// Whether it has an item.
-    pub(crate) fn has_items(&self) -> bool
-        ensures { result ≡ has_items self.now.items }
+    /// Its items.
+    pub(crate) fn items(&self) -> &Items
+        ensures { result.now ≡ self.now.items }
     {
-        self.items > 0
+        &self.items
     }
 
-    /// Puts an item at the end, which has changed a row.
-    pub(crate) fn add_item(&mut self) -> Result<(), NoMemory>
-        ensures ok { OnOk result (self.new ≡ one_more self.old) }
-        ensures err { OnErr result (self.new ≡ self.old) }
+    /// Puts an item at the end, which has changed a row, as long as the items do not have too many bytes then.
+    pub(crate) fn add_item(&mut self, item: Item) -> Result<bool, NoMemory>
+        ensures kept { IfOk result (λ is_kept. is_kept ≡ not (are_too_large (self.old.items ++ item ∷ []))) }
+        ensures open { IfOk result (λ is_kept. self.new ≡ one_more_if is_kept item self.old) }
     {
-        let Some(items) = self.items.checked_add(1) else {
-            return Err(AllocError);
-        };
-        self.items = items;
+        let mark = self.items.mark();
+        self.items.add(item)?;
+        if self.items.are_too_large() {
+            self.items.cut(mark);
+            return Ok(false);
+        }
         self.changed = true;
-        Ok(())
+        Ok(true)
     }
 
     /// Sets a savepoint, which stands at so many changes. One of the name moves.
@@ -69,7 +73,7 @@ impl Open {
         let name = name.duplicate(alloc)?;
         self.saves.push(Save {
             name,
-            items: self.items,
+            items: self.items.mark(),
             changes,
         })?;
         Ok(())
@@ -101,7 +105,7 @@ impl Open {
         let Some((items, changes)) = marks_at(&self.saves, place) else {
             return None;
         };
-        self.items = self.items.min(items);
+        self.items.cut(items.min(self.items.mark()));
         self.saves.truncate(place + 1);
         Some(changes)
     }
@@ -116,9 +120,9 @@ pub struct Session {
 
 impl Model for Session {
     ghost use Rattle.session_model.specs.Sessions.{Session as OneSession};
-    ghost use Rattle.source_node.specs.Nothing.{Nothing};
+    ghost use Rattle.log_entries.specs.declared.entries.Item.{Item as LoggedItem};
 
-    ghost Value = { OneSession Nothing };
+    ghost Value = { OneSession LoggedItem };
 
     ghost view = { λ s. record { vars = s.vars; transaction = s.transaction } };
 }

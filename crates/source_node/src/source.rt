@@ -1,24 +1,27 @@
 //! The source.
-ghost use Rattle.std.specs.Prelude.{◌≡◌, ◌<◌, ◌≤◌, ◌^◌, [], length, replicate, IfOk};
-ghost use Rattle.catalog_rules.specs.Bases.{empty_base};
-ghost use Rattle.prog_run.specs.Contents.{base_of};
-ghost use Rattle.session_model.specs.Sessions.{State};
-ghost use Rattle.session_model.specs.Machine.{Whole, first_state, step, whole};
-ghost use Rattle.source_node.specs.Nothing.{nothing_known};
+ghost use Rattle.std.specs.Prelude.{◌≡◌, ◌<◌, ◌≤◌, ◌^◌, length, map, replicate, IfOk};
+ghost use Rattle.entry_groups.specs.Entries.{CanLogAll};
+ghost use Rattle.session_model.specs.Holding.{Holds, with_nothing};
+ghost use Rattle.session_model.specs.Machine.{Machine, kept, kept_entry, log_bytes, machine_after, opened, step, whole};
 ghost use Rattle.source_node.specs.Standing.{no_session, state_of, Stands};
+ghost use Rattle.source_node.specs.Turned.{Logs};
 
+use crate::call::Call;
 use crate::command::run_command;
 use crate::desk::Desk;
 use crate::session::Session;
 use answer_text::Answer;
+use logged_items::encode_start;
 use node_answers::NodeFault;
 use port_traits::{Draw, Identity};
-use prog_run::Work;
 use std::alloc::Global;
 use std::marker::Model;
-use val_types::NoMemory;
+use val_types::{Bytes, NoMemory};
 
-/// A source in memory, which contracts see as what it keeps.
+/// The number of the log.
+const FIRST_LOG: u32 = 1;
+
+/// A source in memory with its log, which contracts see as what it keeps.
 #[derive(Drop)]
 pub struct SourceNode {
     alloc: Global,
@@ -56,18 +59,17 @@ fn no_sessions(alloc: Global) -> Result<Vec<Option<Session>>, NoMemory>
 }
 
 impl SourceNode {
-    /// A source without tables, on which no session has had a command. It uses nothing of its draw as long as it writes no
-    /// log.
+    /// A source without tables, on which no session has had a command. Its log has its head, made at the draw.
     pub fn open(alloc: Global, identity: Identity, draw: &Draw) -> Result<SourceNode, NodeFault>
         ensures identity { IfOk result (λ node. node.identity ≡ identity) }
-        ensures stands { IfOk result (λ node. Stands node (first_state empty_base [] 0)) }
+        ensures stands { IfOk result (λ node. Stands node (opened identity draw.entry.now)) }
     {
-        let _ = draw;
         let sessions = no_sessions(alloc)?;
+        let head = encode_start(alloc, draw.now, identity.server_id)?;
         Ok(SourceNode {
             alloc,
             identity,
-            desk: Desk::new(alloc),
+            desk: Desk::new(alloc, head),
             sessions,
         })
     }
@@ -79,46 +81,55 @@ impl SourceNode {
         self.desk.committed()
     }
 
-    /// What was last committed: the catalog, its rows and the counters, without an open change. Rows are shared, not
-    /// copied, but for those that open changes have changed.
-    pub fn committed(&self) -> Result<Work, NoMemory>
-        ensures base { IfOk result (λ work. base_of work ≡ (state_of self.now).shared.base) }
-        ensures counters { IfOk result (λ work. work.counters ≡ (state_of self.now).shared.counters) }
-        ensures changes { IfOk result (λ work. work.changes ≡ []) }
+    /// The bytes of the log with a number from a position on, so many at the most. Only the first log has any.
+    pub fn log_bytes(&self, alloc: Global, log: u32, pos: u32, max: u32) -> Result<Bytes, NoMemory>
+        ensures { IfOk result (λ bytes. bytes ≡ log_bytes (self.now.desk.log) (record { log = log; pos = pos }) max) }
     {
-        self.desk.work.reader()
+        if log != FIRST_LOG {
+            return Ok(Bytes::new(alloc));
+        }
+        let bytes = self.desk.log.as_slice();
+        let start = bytes.len().min(pos as usize);
+        let count = (bytes.len() - start).min(max as usize);
+        Bytes::from_slice(alloc, &bytes[start..start + count])
     }
 
-    /// Carries out a text in the session of a number, as the machine that knows nothing of items.
+    /// Carries out a text in the session of a number, as the machine that keeps of an item what the log has of it.
     #[tactic(auto, unfolding(session_model::specs::Machine::step))]
     fn exec_kept(&mut self, session: u8, text: &[u8], draw: &Draw) -> Result<Answer, NodeFault>
         requires number { session < 100 }
         requires length { length text.now ≤ 2 ^ 20 }
         ensures identity { self.new.identity ≡ self.old.identity }
-        ensures answer { IfOk result (λ answer. answer ≡ (step nothing_known (self.old.identity) (state_of self.old) session text.now draw.entry.now).answer) }
-        ensures state { IfOk result (λ answer. state_of self.new ≡ (step nothing_known (self.old.identity) (state_of self.old) session text.now draw.entry.now).state) }
+        ensures answer { IfOk result (λ answer. answer ≡ (step kept (self.old.identity) (state_of self.old) session text.now draw.entry.now).answer) }
+        ensures state { IfOk result (λ answer. state_of self.new ≡ (step kept (self.old.identity) (state_of self.old) session text.now draw.entry.now).state) }
+        ensures log { IfOk result (λ answer. Logs ((step kept (self.old.identity) (state_of self.old) session text.now draw.entry.now).committed) (self.old.desk) (self.new.desk)) }
     {
+        let call = Call {
+            identity: &self.identity,
+            draw,
+            number: session,
+        };
         run_command(
             self.alloc,
-            &self.identity,
+            &call,
             &mut self.desk,
             &mut self.sessions[session as usize],
-            session,
             text,
-            draw,
         )
     }
 
-    /// Carries out a text of at most 1,048,576 bytes in the session of a number below 100. For each state of the machine
-    /// for which the node stands, the answer is that of the machine's step, and the node stands for the state behind it;
-    /// where memory is short, nothing is said of the node any more.
+    /// Carries out a text of at most 1,048,576 bytes in the session of a number below 100. For each run of the machine that
+    /// began with nothing and for which the node stands, the answer is that of the machine's step, the node stands for the
+    /// run behind it, and its entries can be logged where they are; where memory is short, nothing is said of the node any
+    /// more.
     pub fn exec(&mut self, session: u8, text: &[u8], draw: &Draw) -> Result<Answer, NodeFault>
         requires number { session < 100 }
         requires length { length text.now ≤ 2 ^ 20 }
         ensures identity { self.new.identity ≡ self.old.identity }
-        ensures stands { (m : State Whole) → Stands self.old m → IfOk result (λ answer.
-            (answer ≡ (step whole (self.old.identity) m session text.now draw.entry.now).answer)
-            × Stands self.new (step whole (self.old.identity) m session text.now draw.entry.now).state) }
+        ensures stands { (m : Machine) → Stands self.old m → Holds with_nothing m → IfOk result (λ answer.
+            (answer ≡ (step whole (self.old.identity) m.state session text.now draw.entry.now).answer)
+            × Stands self.new (machine_after m (step whole (self.old.identity) m.state session text.now draw.entry.now))
+            × CanLogAll (map kept_entry (step whole (self.old.identity) m.state session text.now draw.entry.now).committed) m.state.shared.committed m.state.shared.place) }
     {
         self.exec_kept(session, text, draw)
     }

@@ -1,7 +1,5 @@
 //! The statement of a command, whatever it is.
-ghost use Rattle.std.specs.Prelude.{◌≡◌, ℕ, List as Items, false, IfNone, IfOk, IfSome};
-ghost use Rattle.port_traits.specs.declared.identity.Identity.{Identity as Who};
-ghost use Rattle.port_traits.specs.declared.identity.Draw.{Draw as Drawn};
+ghost use Rattle.std.specs.Prelude.{◌≡◌, false, IfNone, IfOk, IfSome};
 ghost use Rattle.sql_tree.specs.Statement.{call_procedure, set_all};
 ghost use Rattle.sql_tree.specs.StatementView.{view, view_assignments};
 ghost use Rattle.sql_tree.specs.View.{view_trees};
@@ -11,20 +9,20 @@ ghost use Rattle.session_model.specs.Commands.{plain_turn};
 ghost use Rattle.catalog_rules.specs.Checks.{session_scope, statement_refusal};
 ghost use Rattle.source_node.specs.Other.{is_call, is_of_transaction, is_set, other_turn};
 ghost use Rattle.source_node.specs.Desk.{shared_of};
-ghost use Rattle.source_node.specs.Nothing.{call_of};
-ghost use Rattle.source_node.specs.Turned.{left_by};
+ghost use Rattle.source_node.specs.Calls.{called};
+ghost use Rattle.source_node.specs.Turned.{IsTurn};
 
+use crate::call::Call;
 use crate::definitions::define;
 use crate::desk::Desk;
 use crate::plain::run_plain;
 use crate::savepoints::{back, release, save};
 use crate::session::Session;
-use crate::setting::{call, set};
+use crate::setting::{call_none, set};
 use crate::transactions::{begin, commit, rollback};
 use crate::writing::{checked, is_definition, lock_refusal};
 use answer_text::Answer;
 use node_answers::{NodeFault, refused};
-use port_traits::Draw;
 use sql_tree::{Assignment, Expr, Stmt};
 use std::alloc::Global;
 use std::mem;
@@ -33,43 +31,43 @@ use val_types::{Bytes, List, SqlError};
 /// A change, a SELECT or a DO: the catalog's checks, the lock, then it is run.
 fn plain(
     alloc: Global,
+    call: &Call<'_>,
     desk: &mut Desk,
     session: &mut Session,
-    number: u8,
+    text: &[u8],
     refusal: Option<SqlError>,
     statement: &Stmt,
-    draw: &Draw,
 ) -> Result<Answer, NodeFault>
     requires definition { is_definition (view statement.now) ≡ false }
     requires refusal { refusal ≡ statement_refusal ((shared_of desk.old).base.catalog) session_scope (view statement.now) }
-    ensures { (identity : Who) → (text : Items ℕ) → IfOk result (λ answer. record { shared = shared_of desk.new; session = session.new; given = answer } ≡ left_by (plain_turn (call_of identity draw.entry.now number) text (view statement.now) (shared_of desk.old) session.old)) }
+    ensures { IfOk result (λ answer. IsTurn desk.old desk.new session.new answer (plain_turn (called call.now) text.now (view statement.now) (shared_of desk.old) session.old)) }
 {
     if let Some(code) = refusal {
         return Ok(refused(alloc, code));
     }
-    if let Some(answer) = lock_refusal(alloc, desk, number, statement) {
+    if let Some(answer) = lock_refusal(alloc, desk, call.number, statement) {
         return Ok(answer);
     }
-    run_plain(alloc, desk, session, number, statement, draw)
+    run_plain(alloc, call, desk, session, text, statement)
 }
 
 /// A definition, or a change, a SELECT or a DO.
 fn other(
     alloc: Global,
+    call: &Call<'_>,
     desk: &mut Desk,
     session: &mut Session,
-    number: u8,
+    text: &[u8],
     refusal: Option<SqlError>,
     statement: &Stmt,
-    draw: &Draw,
 ) -> Result<Answer, NodeFault>
     requires { refusal ≡ statement_refusal ((shared_of desk.old).base.catalog) session_scope (view statement.now) }
-    ensures { (identity : Who) → (text : Items ℕ) → IfOk result (λ answer. record { shared = shared_of desk.new; session = session.new; given = answer } ≡ left_by (other_turn (call_of identity draw.entry.now number) text (view statement.now) (shared_of desk.old) session.old)) }
+    ensures { IfOk result (λ answer. IsTurn desk.old desk.new session.new answer (other_turn (called call.now) text.now (view statement.now) (shared_of desk.old) session.old)) }
 {
     if is_definition(statement) {
-        define(alloc, desk, session, number, statement, draw)
+        define(alloc, call, desk, session, text, statement)
     } else {
-        plain(alloc, desk, session, number, refusal, statement, draw)
+        plain(alloc, call, desk, session, text, refusal, statement)
     }
 }
 
@@ -118,19 +116,20 @@ fn is_of_transaction(statement: &Stmt) -> bool
 /// A statement on transactions.
 fn of_transaction(
     alloc: Global,
+    call: &Call<'_>,
     desk: &mut Desk,
     session: &mut Session,
-    number: u8,
+    text: &[u8],
     statement: &Stmt,
 ) -> Result<Answer, NodeFault>
-    ensures { (identity : Who) → (draw : Drawn) → (text : Items ℕ) → IfOk result (λ answer. record { shared = shared_of desk.new; session = session.new; given = answer } ≡ left_by (statement_turn (call_of identity draw number) text (view statement.now) (shared_of desk.old) session.old)) }
+    ensures { IfOk result (λ answer. IsTurn desk.old desk.new session.new answer (statement_turn (called call.now) text.now (view statement.now) (shared_of desk.old) session.old)) }
 {
     match statement {
-        Stmt::Begin => Ok(begin(alloc, desk, session, number)?),
-        Stmt::Commit => Ok(commit(alloc, desk, session, number)?),
-        Stmt::Rollback => Ok(rollback(alloc, desk, session, number)),
-        Stmt::Savepoint(name) => Ok(save(alloc, desk, session, number, name)?),
-        Stmt::RollbackTo(name) => Ok(back(alloc, desk, session, number, name)),
+        Stmt::Begin => Ok(begin(alloc, call, desk, session)?),
+        Stmt::Commit => Ok(commit(alloc, call, desk, session)?),
+        Stmt::Rollback => Ok(rollback(alloc, call, desk, session)),
+        Stmt::Savepoint(name) => Ok(save(alloc, call, desk, session, name)?),
+        Stmt::RollbackTo(name) => Ok(back(alloc, call, desk, session, name)),
         Stmt::ReleaseSavepoint(name) => Ok(release(alloc, desk, session, name)),
         _ => Err(NodeFault::NoMemory),
     }
@@ -139,42 +138,42 @@ fn of_transaction(
 /// A statement that is neither a SET nor a CALL.
 fn run_kept(
     alloc: Global,
+    call: &Call<'_>,
     desk: &mut Desk,
     session: &mut Session,
-    number: u8,
+    text: &[u8],
     refusal: Option<SqlError>,
     statement: &Stmt,
-    draw: &Draw,
 ) -> Result<Answer, NodeFault>
     requires refusal { refusal ≡ statement_refusal ((shared_of desk.old).base.catalog) session_scope (view statement.now) }
     requires set { is_set (view statement.now) ≡ false }
     requires call { is_call (view statement.now) ≡ false }
-    ensures { (identity : Who) → (text : Items ℕ) → IfOk result (λ answer. record { shared = shared_of desk.new; session = session.new; given = answer } ≡ left_by (statement_turn (call_of identity draw.entry.now number) text (view statement.now) (shared_of desk.old) session.old)) }
+    ensures { IfOk result (λ answer. IsTurn desk.old desk.new session.new answer (statement_turn (called call.now) text.now (view statement.now) (shared_of desk.old) session.old)) }
 {
     if is_of_transaction(statement) {
-        of_transaction(alloc, desk, session, number, statement)
+        of_transaction(alloc, call, desk, session, text, statement)
     } else {
-        other(alloc, desk, session, number, refusal, statement, draw)
+        other(alloc, call, desk, session, text, refusal, statement)
     }
 }
 
 /// A statement of a session, whose parts may be taken out.
 pub(crate) fn run(
     alloc: Global,
+    call: &Call<'_>,
     desk: &mut Desk,
     session: &mut Session,
-    number: u8,
+    text: &[u8],
     statement: &mut Stmt,
-    draw: &Draw,
 ) -> Result<Answer, NodeFault>
-    ensures { (identity : Who) → (text : Items ℕ) → IfOk result (λ answer. record { shared = shared_of desk.new; session = session.new; given = answer } ≡ left_by (statement_turn (call_of identity draw.entry.now number) text (view statement.old) (shared_of desk.old) session.old)) }
+    ensures { IfOk result (λ answer. IsTurn desk.old desk.new session.new answer (statement_turn (called call.now) text.now (view statement.old) (shared_of desk.old) session.old)) }
 {
     let refusal = checked(alloc, desk, statement);
     if let Some(assignments) = take_assignments(alloc, statement) {
-        return set(alloc, desk, session, number, refusal, assignments, draw);
+        return set(alloc, call, desk, session, refusal, assignments);
     }
     if let Some((name, arguments)) = take_call(alloc, statement) {
-        return call(alloc, desk, session, refusal, &name, arguments);
+        return call_none(alloc, call, desk, session, refusal, &name, arguments);
     }
-    run_kept(alloc, desk, session, number, refusal, statement, draw)
+    run_kept(alloc, call, desk, session, text, refusal, statement)
 }

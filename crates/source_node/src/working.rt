@@ -1,12 +1,12 @@
 //! A session at its command.
 ghost use Rattle.std.specs.Prelude.{◌≡◌, IfOk};
 ghost use Rattle.session_model.specs.Machine.{at_work, counted};
-ghost use Rattle.source_node.specs.Nothing.{call_of};
+ghost use Rattle.source_node.specs.Calls.{called};
 
+use crate::call::Call;
 use crate::session::Session;
 use answer_text::Answer;
 use node_answers::row_count_after;
-use port_traits::{Draw, Identity};
 use session_ctx::SessionVars;
 use std::alloc::Global;
 use val_types::NoMemory;
@@ -14,20 +14,18 @@ use val_types::NoMemory;
 /// A session at its command: a new one, or with the moments of this command.
 pub(crate) fn at_work(
     alloc: Global,
-    identity: &Identity,
-    number: u8,
+    call: &Call<'_>,
     slot: Option<Session>,
-    draw: &Draw,
 ) -> Result<Session, NoMemory>
-    ensures { IfOk result (λ session. session ≡ at_work (call_of identity.now draw.entry.now number) slot) }
+    ensures { IfOk result (λ session. session ≡ at_work (called call.now) slot) }
 {
     match slot {
         None => Ok(Session {
-            vars: SessionVars::new(alloc, identity, u32::from(number), draw)?,
+            vars: SessionVars::new(alloc, call.identity, u32::from(call.number), call.draw)?,
             transaction: None,
         }),
         Some(mut session) => {
-            session.vars.begin_command(draw);
+            session.vars.begin_command(call.draw);
             Ok(session)
         }
     }

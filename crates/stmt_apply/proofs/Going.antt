@@ -15,13 +15,14 @@ use Rattle.catalog_objects.specs.declared.object.Object.{Object}
 use Rattle.catalog_objects.specs.Keys.{objects_of}
 use Rattle.applier_model.specs.Stops.{Differs, stop_at}
 use Rattle.applier_model.specs.Rows.{Store, carry_change}
+use Rattle.row_events.specs.Sizes.{bounded}
 use Rattle.transaction_sizes.specs.Sizes.{change_size, changes_size, most_bytes}
 use Rattle.applier_model.specs.Texts.{Applier, Needs, Progress, no_needs}
 use Rattle.applier_model.specs.Groups.{Applied, Going, and_then, applied_by, carry_changes, carry_rows, event_carried, first_place, going_from, is_too_large, item_ended, items_carried, rows_ended, store_of, with_bytes, with_needs, with_store}
 use Rattle.prog_run.specs.Contents.{Contents, base_of}
 use Rattle.stmt_apply.specs.Changes.{change_carried}
 use Rattle.stmt_apply.specs.Ends.{Ends, progress_in, applied_in}
-use Rattle.stmt_apply.specs.UnderWay.{ComesTo, Goes, Stands, bounded, items_from, transaction_carried}
+use Rattle.stmt_apply.specs.UnderWay.{ComesTo, Goes, Stands, items_from, transaction_carried}
 use Rattle.stmt_apply.specs.declared.stop.Stop.{Stop}
 use Rattle.stmt_apply.specs.declared.stop.Stop.TheVariants as stop
 use Rattle.stmt_apply.specs.declared.under_way.UnderWay.{UnderWay}

@@ -1,5 +1,4 @@
 pub mod Alike
-pub mod Counting
 pub mod Defined
 pub mod Going
 pub mod Making

@@ -9,7 +9,6 @@ ghost use Rattle.stmt_apply.specs.Ends.{Ends, Stays, applied_in, progress_in};
 ghost use Rattle.stmt_apply.specs.UnderWay.{ComesTo, Goes, Stands, items_from, transaction_carried};
 
 use crate::changing::carry_change;
-use crate::sizes::changes_size;
 use crate::stop::{Stop, stop_at};
 use crate::under_way::{UnderWay, find_map};
 use event_codec::{Event, MapView, RowsView};
@@ -17,6 +16,7 @@ use log_groups::{Items, Part};
 use prog_run::Work;
 use row_image::rows_of;
 use std::alloc::Global;
+use transaction_sizes::changes_size;
 use val_types::{Change, Duplicate, List, SqlError};
 
 /// Until transactions are logged by their texts, none may stand in one (this project's number).
@@ -66,7 +66,7 @@ fn apply_rows(
         return Ok(());
     };
     let changes = rows_of(alloc, &map, rows)?;
-    let size = changes_size(&changes);
+    let size = changes_size(changes.as_slice());
     carry_changes(alloc, work, pos, &map, changes)?;
     under_way.changed = under_way.changed.saturating_add(size);
     under_way.end_rows(alloc, under_way.begun.unwrap_or(pos), rows.ends)

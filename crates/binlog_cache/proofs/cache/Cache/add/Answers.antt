@@ -1,8 +1,11 @@
-use Rattle.std.proofs.Common.{sym}
-use Rattle.binlog_cache.proofs.Summing.{summed_more, sum_behind}
+use Rattle.std.proofs.Common.{ap, ◌∙◌}
+use Rattle.transaction_sizes.specs.Sizes.{changes_size}
+use Rattle.row_events.specs.Sizes.{bounded}
+use Rattle.binlog_cache.proofs.Summing.{counted_more}
 use Rattle.binlog_cache.proofs.cache.Cache.add.Goals as goal
 
 pub invariant_of-self-2 : goal.invariant_of-self-2
 invariant_of-self-2 c =
-    rw c.in_ok-push.ensures.ok (summed_more 0 c.self.inside.kept _ c.self.invariant
-    (sum_behind c.self.inside.kept c.args.item c.last_sum.result c.item_size.result c.saturating_add-until.result c.last_sum.ensures c.item_size.ensures c.saturating_add-until.ensures))
+    rw c.in_ok-push.ensures.ok (counted_more c.self.inside.kept _ c.last_sums-before.result.log c.item_size.result c.last_sums-before.result.changes c.changes_size.result c.self.invariant
+    c.last_sums-before.ensures.log c.item_size.ensures c.saturating_add.ensures
+    c.last_sums-before.ensures.changes (c.changes_size.ensures ∙ ap (λ cs. bounded (changes_size cs)) c.as_slice.ensures) c.saturating_add-2.ensures)

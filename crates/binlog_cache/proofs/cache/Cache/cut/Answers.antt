@@ -2,11 +2,11 @@ use Rattle.std.proofs.Common.{List, map, take, sym, ap, ◌∙◌}
 use Rattle.std.proofs.lemmas.List.{take-map}
 use Rattle.log_entries.specs.declared.entries.Item.{Item}
 use Rattle.binlog_cache.specs.declared.kept.Kept.{Kept}
-use Rattle.binlog_cache.proofs.Summing.{summed_front}
+use Rattle.binlog_cache.proofs.Summing.{counted_front}
 use Rattle.binlog_cache.proofs.cache.Cache.cut.Goals as goal
 
 pub invariant_of-self : goal.invariant_of-self
-invariant_of-self c = rw c.truncate.ensures (summed_front 0 c.args.mark c.self.inside.kept c.self.invariant)
+invariant_of-self c = rw c.truncate.ensures (counted_front c.args.mark c.self.inside.kept c.self.invariant)
 
 pub returns : goal.returns
 returns c =

@@ -1,0 +1,160 @@
+-- What a transaction or a definition is written as can be written.
+use Rattle.std.proofs.Common.{◌≡◌, ℕ, zero, suc, ◌+◌, ◌-◌, ◌^◌, ◌<◌, ◌≤◌, min, Bool, true, false, cond, List, [], ◌∷◌, ◌++◌, map, length, take, drop, refl, sym, ap, ◌∙◌, subst, arith, Option, Some, None, length-append}
+use Rattle.std.specs.Prelude.{flat_map, nat_lt, if◌then◌else◌, codes, IfSome, ◌||◌}
+use Rattle.std.specs.Str.{bytes_eq}
+use Rattle.std.proofs.lemmas.Bool.Decides.{nat_tests}
+use Rattle.byte_fields.specs.Field.{number_bytes}
+use Rattle.event_codec.specs.declared.event.Step.{Step}
+use Rattle.event_codec.specs.Event.{Body, Query, format_description, query, xid}
+use Rattle.event_codec.specs.Writing.{size, format_description_bytes, layout_bytes, query_bytes, step_bytes, CanWrite}
+use Rattle.log_entries.specs.declared.entries.Item.{Item}
+use Rattle.log_entries.specs.declared.entries.Entry.TheVariants.{Transaction, Definition}
+use Rattle.sql_meaning.specs.Frames.{Context}
+use Rattle.log_model.specs.Items.{at_time, changes_item, item_events, item_size, query_of, step_of, text_of, AreCarried, IsCarried}
+use Rattle.log_model.specs.Log.{begin_query, description, entry_bytes, transaction, version}
+use Rattle.log_model.specs.Spelling.{Spelled, bodies_of}
+use Rattle.log_model.specs.Written.{Stamped, bytes_of, total, CanWriteAll}
+use Rattle.row_events.specs.Sizes.{bounded}
+use Rattle.row_events.proofs.GoingOn.{total_append}
+use Rattle.row_laws.proofs.Writable.{writable}
+use Rattle.transaction_sizes.specs.Sizes.{all_sizes, are_too_large, most_bytes}
+use Rattle.logged_items.specs.Items.{item_by_text}
+use Rattle.logged_items.specs.Logged.{AreLogged, Encodes, IsLogged, in_log}
+
+-- ---- items
+
+pub logged_more : (is : List Item) (i : Item) → AreLogged is → IsLogged i → AreLogged (is ++ i ∷ [])
+logged_more [] i are is-one = (is-one, tt)
+logged_more (x ∷ xs) i are is-one = (are.0, logged_more xs i are.1 is-one)
+
+pub logged_front : (n : ℕ) (is : List Item) → AreLogged is → AreLogged (take n is)
+logged_front zero is are = tt
+logged_front (suc n) [] are = tt
+logged_front (suc n) (i ∷ is) are = (are.0, logged_front n is are.1)
+
+carried_one : (i : Item) → IsLogged i → IsCarried i.rows i
+carried_one i logged = subst (λ (b : Bool). IsCarried b i) (sym logged.rows) (logged.some, logged.can)
+
+pub all_carried : (is : List Item) → AreLogged is → AreCarried is
+all_carried [] are = tt
+all_carried (i ∷ is) are = (carried_one i are.0, all_carried is are.1)
+
+-- ---- events
+
+can_join : (pos : ℕ) (xs ys : List Stamped) → CanWriteAll pos xs → CanWriteAll (pos + total xs) ys → CanWriteAll pos (xs ++ ys)
+can_join pos [] ys first second = let same : pos + 0 ≡ pos = omega arith in subst (λ (n : ℕ). CanWriteAll n ys) same second
+can_join pos (e ∷ xs) ys first second =
+    let sum : pos + (size e.body + total xs) ≡ pos + size e.body + total xs = omega arith in
+    (first.0, first.1, first.2, can_join (pos + size e.body) xs ys first.3 (subst (λ (n : ℕ). CanWriteAll n ys) sum second))
+
+by_rows : (i : Item) → i.rows ≡ true → item_events i ≡ at_time i.carried.stamp (bodies_of (changes_item i.defs i.changes))
+by_rows i e = ap (λ (b : Bool). at_time i.carried.stamp (bodies_of (if b then changes_item i.defs i.changes else text_of i.text i.carried))) e
+
+item_can : (i : Item) (pos : ℕ) → IsLogged i → pos + item_size i ≤ 1200000000 → CanWriteAll pos (item_events i)
+item_can i pos logged end =
+    let same = by_rows i logged.rows in
+    let size : total (item_events i) ≡ total (at_time i.carried.stamp (bodies_of (changes_item i.defs i.changes))) = ap total same in
+    subst (λ (es : List Stamped). CanWriteAll pos es) (sym same) (writable i.defs i.changes i.carried.stamp pos logged.named logged.can logged.stamp (omega (arith, end, size)))
+
+pub all_total : (is : List Item) → total (flat_map item_events is) ≡ all_sizes is
+all_total [] = refl
+all_total (i ∷ is) = total_append (item_events i) (flat_map item_events is) ∙ ap (λ (n : ℕ). item_size i + n) (all_total is)
+
+items_can : (is : List Item) (pos : ℕ) → AreLogged is → pos + all_sizes is ≤ 1200000000 → CanWriteAll pos (flat_map item_events is)
+items_can [] pos are end = tt
+items_can (i ∷ is) pos are end =
+    can_join pos (item_events i) (flat_map item_events is) (item_can i pos are.0 (omega (arith, end)))
+    (items_can is (pos + item_size i) are.1 (omega (arith, end)))
+
+begin_size : (thread : ℕ) → size (query (begin_query thread)) ≡ 40
+unfolding size query_bytes number_bytes
+begin_size thread = refl
+
+xid_size : (number : ℕ) → size (xid number) ≡ 27
+unfolding size number_bytes
+xid_size number = refl
+
+transaction_can : (is : List Item) (stamp number pos : ℕ) → AreLogged is → stamp < 2 ^ 32 → number < 2 ^ 64 → pos + all_sizes is + 67 ≤ 1200000000 → CanWriteAll pos (transaction stamp number is)
+transaction_can [] stamp number pos are at low end = tt
+transaction_can (i ∷ is) stamp number pos are at low end =
+    let begin = begin_size i.carried.connection in
+    let last = xid_size number in
+    let sum = all_total (i ∷ is) in (
+      record { form = tt; end = omega (arith, begin, end) },
+      (are.0.thread, tt),
+      are.0.stamp,
+      can_join (pos + size (query (begin_query i.carried.connection))) (flat_map item_events (i ∷ is)) (record { stamp = stamp; body = xid number } ∷ [])
+      (items_can (i ∷ is) (pos + size (query (begin_query i.carried.connection))) are (omega (arith, begin, end)))
+      (record { form = tt; end = omega (arith, begin, last, sum, end) }, low, at, tt),
+    )
+
+-- the sum that the code has is that of the items, where it is not too great
+low_sum : (n s pos end : ℕ) → s ≡ bounded n → end ≡ min (min (pos + s) (2 ^ 64 - 1) + 67) (2 ^ 64 - 1) → end ≤ 1200000000 → pos + n + 67 ≤ 1200000000
+low_sum n s pos end is sum low = omega (arith, is, sum, low)
+
+pub encode_can : (is : List Item) (stamp committed number pos sum near end : ℕ) → AreLogged is → stamp < 2 ^ 32 → number ≡ committed + 1 → number < 2 ^ 64 → sum ≡ bounded (all_sizes is)
+    → near ≡ min (pos + sum) (2 ^ 64 - 1) → end ≡ min (near + 67) (2 ^ 64 - 1) → end ≤ 1200000000 → CanWriteAll pos (transaction stamp number is)
+encode_can is stamp committed number pos sum near end are at next low is-sum is-near is-end few =
+    transaction_can is stamp number pos are at low (low_sum (all_sizes is) sum pos end is-sum (is-end ∙ ap (λ (n : ℕ). min (n + 67) (2 ^ 64 - 1)) is-near) few)
+
+pub encodes : (is : List Item) (stamp server committed number pos : ℕ) (out : List ℕ) → AreLogged is → 1 ≤ length is → number ≡ committed + 1 → CanWriteAll pos (transaction stamp number is)
+    → out ≡ bytes_of server pos (transaction stamp number is) → Encodes (Transaction stamp server is) committed pos out
+encodes is stamp server committed number pos out are some next can is-out = record {
+  bytes = is-out ∙ ap (λ (n : ℕ). bytes_of server pos (transaction stamp n is)) next;
+  can = (some, all_carried is are, subst (λ (n : ℕ). CanWriteAll pos (transaction stamp n is)) next can);
+}
+
+-- ---- a definition
+
+step_few : (step : Option Step) → length (step_bytes step) ≤ 5
+unfolding number_bytes
+step_few None = omega arith
+step_few (Some step) = omega arith
+
+query_few : (q : Query) → size (query q) ≤ 40 + length q.text
+unfolding size query_bytes number_bytes
+query_few q =
+    let few = step_few q.step in
+    let all = length-append (step_bytes q.step) (codes "db" ++ (0 ∷ q.text)) in
+    omega (arith, few, all)
+
+pub definition_can : (q : Query) (stamp pos room near : ℕ) → IfSome q.step (λ s. (1 ≤ s.increment) × (1 ≤ s.offset)) → IfSome q.step (λ s. (s.increment < 2 ^ 16) × (s.offset < 2 ^ 16)) → q.thread < 2 ^ 32 → stamp < 2 ^ 32
+    → room ≡ min (length q.text + 40) (2 ^ 64 - 1) → near ≡ min (pos + room) (2 ^ 64 - 1) → near ≤ 1200000000 → CanWriteAll pos (record { stamp = stamp; body = query q } ∷ [])
+definition_can q stamp pos room near counts words thread at is-room is-near few =
+    let size = query_few q in
+    (record { form = counts; end = omega (arith, size, is-room, is-near, few) }, (thread, words), at, tt)
+
+pub definition_encodes : (text : List ℕ) (context : Context) (server pos committed : ℕ) (before out : List ℕ) (stamp thread : ℕ) (step : Option Step) → stamp ≡ context.stamp → thread ≡ context.connection → step ≡ step_of context.increment context.offset
+    → bytes_eq text (codes "BEGIN") ≡ false → CanWriteAll pos (record { stamp = stamp; body = query (record { thread = thread; step = step; text = text }) } ∷ []) → before ≡ []
+    → out ≡ before ++ bytes_of server pos (record { stamp = stamp; body = query (record { thread = thread; step = step; text = text }) } ∷ [])
+    → Encodes (Definition context.stamp server (item_by_text text context)) committed pos out
+definition_encodes text context server pos committed before out stamp thread step at by so other can none is =
+    let same : record { stamp = stamp; body = query (record { thread = thread; step = step; text = text }) } ≡ record { stamp = context.stamp; body = query (query_of text (item_by_text text context).carried) } =
+    ap (λ (n : ℕ). record { stamp = n; body = query (record { thread = thread; step = step; text = text }) }) at
+    ∙ ap (λ (n : ℕ). record { stamp = context.stamp; body = query (record { thread = n; step = step; text = text }) }) by
+    ∙ ap (λ (s : Option Step). record { stamp = context.stamp; body = query (record { thread = context.connection; step = s; text = text }) }) so in
+    record {
+      bytes =
+          is ∙ ap (λ bs. bs ++ bytes_of server pos (record { stamp = stamp; body = query (record { thread = thread; step = step; text = text }) } ∷ [])) none
+          ∙ ap (λ (e : Stamped). bytes_of server pos (e ∷ [])) same;
+      can = (subst (λ (e : Stamped). CanWriteAll pos (e ∷ [])) same can, other);
+    }
+
+-- ---- the head of a log
+
+version_length : length version ≡ 50
+version_length = refl
+
+description_size : size (format_description version) ≡ 119
+unfolding size format_description_bytes layout_bytes number_bytes
+description_size = refl
+
+pub start_can : (stamp : ℕ) → stamp < 2 ^ 32 → CanWriteAll 4 (description stamp)
+start_can stamp at =
+    let size = description_size in
+    (record { form = version_length; end = omega (arith, size) }, tt, at, tt)
+
+-- ---- what is too large
+
+pub too_many : (n bytes : ℕ) → bytes ≡ bounded n → nat_lt most_bytes bytes ≡ nat_lt most_bytes n
+too_many n bytes is = grind (arith, nat_tests)

@@ -1,0 +1,57 @@
+-- What a source makes an item of.
+use Rattle.std.specs.Prelude.{ℕ, true, false, List, [], filter, map, None, ℤ}
+use Rattle.val_types.specs.declared.change.Change.{Change}
+use Rattle.val_types.specs.declared.definitions.TableDef.{TableDef}
+use Rattle.val_types.specs.Changes.{table_of}
+use Rattle.catalog_rules.specs.Names.{is_among}
+use Rattle.catalog_rules.specs.Objects.{Object}
+use Rattle.catalog_rules.specs.Bases.{definitions_in}
+use Rattle.log_entries.specs.declared.carried.Carried.{Carried}
+use Rattle.log_entries.specs.declared.entries.Item.{Item}
+use Rattle.sql_meaning.specs.Frames.{Context}
+use Rattle.logged_items.specs.declared.before.Before.{Before}
+
+-- ---- tables
+
+-- the definitions of the tables that are among some names
+abbrev pub among : List (List ℕ) → List TableDef → List TableDef
+among names definitions = filter (λ (d : TableDef). is_among names d.name) definitions
+
+-- of a catalog, those of the tables that some changes change
+abbrev pub definitions_changed : List Object → List Change → List TableDef
+definitions_changed catalog changes = among (map table_of changes) (definitions_in catalog)
+
+-- ---- contexts
+
+-- a context with the numbers that it had before a statement
+abbrev pub as_before : Before → Context → Context
+as_before before context = record context { last_id = before.last_id; seeds = before.seeds }
+
+abbrev pub numbers_of : Context → Before
+numbers_of context = record { last_id = context.last_id; seeds = context.seeds }
+
+-- ---- items
+
+-- a statement, by its rows
+abbrev pub item_by_rows : List ℕ → Carried → List Object → List Change → Item
+item_by_rows text carried catalog changes =
+    record { text = text; carried = carried; rows = true; defs = definitions_changed catalog changes; changes = changes }
+
+-- a CREATE, DROP or TRUNCATE: its text, with its moment, its session and the two AUTO_INCREMENT variables
+abbrev pub item_by_text : List ℕ → Context → Item
+item_by_text text context = record {
+  text = text;
+  carried = record {
+    stamp = context.stamp;
+    connection = context.connection;
+    inc = context.increment;
+    off = context.offset;
+    last_id = None;
+    first = None;
+    seeds = None;
+    vars = [];
+  };
+  rows = false;
+  defs = [];
+  changes = [];
+}

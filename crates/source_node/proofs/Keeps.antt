@@ -1,0 +1,152 @@
+-- What is kept of a statement, by what the code does.
+use Rattle.std.proofs.Common.{◌≡◌, ℕ, suc, ◌≤◌, List, [], ◌∷◌, ◌++◌, Bool, true, false, not, if◌then◌else◌, map, length, Option, Some, None, Result, Ok, Err, IfOk, ℤ, refl, sym, ap, ◌∙◌, subst, arith}
+use Rattle.std.proofs.lemmas.List.{map-id}
+use Rattle.val_types.specs.declared.change.Change.{Change}
+use Rattle.val_types.specs.declared.refusal.SqlRefusal.{SqlRefusal}
+use Rattle.val_types.specs.declared.refusal.SqlRefusal.TheVariants.{Sql, NoMemory}
+use Rattle.port_traits.specs.declared.identity.Draw.{Draw}
+use Rattle.port_traits.specs.declared.identity.Identity.{Identity}
+use Rattle.log_entries.specs.declared.entries.Item.{Item}
+use Rattle.log_entries.specs.declared.entries.Entry.{Entry}
+use Rattle.log_entries.specs.declared.entries.Entry.TheVariants.{Transaction}
+use Rattle.sql_meaning.specs.Frames.{Context}
+use Rattle.transaction_sizes.specs.Sizes.{are_too_large}
+use Rattle.session_ctx.specs.declared.session.SessionVars.{SessionVars}
+use Rattle.session_model.specs.Sessions.{Open, Session, Shared}
+use Rattle.session_model.specs.Running.{Turn, all_committed, commit_entries, commit_shared, items_of, takes_too_much, transaction_of, with_context}
+use Rattle.source_node.specs.Calls.{call_of}
+use Rattle.source_node.specs.declared.desk.Desk.{Desk}
+use Rattle.source_node.specs.Desk.{cut_to, shared_of}
+use Rattle.source_node.specs.Keeping.{changes_kept, item_kept, kept_if, refused_unless, with_last_id}
+use Rattle.source_node.specs.Saving.{one_more_if}
+use Rattle.source_node.specs.Turned.{EndsAs, IsTurn, Logs, Moves, giving}
+use Rattle.source_node.proofs.Settling.{came_to}
+use Rattle.source_node.proofs.Turns.{moves_from, same_entry, turn_is}
+
+module _ (identity : Identity) (draw : Draw) (n : ℕ) where
+  -- ---- a transaction that is committed
+
+  pub commits : (context : Context) (items : List Item) (old new : Desk) → 1 ≤ length items → shared_of new ≡ all_committed (Transaction context.stamp identity.server_id items) (shared_of old)
+      → shared_of new ≡ commit_shared (call_of identity draw n) context items (shared_of old)
+  commits context [] old new some is = absurd (omega (arith, some))
+  commits context (i ∷ is) old new some committed =
+      committed ∙ ap (λ (e : Entry Item). all_committed e (shared_of old)) (sym (same_entry (transaction_of (call_of identity draw n) context (i ∷ is))))
+
+  pub commits_entry : (context : Context) (items : List Item) (old new : Desk) → 1 ≤ length items → Logs (Transaction context.stamp identity.server_id items ∷ []) old new
+      → Logs (commit_entries (call_of identity draw n) context items) old new
+  commits_entry context [] old new some logs = absurd (omega (arith, some))
+  commits_entry context (i ∷ is) old new some logs = logs
+
+  pub commits_nothing : (context : Context) (items : List Item) (shared : Shared) → length items ≡ 0 → shared ≡ commit_shared (call_of identity draw n) context items shared
+  commits_nothing context [] shared none = refl
+  commits_nothing context (i ∷ is) shared none = absurd (omega (arith, none))
+
+  pub enters_nothing : (context : Context) (items : List Item) (desk : Desk) → length items ≡ 0 → Logs (commit_entries (call_of identity draw n) context items) desk desk
+  enters_nothing context [] desk none = (refl, tt)
+  enters_nothing context (i ∷ is) desk none = absurd (omega (arith, none))
+
+  -- ---- an item
+
+  -- what a node keeps is what the log has
+  pub too_much : (transaction : Option (Open Item)) (item : Item) → takes_too_much (call_of identity draw n) transaction item ≡ are_too_large (items_of transaction ++ item ∷ [])
+  too_much transaction item = ap are_too_large (map-id (items_of transaction ++ item ∷ []))
+
+  item_if : (b : Bool) (item : Item) (mark : ℕ) (shared : Shared) (session : Session Item) → takes_too_much (call_of identity draw n) session.transaction item ≡ b
+      → kept_if (not b) (call_of identity draw n) item mark shared session ≡ item_kept (call_of identity draw n) item mark shared session
+  item_if true item mark shared session is =
+      ap (λ (b : Bool). if b then kept_if false (call_of identity draw n) item mark shared session else kept_if true (call_of identity draw n) item mark shared session) (sym is)
+  item_if false item mark shared session is =
+      ap (λ (b : Bool). if b then kept_if false (call_of identity draw n) item mark shared session else kept_if true (call_of identity draw n) item mark shared session) (sym is)
+
+  -- whether it is kept, as the code tells
+  pub item_is : (kept : Bool) (item : Item) (mark : ℕ) (shared : Shared) (session : Session Item) → kept ≡ not (are_too_large (items_of session.transaction ++ item ∷ []))
+      → kept_if kept (call_of identity draw n) item mark shared session ≡ item_kept (call_of identity draw n) item mark shared session
+  item_is kept item mark shared session is =
+      let large : Bool = are_too_large (items_of session.transaction ++ item ∷ []) in
+      ap (λ (b : Bool). kept_if b (call_of identity draw n) item mark shared session) is
+      ∙ item_if large item mark shared session (too_much session.transaction item)
+
+  -- outside a transaction
+  pub alone : (item : Item) (mark : ℕ) (old new : Desk) (vars : SessionVars) → are_too_large (item ∷ []) ≡ false
+      → shared_of new ≡ all_committed (Transaction vars.context.stamp identity.server_id (item ∷ [])) (shared_of old) → Logs (Transaction vars.context.stamp identity.server_id (item ∷ []) ∷ []) old new
+      → IsTurn old new (record { vars = vars; transaction = None }) true (item_kept (call_of identity draw n) item mark (shared_of old) (record { vars = vars; transaction = None }))
+  alone item mark old new vars small committed logs =
+      turn_is old new (record { vars = vars; transaction = None }) true (kept_if true (call_of identity draw n) item mark (shared_of old) (record { vars = vars; transaction = None })) _
+      (item_is true item mark (shared_of old) (record { vars = vars; transaction = None }) (ap not (sym small))) ((committed, refl, logs), refl)
+
+  pub refused_alone : (item : Item) (mark : ℕ) (old new : Desk) (vars : SessionVars) → are_too_large (item ∷ []) ≡ true → shared_of new ≡ cut_to n mark (shared_of old) → new.log ≡ old.log
+      → IsTurn old new (record { vars = vars; transaction = None }) false (item_kept (call_of identity draw n) item mark (shared_of old) (record { vars = vars; transaction = None }))
+  refused_alone item mark old new vars large cut same =
+      turn_is old new (record { vars = vars; transaction = None }) false (kept_if false (call_of identity draw n) item mark (shared_of old) (record { vars = vars; transaction = None })) _
+      (item_is false item mark (shared_of old) (record { vars = vars; transaction = None }) (ap not (sym large))) ((cut, refl, (same, tt)), refl)
+
+  -- in an open one
+  pub in_open : (item : Item) (mark : ℕ) (old new : Desk) (vars : SessionVars) (open' later : Open Item) (kept : Bool) → kept ≡ not (are_too_large (open'.items ++ item ∷ [])) → later ≡ one_more_if kept item open'
+      → kept ≡ true → shared_of new ≡ record (shared_of old) { writer = Some n } → new.log ≡ old.log
+      → IsTurn old new (record { vars = vars; transaction = Some later }) kept (item_kept (call_of identity draw n) item mark (shared_of old) (record { vars = vars; transaction = Some open' }))
+  in_open item mark old new vars open' later kept is left stays taken same =
+      let more : later ≡ one_more_if true item open' = left ∙ ap (λ (b : Bool). one_more_if b item open') stays in
+      turn_is old new (record { vars = vars; transaction = Some later }) kept (kept_if true (call_of identity draw n) item mark (shared_of old) (record { vars = vars; transaction = Some open' })) _
+      (ap (λ (b : Bool). kept_if b (call_of identity draw n) item mark (shared_of old) (record { vars = vars; transaction = Some open' })) (sym stays)
+      ∙ item_is kept item mark (shared_of old) (record { vars = vars; transaction = Some open' }) is)
+      ((taken, ap (λ (o : Open Item). record { vars = vars; transaction = Some o }) more, (same, tt)), stays)
+
+  pub not_in_open : (item : Item) (mark : ℕ) (old new : Desk) (vars : SessionVars) (open' later : Open Item) (kept : Bool) → kept ≡ not (are_too_large (open'.items ++ item ∷ [])) → later ≡ one_more_if kept item open'
+      → kept ≡ false → shared_of new ≡ cut_to n mark (shared_of old) → new.log ≡ old.log
+      → IsTurn old new (record { vars = vars; transaction = Some later }) kept (item_kept (call_of identity draw n) item mark (shared_of old) (record { vars = vars; transaction = Some open' }))
+  not_in_open item mark old new vars open' later kept is left lost cut same =
+      let more : later ≡ open' = left ∙ ap (λ (b : Bool). one_more_if b item open') lost in
+      turn_is old new (record { vars = vars; transaction = Some later }) kept (kept_if false (call_of identity draw n) item mark (shared_of old) (record { vars = vars; transaction = Some open' })) _
+      (ap (λ (b : Bool). kept_if b (call_of identity draw n) item mark (shared_of old) (record { vars = vars; transaction = Some open' })) (sym lost)
+      ∙ item_is kept item mark (shared_of old) (record { vars = vars; transaction = Some open' }) is)
+      ((cut, ap (λ (o : Open Item). record { vars = vars; transaction = Some o }) more, (same, tt)), lost)
+
+  -- ---- changes
+
+  pub no_changes : (item : List Change → Item) (changes : List Change) (mark : ℕ) (last_id : ℤ) (desk : Desk) (session : Session Item) → length changes ≡ 0
+      → EndsAs (Ok tt) desk desk session (changes_kept (call_of identity draw n) item changes mark last_id (shared_of desk) session)
+  no_changes item [] mark last_id desk session none = ((refl, refl, (refl, tt)), refl)
+  no_changes item (c ∷ cs) mark last_id desk session none = absurd (omega (arith, none))
+
+  some_kept : (item : List Change → Item) (changes : List Change) (mark : ℕ) (last_id : ℤ) (shared : Shared) (session : Session Item) → 1 ≤ length changes
+      → refused_unless (item_kept (call_of identity draw n) (item changes) mark shared session).given last_id (item_kept (call_of identity draw n) (item changes) mark shared session)
+      ≡ changes_kept (call_of identity draw n) item changes mark last_id shared session
+  some_kept item [] mark last_id shared session some = absurd (omega (arith, some))
+  some_kept item (c ∷ cs) mark last_id shared session some = refl
+
+  pub some_changes : (item : List Change → Item) (changes : List Change) (mark : ℕ) (last_id : ℤ) (old new : Desk) (session after : Session Item) (kept : Bool) → 1 ≤ length changes → kept ≡ true
+      → IsTurn old new after kept (item_kept (call_of identity draw n) (item changes) mark (shared_of old) session)
+      → EndsAs (Ok tt) old new after (changes_kept (call_of identity draw n) item changes mark last_id (shared_of old) session)
+  some_changes item changes mark last_id old new session after kept some stays turn =
+      let t : Turn Item Bool = item_kept (call_of identity draw n) (item changes) mark (shared_of old) session in
+      let given : true ≡ t.given = sym stays ∙ turn.1 in
+      subst (λ u. EndsAs (Ok tt) old new after u) (some_kept item changes mark last_id (shared_of old) session some)
+      (subst (λ (b : Bool). EndsAs (Ok tt) old new after (refused_unless b last_id t)) given (turn.0, refl))
+
+  pub too_many_changes : (item : List Change → Item) (changes : List Change) (mark : ℕ) (last_id : ℤ) (old new : Desk) (session after : Session Item) (kept : Bool) → 1 ≤ length changes → kept ≡ false
+      → IsTurn old new after kept (item_kept (call_of identity draw n) (item changes) mark (shared_of old) session)
+      → EndsAs {A = Unit {0}} (Err (Sql 1197)) old new (with_last_id last_id after) (changes_kept (call_of identity draw n) item changes mark last_id (shared_of old) session)
+  too_many_changes item changes mark last_id old new session after kept some lost turn =
+      let t : Turn Item Bool = item_kept (call_of identity draw n) (item changes) mark (shared_of old) session in
+      let given : false ≡ t.given = sym lost ∙ turn.1 in
+      subst (λ u. EndsAs {A = Unit {0}} (Err (Sql 1197)) old new (with_last_id last_id after) u) (some_kept item changes mark last_id (shared_of old) session some)
+      (subst (λ (b : Bool). EndsAs {A = Unit {0}} (Err (Sql 1197)) old new (with_last_id last_id after) (refused_unless b last_id t)) given
+      ((turn.0.0, ap (with_last_id last_id) turn.0.1, turn.0.2), refl))
+
+-- ---- how a statement ended
+
+-- what was kept behind a run that logged nothing
+pub ends_kept : {A : Type 0} (a : A) (old ran new : Desk) (after : Session Item) (t : Turn Item (Result A ℕ)) (u : Turn Item (Result (Unit {0}) ℕ)) → t ≡ giving (came_to a) u → ran.log ≡ old.log → ran.committed ≡ old.committed
+    → EndsAs (Ok tt) ran new after u → EndsAs (Ok a) old new after t
+ends_kept a old ran new after t u is bytes count ends =
+    subst (λ v. EndsAs (Ok a) old new after v) (sym is) (moves_from old ran new after (giving (came_to a) u) bytes count ends.0, ap (came_to a) ends.1)
+
+pub ends_refused : {A : Type 0} (a : A) (code : ℕ) (old ran new : Desk) (after : Session Item) (t : Turn Item (Result A ℕ)) (u : Turn Item (Result (Unit {0}) ℕ)) → t ≡ giving (came_to a) u → ran.log ≡ old.log → ran.committed ≡ old.committed
+    → EndsAs {A = Unit {0}} (Err (Sql code)) ran new after u → EndsAs {A = A} (Err (Sql code)) old new after t
+ends_refused {A} a code old ran new after t u is bytes count ends =
+    subst (λ v. EndsAs {A = A} (Err (Sql code)) old new after v) (sym is) (moves_from old ran new after (giving (came_to a) u) bytes count ends.0, ap (came_to a) ends.1)
+
+-- an error of the run itself
+pub ends_failed : {A : Type 0} (code : ℕ) (old ran : Desk) (after : Session Item) (t : Turn Item (Result A ℕ)) → record { shared = shared_of ran; session = after; committed = []; given = Err code } ≡ t → ran.log ≡ old.log
+    → EndsAs {A = A} (Err (Sql code)) old ran after t
+ends_failed {A} code old ran after t is bytes = subst (λ v. EndsAs {A = A} (Err (Sql code)) old ran after v) is ((refl, refl, (bytes, tt)), refl)

@@ -1,0 +1,11 @@
+//! A command of a session.
+
+use port_traits::{Draw, Identity};
+
+/// What a command has round it: who the node is, the command's draw, and the number of its session.
+#[derive(Clone, Copy)]
+pub struct Call<'a> {
+    pub identity: &'a Identity,
+    pub draw: &'a Draw,
+    pub number: u8,
+}
