@@ -56,7 +56,9 @@ impl Cache {
         let before = last_sums(&self.kept);
         let until = Sums {
             log: before.log.saturating_add(item_size(&item)),
-            changes: before.changes.saturating_add(changes_size(item.changes.as_slice())),
+            changes: before
+                .changes
+                .saturating_add(changes_size(item.changes.as_slice())),
         };
         self.kept.push(Kept { item, until })?;
         Ok(())

@@ -84,8 +84,8 @@ transaction_can (i ∷ is) stamp number pos are at low end =
       (are.0.thread, tt),
       are.0.stamp,
       can_join (pos + size (query (begin_query i.carried.connection))) (flat_map item_events (i ∷ is)) (record { stamp = stamp; body = xid number } ∷ [])
-      (items_can (i ∷ is) (pos + size (query (begin_query i.carried.connection))) are (omega (arith, begin, end)))
-      (record { form = tt; end = omega (arith, begin, last, sum, end) }, low, at, tt),
+          (items_can (i ∷ is) (pos + size (query (begin_query i.carried.connection))) are (omega (arith, begin, end)))
+          (record { form = tt; end = omega (arith, begin, last, sum, end) }, low, at, tt),
     )
 
 -- the sum that the code has is that of the items, where it is not too great

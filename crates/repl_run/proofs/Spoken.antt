@@ -64,8 +64,8 @@ shown_out names b k c draw old new nodes lines drew stays shows = record { draw 
 pub said : (nodes nodes' : Nodes) (k n : ℕ) (text : List ℕ) (draw : Draw) (old new : Report) (answer : Answer) (lines : List ℕ) → EntriesCanLogOn → ReplaysGoOn → FollowsGoOn → n < 100 → length text ≤ 1048576
     → nodes'.replica ≡ nodes.replica → nodes'.source.identity ≡ nodes.source.identity
     → ((m : Machine) → Stands nodes.source m → Holds with_nothing m → (answer ≡ (step whole nodes.source.identity m.state n text draw).answer)
-      × Stands nodes'.source (machine_after m (step whole nodes.source.identity m.state n text draw))
-      × CanLogAll (map kept_entry (step whole nodes.source.identity m.state n text draw).committed) m.state.shared.committed m.state.shared.place)
+    × Stands nodes'.source (machine_after m (step whole nodes.source.identity m.state n text draw))
+    × CanLogAll (map kept_entry (step whole nodes.source.identity m.state n text draw).committed) m.state.shared.committed m.state.shared.place)
     → lines ≡ shown k answer → Drew (say n text) draw old new → new.now ≡ old.now
     → (names : Names) (b : Both) → Together names nodes b → CarriedOut names b k (say n text) old new nodes' lines
 said nodes nodes' k n text draw old new answer lines can_on replays follows within short replica identity stands lines_are drew stays names b t =

@@ -84,12 +84,7 @@ fn byte_by_byte(alloc: Global) -> Result<Bytes, Fail> {
 }
 
 /// Puts a line: the command's number, then words, a number and more words.
-fn put_line(
-    alloc: Global,
-    lines: &mut Bytes,
-    number: u32,
-    words: &str,
-) -> Result<(), Fail> {
+fn put_line(alloc: Global, lines: &mut Bytes, number: u32, words: &str) -> Result<(), Fail> {
     lines.extend_from_slice(number.to_string(alloc)?.as_bytes())?;
     lines.push(b' ')?;
     lines.extend_from_slice(words.as_bytes())?;

@@ -35,12 +35,14 @@ fn carry_out(
             work.commit();
             Ok(None)
         }
-        Err(Stop::Differs {
-            pos,
-            code,
-            table,
-            key,
-        }) => Ok(Some(Stopped::Differs {
+        Err(
+            Stop::Differs {
+                pos,
+                code,
+                table,
+                key,
+            },
+        ) => Ok(Some(Stopped::Differs {
             pos,
             code,
             table,
@@ -73,8 +75,13 @@ impl ReplicaNode {
                         Ok(Step::Moved)
                     }
                     Form::Ddl(_) | Form::Txn { .. } => {
-                        let stop =
-                            carry_out(self.alloc, &mut self.work, &group, &self.identity, draw)?;
+                        let stop = carry_out(
+                            self.alloc,
+                            &mut self.work,
+                            &group,
+                            &self.identity,
+                            draw,
+                        )?;
                         if let Some(stop) = stop {
                             return Ok(Step::Stopped(stop));
                         }

@@ -12,12 +12,7 @@ use std::alloc::Global;
 use val_types::{Bytes, List, NoMemory, Row, SqlError, row_text};
 
 /// Puts words and a number behind them at the end.
-fn put_with(
-    alloc: Global,
-    text: &mut Bytes,
-    words: &[u8],
-    number: u64,
-) -> Result<(), NoMemory>
+fn put_with(alloc: Global, text: &mut Bytes, words: &[u8], number: u64) -> Result<(), NoMemory>
     ensures { OnOk result (text.new ≡ text.old ++ words.now ++ decimal number) }
 {
     text.extend_from_slice(words)?;

@@ -15,9 +15,14 @@ pub enum Stopped {
         key: Row,
     },
     /// An event is outside its form, or no group has it there.
-    Damaged { pos: u64 },
+    Damaged {
+        pos: u64,
+    },
     /// An event is not known, with its type.
-    Foreign { pos: u64, kind: u8 },
+    Foreign {
+        pos: u64,
+        kind: u8,
+    },
 }
 
 /// How many definitions and transactions were carried out, the place behind them, and what stopped, if anything did.

@@ -93,7 +93,7 @@ module _ (below : Below) (identity : Identity) (draw : Draw) (m : Machine) (stam
       → drop a.passed a.replica.relay ≡ entry_bytes (kept_entry e) number p ++ left
       → left ++ rest ≡ log (map kept_entry es) (counted (kept_entry e) number) (behind (kept_entry e) number p)
       → Way identity draw m stamp server (carried ++ e ∷ []) es (counted (kept_entry e) number) (behind (kept_entry e) number p) rest
-        (carried_out (group_of_entry (kept_entry e) number p) (record { base = way.carry.next; counters = counters }) a)
+      (carried_out (group_of_entry (kept_entry e) number p) (record { base = way.carry.next; counters = counters }) a)
   way_on carried e es number p rest a left counters way split back =
       let all : List (Entry Whole) = carried ++ e ∷ [] in
       let g : Group = group_of_entry (kept_entry e) number p in
@@ -158,12 +158,16 @@ module _ (below : Below) (identity : Identity) (draw : Draw) (m : Machine) (stam
     where
       stay : StaysInLog (kept_entry e)
       stay = stays e es (last_ones carried (e ∷ es) way.committed)
+
       g : Group
       g = group_of_entry (kept_entry e) number p
+
       bytes : List ℕ
       bytes = drop a.passed a.replica.relay
+
       here : {x : Next} → group_at (record { bytes = drop a.passed a.replica.relay; pos = p.pos }) ≡ x → next_at a ≡ x
       here q = ap (λ (n : ℕ). group_at (record { bytes = drop a.passed a.replica.relay; pos = n })) way.at ∙ q
+
       by : Fetched (entry_bytes (kept_entry e) number p) p.pos (group_of_entry (kept_entry e) number p) (drop a.passed a.replica.relay) rest (log (map kept_entry es) (counted (kept_entry e) number) (behind (kept_entry e) number p))
           → Came m (by_next f identity draw a (next_at a))
       by (partly not) = subst (λ (x : Next). Came m (by_next f identity draw a x)) (sym (here not)) (came carried (e ∷ es) number p rest a way)
@@ -238,12 +242,16 @@ module _ (below : Below) (identity : Identity) (draw : Draw) (m : Machine) (stam
     where
       f : Going → Going
       f = go_on most wanted identity draw
+
       bytes : r.relay ++ rest ≡ bytes_of server 4 (description stamp) ++ log (map kept_entry more) 0 first_place
       bytes = relay ∙ ap (λ (q : LogPlace). drop q.pos (log_of m)) place ∙ behind_magic m stamp server more history
+
       pos : r.place.pos + 0 ≡ 4
       pos = let p : r.place.pos ≡ 4 = ap (λ (q : LogPlace). q.pos) place in omega (arith, p)
+
       here : {x : Next} → group_at (record { bytes = r.relay; pos = 4 }) ≡ x → next_at (going_from r) ≡ x
       here q = ap (λ (n : ℕ). group_at (record { bytes = r.relay; pos = n })) pos ∙ q
+
       by : Fetched (bytes_of server 4 (description stamp)) 4 start_group r.relay rest (log (map kept_entry more) 0 first_place)
           → Came m (by_next (go_on most wanted identity draw) identity draw (going_from r) (next_at (going_from r)))
       by (partly not) =

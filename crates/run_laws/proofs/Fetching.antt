@@ -83,12 +83,16 @@ past_entries below (suc most) (e ∷ es) number p place bytes rest committed can
   where
     stay : StaysInLog (kept_entry e)
     stay = stays e es committed
+
     g : Group
     g = group_of_entry (kept_entry e) number p
+
     here : {x : Next} → group_at (record { bytes = bytes; pos = p.pos }) ≡ x → group_at (record { bytes = bytes; pos = place.pos }) ≡ x
     here q = ap (λ (k : LogPlace). group_at (record { bytes = bytes; pos = k.pos })) at ∙ q
+
     ends_at : (n k l a b : ℕ) → a ≡ b + n → l ≡ n + k → a + k ≡ b + l
     ends_at n k l a b q s = omega (arith, q, s)
+
     by : ((more : List ℕ) (place' : LogPlace) → more ++ rest ≡ log (map kept_entry es) (counted (kept_entry e) number) (behind (kept_entry e) number p)
         → place' ≡ behind (kept_entry e) number p → past_groups most place' more ≡ moved place' (length more))
         → Fetched (entry_bytes (kept_entry e) number p) p.pos g bytes rest (log (map kept_entry es) (counted (kept_entry e) number) (behind (kept_entry e) number p))
@@ -113,6 +117,7 @@ past_all below (suc most) stamp server es bytes rest committed fits can is =
   where
     first : List ℕ
     first = bytes_of server 4 (description stamp)
+
     by : Fetched (bytes_of server 4 (description stamp)) 4 start_group bytes rest (log (map kept_entry es) 0 first_place) → past_groups (suc most) (log_begin 1) bytes ≡ moved (log_begin 1) (length bytes)
     by (partly not) = ap (past_next (past_groups most) (log_begin 1) bytes) not
     by (wholly more split back read) =

@@ -36,7 +36,16 @@ fn carry_out(
     let start = start(desk, call.number, &session.vars.context);
     let context = &mut session.vars.context;
     let outcome = run(alloc, desk, call.number, statement, context, call.draw)?;
-    keep(alloc, call, desk, session, text, statement, start, outcome.first)?;
+    keep(
+        alloc,
+        call,
+        desk,
+        session,
+        text,
+        statement,
+        start,
+        outcome.first,
+    )?;
     Ok(outcome)
 }
 

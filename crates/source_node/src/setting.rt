@@ -66,7 +66,16 @@ fn evaluated(
     let start = start(desk, call.number, &session.vars.context);
     let context = &mut session.vars.context;
     let values = evaluate(alloc, desk, call.number, expressions, context, call.draw)?;
-    keep(alloc, call, desk, session, text.as_slice(), statement, start, None)?;
+    keep(
+        alloc,
+        call,
+        desk,
+        session,
+        text.as_slice(),
+        statement,
+        start,
+        None,
+    )?;
     Ok(values)
 }
 
