@@ -29,9 +29,12 @@ const REST_OF_HELP: &str = "       --help            shows this page
 A script is a list of commands `actor: text //`, each with its `//` at the end of a line:
     s1: CREATE TABLE t (id INT, v INT, PRIMARY KEY (id)) //
     s2: INSERT INTO t VALUES (1, 10) //
+    replica: FETCH 1000 //
+    replica: APPLY 2 //
     replica: SELECT * FROM t //
-Actors are the sessions s1 to s99 of the source, whose texts are statements, and the replica, whose texts begin with
-SELECT. Each command is answered on standard output before the next is carried out.
+Actors are the sessions s1 to s99 of the source, whose texts are statements, and the replica, which fetches so many bytes
+of the source's log, applies so many groups of them, and shows its rows. Each command is answered on standard output
+before the next is carried out.
 
 Exit status, with a line on standard error but for 0:
     0 done              1 bad words         2 bad script
