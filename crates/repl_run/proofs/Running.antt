@@ -236,7 +236,7 @@ stops (Ok done) cs i k c old new before now after nodes within is k_is grew goin
 stops (Err status) cs i k c old new before now after nodes within is k_is grew going stopped =
     stops_by status cs i k c old new before now after nodes (omega (arith, within)) is k_is grew going (stopped going.names (end_of going.names (first_both going.names going.src) cs going.draws) going.together)
 
-pub ends : (cs : List Asked) (report : Report) (before after : Option (List ℕ)) (nodes : Nodes) → Going cs (length cs) report before after nodes → Ran cs report before after
+ends : (cs : List Asked) (report : Report) (before after : Option (List ℕ)) (nodes : Nodes) → Going cs (length cs) report before after nodes → Ran cs report before after
 ends cs report before after nodes going = record {
   names = going.names;
   src = going.src;
@@ -249,6 +249,13 @@ ends cs report before after nodes going = record {
   replays = going.together.sound.replays;
   follows = going.together.follows;
 }
+
+pub all_ran : {A : Type 0} (r : Result (Unit {0}) Status) (seen : A → Asked) (xs : List A) (report : Report) (before after : Option (List ℕ)) (nodes : Nodes) → OnOk r (Going (map seen xs) (length xs) report before after nodes)
+    → OnOk r (Ran (map seen xs) report before after)
+all_ran (Err status) seen xs report before after nodes going = tt
+all_ran (Ok done) seen xs report before after nodes going =
+    let count : length xs ≡ length (map seen xs) = sym (simp length-map) in
+    ends (map seen xs) report before after nodes (subst (λ (n : ℕ). Going (map seen xs) n report before after nodes) count going)
 
 -- ---- one command
 

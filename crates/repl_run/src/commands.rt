@@ -6,7 +6,7 @@ ghost use Rattle.run_streams.specs.Reports.{AllTold, Drawn, DrewUntil, GoesOnDra
 ghost use Rattle.run_streams.specs.Stops.{StopsWriting, failed_writes, status_of};
 ghost use Rattle.repl_run.specs.Asking.{asked_seen, is_fit};
 ghost use Rattle.repl_run.specs.Ran.{Ran};
-ghost use Rattle.repl_run.specs.Running.{Ends};
+ghost use Rattle.repl_run.specs.Running.{Ends, Going};
 ghost use Rattle.repl_run.specs.Together.{Grew, Lined, Opened, Stopped, Together, Told};
 
 use crate::asked::Asked;
@@ -30,7 +30,7 @@ fn moment_fits(moment: u32)
 }
 
 /// Opens the source, then the replica, each with who it is and its first draw.
-fn open_nodes<E: Env, F: Env>(
+pub(crate) fn open_nodes<E: Env, F: Env>(
     alloc: Global,
     src_env: &mut E,
     rep_env: &mut F,
@@ -118,7 +118,7 @@ fn answer_command<K: Sink, E: Env, F: Env>(
 }
 
 /// Carries out the commands in order.
-fn answer_all<K: Sink, E: Env, F: Env>(
+pub(crate) fn answer_all<K: Sink, E: Env, F: Env>(
     alloc: Global,
     asked: &List<Asked<'_>>,
     nodes: &mut Nodes,
@@ -130,7 +130,7 @@ fn answer_all<K: Sink, E: Env, F: Env>(
     requires opened { Opened nodes.old report.old }
     requires count { length asked.now ≤ 13421772 }
     requires fit { IsTrue (list_all is_fit asked.now) }
-    ensures ran { OnOk result (Ran (map asked_seen asked.now) report.new (K.written out.old) (K.written out.new)) }
+    ensures going { OnOk result (Going (map asked_seen asked.now) (length asked.now) report.new (K.written out.old) (K.written out.new) nodes.new) }
     ensures ends { IfErr result (λ status. Ends status (map asked_seen asked.now) report.new (K.written out.old) (K.written out.new)) }
     ensures src_drawn { DrewUntil (status_of result) (E.draws src_env.old) report.old.src_draws (E.draws src_env.new) report.new.src_draws }
     ensures rep_drawn { DrewUntil (status_of result) (F.draws rep_env.old) report.old.rep_draws (F.draws rep_env.new) report.new.rep_draws }

@@ -5,12 +5,14 @@
 //! ends, in `specs/Ran`.
 //!
 //! - `program`: [`top`]
+//! - `logging`: [`write_log`], the source's log in place of what the commands are told
 //! - `commands`: the commands, one after the other, and the lines that show what they are told
 //! - `nodes`: a source and a replica, and one command over both
 //! - `asked`: what a script asks of them
 //!
-//! In specs/: `Ran` (how a run ends), `Running` (commands on their way), `Together` (nodes that stand for those of a run, and what
-//! one command makes of them), `Asking` (what is read of a script), `Faults` (the cause of a fault).
+//! In specs/: `Ran` (how a run ends), `Logged` (how the writing of its log ends), `Running` (commands on their way), `Together`
+//! (nodes that stand for those of a run, and what one command makes of them), `Asking` (what is read of a script), `Faults` (the
+//! cause of a fault).
 //!
 //! It stands on `run_streams`, `run_model` with its laws (`run_laws`), `source_node` and `replica_node`; the programs give it the
 //! real edges.
@@ -36,6 +38,11 @@
 //!   (`read_fault`, `write_fault`), and is the last call on its stream (`last_read`, `last_write`, `reads_once`).
 //! - The report's identities and draws are the environments' at any status (`source`, `replica`), and at any but NoMemory all
 //!   that was drawn is told (`src_drawn`, `rep_drawn`).
+//! - [`write_log`], by its status (`run`). Done: all commands of the script on the input, which was read whole, were carried out,
+//!   each at a draw that the report tells, and the bytes of the log of the machine behind them were written. WriteFault: a front of
+//!   these. BadScript, ReadFault and NoMemory: nothing was written, and BadScript is at the byte at which [`top`] would have it. No
+//!   other status comes. A fault comes only where the stream's count of faults rose, or stands at its last value (`read_fault`,
+//!   `write_fault`); the report is true at any status (`source`, `replica`).
 //!
 //! # Only tested
 //! In the tests of the program: that calls succeed with ample memory.
@@ -43,7 +50,9 @@
 
 mod asked;
 mod commands;
+mod logging;
 mod nodes;
 mod program;
 
+pub use logging::write_log;
 pub use program::top;
