@@ -1,5 +1,5 @@
 -- A definition of a log: the statement that its text is, and what is made of it.
-use Rattle.std.proofs.Common.{◌≡◌, ℕ, ◌<◌, ◌≤◌, List, [], length, Bool, true, false, Option, Some, None, Result, Ok, Err, refl, sym, ap, subst, ◌∙◌, arith}
+use Rattle.std.proofs.Common.{◌≡◌, ℕ, ◌<◌, ◌≤◌, List, length, Bool, true, false, Option, Some, None, Result, Ok, Err, sym, ap, subst, ◌∙◌, arith}
 use Rattle.std.specs.Prelude.{if◌then◌else◌, nat_lt}
 use Rattle.std.proofs.lemmas.Bool.{lt-ltb}
 use Rattle.std.proofs.lemmas.Bool.Decides.{nat_tests}
@@ -12,7 +12,7 @@ use Rattle.catalog_rules.specs.Creating.{ddl_refusal}
 use Rattle.catalog_objects.specs.Keys.{objects_of}
 use Rattle.sql_reach.specs.Defining.{counters_after, is_still_refused}
 use Rattle.sql_reach.specs.Reach.{is_definition}
-use Rattle.text_answers.specs.Answers.{TextAnswer, a_statement, a_syntax_error, too_deep, text_answer}
+use Rattle.text_answers.specs.Answers.{TextAnswer, text_answer}
 use Rattle.applier_model.specs.Groups.{Applied, define_allowed, define_if}
 use Rattle.applier_model.specs.Texts.{statement_by, statement_in, most_text}
 use Rattle.prog_run.specs.Contents.{Contents, base_of}

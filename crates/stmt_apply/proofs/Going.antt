@@ -1,9 +1,8 @@
 -- A transaction under way, step by step.
-use Rattle.std.proofs.Common.{◌≡◌, ℕ, ◌+◌, ◌<◌, List, [], ◌∷◌, ◌++◌, Bool, true, false, ◌||◌, map, reverse, length, Option, Some, None, Result, Ok, Err, refl, sym, ap, subst, ◌∙◌, arith}
-use Rattle.std.specs.Prelude.{if◌then◌else◌, min, nat_lt, unwrap_or}
+use Rattle.std.proofs.Common.{◌≡◌, ℕ, ◌+◌, ◌<◌, List, [], ◌∷◌, ◌++◌, Bool, true, false, map, reverse, length, Option, Some, None, Result, Ok, Err, refl, sym, ap, subst, ◌∙◌, arith}
+use Rattle.std.specs.Prelude.{if◌then◌else◌, unwrap_or}
 use Rattle.std.proofs.lemmas.List.{append_assoc, append-nil, map-append, reverse-append}
 use Rattle.val_types.specs.declared.change.Change.{Change}
-use Rattle.auto_inc.specs.declared.counters.Counter.{Counter}
 use Rattle.event_codec.specs.declared.event.MapView.{MapView}
 use Rattle.event_codec.specs.Event.{Map, Rows, map_of}
 use Rattle.log_model.specs.Events.{Placed}
@@ -16,7 +15,7 @@ use Rattle.catalog_objects.specs.Keys.{objects_of}
 use Rattle.applier_model.specs.Stops.{Differs, stop_at}
 use Rattle.applier_model.specs.Rows.{Store, carry_change}
 use Rattle.row_events.specs.Sizes.{bounded}
-use Rattle.transaction_sizes.specs.Sizes.{change_size, changes_size, most_bytes}
+use Rattle.transaction_sizes.specs.Sizes.{changes_size}
 use Rattle.applier_model.specs.Texts.{Applier, Needs, Progress, no_needs}
 use Rattle.applier_model.specs.Groups.{Applied, Going, and_then, applied_by, carry_changes, carry_rows, event_carried, first_place, going_from, is_too_large, item_ended, items_carried, rows_ended, store_of, with_bytes, with_needs, with_store}
 use Rattle.prog_run.specs.Contents.{Contents, base_of}

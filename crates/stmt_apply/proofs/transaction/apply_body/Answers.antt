@@ -1,4 +1,3 @@
-use Rattle.std.proofs.Common.{◌≡◌}
 use Rattle.stmt_apply.proofs.Going.{mapped, passes_needs}
 use Rattle.stmt_apply.proofs.transaction.apply_body.Goals as goal
 

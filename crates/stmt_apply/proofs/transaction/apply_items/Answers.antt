@@ -1,5 +1,5 @@
 use Rattle.std.proofs.lemmas.Result.{err_from_is_err_and}
-use Rattle.std.proofs.Common.{◌≡◌, refl}
+use Rattle.std.proofs.Common.{refl}
 use Rattle.log_groups.specs.Views.{part_of, parts}
 use Rattle.stmt_apply.proofs.Going.{begins, event_on, event_stopped, events_done}
 use Rattle.stmt_apply.proofs.Staying.{stays_on, stays_same}

@@ -1,4 +1,4 @@
-use Rattle.std.proofs.Common.{◌≡◌, ◌+◌, sym, ap, ◌∙◌, Some, rules}
+use Rattle.std.proofs.Common.{◌≡◌, sym, ap, ◌∙◌, rules}
 use Rattle.val_types.specs.declared.change.Change.{Change}
 use Rattle.std.proofs.Common.{List, map}
 use Rattle.event_codec.specs.declared.event.MapView.{MapView}
@@ -6,10 +6,8 @@ use Rattle.log_model.specs.Groups.{find}
 use Rattle.event_codec.specs.Event.{map_of, rows_of}
 use Rattle.row_events.specs.Sizes.{bounded}
 use Rattle.transaction_sizes.specs.Sizes.{changes_size}
-use Rattle.log_model.specs.Images.{changes_of}
-use Rattle.applier_model.specs.Groups.{Going, carry_changes}
+use Rattle.applier_model.specs.Groups.{carry_changes}
 use Rattle.stmt_apply.specs.Ends.{progress_in}
-use Rattle.stmt_apply.specs.UnderWay.{Stands}
 use Rattle.stmt_apply.proofs.Going.{rows_ended_so, rows_stand}
 use Rattle.stmt_apply.proofs.transaction.apply_rows.Goals as goal
 
