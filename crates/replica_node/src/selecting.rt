@@ -38,7 +38,7 @@ fn checked(alloc: Global, work: &Work, statement: &Stmt) -> Option<SqlError>
 }
 
 /// Runs a statement that is no definition.
-#[tactic(auto, using(crate::proofs::Reading::stays))]
+#[tactic(auto)]
 fn run(
     alloc: Global,
     identity: &Identity,
@@ -75,7 +75,7 @@ fn run(
 }
 
 /// Runs a statement that is no definition, and puts back what it did to rows and counters.
-#[tactic(auto, using(crate::proofs::Reading::put_back))]
+#[tactic(auto, using(stmt_apply::proofs::Staying::given_back))]
 fn read(
     alloc: Global,
     identity: &Identity,
