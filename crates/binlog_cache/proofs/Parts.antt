@@ -1,9 +1,8 @@
 -- The events of a transaction, part by part.
-use Rattle.std.specs.Prelude.{flat_map, IfOk, Result, Ok, Err}
-use Rattle.std.proofs.Common.{◌≡◌, ℕ, ◌+◌, ◌≤◌, ◌<◌, List, [], ◌∷◌, ◌++◌, map, length, drop, get_or, refl, sym, ap, ◌∙◌, subst, arith, append_assoc}
+use Rattle.std.specs.Prelude.{flat_map}
+use Rattle.std.proofs.Common.{◌≡◌, ℕ, ◌+◌, ◌≤◌, ◌<◌, List, [], ◌∷◌, ◌++◌, length, drop, get_or, refl, sym, ap, ◌∙◌, subst, arith}
 use Rattle.std.proofs.lemmas.List.{drop_more}
 use Rattle.event_codec.specs.declared.event.Header.{Header}
-use Rattle.log_entries.specs.declared.entries.Item.{Item}
 use Rattle.log_model.specs.Items.{item_events, IsCarried, AreCarried}
 use Rattle.log_model.specs.Log.{transaction}
 use Rattle.log_model.specs.Written.{Stamped, bytes_of, CanWriteAll}

@@ -1,31 +1,35 @@
 -- What a transaction or a definition is written as can be written.
-use Rattle.std.proofs.Common.{◌≡◌, ℕ, zero, suc, ◌+◌, ◌-◌, ◌^◌, ◌<◌, ◌≤◌, min, Bool, true, false, cond, List, [], ◌∷◌, ◌++◌, map, length, take, drop, refl, sym, ap, ◌∙◌, subst, arith, Option, Some, None, length-append}
-use Rattle.std.specs.Prelude.{flat_map, nat_lt, if◌then◌else◌, codes, IfSome, ◌||◌}
+use Rattle.std.proofs.Common.{◌≡◌, ℕ, zero, suc, ◌+◌, ◌-◌, ◌^◌, ◌<◌, ◌≤◌, min, Bool, true, false, List, [], ◌∷◌, ◌++◌, length, take, refl, sym, ap, ◌∙◌, subst, arith, Result, Ok, Err, IfOk, OnOk, OnErr, Option, Some, None, length-append}
+use Rattle.std.specs.Prelude.{flat_map, nat_lt, if◌then◌else◌, codes, IfSome}
 use Rattle.std.specs.Str.{bytes_eq}
 use Rattle.std.proofs.lemmas.Bool.Decides.{nat_tests}
 use Rattle.byte_fields.specs.Field.{number_bytes}
 use Rattle.event_codec.specs.declared.event.Step.{Step}
-use Rattle.event_codec.specs.Event.{Body, Query, format_description, query, xid}
-use Rattle.event_codec.specs.Writing.{size, format_description_bytes, layout_bytes, query_bytes, step_bytes, CanWrite}
+use Rattle.event_codec.specs.Event.{Query, format_description, query, xid}
+use Rattle.event_codec.specs.Writing.{size, format_description_bytes, layout_bytes, query_bytes, step_bytes}
 use Rattle.log_entries.specs.declared.entries.Item.{Item}
 use Rattle.log_entries.specs.declared.entries.Entry.TheVariants.{Transaction, Definition}
 use Rattle.sql_meaning.specs.Frames.{Context}
 use Rattle.log_model.specs.Items.{at_time, changes_item, item_events, item_size, query_of, step_of, text_of, AreCarried, IsCarried}
-use Rattle.log_model.specs.Log.{begin_query, description, entry_bytes, transaction, version}
-use Rattle.log_model.specs.Spelling.{Spelled, bodies_of}
+use Rattle.log_model.specs.Log.{begin_query, description, transaction, version}
+use Rattle.log_model.specs.Spelling.{bodies_of}
 use Rattle.log_model.specs.Written.{Stamped, bytes_of, total, CanWriteAll}
 use Rattle.row_events.specs.Sizes.{bounded}
 use Rattle.row_events.proofs.GoingOn.{total_append}
 use Rattle.row_laws.proofs.Writable.{writable}
-use Rattle.transaction_sizes.specs.Sizes.{all_sizes, are_too_large, most_bytes}
+use Rattle.transaction_sizes.specs.Sizes.{all_sizes, most_bytes}
 use Rattle.logged_items.specs.Items.{item_by_text}
-use Rattle.logged_items.specs.Logged.{AreLogged, Encodes, IsLogged, in_log}
+use Rattle.logged_items.specs.Logged.{AreLogged, Encodes, IsLogged}
 
 -- ---- items
 
-pub logged_more : (is : List Item) (i : Item) → AreLogged is → IsLogged i → AreLogged (is ++ i ∷ [])
+logged_more : (is : List Item) (i : Item) → AreLogged is → IsLogged i → AreLogged (is ++ i ∷ [])
 logged_more [] i are is-one = (is-one, tt)
 logged_more (x ∷ xs) i are is-one = (are.0, logged_more xs i are.1 is-one)
+
+pub logged_if : {A E : Type 0} (r : Result A E) (old new : List Item) (i : Item) → AreLogged old → IsLogged i → OnOk r (new ≡ old ++ i ∷ []) → OnErr r (new ≡ old) → AreLogged new
+logged_if (Ok a) old new i are is-one ok err = subst AreLogged (sym ok) (logged_more old i are is-one)
+logged_if (Err e) old new i are is-one ok err = subst AreLogged (sym err) are
 
 pub logged_front : (n : ℕ) (is : List Item) → AreLogged is → AreLogged (take n is)
 logged_front zero is are = tt
@@ -56,7 +60,7 @@ item_can i pos logged end =
     let size : total (item_events i) ≡ total (at_time i.carried.stamp (bodies_of (changes_item i.defs i.changes))) = ap total same in
     subst (λ (es : List Stamped). CanWriteAll pos es) (sym same) (writable i.defs i.changes i.carried.stamp pos logged.named logged.can logged.stamp (omega (arith, end, size)))
 
-pub all_total : (is : List Item) → total (flat_map item_events is) ≡ all_sizes is
+all_total : (is : List Item) → total (flat_map item_events is) ≡ all_sizes is
 all_total [] = refl
 all_total (i ∷ is) = total_append (item_events i) (flat_map item_events is) ∙ ap (λ (n : ℕ). item_size i + n) (all_total is)
 
@@ -97,12 +101,17 @@ pub encode_can : (is : List Item) (stamp committed number pos sum near end : ℕ
 encode_can is stamp committed number pos sum near end are at next low is-sum is-near is-end few =
     transaction_can is stamp number pos are at low (low_sum (all_sizes is) sum pos end is-sum (is-end ∙ ap (λ (n : ℕ). min (n + 67) (2 ^ 64 - 1)) is-near) few)
 
-pub encodes : (is : List Item) (stamp server committed number pos : ℕ) (out : List ℕ) → AreLogged is → 1 ≤ length is → number ≡ committed + 1 → CanWriteAll pos (transaction stamp number is)
+encodes : (is : List Item) (stamp server committed number pos : ℕ) (out : List ℕ) → AreLogged is → 1 ≤ length is → number ≡ committed + 1 → CanWriteAll pos (transaction stamp number is)
     → out ≡ bytes_of server pos (transaction stamp number is) → Encodes (Transaction stamp server is) committed pos out
 encodes is stamp server committed number pos out are some next can is-out = record {
   bytes = is-out ∙ ap (λ (n : ℕ). bytes_of server pos (transaction stamp n is)) next;
   can = (some, all_carried is are, subst (λ (n : ℕ). CanWriteAll pos (transaction stamp n is)) next can);
 }
+
+pub encodes_if : {E : Type 0} (r : Result (List ℕ) E) (is : List Item) (stamp server committed number pos : ℕ) → AreLogged is → 1 ≤ length is → number ≡ committed + 1 → CanWriteAll pos (transaction stamp number is)
+    → IfOk r (λ out. out ≡ bytes_of server pos (transaction stamp number is)) → IfOk r (λ out. Encodes (Transaction stamp server is) committed pos out)
+encodes_if (Ok out) is stamp server committed number pos are some next can is-out = encodes is stamp server committed number pos out are some next can is-out
+encodes_if (Err e) is stamp server committed number pos are some next can is-out = tt
 
 -- ---- a definition
 

@@ -1,5 +1,5 @@
 -- What a source makes an item of.
-use Rattle.std.specs.Prelude.{ℕ, true, false, List, [], filter, map, None, ℤ}
+use Rattle.std.specs.Prelude.{ℕ, true, false, List, [], filter, map, None}
 use Rattle.val_types.specs.declared.change.Change.{Change}
 use Rattle.val_types.specs.declared.definitions.TableDef.{TableDef}
 use Rattle.val_types.specs.Changes.{table_of}

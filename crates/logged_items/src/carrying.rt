@@ -102,12 +102,12 @@ fn are_named(defs: &[TableDef]) -> bool
     true
 }
 
-/// A number of 32 bits is below their power.
-fn have_words(stamp: u32, thread: u32)
-    ensures stamp { stamp < 2 ^ 32 }
-    ensures thread { thread < 2 ^ 32 }
+/// A fact of two numbers: they have 32 bits.
+pub(crate) fn have_words(first: u32, second: u32)
+    ensures first { first < 2 ^ 32 }
+    ensures second { second < 2 ^ 32 }
 {
-    let _ = (stamp, thread);
+    let _ = (first, second);
 }
 
 /// Whether a log can carry an item by its rows.

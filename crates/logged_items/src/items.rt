@@ -5,7 +5,7 @@ ghost use Rattle.logged_items.specs.Logged.{Encodes};
 ghost use Rattle.row_events.specs.Sizes.{bounded};
 ghost use Rattle.transaction_sizes.specs.Sizes.{are_too_large, most_bytes};
 
-use crate::carrying::is_logged;
+use crate::carrying::{have_words, is_logged};
 use binlog_cache::Cache;
 use event_codec::Header;
 use log_entries::Item;
@@ -107,6 +107,7 @@ impl Items {
         if end > LAST_END {
             return Err(AllocError);
         }
+        have_words(header.stamp, header.server_id);
         self.cache.encode(alloc, number, header)
     }
 }

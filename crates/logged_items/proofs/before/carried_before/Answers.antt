@@ -1,4 +1,4 @@
-use Rattle.std.proofs.Common.{◌≡◌, ap, ◌∙◌}
+use Rattle.std.proofs.Common.{ap, ◌∙◌}
 use Rattle.std.specs.Option.{option_map}
 use Rattle.log_entries.specs.declared.carried.Carried.{Carried}
 use Rattle.catalog_objects.specs.Keys.{objects_of}

@@ -10,4 +10,4 @@ returns c =
     let some : 1 ≤ length c.args.item.now.changes = search rules in
     let named : AreNamed c.args.item.now.defs = search rules in
     let can : c.can_carry_all.result ≡ true → CanCarryAll c.args.item.now.defs c.args.item.now.changes = λ yes. rw c.as_slice-2.ensures at (OnTrue_at yes c.can_carry_all.ensures) in
-    OnTrue_from c.can_carry_all.result _ (λ yes. record { rows = rows; some = some; named = named; can = can yes; stamp = c.have_words.ensures.stamp; thread = c.have_words.ensures.thread })
+    OnTrue_from c.can_carry_all.result _ (λ yes. record { rows = rows; some = some; named = named; can = can yes; stamp = c.have_words.ensures.first; thread = c.have_words.ensures.second })

@@ -1,4 +1,4 @@
-use Rattle.std.proofs.Common.{rules, ◌≡◌, ◌<◌, ◌^◌, ◌∷◌, [], List, false, codes, arith}
+use Rattle.std.proofs.Common.{rules, ◌≡◌, ◌<◌, ◌^◌, ◌∷◌, [], false, codes, arith}
 use Rattle.std.specs.Str.{bytes_eq}
 use Rattle.event_codec.specs.Event.{query}
 use Rattle.log_model.specs.Written.{CanWriteAll}

@@ -1,4 +1,4 @@
-use Rattle.std.proofs.Common.{◌≡◌, ◌++◌, List, ap, ◌∙◌, length}
+use Rattle.std.proofs.Common.{◌≡◌, ◌++◌, ap, ◌∙◌, length}
 use Rattle.log_model.specs.Log.{description, head}
 use Rattle.log_model.specs.Written.{bytes_of}
 use Rattle.logged_items.proofs.Encoding.{start_can}

@@ -1,4 +1,3 @@
-use Rattle.std.proofs.Common.{arith}
 use Rattle.logged_items.proofs.Naming.{put_next}
 use Rattle.logged_items.proofs.tables.names_in.Goals as goal
 

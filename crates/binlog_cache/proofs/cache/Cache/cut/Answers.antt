@@ -1,4 +1,4 @@
-use Rattle.std.proofs.Common.{List, map, take, sym, ap, ◌∙◌}
+use Rattle.std.proofs.Common.{List, take, sym, ap, ◌∙◌}
 use Rattle.std.proofs.lemmas.List.{take-map}
 use Rattle.log_entries.specs.declared.entries.Item.{Item}
 use Rattle.binlog_cache.specs.declared.kept.Kept.{Kept}
