@@ -10,17 +10,31 @@ use Rattle.log_entries.specs.declared.entries.Item.{Item}
 use Rattle.log_entries.specs.declared.entries.Entry.{Entry}
 use Rattle.log_entries.specs.declared.entries.Entry.TheVariants.{Transaction}
 use Rattle.sql_meaning.specs.Frames.{Context}
+use Rattle.sql_meaning.specs.Changing.{Did}
+use Rattle.sql_tree.specs.Tree.{Trees}
+use Rattle.sql_tree.specs.Statement.{Statement, evaluate}
+use Rattle.val_types.specs.declared.value.Value.{Value}
+use Rattle.logged_items.specs.declared.before.Before.{Before}
+use Rattle.logged_items.specs.Items.{numbers_of}
+use Rattle.answer_text.specs.declared.answer.Answer.{Answer}
+use Rattle.prog_run.specs.declared.meter.Outcome.{Outcome}
+use Rattle.prog_run.specs.Runs.{outcome_of}
+use Rattle.node_answers.specs.Telling.{told_answer}
+use Rattle.session_model.specs.Answers.{refused}
+use Rattle.session_model.specs.Commands.{changes_of_own, given_turn}
 use Rattle.transaction_sizes.specs.Sizes.{are_too_large}
 use Rattle.session_ctx.specs.declared.session.SessionVars.{SessionVars}
 use Rattle.session_model.specs.Sessions.{Open, Session, Shared}
-use Rattle.session_model.specs.Running.{Turn, all_committed, commit_entries, commit_shared, items_of, takes_too_much, transaction_of, with_context}
+use Rattle.source_node.specs.Ran.{Came, Gave, place_at, told_of, told_result}
+use Rattle.session_model.specs.Running.{Given, Turn, did_answer, all_committed, commit_entries, commit_shared, expressions_run, full, items_of, statement_run, takes_too_much, transaction_of, with_context}
 use Rattle.source_node.specs.Calls.{call_of}
 use Rattle.source_node.specs.declared.desk.Desk.{Desk}
-use Rattle.source_node.specs.Desk.{cut_to, shared_of}
-use Rattle.source_node.specs.Keeping.{changes_kept, item_kept, kept_if, refused_unless, with_last_id}
+use Rattle.source_node.specs.Assigning.{result_of}
+use Rattle.source_node.specs.Desk.{cut_to, own_behind, shared_of}
+use Rattle.source_node.specs.Keeping.{changes_kept, item_kept, item_made, kept_if, refused_unless, with_last_id}
 use Rattle.source_node.specs.Saving.{one_more_if}
 use Rattle.source_node.specs.Turned.{EndsAs, IsTurn, Logs, Moves, giving}
-use Rattle.source_node.proofs.Settling.{came_to}
+use Rattle.source_node.proofs.Settling.{came_kept, came_to, gave_kept}
 use Rattle.source_node.proofs.Turns.{moves_from, same_entry, turn_is}
 
 module _ (identity : Identity) (draw : Draw) (n : ℕ) where
@@ -133,6 +147,24 @@ module _ (identity : Identity) (draw : Draw) (n : ℕ) where
       (subst (λ (b : Bool). EndsAs {A = Unit {0}} (Err (Sql 1197)) old new (with_last_id last_id after) (refused_unless b last_id t)) given
       ((turn.0.0, ap (with_last_id last_id) turn.0.1, turn.0.2), refl))
 
+  -- as the code has the item
+  pub kept_changes : (item : List Change → Item) (own changes : List Change) (i : Item) (mark : ℕ) (last_id : ℤ) (old new : Desk) (session after : Session Item) (kept : Bool) → changes ≡ own → i ≡ item changes → 1 ≤ length changes → kept ≡ true
+      → IsTurn old new after kept (item_kept (call_of identity draw n) i mark (shared_of old) session)
+      → EndsAs (Ok tt) old new after (changes_kept (call_of identity draw n) item own mark last_id (shared_of old) session)
+  kept_changes item own changes i mark last_id old new session after kept are is some stays turn =
+      subst (λ cs. EndsAs (Ok tt) old new after (changes_kept (call_of identity draw n) item cs mark last_id (shared_of old) session)) are
+      (some_changes item changes mark last_id old new session after kept some stays
+      (subst (λ j. IsTurn old new after kept (item_kept (call_of identity draw n) j mark (shared_of old) session)) is turn))
+
+  pub lost_changes : (item : List Change → Item) (own changes : List Change) (i : Item) (mark : ℕ) (last_id : ℤ) (old new : Desk) (session after later : Session Item) (kept : Bool) → changes ≡ own → i ≡ item changes → 1 ≤ length changes → kept ≡ false → later ≡ with_last_id last_id after
+      → IsTurn old new after kept (item_kept (call_of identity draw n) i mark (shared_of old) session)
+      → EndsAs {A = Unit {0}} (Err (Sql 1197)) old new later (changes_kept (call_of identity draw n) item own mark last_id (shared_of old) session)
+  lost_changes item own changes i mark last_id old new session after later kept are is some lost moved turn =
+      subst (λ one. EndsAs {A = Unit {0}} (Err (Sql 1197)) old new one (changes_kept (call_of identity draw n) item own mark last_id (shared_of old) session)) (sym moved)
+      (subst (λ cs. EndsAs {A = Unit {0}} (Err (Sql 1197)) old new (with_last_id last_id after) (changes_kept (call_of identity draw n) item cs mark last_id (shared_of old) session)) are
+      (too_many_changes item changes mark last_id old new session after kept some lost
+      (subst (λ j. IsTurn old new after kept (item_kept (call_of identity draw n) j mark (shared_of old) session)) is turn)))
+
 -- ---- how a statement ended
 
 -- what was kept behind a run that logged nothing
@@ -150,3 +182,72 @@ ends_refused {A} a code old ran new after t u is bytes count ends =
 pub ends_failed : {A : Type 0} (code : ℕ) (old ran : Desk) (after : Session Item) (t : Turn Item (Result A ℕ)) → record { shared = shared_of ran; session = after; committed = []; given = Err code } ≡ t → ran.log ≡ old.log
     → EndsAs {A = A} (Err (Sql code)) old ran after t
 ends_failed {A} code old ran after t is bytes = subst (λ v. EndsAs {A = A} (Err (Sql code)) old ran after v) is ((refl, refl, (bytes, tt)), refl)
+
+-- whatever it was that refused it
+pub ends_err : {A : Type 0} (a : A) (refusal : SqlRefusal) (old ran new : Desk) (after : Session Item) (t : Turn Item (Result A ℕ)) (u : Turn Item (Result (Unit {0}) ℕ)) → t ≡ giving (came_to a) u → ran.log ≡ old.log → ran.committed ≡ old.committed
+    → EndsAs {A = Unit {0}} (Err refusal) ran new after u → EndsAs {A = A} (Err refusal) old new after t
+ends_err a (Sql code) old ran new after t u is bytes count ends = ends_refused a code old ran new after t u is bytes count ends
+ends_err a NoMemory old ran new after t u is bytes count ends = tt
+
+-- ---- a statement with what is kept of it
+
+module _ (identity : Identity) (draw : Draw) (n : ℕ) (text : List ℕ) where
+  -- what is kept of a statement, from where its run left
+  abbrev kept_of : Statement → Before → Option ℤ → ℕ → Shared → Context → Session Item → Turn Item (Result (Unit {0}) ℕ)
+  kept_of s before first mark ran context session =
+      changes_kept (call_of identity draw n) (item_made text s before first ran.base.catalog context) (own_behind n mark ran) mark before.last_id ran (with_context context session)
+
+  pub came_ok : (s : Statement) (told : Outcome) (old ran new : Desk) (session after : Session Item) (context : Context) (mark : ℕ) (before : Before) → Came n draw s told (place_at (shared_of old) session.vars.context) (place_at (shared_of ran) context)
+      → mark ≡ changes_of_own n (shared_of old) → before ≡ numbers_of session.vars.context → ran.log ≡ old.log → ran.committed ≡ old.committed
+      → EndsAs (Ok tt) ran new after (kept_of s before told.first mark (shared_of ran) context session)
+      → EndsAs (Ok told) old new after (giving told_result (statement_run (call_of identity draw n) full text s (shared_of old) session))
+  came_ok s told old ran new session after context mark before came at numbers bytes count ends =
+      ends_kept told old ran new after (giving told_result (statement_run (call_of identity draw n) full text s (shared_of old) session)) (kept_of s (numbers_of session.vars.context) told.first mark (shared_of ran) context session)
+      (came_kept identity draw n text s told (shared_of old) (shared_of ran) session context mark came at) bytes count
+      (subst (λ b. EndsAs (Ok tt) ran new after (kept_of s b told.first mark (shared_of ran) context session)) numbers ends)
+
+  pub came_err : (s : Statement) (told : Outcome) (refusal : SqlRefusal) (old ran new : Desk) (session after : Session Item) (context : Context) (mark : ℕ) (before : Before) → Came n draw s told (place_at (shared_of old) session.vars.context) (place_at (shared_of ran) context)
+      → mark ≡ changes_of_own n (shared_of old) → before ≡ numbers_of session.vars.context → ran.log ≡ old.log → ran.committed ≡ old.committed
+      → EndsAs {A = Unit {0}} (Err refusal) ran new after (kept_of s before told.first mark (shared_of ran) context session)
+      → EndsAs {A = Outcome} (Err refusal) old new after (giving told_result (statement_run (call_of identity draw n) full text s (shared_of old) session))
+  came_err s told refusal old ran new session after context mark before came at numbers bytes count ends =
+      ends_err told refusal old ran new after (giving told_result (statement_run (call_of identity draw n) full text s (shared_of old) session)) (kept_of s (numbers_of session.vars.context) told.first mark (shared_of ran) context session)
+      (came_kept identity draw n text s told (shared_of old) (shared_of ran) session context mark came at) bytes count
+      (subst (λ b. EndsAs {A = Unit {0}} (Err refusal) ran new after (kept_of s b told.first mark (shared_of ran) context session)) numbers ends)
+
+  -- the same of expressions
+  pub gave_ok : (s : Statement) (ts : Trees) (vs : List Value) (old ran new : Desk) (session after : Session Item) (context : Context) (mark : ℕ) (before : Before) → s ≡ evaluate ts → Gave n draw ts vs (place_at (shared_of old) session.vars.context) (place_at (shared_of ran) context)
+      → mark ≡ changes_of_own n (shared_of old) → before ≡ numbers_of session.vars.context → ran.log ≡ old.log → ran.committed ≡ old.committed
+      → EndsAs (Ok tt) ran new after (kept_of s before None mark (shared_of ran) context session)
+      → EndsAs (Ok vs) old new after (giving result_of (expressions_run (call_of identity draw n) full text ts (shared_of old) session))
+  gave_ok s ts vs old ran new session after context mark before is gave at numbers bytes count ends =
+      ends_kept vs old ran new after (giving result_of (expressions_run (call_of identity draw n) full text ts (shared_of old) session)) (kept_of (evaluate ts) (numbers_of session.vars.context) None mark (shared_of ran) context session)
+      (gave_kept identity draw n text ts vs (shared_of old) (shared_of ran) session context mark gave at) bytes count
+      (subst (λ b. EndsAs (Ok tt) ran new after (kept_of (evaluate ts) b None mark (shared_of ran) context session)) numbers
+      (subst (λ one. EndsAs (Ok tt) ran new after (kept_of one before None mark (shared_of ran) context session)) is ends))
+
+  pub gave_err : (s : Statement) (ts : Trees) (vs : List Value) (refusal : SqlRefusal) (old ran new : Desk) (session after : Session Item) (context : Context) (mark : ℕ) (before : Before) → s ≡ evaluate ts → Gave n draw ts vs (place_at (shared_of old) session.vars.context) (place_at (shared_of ran) context)
+      → mark ≡ changes_of_own n (shared_of old) → before ≡ numbers_of session.vars.context → ran.log ≡ old.log → ran.committed ≡ old.committed
+      → EndsAs {A = Unit {0}} (Err refusal) ran new after (kept_of s before None mark (shared_of ran) context session)
+      → EndsAs {A = List Value} (Err refusal) old new after (giving result_of (expressions_run (call_of identity draw n) full text ts (shared_of old) session))
+  gave_err s ts vs refusal old ran new session after context mark before is gave at numbers bytes count ends =
+      ends_err vs refusal old ran new after (giving result_of (expressions_run (call_of identity draw n) full text ts (shared_of old) session)) (kept_of (evaluate ts) (numbers_of session.vars.context) None mark (shared_of ran) context session)
+      (gave_kept identity draw n text ts vs (shared_of old) (shared_of ran) session context mark gave at) bytes count
+      (subst (λ b. EndsAs {A = Unit {0}} (Err refusal) ran new after (kept_of (evaluate ts) b None mark (shared_of ran) context session)) numbers
+      (subst (λ one. EndsAs {A = Unit {0}} (Err refusal) ran new after (kept_of one before None mark (shared_of ran) context session)) is ends))
+
+-- ---- an answer
+
+pub told_turn : (told : Outcome) (answer : Answer) (old new : Desk) (after : Session Item) (t : Turn Item (Given Did)) → answer ≡ told_answer told → EndsAs (Ok told) old new after (giving told_result t) → IsTurn old new after answer (given_turn t)
+told_turn told answer old new after t said ends = (ends.0, said ∙ told_is t.given.result ends.1)
+  where
+    told_is : (r : Result Did ℕ) → told_of r ≡ Ok told → told_answer told ≡ elim r [ Ok did ↦ did_answer did | Err code ↦ refused code ]
+    told_is (Ok did) e = let same : told ≡ outcome_of did = ap (λ (x : Result Outcome ℕ). elim x [ Ok o ↦ o | Err code ↦ told ]) (sym e) in ap told_answer same
+    told_is (Err code) e = cc
+
+pub refused_turn : (code : ℕ) (answer : Answer) (old new : Desk) (after : Session Item) (t : Turn Item (Given Did)) → answer ≡ refused code → EndsAs {A = Outcome} (Err (Sql code)) old new after (giving told_result t) → IsTurn old new after answer (given_turn t)
+refused_turn code answer old new after t said ends = (ends.0, said ∙ refused_is t.given.result ends.1)
+  where
+    refused_is : (r : Result Did ℕ) → told_of r ≡ Err code → refused code ≡ elim r [ Ok did ↦ did_answer did | Err code ↦ refused code ]
+    refused_is (Ok did) e = cc
+    refused_is (Err other) e = let same : code ≡ other = ap (λ (x : Result Outcome ℕ). elim x [ Ok o ↦ code | Err k ↦ k ]) (sym e) in ap refused same

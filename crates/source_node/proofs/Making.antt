@@ -1,5 +1,5 @@
 -- A definition, as the machine makes it.
-use Rattle.std.proofs.Common.{◌≡◌, ℕ, ◌+◌, List, [], ◌∷◌, ◌++◌, Bool, true, false, if◌then◌else◌, length, Option, Some, None, unwrap_or, refl, sym, ap, ◌∙◌, subst, append-nil}
+use Rattle.std.proofs.Common.{◌≡◌, ℕ, ◌+◌, List, [], ◌∷◌, ◌++◌, Bool, true, false, if◌then◌else◌, length, Option, Some, None, unwrap_or, Result, Ok, Err, IfOk, refl, sym, ap, ◌∙◌, subst, append-nil}
 use Rattle.std.specs.Option.{option_map}
 use Rattle.port_traits.specs.declared.identity.Draw.{Draw}
 use Rattle.port_traits.specs.declared.identity.Identity.{Identity}
@@ -130,6 +130,13 @@ module _ (identity : Identity) (draw : Draw) (n : ℕ) (text : List ℕ) (s : St
       ((there.0.0, there.0.1, commit_logs session.vars.context (items_of session.transaction) u.committed old ran new count place moves.2 there.0.2), there.1) in
       turn_is old new later answer (behind_turn t u) (definition_turn (call_of identity draw n) text s (shared_of old) session)
       (sym (defined_behind t) ∙ ap (λ (b : Bool). if b then with_answer (refused 30005) t else define_turn (call_of identity draw n) text s t) (sym allowed)) both
+
+  pub defined_if : {E : Type 0} (r : Result Answer E) (old ran new : Desk) (session after later : Session Item) → is_still_refused s ≡ false
+      → Moves old ran after (commit_open (call_of identity draw n) (shared_of old) session)
+      → IfOk r (λ answer. IsTurn ran new later answer (define_turn (call_of identity draw n) text s (not_begun (shared_of ran) after)))
+      → IfOk r (λ answer. IsTurn old new later answer (definition_turn (call_of identity draw n) text s (shared_of old) session))
+  defined_if (Ok answer) old ran new session after later allowed moves turn = defined_left old ran new session after later answer allowed moves turn
+  defined_if (Err e) old ran new session after later allowed moves turn = tt
 
   pub refused_left : (old ran : Desk) (session after : Session Item) (answer : Answer) → is_still_refused s ≡ true
       → Moves old ran after (commit_open (call_of identity draw n) (shared_of old) session) → answer ≡ refused 30005

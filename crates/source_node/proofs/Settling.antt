@@ -29,10 +29,11 @@ use Rattle.session_model.specs.Running.{Fuel, Given, Turn, ended, expressions_ru
 use Rattle.session_model.specs.Commands.{changes_of_own}
 use Rattle.source_node.specs.Assigning.{result_of}
 use Rattle.source_node.specs.Calls.{call_of}
-use Rattle.source_node.specs.Desk.{cut_to, own_behind}
+use Rattle.source_node.specs.Desk.{cut_to, own_behind, shared_of}
 use Rattle.source_node.specs.Keeping.{changes_kept, item_kept, item_made, kept_if, refused_unless, with_last_id}
-use Rattle.source_node.specs.Ran.{Came, Fails, Gave, effect_for, evaluation_for, place_at, shared_behind, told_of, told_result}
-use Rattle.source_node.specs.Turned.{giving}
+use Rattle.source_node.specs.declared.desk.Desk.{Desk}
+use Rattle.source_node.specs.Ran.{Came, Comes, Fails, Gives, Gave, effect_for, evaluation_for, place_at, shared_behind, told_of, told_result}
+use Rattle.source_node.specs.Turned.{EndsAs, giving}
 
 -- what a statement came to, unless it is refused when it is kept
 abbrev pub came_to : {A : Type 0} → A → Result (Unit {0}) ℕ → Result A ℕ
@@ -193,3 +194,19 @@ module _ (identity : Identity) (draw : Draw) (n : ℕ) where
       ap (λ (c : Context). record { shared = ran; session = with_context c session; committed = []; given = Err code }) fails.context
       ∙ ap (λ (shared : Shared). record { shared = shared; session = with_context (context_after session.vars.context (evaluate ts) fails.scene.seeds None) session; committed = []; given = Err code }) fails.shared
       ∙ sym (ap (λ e. giving result_of (ended (call_of identity draw n) full text (evaluate ts) old session (λ (vs : List Value). None) (λ (vs : List Value). None) (scene_for n full session.vars.context old) e)) fails.ends)
+
+  -- ---- whatever refused the run
+
+  pub failed_so : (text : List ℕ) (s : Statement) (refusal : SqlRefusal) (old ran : Desk) (session after : Session Item) (context : Context) → Comes n draw s (Err refusal) (place_at (shared_of old) session.vars.context) (place_at (shared_of ran) context)
+      → after ≡ with_context context session → ran.log ≡ old.log → EndsAs {A = Outcome} (Err refusal) old ran after (giving told_result (statement_run (call_of identity draw n) full text s (shared_of old) session))
+  failed_so text s (Sql code) old ran session after context fails moved bytes =
+      subst (λ one. EndsAs {A = Outcome} (Err (Sql code)) old ran one (giving told_result (statement_run (call_of identity draw n) full text s (shared_of old) session))) (sym moved)
+      (subst (λ t. EndsAs {A = Outcome} (Err (Sql code)) old ran (with_context context session) t) (failed_kept text s code (shared_of old) (shared_of ran) session context fails) ((refl, refl, (bytes, tt)), refl))
+  failed_so text s NoMemory old ran session after context fails moved bytes = tt
+
+  pub not_given_so : (text : List ℕ) (ts : Trees) (refusal : SqlRefusal) (old ran : Desk) (session after : Session Item) (context : Context) → Gives n draw ts (Err refusal) (place_at (shared_of old) session.vars.context) (place_at (shared_of ran) context)
+      → after ≡ with_context context session → ran.log ≡ old.log → EndsAs {A = List Value} (Err refusal) old ran after (giving result_of (expressions_run (call_of identity draw n) full text ts (shared_of old) session))
+  not_given_so text ts (Sql code) old ran session after context fails moved bytes =
+      subst (λ one. EndsAs {A = List Value} (Err (Sql code)) old ran one (giving result_of (expressions_run (call_of identity draw n) full text ts (shared_of old) session))) (sym moved)
+      (subst (λ t. EndsAs {A = List Value} (Err (Sql code)) old ran (with_context context session) t) (not_given_kept text ts code (shared_of old) (shared_of ran) session context fails) ((refl, refl, (bytes, tt)), refl))
+  not_given_so text ts NoMemory old ran session after context fails moved bytes = tt

@@ -22,12 +22,14 @@ same_entry (Transaction stamp server items) = ap (λ is. Transaction stamp serve
 same_entry (Definition stamp server item) = refl
 same_entry (LogStart stamp server) = refl
 
--- bytes of an entry behind the log
+-- bytes of an entry behind a log
+pub one_entry : (e : Entry Item) (before after bytes : List ℕ) (count : ℕ) → after ≡ before ++ bytes → Encodes e count (length before) bytes
+    → (after ≡ logged (e ∷ []) before count) × CanLogAll (e ∷ []) count (in_log (length before))
+one_entry e before after bytes count is encodes =
+    (is ∙ ap (λ more. before ++ more) (encodes.bytes ∙ sym (append-nil (entry_bytes e count (in_log (length before))))), (encodes.can, tt))
+
 pub one_logged : (e : Entry Item) (old new : Desk) (bytes : List ℕ) → new.log ≡ old.log ++ bytes → Encodes e old.committed (length old.log) bytes → Logs (e ∷ []) old new
-one_logged e old new bytes is encodes = (
-  is ∙ ap (λ more. old.log ++ more) (encodes.bytes ∙ sym (append-nil (entry_bytes e old.committed (in_log (length old.log))))),
-  (encodes.can, tt),
-)
+one_logged e old new bytes is encodes = one_entry e old.log new.log bytes old.committed is encodes
 
 place_of : (before bytes after : List ℕ) → after ≡ before ++ bytes → in_log (length after) ≡ moved (in_log (length before)) (length bytes)
 place_of before bytes after is = ap (λ (n : ℕ). in_log n) (ap length is ∙ length-append before bytes)

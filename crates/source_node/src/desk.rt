@@ -38,7 +38,6 @@ pub struct Desk {
 
 impl Desk {
     /// No table, no change and no writer, with the head of the log.
-    #[tactic(auto, using(crate::proofs::Bases::nothing_shared))]
     pub(crate) fn new(alloc: Global, head: Bytes) -> Desk
         ensures shared { shared_of result ≡ record { base = empty_base; counters = []; changes = []; writer = None; committed = 0; place = in_log (length head) } }
         ensures log { result.log ≡ head }

@@ -29,7 +29,7 @@ pub struct Start {
 }
 
 /// Where a statement of a session begins.
-pub(crate) fn start(desk: &Desk, number: u8, context: &Ctx) -> Start
+pub(crate) fn start_of(desk: &Desk, number: u8, context: &Ctx) -> Start
     ensures mark { result.mark ≡ changes_of_own number (shared_of desk.now) }
     ensures before { result.before ≡ numbers_of context.now }
     ensures counts { IsTrue (int_le (pos 0) result.before.last_id) }
@@ -69,14 +69,14 @@ fn keep_in(
     call: &Call<'_>,
     desk: &mut Desk,
     session: &mut Session,
-    open: Open,
+    transaction: Open,
     item: Item,
     mark: u64,
 ) -> Result<bool, NoMemory>
     requires { session.old.transaction ≡ None }
-    ensures { IfOk result (λ kept. IsTurn desk.old desk.new session.new kept (item_kept (called call.now) item mark (shared_of desk.old) (record session.old { transaction = Some open }))) }
+    ensures { IfOk result (λ kept. IsTurn desk.old desk.new session.new kept (item_kept (called call.now) item mark (shared_of desk.old) (record session.old { transaction = Some transaction }))) }
 {
-    let mut open = open;
+    let mut open = transaction;
     let is_kept = open.add_item(item)?;
     if is_kept {
         desk.take_lock(call.number);

@@ -11,7 +11,7 @@ ghost use Rattle.source_node.specs.Turned.{EndsAs, IsTurn, giving};
 
 use crate::call::Call;
 use crate::desk::Desk;
-use crate::keeping::{keep, start};
+use crate::keeping::{keep, start_of};
 use crate::running::run;
 use crate::session::Session;
 use answer_text::Answer;
@@ -33,8 +33,9 @@ fn carry_out(
     requires { is_definition (view statement.now) ≡ false }
     ensures { EndsAs result desk.old desk.new session.new (giving told_result (statement_run (called call.now) full text.now (view statement.now) (shared_of desk.old) session.old)) }
 {
-    let start = start(desk, call.number, &session.vars.context);
+    let start = start_of(desk, call.number, &session.vars.context);
     let context = &mut session.vars.context;
+<<<<<<< HEAD
     let outcome = run(alloc, desk, call.number, statement, context, call.draw)?;
     keep(
         alloc,
@@ -47,6 +48,17 @@ fn carry_out(
         outcome.first,
     )?;
     Ok(outcome)
+=======
+    match run(alloc, desk, call.number, statement, context, call.draw) {
+        Err(refusal) => Err(refusal),
+        Ok(outcome) => {
+            match keep(alloc, call, desk, session, text, statement, start, outcome.first) {
+                Err(refusal) => Err(refusal),
+                Ok(()) => Ok(outcome),
+            }
+        }
+    }
+>>>>>>> 9568acdb067d3ebd03c8fc97b8b30006c1ae6748
 }
 
 /// Runs a change, a SELECT or a DO, which nothing refuses before.

@@ -15,7 +15,7 @@ ghost use Rattle.source_node.specs.Turned.{EndsAs, IsTurn, giving};
 use crate::assigning::{assign_all, first_refused, taken_apart};
 use crate::call::Call;
 use crate::desk::Desk;
-use crate::keeping::{keep, start};
+use crate::keeping::{keep, start_of};
 use crate::running::evaluate;
 use crate::session::Session;
 use crate::writing::lock_refusal;
@@ -63,8 +63,9 @@ fn evaluated(
     requires { view statement.now ≡ evaluate (view_trees expressions.now) }
     ensures { EndsAs result desk.old desk.new session.new (giving result_of (expressions_run (called call.now) full text.now (view_trees expressions.now) (shared_of desk.old) session.old)) }
 {
-    let start = start(desk, call.number, &session.vars.context);
+    let start = start_of(desk, call.number, &session.vars.context);
     let context = &mut session.vars.context;
+<<<<<<< HEAD
     let values = evaluate(alloc, desk, call.number, expressions, context, call.draw)?;
     keep(
         alloc,
@@ -77,6 +78,17 @@ fn evaluated(
         None,
     )?;
     Ok(values)
+=======
+    match evaluate(alloc, desk, call.number, expressions, context, call.draw) {
+        Err(refusal) => Err(refusal),
+        Ok(values) => {
+            match keep(alloc, call, desk, session, text.as_slice(), statement, start, None) {
+                Err(refusal) => Err(refusal),
+                Ok(()) => Ok(values),
+            }
+        }
+    }
+>>>>>>> 9568acdb067d3ebd03c8fc97b8b30006c1ae6748
 }
 
 /// Sets targets to the values of expressions, which nothing refuses before.
@@ -170,7 +182,8 @@ pub(crate) fn call_none(
     ensures { IfOk result (λ answer. IsTurn desk.now desk.now session.now answer (call_turn (called call.now) name.now (view_trees arguments) (shared_of desk.now) session.now)) }
 {
     let _ = &session.vars;
-    let _ = (name, call.number);
+    let _ = name;
+    let _ = call.number;
     let text = print(alloc, &Stmt::Do(arguments))?;
     if text.len() > LONGEST {
         return Ok(refused(alloc, TOO_LONG));

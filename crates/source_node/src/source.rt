@@ -14,6 +14,7 @@ use answer_text::Answer;
 use logged_items::encode_start;
 use node_answers::NodeFault;
 use port_traits::{Draw, Identity};
+use session_model::steps_are_kept;
 use std::alloc::Global;
 use std::marker::Model;
 use val_types::{Bytes, NoMemory};
@@ -131,6 +132,7 @@ impl SourceNode {
             × Stands self.new (machine_after m (step whole (self.old.identity) m.state session text.now draw.entry.now))
             × CanLogAll (map kept_entry (step whole (self.old.identity) m.state session text.now draw.entry.now).committed) m.state.shared.committed m.state.shared.place) }
     {
+        steps_are_kept();
         self.exec_kept(session, text, draw)
     }
 }

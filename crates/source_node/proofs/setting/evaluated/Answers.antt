@@ -1,21 +1,29 @@
-use Rattle.std.proofs.Common.{ap, ◌∙◌, nat_lt}
+use Rattle.std.proofs.Common.{ℕ, List, Result, Ok, Err, subst}
+use Rattle.val_types.specs.declared.value.Value.{Value}
+use Rattle.log_entries.specs.declared.entries.Item.{Item}
+use Rattle.sql_tree.specs.StatementView.{view}
 use Rattle.sql_tree.specs.View.{view_trees}
 use Rattle.session_model.specs.Sessions.{Session}
 use Rattle.session_model.specs.Running.{expressions_run, full}
-use Rattle.session_model.specs.Commands.{changes_of_own}
-use Rattle.source_node.specs.Assigning.{result_left}
+use Rattle.source_node.specs.Assigning.{result_of}
+use Rattle.source_node.specs.Calls.{called}
 use Rattle.source_node.specs.Desk.{shared_of}
-use Rattle.source_node.specs.Nothing.{Nothing, call_of}
-use Rattle.source_node.specs.Turned.{left_by}
-use Rattle.source_node.proofs.SetParts.{evaluation_gave}
+use Rattle.source_node.specs.Turned.{EndsAs, giving}
+use Rattle.source_node.proofs.Keeps.{gave_err, gave_ok}
 use Rattle.source_node.proofs.setting.evaluated.Goals as goal
 
-pub returns-in_ok-keep-in-Ok : goal.returns-in_ok-keep-in-Ok
-returns-in_ok-keep-in-Ok c identity text =
-    let session : Session Nothing = record { vars = c.session.inside.vars; transaction = c.session.inside.transaction } in
-    evaluation_gave identity c.args.draw.now c.args.number text (view_trees c.args.expressions.now) (shared_of c.args.desk.now) (shared_of c.evaluate-result.new.desk)
-    session c.keep.new.session c.evaluate-result.new.context c.in-Ok.values (shared_of c.keep.new.desk) (nat_lt c.own_changes-before.result c.own_changes.result)
-    c.in-Ok.ensures
-    (ap (λ k. nat_lt k c.own_changes.result) c.own_changes-before.ensures ∙ ap (nat_lt (changes_of_own c.args.number (shared_of c.args.desk.now))) c.own_changes.ensures)
-    c.in_ok-keep-in-Ok.ensures.shared c.in_ok-keep-in-Ok.ensures.session
-    ∙ ap (λ s. result_left (left_by (expressions_run (call_of identity c.args.draw.now c.args.number) full text (view_trees c.args.expressions.now) (shared_of c.args.desk.now) s))) c.session.view_is
+pub returns-in-Err-keep : goal.returns-in-Err-keep
+returns-in-Err-keep c =
+    let session : Session Item = record { vars = c.session.inside.vars; transaction = c.session.inside.transaction } in
+    subst (λ (s : Session Item). EndsAs {A = List Value} (Err c.in-Err-keep.refusal) c.args.desk.now c.keep.new.desk c.keep.new.session (giving result_of (expressions_run (called c.args.call.now) full c.args.text.now (view_trees c.args.expressions.now) (shared_of c.args.desk.now) s))) c.session.view_is
+    (subst (λ (t : List ℕ). EndsAs {A = List Value} (Err c.in-Err-keep.refusal) c.args.desk.now c.keep.new.desk c.keep.new.session (giving result_of (expressions_run (called c.args.call.now) full t (view_trees c.args.expressions.now) (shared_of c.args.desk.now) session))) c.as_slice.ensures
+    (gave_err c.args.call.now.identity.now c.args.call.now.draw.now c.args.call.now.number c.as_slice.result.now (view c.args.statement.now) (view_trees c.args.expressions.now) c.in-Ok.values c.in-Err-keep.refusal c.args.desk.now c.evaluate.new.desk c.keep.new.desk session c.keep.new.session c.evaluate.new.context
+    c.start_of-start.result.mark c.start_of-start.result.before c.requires c.in-Ok.ensures.gives c.start_of-start.ensures.mark c.start_of-start.ensures.before c.in-Ok.ensures.log c.in-Ok.ensures.committed c.in-Err-keep.ensures))
+
+pub returns-in-Ok-keep : goal.returns-in-Ok-keep
+returns-in-Ok-keep c =
+    let session : Session Item = record { vars = c.session.inside.vars; transaction = c.session.inside.transaction } in
+    subst (λ (s : Session Item). EndsAs (Ok c.in-Ok.values) c.args.desk.now c.keep.new.desk c.keep.new.session (giving result_of (expressions_run (called c.args.call.now) full c.args.text.now (view_trees c.args.expressions.now) (shared_of c.args.desk.now) s))) c.session.view_is
+    (subst (λ (t : List ℕ). EndsAs (Ok c.in-Ok.values) c.args.desk.now c.keep.new.desk c.keep.new.session (giving result_of (expressions_run (called c.args.call.now) full t (view_trees c.args.expressions.now) (shared_of c.args.desk.now) session))) c.as_slice.ensures
+    (gave_ok c.args.call.now.identity.now c.args.call.now.draw.now c.args.call.now.number c.as_slice.result.now (view c.args.statement.now) (view_trees c.args.expressions.now) c.in-Ok.values c.args.desk.now c.evaluate.new.desk c.keep.new.desk session c.keep.new.session c.evaluate.new.context
+    c.start_of-start.result.mark c.start_of-start.result.before c.requires c.in-Ok.ensures.gives c.start_of-start.ensures.mark c.start_of-start.ensures.before c.in-Ok.ensures.log c.in-Ok.ensures.committed c.in-Ok-keep.ensures))

@@ -1,13 +1,19 @@
 use Rattle.std.proofs.Common.{ap}
+use Rattle.sql_tree.specs.StatementView.{view_assignments}
 use Rattle.sql_tree.specs.View.{view_trees}
+use Rattle.session_model.specs.Commands.{set_turn}
+use Rattle.source_node.specs.Assigning.{set_parts}
+use Rattle.source_node.specs.Calls.{called}
 use Rattle.source_node.specs.Desk.{shared_of}
-use Rattle.source_node.specs.Nothing.{call_of}
-use Rattle.source_node.proofs.SetParts.{left_is, set_taken_apart}
+use Rattle.source_node.proofs.SetParts.{set_taken_apart}
+use Rattle.source_node.proofs.Turns.{turn_if}
 use Rattle.source_node.proofs.setting.set.Goals as goal
 
 pub returns : goal.returns
-returns c identity =
-    left_is c.set_taken.result (shared_of c.set_taken.new.desk) c.set_taken.new.session _ _
-    (set_taken_apart (call_of identity c.args.draw.now c.args.number) c.args.assignments c.args.refusal c.in_ok-targets.targets (view_trees c.in_ok-targets.expressions) (shared_of c.args.desk.now) c.args.session.now
+returns c =
+    turn_if c.set_taken.result c.args.desk.now c.set_taken.new.desk c.set_taken.new.session
+    (set_parts (called c.args.call.now) c.args.refusal c.in_ok-targets.targets (view_trees c.in_ok-targets.expressions) (shared_of c.args.desk.now) c.args.session.now)
+    (set_turn (called c.args.call.now) (view_assignments c.args.assignments) (shared_of c.args.desk.now) c.args.session.now)
+    (set_taken_apart (called c.args.call.now) c.args.assignments c.args.refusal c.in_ok-targets.targets (view_trees c.in_ok-targets.expressions) (shared_of c.args.desk.now) c.args.session.now
     c.requires c.in_ok-targets.ensures.targets (ap view_trees c.in_ok-targets.ensures.values))
-    (c.set_taken.ensures identity)
+    c.set_taken.ensures

@@ -1,8 +1,8 @@
-use Rattle.std.proofs.Common.{ap, ◌∙◌, find, min}
-use Rattle.std.specs.Prelude.{position, slice_get}
+use Rattle.std.proofs.Common.{List, take, min, length, ap, ◌∙◌}
+use Rattle.std.specs.Prelude.{find, position, slice_get}
+use Rattle.log_entries.specs.declared.entries.Item.{Item}
 use Rattle.session_model.specs.Commands.{is_save_of}
-use Rattle.source_node.specs.Nothing.{items_counted}
-use Rattle.source_node.specs.Saving.{marks_of, went_back, changes_at}
+use Rattle.source_node.specs.Saving.{changes_at, marks_of, went_back}
 use Rattle.source_node.proofs.Places.{gone, stayed, stayed_too}
 use Rattle.source_node.proofs.session.Open.go_back.Goals as goal
 
@@ -26,16 +26,17 @@ returns-in_default-marks_at-clause-cut c =
 
 pub returns-clause-changes : goal.returns-clause-changes
 returns-clause-changes c =
-    (gone c.args.name.now c.self.inside.items c.self.inside.saves.items c.self.inside.changed c.in-Some.place c.in-Some-marks_at.items c.in-Some-marks_at.changes
+    (gone c.args.name.now c.self.inside.items c.cut.new.self c.self.inside.saves.items c.self.inside.changed c.in-Some.place c.in-Some-marks_at.items c.in-Some-marks_at.changes
     (c.in-Some.ensures.place ∙ ap (position (is_save_of c.args.name.now)) c.deref.ensures.value)
-    (c.in-Some-marks_at.ensures ∙ ap (λ ss. marks_of (slice_get ss c.in-Some.place)) c.deref-2.ensures.value)).0
+    (c.in-Some-marks_at.ensures ∙ ap (λ ss. marks_of (slice_get ss c.in-Some.place)) c.deref-2.ensures.value)
+    (c.cut.ensures ∙ ap (λ n. take n c.self.inside.items) (c.min.ensures ∙ ap (min c.in-Some-marks_at.items) c.mark.ensures))).0
     ∙ ap (λ o. changes_at (find (is_save_of c.args.name.now) o.saves)) c.self.view_is
 
 pub returns-clause-cut : goal.returns-clause-cut
 returns-clause-cut c =
-    ap (λ n. record { items = items_counted n; saves = c.truncate.new.self.items; changed = c.self.inside.changed }) c.min-self-inside.ensures
-    ∙ ap (λ ss. record { items = items_counted (min c.self.inside.items c.in-Some-marks_at.items); saves = ss; changed = c.self.inside.changed }) c.truncate.ensures.items
-    ∙ (gone c.args.name.now c.self.inside.items c.self.inside.saves.items c.self.inside.changed c.in-Some.place c.in-Some-marks_at.items c.in-Some-marks_at.changes
+    ap (λ ss. record { items = c.cut.new.self; saves = ss; changed = c.self.inside.changed }) c.truncate.ensures.items
+    ∙ (gone c.args.name.now c.self.inside.items c.cut.new.self c.self.inside.saves.items c.self.inside.changed c.in-Some.place c.in-Some-marks_at.items c.in-Some-marks_at.changes
     (c.in-Some.ensures.place ∙ ap (position (is_save_of c.args.name.now)) c.deref.ensures.value)
-    (c.in-Some-marks_at.ensures ∙ ap (λ ss. marks_of (slice_get ss c.in-Some.place)) c.deref-2.ensures.value)).1
+    (c.in-Some-marks_at.ensures ∙ ap (λ ss. marks_of (slice_get ss c.in-Some.place)) c.deref-2.ensures.value)
+    (c.cut.ensures ∙ ap (λ n. take n c.self.inside.items) (c.min.ensures ∙ ap (min c.in-Some-marks_at.items) c.mark.ensures))).1
     ∙ ap (λ o. went_back c.args.name.now (find (is_save_of c.args.name.now) o.saves) o) c.self.view_is
