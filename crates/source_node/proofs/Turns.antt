@@ -60,15 +60,10 @@ log_on e es old ran new count place first second =
     let own : List ℕ = entry_bytes e n p in
     let before : ran.log ≡ old.log ++ own = first.0 ∙ ap (λ bs. old.log ++ bs) (append-nil own) in
     let more : log es ran.committed (in_log (length ran.log)) ≡ log es (counted e n) (behind e n p) =
-    ap (λ (k : ℕ). log es k (in_log (length ran.log))) count ∙ ap (log es (counted e n)) place in (
-      second.0 ∙ logged_is es ran.log ran.committed ∙ ap (λ bs. ran.log ++ bs) more ∙ ap (λ bs. bs ++ log es (counted e n) (behind e n p)) before
-          ∙ append_assoc old.log own (log es (counted e n) (behind e n p)),
-      (
-        first.1.0,
-        subst (λ (q : LogPlace). CanLogAll es (counted e n) q) place
-            (subst (λ (k : ℕ). CanLogAll es k (in_log (length ran.log))) count second.1),
-      ),
-    )
+    ap (λ (k : ℕ). log es k (in_log (length ran.log))) count ∙ ap (log es (counted e n)) place in
+    (second.0 ∙ logged_is es ran.log ran.committed ∙ ap (λ bs. ran.log ++ bs) more ∙ ap (λ bs. bs ++ log es (counted e n) (behind e n p)) before
+    ∙ append_assoc old.log own (log es (counted e n) (behind e n p)), (first.1.0, subst (λ (q : LogPlace). CanLogAll es (counted e n) q) place
+    (subst (λ (k : ℕ). CanLogAll es k (in_log (length ran.log))) count second.1)))
 
 -- ---- turns
 

@@ -35,20 +35,6 @@ fn carry_out(
 {
     let start = start_of(desk, call.number, &session.vars.context);
     let context = &mut session.vars.context;
-<<<<<<< HEAD
-    let outcome = run(alloc, desk, call.number, statement, context, call.draw)?;
-    keep(
-        alloc,
-        call,
-        desk,
-        session,
-        text,
-        statement,
-        start,
-        outcome.first,
-    )?;
-    Ok(outcome)
-=======
     match run(alloc, desk, call.number, statement, context, call.draw) {
         Err(refusal) => Err(refusal),
         Ok(outcome) => {
@@ -58,7 +44,6 @@ fn carry_out(
             }
         }
     }
->>>>>>> 9568acdb067d3ebd03c8fc97b8b30006c1ae6748
 }
 
 /// Runs a change, a SELECT or a DO, which nothing refuses before.

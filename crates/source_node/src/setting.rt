@@ -65,20 +65,6 @@ fn evaluated(
 {
     let start = start_of(desk, call.number, &session.vars.context);
     let context = &mut session.vars.context;
-<<<<<<< HEAD
-    let values = evaluate(alloc, desk, call.number, expressions, context, call.draw)?;
-    keep(
-        alloc,
-        call,
-        desk,
-        session,
-        text.as_slice(),
-        statement,
-        start,
-        None,
-    )?;
-    Ok(values)
-=======
     match evaluate(alloc, desk, call.number, expressions, context, call.draw) {
         Err(refusal) => Err(refusal),
         Ok(values) => {
@@ -88,7 +74,6 @@ fn evaluated(
             }
         }
     }
->>>>>>> 9568acdb067d3ebd03c8fc97b8b30006c1ae6748
 }
 
 /// Sets targets to the values of expressions, which nothing refuses before.
