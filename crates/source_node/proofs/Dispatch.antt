@@ -1,5 +1,5 @@
 -- Which statement is which.
-use Rattle.std.proofs.Common.{rules, ◌≡◌, ℕ, List, Bool, true, false, if◌then◌else◌, Option, None, Result, IfOk, refl, sym, ap, ◌∙◌}
+use Rattle.std.proofs.Common.{rules, ◌≡◌, ℕ, List, Bool, true, false, if◌then◌else◌, Option, None, refl, sym, ap, ◌∙◌}
 use Rattle.answer_text.specs.declared.answer.Answer.{Answer}
 use Rattle.sql_tree.specs.Statement.{Statement, create_table, create_function, create_procedure, create_trigger, drop_table, drop_function, drop_procedure, drop_trigger, truncate, insert_into, replace_into, update_rows, delete_rows, select, evaluate, set_all, call_procedure, begin, commit, rollback, savepoint, rollback_to, release_savepoint, block, if_steps, while_steps, return_value}
 use Rattle.session_model.specs.Sessions.{Session, Shared}

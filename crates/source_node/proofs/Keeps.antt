@@ -1,5 +1,5 @@
 -- What is kept of a statement, by what the code does.
-use Rattle.std.proofs.Common.{◌≡◌, ℕ, suc, ◌≤◌, List, [], ◌∷◌, ◌++◌, Bool, true, false, not, if◌then◌else◌, map, length, Option, Some, None, Result, Ok, Err, IfOk, ℤ, refl, sym, ap, ◌∙◌, subst, arith}
+use Rattle.std.proofs.Common.{◌≡◌, ℕ, ◌≤◌, List, [], ◌∷◌, ◌++◌, Bool, true, false, not, if◌then◌else◌, length, Option, Some, None, Result, Ok, Err, ℤ, refl, sym, ap, ◌∙◌, subst, arith}
 use Rattle.std.proofs.lemmas.List.{map-id}
 use Rattle.val_types.specs.declared.change.Change.{Change}
 use Rattle.val_types.specs.declared.refusal.SqlRefusal.{SqlRefusal}
@@ -33,7 +33,7 @@ use Rattle.source_node.specs.Assigning.{result_of}
 use Rattle.source_node.specs.Desk.{cut_to, own_behind, shared_of}
 use Rattle.source_node.specs.Keeping.{changes_kept, item_kept, item_made, kept_if, refused_unless, with_last_id}
 use Rattle.source_node.specs.Saving.{one_more_if}
-use Rattle.source_node.specs.Turned.{EndsAs, IsTurn, Logs, Moves, giving}
+use Rattle.source_node.specs.Turned.{EndsAs, IsTurn, Logs, giving}
 use Rattle.source_node.proofs.Settling.{came_kept, came_to, gave_kept}
 use Rattle.source_node.proofs.Turns.{moves_from, same_entry, turn_is}
 
@@ -177,11 +177,6 @@ pub ends_refused : {A : Type 0} (a : A) (code : ℕ) (old ran new : Desk) (after
     → EndsAs {A = Unit {0}} (Err (Sql code)) ran new after u → EndsAs {A = A} (Err (Sql code)) old new after t
 ends_refused {A} a code old ran new after t u is bytes count ends =
     subst (λ v. EndsAs {A = A} (Err (Sql code)) old new after v) (sym is) (moves_from old ran new after (giving (came_to a) u) bytes count ends.0, ap (came_to a) ends.1)
-
--- an error of the run itself
-pub ends_failed : {A : Type 0} (code : ℕ) (old ran : Desk) (after : Session Item) (t : Turn Item (Result A ℕ)) → record { shared = shared_of ran; session = after; committed = []; given = Err code } ≡ t → ran.log ≡ old.log
-    → EndsAs {A = A} (Err (Sql code)) old ran after t
-ends_failed {A} code old ran after t is bytes = subst (λ v. EndsAs {A = A} (Err (Sql code)) old ran after v) is ((refl, refl, (bytes, tt)), refl)
 
 -- whatever it was that refused it
 pub ends_err : {A : Type 0} (a : A) (refusal : SqlRefusal) (old ran new : Desk) (after : Session Item) (t : Turn Item (Result A ℕ)) (u : Turn Item (Result (Unit {0}) ℕ)) → t ≡ giving (came_to a) u → ran.log ≡ old.log → ran.committed ≡ old.committed

@@ -1,5 +1,5 @@
 -- SET by its parts.
-use Rattle.std.proofs.Common.{rules, ◌≡◌, ℕ, List, [], ◌∷◌, Bool, true, false, map, zip, if◌then◌else◌, Option, Some, None, Result, Ok, Err, IfOk, refl, sym, ap, subst, ◌∙◌}
+use Rattle.std.proofs.Common.{rules, ◌≡◌, ℕ, List, [], ◌∷◌, Bool, false, map, zip, if◌then◌else◌, Option, Some, None, Result, Ok, Err, refl, sym, ap, subst, ◌∙◌}
 use Rattle.val_types.specs.declared.value.Value.{Value}
 use Rattle.log_entries.specs.declared.entries.Item.{Item}
 use Rattle.answer_text.specs.declared.answer.Answer.{Answer}
@@ -17,7 +17,7 @@ use Rattle.sql_tree.specs.declared.statements.Stmt.{the_lemmas}
 use Rattle.session_model.specs.Answers.{refused}
 use Rattle.session_model.specs.Sessions.{Session, Shared}
 use Rattle.session_model.specs.Running.{Call, Given, Turn, expressions_run, full, lock_refusal}
-use Rattle.session_model.specs.Commands.{answered, assign_unless, code_answer, first_refused, is_too_long, set_by, set_expressions, set_given, set_turn, unless_refused}
+use Rattle.session_model.specs.Commands.{answered, assign_unless, code_answer, first_refused, is_too_long, set_by, set_expressions, set_turn, unless_refused}
 use Rattle.source_node.specs.Assigning.{assigned_answer, assigned_session, result_of, set_from, set_parts, set_to, target_of, value_of}
 use Rattle.source_node.specs.declared.desk.Desk.{Desk}
 use Rattle.source_node.specs.Turned.{IsTurn, Moves, giving}

@@ -1,5 +1,5 @@
 -- A node stands for the machine's run after a command, too, and at its beginning.
-use Rattle.std.proofs.Common.{◌≡◌, ℕ, zero, suc, ◌+◌, ◌-◌, ◌≤◌, ◌<◌, inl, inr, List, [], ◌∷◌, ◌++◌, map, length, take, drop, min, replicate, None, Result, Ok, Err, IfOk, refl, sym, ap, ◌∙◌, subst, append-nil, arith}
+use Rattle.std.proofs.Common.{◌≡◌, ℕ, zero, suc, ◌-◌, ◌≤◌, ◌<◌, inl, inr, List, [], ◌∷◌, ◌++◌, map, length, take, drop, min, replicate, None, Result, Ok, Err, IfOk, refl, sym, ap, ◌∙◌, subst, append-nil, arith}
 use Rattle.std.proofs.lemmas.List.{length-drop, map-append, take_all}
 use Rattle.std.proofs.lemmas.Bool.Decides.{leb_tells}
 use Rattle.port_traits.specs.declared.identity.Draw.{Draw}
@@ -8,11 +8,11 @@ use Rattle.answer_text.specs.declared.answer.Answer.{Answer}
 use Rattle.catalog_rules.specs.Bases.{empty_base}
 use Rattle.log_entries.specs.declared.entries.Item.{Item}
 use Rattle.log_entries.specs.declared.entries.Entry.{Entry}
-use Rattle.log_model.specs.Log.{LogPlace, counted_all, head, log, written_to}
+use Rattle.log_model.specs.Log.{LogPlace, counted_all, head, log}
 use Rattle.log_model.proofs.Growing.{goes_on}
 use Rattle.entry_groups.specs.Entries.{CanLogAll}
 use Rattle.logged_items.specs.Logged.{in_log}
-use Rattle.session_model.specs.Sessions.{Session, Shared, State}
+use Rattle.session_model.specs.Sessions.{Shared, State}
 use Rattle.session_model.specs.Holding.{Holds, with_nothing}
 use Rattle.session_model.specs.Machine.{Machine, Step, StepsAreKept, Whole, kept, kept_entry, kept_step, log_of, machine_after, nowhere, opened, step, whole}
 use Rattle.source_node.specs.Desk.{shared_of}

@@ -1,5 +1,5 @@
 -- Turns, and the entries that they log.
-use Rattle.std.proofs.Common.{◌≡◌, ℕ, ◌+◌, ◌≤◌, List, [], ◌∷◌, ◌++◌, Bool, true, false, map, length, Result, Ok, Err, IfOk, refl, sym, ap, ◌∙◌, subst, append-nil, append_assoc, length-append, arith}
+use Rattle.std.proofs.Common.{◌≡◌, ℕ, List, [], ◌∷◌, ◌++◌, length, Result, IfOk, refl, sym, ap, ◌∙◌, subst, append-nil, append_assoc, length-append}
 use Rattle.std.proofs.lemmas.List.{map-id}
 use Rattle.log_entries.specs.declared.entries.Item.{Item}
 use Rattle.log_entries.specs.declared.entries.Entry.{Entry}
@@ -8,11 +8,10 @@ use Rattle.log_model.specs.Log.{LogPlace, behind, counted, entry_bytes, log, mov
 use Rattle.log_model.proofs.Growing.{definition_moves, transaction_moves}
 use Rattle.entry_groups.specs.Entries.{CanLogAll}
 use Rattle.logged_items.specs.Logged.{Encodes, in_log}
-use Rattle.session_model.specs.Sessions.{Session, Shared}
+use Rattle.session_model.specs.Sessions.{Session}
 use Rattle.session_model.specs.Running.{Turn, entry_by}
 use Rattle.source_node.specs.declared.desk.Desk.{Desk}
-use Rattle.source_node.specs.Desk.{shared_of}
-use Rattle.source_node.specs.Turned.{IsTurn, Logs, Moves, behind_turn, logged}
+use Rattle.source_node.specs.Turned.{IsTurn, Logs, Moves, logged}
 
 -- ---- entries
 
@@ -60,10 +59,15 @@ log_on e es old ran new count place first second =
     let own : List ℕ = entry_bytes e n p in
     let before : ran.log ≡ old.log ++ own = first.0 ∙ ap (λ bs. old.log ++ bs) (append-nil own) in
     let more : log es ran.committed (in_log (length ran.log)) ≡ log es (counted e n) (behind e n p) =
-    ap (λ (k : ℕ). log es k (in_log (length ran.log))) count ∙ ap (log es (counted e n)) place in
-    (second.0 ∙ logged_is es ran.log ran.committed ∙ ap (λ bs. ran.log ++ bs) more ∙ ap (λ bs. bs ++ log es (counted e n) (behind e n p)) before
-    ∙ append_assoc old.log own (log es (counted e n) (behind e n p)), (first.1.0, subst (λ (q : LogPlace). CanLogAll es (counted e n) q) place
-    (subst (λ (k : ℕ). CanLogAll es k (in_log (length ran.log))) count second.1)))
+    ap (λ (k : ℕ). log es k (in_log (length ran.log))) count ∙ ap (log es (counted e n)) place in (
+      second.0 ∙ logged_is es ran.log ran.committed ∙ ap (λ bs. ran.log ++ bs) more ∙ ap (λ bs. bs ++ log es (counted e n) (behind e n p)) before
+          ∙ append_assoc old.log own (log es (counted e n) (behind e n p)),
+      (
+        first.1.0,
+        subst (λ (q : LogPlace). CanLogAll es (counted e n) q) place
+            (subst (λ (k : ℕ). CanLogAll es k (in_log (length ran.log))) count second.1),
+      ),
+    )
 
 -- ---- turns
 
@@ -81,7 +85,3 @@ logs_from es old ran new bytes count logs =
 
 pub moves_from : {A : Type 0} (old ran new : Desk) (after : Session Item) (t : Turn Item A) → ran.log ≡ old.log → ran.committed ≡ old.committed → Moves ran new after t → Moves old new after t
 moves_from old ran new after t bytes count moves = (moves.0, moves.1, logs_from t.committed old ran new bytes count moves.2)
-
--- and one on which things are logged behind the turn
-pub moves_on : {A : Type 0} (old ran new : Desk) (after : Session Item) (t : Turn Item A) → shared_of new ≡ shared_of ran → new.log ≡ ran.log → Moves old ran after t → Moves old new after t
-moves_on old ran new after t same bytes moves = (same ∙ moves.0, moves.1, (bytes ∙ moves.2.0, moves.2.1))

@@ -1,5 +1,5 @@
 -- What is kept of a statement that changed something.
-use Rattle.std.specs.Prelude.{ℕ, Bool, true, false, if◌then◌else◌, List, [], ◌∷◌, ◌++◌, Option, Some, None, Result, Ok, Err, ℤ}
+use Rattle.std.specs.Prelude.{ℕ, Bool, true, false, if◌then◌else◌, List, [], ◌∷◌, Option, Some, None, Result, Ok, Err, ℤ}
 use Rattle.val_types.specs.declared.change.Change.{Change}
 use Rattle.log_entries.specs.declared.entries.Item.{Item}
 use Rattle.sql_meaning.specs.Frames.{Context}

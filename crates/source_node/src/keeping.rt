@@ -128,7 +128,16 @@ pub(crate) fn keep(
     }
     let objects = desk.work.catalog().objects();
     let context = &session.vars.context;
-    let item = item_of(alloc, text, statement, objects, context, start.before, first, changes)?;
+    let item = item_of(
+        alloc,
+        text,
+        statement,
+        objects,
+        context,
+        start.before,
+        first,
+        changes,
+    )?;
     if keep_item(alloc, call, desk, session, item, start.mark)? {
         return Ok(());
     }

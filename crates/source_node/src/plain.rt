@@ -38,7 +38,16 @@ fn carry_out(
     match run(alloc, desk, call.number, statement, context, call.draw) {
         Err(refusal) => Err(refusal),
         Ok(outcome) => {
-            match keep(alloc, call, desk, session, text, statement, start, outcome.first) {
+            match keep(
+                alloc,
+                call,
+                desk,
+                session,
+                text,
+                statement,
+                start,
+                outcome.first,
+            ) {
                 Err(refusal) => Err(refusal),
                 Ok(()) => Ok(outcome),
             }

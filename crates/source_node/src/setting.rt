@@ -68,7 +68,16 @@ fn evaluated(
     match evaluate(alloc, desk, call.number, expressions, context, call.draw) {
         Err(refusal) => Err(refusal),
         Ok(values) => {
-            match keep(alloc, call, desk, session, text.as_slice(), statement, start, None) {
+            match keep(
+                alloc,
+                call,
+                desk,
+                session,
+                text.as_slice(),
+                statement,
+                start,
+                None,
+            ) {
                 Err(refusal) => Err(refusal),
                 Ok(()) => Ok(values),
             }

@@ -1,6 +1,6 @@
 use Rattle.std.proofs.Common.{sym, ◌∙◌}
 use Rattle.sql_tree.specs.StatementView.{view}
-use Rattle.source_node.proofs.Making.{defined_if, refused_left}
+use Rattle.source_node.proofs.Making.{defined_if}
 use Rattle.source_node.proofs.definitions.define.Goals as goal
 
 pub returns : goal.returns

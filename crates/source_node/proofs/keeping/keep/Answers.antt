@@ -1,5 +1,4 @@
-use Rattle.std.proofs.Common.{rules, ◌≡◌, ◌≤◌, List, length, ap, sym, ◌∙◌, arith}
-use Rattle.val_types.specs.declared.change.Change.{Change}
+use Rattle.std.proofs.Common.{rules, ◌≡◌, ◌≤◌, length, ap, ◌∙◌, arith}
 use Rattle.catalog_objects.specs.Keys.{objects_of}
 use Rattle.sql_tree.specs.StatementView.{view}
 use Rattle.source_node.specs.Desk.{own_behind, shared_of}

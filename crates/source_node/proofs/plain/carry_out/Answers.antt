@@ -1,4 +1,4 @@
-use Rattle.std.proofs.Common.{List, Result, Ok, Err, subst}
+use Rattle.std.proofs.Common.{Ok, Err, subst}
 use Rattle.log_entries.specs.declared.entries.Item.{Item}
 use Rattle.prog_run.specs.declared.meter.Outcome.{Outcome}
 use Rattle.sql_tree.specs.StatementView.{view}

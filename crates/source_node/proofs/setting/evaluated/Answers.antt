@@ -1,4 +1,4 @@
-use Rattle.std.proofs.Common.{ℕ, List, Result, Ok, Err, subst}
+use Rattle.std.proofs.Common.{ℕ, List, Ok, Err, subst}
 use Rattle.val_types.specs.declared.value.Value.{Value}
 use Rattle.log_entries.specs.declared.entries.Item.{Item}
 use Rattle.sql_tree.specs.StatementView.{view}

@@ -1,6 +1,5 @@
-use Rattle.std.proofs.Common.{List, take, min, length, ap, ◌∙◌}
+use Rattle.std.proofs.Common.{take, min, ap, ◌∙◌}
 use Rattle.std.specs.Prelude.{find, position, slice_get}
-use Rattle.log_entries.specs.declared.entries.Item.{Item}
 use Rattle.session_model.specs.Commands.{is_save_of}
 use Rattle.source_node.specs.Saving.{changes_at, marks_of, went_back}
 use Rattle.source_node.proofs.Places.{gone, stayed, stayed_too}
