@@ -2,9 +2,10 @@
 ghost use Rattle.std.specs.Prelude.{◌≡◌, ◌++◌, codes, IfOk, OnOk};
 ghost use Rattle.std.specs.Fmt.{decimal};
 ghost use Rattle.std.specs.Option.{option_map};
+ghost use Rattle.val_types.specs.Text.{row_text_of};
 ghost use Rattle.answer_text.specs.Statuses.{table_text};
 ghost use Rattle.replica_model.specs.Applying.{differs};
-ghost use Rattle.replica_model.specs.Lines.{applied_line, fetched_line, stop_words};
+ghost use Rattle.replica_model.specs.Lines.{applied_line, fetched_line, stop_if, stop_words};
 ghost use Rattle.replica_node.specs.Steps.{stop_of};
 
 use crate::told::{Applied, Stopped};
@@ -40,6 +41,17 @@ fn put_table(text: &mut Bytes, table: &Bytes) -> Result<(), NoMemory>
     }
 }
 
+/// Puts a table and a key, where there are any.
+fn put_key(alloc: Global, text: &mut Bytes, table: &Bytes, key: &Row) -> Result<(), NoMemory>
+    ensures { OnOk result (text.new ≡ text.old ++ codes " " ++ table_text table.now ++ codes " (" ++ row_text_of key.now ++ codes ")") }
+{
+    text.push(b' ')?;
+    put_table(text, table)?;
+    text.extend_from_slice(b" (")?;
+    text.append(row_text(alloc, key)?)?;
+    text.push(b')')
+}
+
 /// Puts what a log and the tables differ in.
 fn put_differs(
     alloc: Global,
@@ -53,11 +65,7 @@ fn put_differs(
 {
     put_with(alloc, text, b" stopped differs ", pos)?;
     put_with(alloc, text, b" ", u64::from(code))?;
-    text.push(b' ')?;
-    put_table(text, table)?;
-    text.extend_from_slice(b" (")?;
-    text.append(row_text(alloc, key)?)?;
-    text.push(b')')
+    put_key(alloc, text, table, key)
 }
 
 /// Puts why no more was carried out.
@@ -79,6 +87,16 @@ fn put_stop(alloc: Global, text: &mut Bytes, stop: &Stopped) -> Result<(), NoMem
     }
 }
 
+/// Puts why no more was carried out, if anything stopped it.
+fn put_stop_if(alloc: Global, text: &mut Bytes, stop: &Option<Stopped>) -> Result<(), NoMemory>
+    ensures { OnOk result (text.new ≡ text.old ++ stop_if (option_map stop_of stop.now)) }
+{
+    match stop {
+        None => Ok(()),
+        Some(stop) => put_stop(alloc, text, stop),
+    }
+}
+
 /// The line of the FETCH with this number, counted from 1, which took so many bytes: `3 fetched 348`.
 pub fn fetched_line(alloc: Global, number: u32, count: u32) -> Result<Bytes, NoMemory>
     ensures { IfOk result (λ text. text ≡ fetched_line number count) }
@@ -96,9 +114,7 @@ pub fn applied_line(alloc: Global, number: u32, applied: &Applied) -> Result<Byt
     let mut text = begun(alloc, number, b"applied ", applied.count)?;
     put_with(alloc, &mut text, b" ", u64::from(applied.log))?;
     put_with(alloc, &mut text, b":", u64::from(applied.pos))?;
-    if let Some(stop) = &applied.stop {
-        put_stop(alloc, &mut text, stop)?;
-    }
+    put_stop_if(alloc, &mut text, &applied.stop)?;
     text.push(b'\n')?;
     Ok(text)
 }

@@ -26,15 +26,16 @@ pub struct ReplicaNode {
 
 impl Model for ReplicaNode {
     ghost use Rattle.std.specs.Prelude.{◌≡◌, []};
-    ghost use Rattle.prog_run.specs.Contents.{base_of};
     ghost use Rattle.replica_node.specs.Kept.{Kept};
 
     ghost Value = { Kept };
 
-    ghost view = { λ n. record {
-      identity = n.identity;
-      replica = record { base = base_of n.work; counters = n.work.counters; number = n.number; place = n.relay.place; relay = n.relay.bytes };
-    } };
+    ghost use Rattle.sql_tree.specs.contracts.statements.Stmt as stmt;
+    ghost use Rattle.std.specs.Coded.{codes};
+
+    ghost coded = { Prim.hlevel (codes, stmt.the_row.coded) };
+
+    ghost view = { λ n. record { identity = n.identity; work = n.work; number = n.number; relay = n.relay } };
 
     ghost invariant = { λ n. n.work.changes ≡ [] };
 }
