@@ -10,7 +10,7 @@ use Rattle.session_model.specs.Machine.{log_of, log_bytes}
 use Rattle.run_model.specs.Asked.{Asked}
 use Rattle.run_model.specs.Run.{Names, Both, first_both, end_of}
 use Rattle.run_streams.specs.Reports.{Drawn, DrewUntil, StaysHandedOut}
-use Rattle.run_streams.specs.Stops.{StopsWriting}
+use Rattle.run_streams.specs.Stops.{StopsWriting, with_status}
 use Rattle.repl_run.specs.declared.nodes.Nodes.{Nodes}
 use Rattle.repl_run.specs.Together.{Together}
 use Rattle.repl_run.specs.Running.{Going}
@@ -58,6 +58,11 @@ handed_until (Differs pos code table key) before after old new drew = λ start d
 handed_until NoMemory before after old new drew = drew
 
 -- ---- the log
+
+-- what was given holds of it also as a status
+pub given_log : {A E : Type 0} (P : A → Type 0) (r : Result A E) (s : Result A Status) (log : A) → s ≡ with_status r → s ≡ Ok log → IfOk r P → P log
+given_log P (Ok given) s log is was holds = let same : given ≡ log = cc in subst P same holds
+given_log P (Err e) s log is was holds = cc
 
 -- where fewer came than were asked for, they are all
 all_taken : {A : Type 0} (n : ℕ) (xs : List A) → length (take n xs) < n → take n xs ≡ xs
