@@ -1,5 +1,5 @@
 -- The log behind commands.
-use Rattle.std.proofs.Common.{◌≡◌, ◌<◌, ◌≤◌, ℕ, zero, suc, List, [], ◌∷◌, length, map, take, Option, Result, Ok, Err, IfOk, IfErr, refl, sym, ap, ◌∙◌, subst, arith}
+use Rattle.std.proofs.Common.{◌≡◌, ◌<◌, ℕ, zero, suc, List, [], ◌∷◌, length, map, take, Option, Result, Ok, Err, IfOk, refl, sym, ap, ◌∙◌, subst, arith}
 use Rattle.std.proofs.lemmas.List.{length-map}
 use Rattle.port_traits.specs.declared.identity.Draw.{Draw}
 use Rattle.port_traits.specs.Streams.{ended_after, is_end}
@@ -9,7 +9,7 @@ use Rattle.answer_text.specs.declared.status.Status.TheVariants.{Done, BadWords,
 use Rattle.session_model.specs.Machine.{log_of, log_bytes}
 use Rattle.run_model.specs.Asked.{Asked}
 use Rattle.run_model.specs.Run.{Names, Both, first_both, end_of}
-use Rattle.run_streams.specs.Reports.{Drawn, DrewUntil, StaysHandedOut}
+use Rattle.run_streams.specs.Reports.{DrewUntil, StaysHandedOut}
 use Rattle.run_streams.specs.Stops.{StopsWriting, with_status}
 use Rattle.repl_run.specs.declared.nodes.Nodes.{Nodes}
 use Rattle.repl_run.specs.Together.{Together}

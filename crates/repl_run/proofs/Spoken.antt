@@ -1,7 +1,7 @@
 -- One command over both nodes.
-use Rattle.std.proofs.Common.{◌≡◌, ℕ, ◌+◌, ◌<◌, ◌≤◌, List, [], ◌∷◌, ◌++◌, length, map, Option, Some, None, Result, Ok, Err, IfOk, refl, sym, ap, ◌∙◌, subst, arith, append-nil}
+use Rattle.std.proofs.Common.{◌≡◌, ℕ, ◌<◌, ◌≤◌, List, [], ◌∷◌, ◌++◌, length, map, Some, Result, Ok, Err, IfOk, refl, sym, ap, ◌∙◌, subst, arith, append-nil}
 use Rattle.std.proofs.lemmas.List.{length-set, map-append}
-use Rattle.std.specs.Prelude.{◌^◌, slice_index_or}
+use Rattle.std.specs.Prelude.{◌^◌}
 use Rattle.std.specs.Option.{option_map}
 use Rattle.port_traits.specs.declared.identity.Identity.{Identity}
 use Rattle.port_traits.specs.declared.identity.Draw.{Draw}
@@ -16,17 +16,17 @@ use Rattle.entry_groups.specs.Laws.{EntriesCanLogOn}
 use Rattle.session_model.specs.Sessions.{State}
 use Rattle.session_model.specs.Holding.{Holds, with_nothing}
 use Rattle.session_model.specs.Machine.{Whole, whole, kept_entry, step, Step, opened, Machine, machine_after, log_of, log_bytes, nowhere}
-use Rattle.session_replays.specs.Replaying.{Replays, ReplaysOpen, ReplaysGoOn}
+use Rattle.session_replays.specs.Replaying.{ReplaysOpen, ReplaysGoOn}
 use Rattle.source_node.specs.Standing.{Stands}
 use Rattle.replica_model.specs.Replica.{Replica, fetched, first_replica, want}
-use Rattle.replica_model.specs.Applying.{Going, Stop, apply}
+use Rattle.replica_model.specs.Applying.{Going, apply}
 use Rattle.replica_model.specs.Lines.{applied_line, fetched_line}
 use Rattle.replica_model.specs.Selecting.{select_answer}
 use Rattle.replica_node.specs.declared.told.Applied.{Applied}
 use Rattle.replica_node.specs.Kept.{Kept, replica_of}
 use Rattle.replica_node.specs.Steps.{IsTold, stop_of}
 use Rattle.run_model.specs.Asked.{Asked, say, select, take_bytes, take_groups}
-use Rattle.run_model.specs.Run.{Names, Both, first_both, next}
+use Rattle.run_model.specs.Run.{Names, Both}
 use Rattle.run_model.specs.Following.{Follows}
 use Rattle.run_laws.specs.Laws.{IsSound, FollowsBegins, FollowsGoOn, NoApplyStops}
 use Rattle.repl_run.specs.declared.nodes.Nodes.{Nodes}

@@ -1,4 +1,4 @@
-use Rattle.std.proofs.Common.{Result, Ok, Err, IfOk, ap}
+use Rattle.std.proofs.Common.{ap}
 use Rattle.answer_text.specs.declared.report.Mark.{Mark}
 use Rattle.repl_run.specs.Asking.{asked_seen}
 use Rattle.repl_run.proofs.Running.{lined_if}
