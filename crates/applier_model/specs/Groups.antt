@@ -1,6 +1,5 @@
 -- What an applier makes of a group of a log: a base and counters, or where it stops, which leaves them as they were.
 use Rattle.std.specs.Prelude.{ℕ, ◌+◌, ◌||◌, nat_lt, Bool, true, false, if◌then◌else◌, List, [], ◌∷◌, ◌++◌, Option, Some, None, Result, Ok, Err, pos}
-use Rattle.std.specs.Option.{option_or, option_map_or}
 use Rattle.val_types.specs.declared.change.Change.{Change}
 use Rattle.auto_inc.specs.declared.counters.Counter.{Counter}
 use Rattle.event_codec.specs.declared.event.IntVarKind.{IntVarKind}
@@ -13,13 +12,13 @@ use Rattle.catalog_rules.specs.Bases.{Base, defined}
 use Rattle.catalog_rules.specs.Creating.{ddl_refusal}
 use Rattle.log_entries.specs.Variables.{variable_set}
 use Rattle.log_model.specs.Events.{Placed}
-use Rattle.log_model.specs.Groups.{Statement, Form, start, next_log, ddl, txn, Group, find}
+use Rattle.log_model.specs.Groups.{Form, start, next_log, ddl, txn, Group, find}
 use Rattle.log_model.specs.Images.{changes_of}
+use Rattle.transaction_sizes.specs.Sizes.{changes_size, most_bytes}
 use Rattle.sql_reach.specs.Defining.{counters_after, is_still_refused}
 use Rattle.sql_reach.specs.Reach.{is_definition}
 use Rattle.applier_model.specs.Stops.{Differs, stop_at}
 use Rattle.applier_model.specs.Rows.{Store, carry_change}
-use Rattle.applier_model.specs.Sizes.{changes_size, most_bytes}
 use Rattle.applier_model.specs.Texts.{Needs, no_needs, carried_of, Applier, Progress, carry_text, statement_in, stops_at}
 
 -- ---- a transaction under way

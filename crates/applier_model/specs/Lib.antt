@@ -1,6 +1,5 @@
 pub mod Stops
 pub mod Rows
-pub mod Sizes
 pub mod Texts
 pub mod Groups
 pub mod Worked

@@ -12,7 +12,7 @@ use Rattle.catalog_rules.specs.Checks.{session_scope, statement_refusal}
 use Rattle.log_entries.specs.declared.carried.Carried.{Carried}
 use Rattle.session_ctx.specs.Carrying.{context_carried}
 use Rattle.sql_meaning.specs.Changing.{Did}
-use Rattle.sql_meaning.specs.Frames.{Context, Setting}
+use Rattle.sql_meaning.specs.Frames.{Context}
 use Rattle.sql_meaning.specs.Running.{most_nested, most_turns, effect}
 use Rattle.sql_meaning.specs.Scenes.{Scene, Ending, done, failed}
 use Rattle.sql_reach.specs.Defining.{number_of_bytes}

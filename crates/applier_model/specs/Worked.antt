@@ -1,15 +1,14 @@
 -- Small groups, of which worked examples are made. The table `t` has two numbers, `id` and `v`, of which the first is its key.
-use Rattle.std.specs.Prelude.{ℕ, ◌+◌, List, [], ◌∷◌, ◌++◌, map, codes, replicate, None, Result, Ok, Err, true, false, pos}
+use Rattle.std.specs.Prelude.{ℕ, ◌+◌, List, [], ◌∷◌, codes, replicate, None, Result, Ok, Err, true, false, pos}
 use Rattle.val_types.specs.declared.definitions.ColType.TheVariants.{Int as IntType}
 use Rattle.val_types.specs.declared.definitions.ColumnDef.{ColumnDef}
 use Rattle.val_types.specs.declared.definitions.TableDef.{TableDef}
 use Rattle.val_types.specs.declared.value.Value.{Value}
 use Rattle.val_types.specs.declared.value.Value.TheVariants.{Int}
 use Rattle.event_codec.specs.declared.event.RowsKind.{RowsKind}
-use Rattle.event_codec.specs.Event.{Body, query, table_map, rows, Map}
+use Rattle.event_codec.specs.Event.{Body, query, rows, Map}
 use Rattle.port_traits.specs.declared.identity.Identity.{Identity}
 use Rattle.port_traits.specs.declared.identity.Draw.{Draw}
-use Rattle.table_rules.specs.Tables.{Table}
 use Rattle.catalog_rules.specs.Bases.{Base}
 use Rattle.catalog_rules.specs.Objects.{table}
 use Rattle.log_model.specs.Events.{Placed}

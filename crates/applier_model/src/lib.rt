@@ -5,8 +5,8 @@
 //! in the log and with nothing else, but until transactions are logged by their texts one that stands there is refused. Where an item
 //! has no effect, the applier stops there, and base and counters are as before the group.
 //!
-//! The definitions stand in specs/: `Stops` (where it stops), `Rows` (one change of a row), `Sizes` (how many bytes changes have),
-//! `Texts` (a statement of a log), `Groups` (a group), `Worked`.
+//! The definitions stand in specs/: `Stops` (where it stops), `Rows` (one change of a row), `Texts` (a statement of a log), `Groups` (a
+//! group), `Worked`.
 //!
 //! - `worked`: groups by hand, which the checker computes
 //!

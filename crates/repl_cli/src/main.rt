@@ -17,7 +17,7 @@ mod nodes;
 use answer_text::Status;
 use nodes::{replica_identity, source_identity};
 use port_traits::HostEnv;
-use repl_start::{exit_of, start, tell};
+use repl_start::{Known, exit_of, start, tell};
 use std::process::ExitCode;
 use val_types::NoMemory;
 
@@ -25,7 +25,7 @@ use val_types::NoMemory;
 fn run(rt: &HostRuntime) -> Result<ExitCode, NoMemory> {
     let mut src_env = HostEnv::new(rt, source_identity(rt)?);
     let mut rep_env = HostEnv::new(rt, replica_identity(rt.alloc())?);
-    Ok(start(rt, &mut src_env, &mut rep_env))
+    Ok(start(rt, Known::Run, &mut src_env, &mut rep_env))
 }
 
 fn main(rt: HostRuntime) -> ExitCode {

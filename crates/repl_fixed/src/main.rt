@@ -1,6 +1,8 @@
 //! The program with told identities and draws: a run gives the same bytes everywhere.
 //!
-//! It is the program `repl_cli` but for its environments: the clock and the random source of the system have no part in it.
+//! It is the program `repl_cli` but for its environments, in which the clock and the random source of the system have no part, and
+//! for a second word: `log` carries out the script on standard input as `run` does, and writes the bytes of the source's binary log
+//! in place of the answers, for whoever compares logs or reads them with other programs.
 //!
 //! - `main` (here): both nodes at environments in memory, handed to [`start`]
 //! - `draws`: who the nodes are and what they draw
@@ -16,7 +18,7 @@ mod draws;
 
 use answer_text::Status;
 use draws::{replica_env, source_env};
-use repl_start::{exit_of, start, tell};
+use repl_start::{Known, exit_of, start, tell};
 use std::process::ExitCode;
 use val_types::NoMemory;
 
@@ -24,7 +26,7 @@ use val_types::NoMemory;
 fn run(rt: &HostRuntime) -> Result<ExitCode, NoMemory> {
     let mut src_env = source_env(rt.alloc())?;
     let mut rep_env = replica_env(rt.alloc())?;
-    Ok(start(rt, &mut src_env, &mut rep_env))
+    Ok(start(rt, Known::RunAndLog, &mut src_env, &mut rep_env))
 }
 
 fn main(rt: HostRuntime) -> ExitCode {

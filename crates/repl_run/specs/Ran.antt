@@ -1,14 +1,15 @@
 -- How a run of a script ends.
 use Rattle.std.specs.Prelude.{◌≡◌, ◌⊎◌, ℕ, ◌+◌, ◌≤◌, List, [], ◌∷◌, ◌++◌, length, slice_get, Option, Some, IfSome, Ok, Err}
 use Rattle.port_traits.specs.declared.identity.Draw.{Draw}
-use Rattle.answer_text.specs.Shown.{shown}
 use Rattle.answer_text.specs.declared.report.Report.{Report}
 use Rattle.answer_text.specs.declared.status.Status.{Status}
 use Rattle.answer_text.specs.declared.status.Status.TheVariants.{Done, BadWords, BadScript, ReadFault, WriteFault, SourceDisk, ReplicaDisk, SourceDamaged, ReplicaDamaged, LogDamaged, LogForeign, Differs, NoMemory}
-use Rattle.catalog_rules.specs.Bases.{empty_base}
+use Rattle.session_model.specs.Holding.{with_nothing}
 use Rattle.session_replays.specs.Replaying.{Replays}
 use Rattle.run_model.specs.Asked.{Asked, asked_of}
-use Rattle.run_model.specs.Run.{Names, first_machine, next, end_of, lines_shown, of_source, of_replica, last_mark}
+use Rattle.run_model.specs.Run.{Names, first_both, next, end_of, told_lines, lines_shown, of_source, of_replica, last_mark}
+use Rattle.run_model.specs.Following.{Follows}
+use Rattle.run_laws.specs.Laws.{NoneStops}
 use Rattle.run_streams.specs.Reports.{first_mark}
 use Rattle.run_streams.specs.Wrote.{Wrote, WroteFront}
 
@@ -19,11 +20,12 @@ pub record Reports (names : Names) (src rep : Draw) (cs : List Asked) (ds : List
   pub replica : report.rep_identity ≡ Some names.replica
   pub src_draws : report.src_draws ≡ src ∷ of_source cs ds
   pub rep_draws : report.rep_draws ≡ rep ∷ of_replica cs ds
-  pub now : report.now ≡ last_mark names first_machine 1 cs ds first_mark
+  pub now : report.now ≡ last_mark names (first_both names src) 1 cs ds first_mark
   pub marks : report.marks ≡ []
 
--- All commands were carried out, each at a draw, and the lines of their answers were written; what was committed on the way makes
--- the committed base, and its statements, run again one transaction after the other, give just the changes of its entries.
+-- All commands were carried out, each at a draw, and the lines of what they were told were written; no APPLY stopped. What was
+-- committed on the way makes the committed base, and its statements, run again one transaction after the other, give just the changes
+-- of its entries. The replica follows the source: its base is what the first entries make that were committed.
 pub record Ran (cs : List Asked) (report : Report) (before after : Option (List ℕ)) : Type 0 where
   pub names : Names
   pub src : Draw
@@ -31,10 +33,12 @@ pub record Ran (cs : List Asked) (report : Report) (before after : Option (List 
   pub draws : List Draw
   pub count : length draws ≡ length cs
   pub told : Reports names src rep cs draws report
-  pub wrote : Wrote before after (lines_shown names first_machine 1 cs draws)
-  pub replays : Replays empty_base (end_of names first_machine cs draws)
+  pub wrote : Wrote before after (lines_shown names (first_both names src) 1 cs draws)
+  pub unstopped : NoneStops names (first_both names src) cs draws
+  pub replays : Replays with_nothing (end_of names (first_both names src) cs draws).machine
+  pub follows : Follows (end_of names (first_both names src) cs draws)
 
--- writing broke off in the lines of the command that took the last draw: those before it are whole
+-- writing broke off in the lines of the last command: those before it are whole
 pub record Broke (cs : List Asked) (report : Report) (before after : Option (List ℕ)) : Type 0 where
   pub names : Names
   pub src : Draw
@@ -45,8 +49,9 @@ pub record Broke (cs : List Asked) (report : Report) (before after : Option (Lis
   pub command_is : slice_get cs (length draws) ≡ Some command
   pub told : Reports names src rep cs (draws ++ last ∷ []) report
   pub between : Option (List ℕ)
-  pub wrote : Wrote before between (lines_shown names first_machine 1 cs draws)
-  pub front : WroteFront between after (shown (1 + length draws) (next names (end_of names first_machine cs draws) command last).answer)
+  pub wrote : Wrote before between (lines_shown names (first_both names src) 1 cs draws)
+  pub front : WroteFront between after (told_lines (1 + length draws) (next names (end_of names (first_both names src) cs draws) command last).told)
+  pub unstopped : NoneStops names (first_both names src) cs (draws ++ last ∷ [])
 
 -- memory was short behind some commands: whole lines were written, and the report begins with the draws of these
 pub record Ceased (cs : List Asked) (report : Report) (before after : Option (List ℕ)) : Type 0 where
@@ -61,7 +66,8 @@ pub record Ceased (cs : List Asked) (report : Report) (before after : Option (Li
   pub rep_more : List Draw
   pub src_draws : report.src_draws ≡ (src ∷ of_source cs draws) ++ src_more
   pub rep_draws : report.rep_draws ≡ (rep ∷ of_replica cs draws) ++ rep_more
-  pub wrote : Wrote before after (lines_shown names first_machine 1 cs draws)
+  pub wrote : Wrote before after (lines_shown names (first_both names src) 1 cs draws)
+  pub unstopped : NoneStops names (first_both names src) cs draws
 
 -- the commands of the script on the input, which was read whole
 pub record IsScript (cs : List Asked) (script left : Option (List ℕ)) : Type 0 where

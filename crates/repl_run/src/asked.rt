@@ -12,11 +12,14 @@ use script_read::{Command, What};
 use std::alloc::Global;
 use val_types::List;
 
-/// What a command asks: a text of a session, or a SELECT of the replica.
+/// What a command asks: a text of a session; of the replica a SELECT, at most so many bytes to be fetched, or at most so many
+/// groups to be carried out.
 #[derive(Clone, Copy)]
 pub(crate) enum Asked<'a> {
     Say { session: u8, text: &'a [u8] },
     Select { text: &'a [u8] },
+    Fetch { count: u32 },
+    Apply { count: u32 },
 }
 
 /// What a command asks, None for what no node does yet.
@@ -29,6 +32,8 @@ fn asked_by<'a>(command: &Command<'a>) -> Option<Asked<'a>>
     match command.what {
         What::Session { session, text } => Some(Asked::Say { session, text }),
         What::ReplicaSelect { text } => Some(Asked::Select { text }),
+        What::Fetch(count) => Some(Asked::Fetch { count }),
+        What::Apply(count) => Some(Asked::Apply { count }),
         _ => None,
     }
 }

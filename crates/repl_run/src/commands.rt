@@ -1,29 +1,36 @@
 //! The commands of a script, each answered before the next.
-ghost use Rattle.std.specs.Prelude.{◌≡◌, ◌≤◌, length, map, IfOk, IfErr, IsTrue, OnOk, OnErr};
+ghost use Rattle.std.specs.Prelude.{◌≡◌, ◌<◌, ◌≤◌, ◌^◌, length, map, IfOk, IfErr, IsTrue, OnOk, OnErr};
 ghost use Rattle.std.specs.List.{list_all};
-ghost use Rattle.session_model.specs.Machine.{Machine};
-ghost use Rattle.run_model.specs.Run.{Names};
+ghost use Rattle.run_model.specs.Run.{Both, Names};
 ghost use Rattle.run_streams.specs.Reports.{AllTold, Drawn, DrewUntil, GoesOnDrawing, IsEmpty, StaysHandedOut, Tells};
 ghost use Rattle.run_streams.specs.Stops.{StopsWriting, failed_writes, status_of};
 ghost use Rattle.repl_run.specs.Asking.{asked_seen, is_fit};
 ghost use Rattle.repl_run.specs.Ran.{Ran};
-ghost use Rattle.repl_run.specs.Running.{Ends};
+ghost use Rattle.repl_run.specs.Running.{Ends, Going};
 ghost use Rattle.repl_run.specs.Together.{Grew, Lined, Opened, Stopped, Together, Told};
 
 use crate::asked::Asked;
 use crate::nodes::Nodes;
-use answer_text::{Report, Status, shown};
+use answer_text::{Report, Status};
 use node_answers::NodeFault;
 use port_traits::{Env, Sink};
 use replica_node::ReplicaNode;
+use run_laws::replica_follows;
 use run_streams::{open, write_line};
 use session_replays::transactions_replay;
 use source_node::SourceNode;
 use std::alloc::Global;
 use val_types::{Bytes, List};
 
+/// A law: a moment is below 2^32.
+fn moment_fits(moment: u32)
+    ensures { moment < 2 ^ 32 }
+{
+    let _ = moment;
+}
+
 /// Opens the source, then the replica, each with who it is and its first draw.
-fn open_nodes<E: Env, F: Env>(
+pub(crate) fn open_nodes<E: Env, F: Env>(
     alloc: Global,
     src_env: &mut E,
     rep_env: &mut F,
@@ -37,12 +44,14 @@ fn open_nodes<E: Env, F: Env>(
     ensures rep { Tells (F.told rep_env.old) (F.draws rep_env.old) report.new.rep_identity report.new.rep_draws }
 {
     transactions_replay();
+    replica_follows();
     let (src_name, src_draw) = open(
         alloc,
         src_env,
         &mut report.src_identity,
         &mut report.src_draws,
     )?;
+    moment_fits(src_draw.now);
     let source = SourceNode::open(alloc, src_name, &src_draw)?;
     let (rep_name, rep_draw) = open(
         alloc,
@@ -52,11 +61,11 @@ fn open_nodes<E: Env, F: Env>(
     )?;
     Ok(Nodes {
         source,
-        replica: ReplicaNode::open(rep_name, &rep_draw),
+        replica: ReplicaNode::open(alloc, rep_name, &rep_draw),
     })
 }
 
-/// Carries out the command with this number, and gives the lines that show its answer.
+/// Carries out the command with this number, and gives the lines that show what it is told.
 fn lines_of<E: Env, F: Env>(
     alloc: Global,
     number: u32,
@@ -67,8 +76,8 @@ fn lines_of<E: Env, F: Env>(
     report: &mut Report,
 ) -> Result<Bytes, NodeFault>
     requires { IsTrue (is_fit asked.now) }
-    ensures lined { (names : Names) (m : Machine) → Together names nodes.old m → IfOk result (λ lines.
-        Lined names m number (asked_seen asked.now) report.old report.new nodes.new lines) }
+    ensures lined { (names : Names) (b : Both) → Together names nodes.old b → IfOk result (λ lines.
+        Lined names b number (asked_seen asked.now) report.old report.new nodes.new lines) }
     ensures src_drawn { OnOk result (GoesOnDrawing (E.draws src_env.old) report.old.src_draws (E.draws src_env.new) report.new.src_draws) }
     ensures rep_drawn { OnOk result (GoesOnDrawing (F.draws rep_env.old) report.old.rep_draws (F.draws rep_env.new) report.new.rep_draws) }
     ensures src_handed { OnErr result (StaysHandedOut (E.draws src_env.old) report.old.src_draws report.new.src_draws) }
@@ -76,8 +85,7 @@ fn lines_of<E: Env, F: Env>(
     ensures grew { Grew report.old report.new }
 {
     report.now = nodes.mark(number);
-    let answer = nodes.carry_out(alloc, asked, src_env, rep_env, report)?;
-    Ok(shown(alloc, number, &answer)?)
+    nodes.carry_out(alloc, number, asked, src_env, rep_env, report)
 }
 
 /// Carries out the command with this number and shows its answer.
@@ -92,10 +100,10 @@ fn answer_command<K: Sink, E: Env, F: Env>(
     out: &mut K,
 ) -> Result<(), Status>
     requires { IsTrue (is_fit asked.now) }
-    ensures told { (names : Names) (m : Machine) → Together names nodes.old m → OnOk result
-        (Told names m number (asked_seen asked.now) report.old report.new nodes.new (K.written out.old) (K.written out.new)) }
-    ensures stopped { (names : Names) (m : Machine) → Together names nodes.old m → IfErr result (λ status.
-        Stopped status names m number (asked_seen asked.now) report.old report.new (K.written out.old) (K.written out.new)) }
+    ensures told { (names : Names) (b : Both) → Together names nodes.old b → OnOk result
+        (Told names b number (asked_seen asked.now) report.old report.new nodes.new (K.written out.old) (K.written out.new)) }
+    ensures stopped { (names : Names) (b : Both) → Together names nodes.old b → IfErr result (λ status.
+        Stopped status names b number (asked_seen asked.now) report.old report.new (K.written out.old) (K.written out.new)) }
     ensures src_drawn { DrewUntil (status_of result) (E.draws src_env.old) report.old.src_draws (E.draws src_env.new) report.new.src_draws }
     ensures rep_drawn { DrewUntil (status_of result) (F.draws rep_env.old) report.old.rep_draws (F.draws rep_env.new) report.new.rep_draws }
     ensures grew { Grew report.old report.new }
@@ -110,7 +118,7 @@ fn answer_command<K: Sink, E: Env, F: Env>(
 }
 
 /// Carries out the commands in order.
-fn answer_all<K: Sink, E: Env, F: Env>(
+pub(crate) fn answer_all<K: Sink, E: Env, F: Env>(
     alloc: Global,
     asked: &List<Asked<'_>>,
     nodes: &mut Nodes,
@@ -122,7 +130,7 @@ fn answer_all<K: Sink, E: Env, F: Env>(
     requires opened { Opened nodes.old report.old }
     requires count { length asked.now ≤ 13421772 }
     requires fit { IsTrue (list_all is_fit asked.now) }
-    ensures ran { OnOk result (Ran (map asked_seen asked.now) report.new (K.written out.old) (K.written out.new)) }
+    ensures going { OnOk result (Going (map asked_seen asked.now) (length asked.now) report.new (K.written out.old) (K.written out.new) nodes.new) }
     ensures ends { IfErr result (λ status. Ends status (map asked_seen asked.now) report.new (K.written out.old) (K.written out.new)) }
     ensures src_drawn { DrewUntil (status_of result) (E.draws src_env.old) report.old.src_draws (E.draws src_env.new) report.new.src_draws }
     ensures rep_drawn { DrewUntil (status_of result) (F.draws rep_env.old) report.old.rep_draws (F.draws rep_env.new) report.new.rep_draws }

@@ -49,8 +49,9 @@ fn run<S: Source, K: Sink, E: Env, F: Env>(
 /// The whole program: the words ask for something to be done with the input and the output, by a
 /// source in the one environment and a replica in the other.
 ///
-/// The words `run` carry out the script on the input: each command is answered by the source or the replica, which begin without
-/// tables, and its answer is written before the next begins. Any other words are [`Status::BadWords`], and nothing is read. The
+/// The words `run` carry out the script on the input: each command is carried out by the source or the replica, which begin without
+/// tables, and what it is told is written before the next begins. The replica fetches the log of the source and carries out what
+/// stands there; it follows the source, however the log is cut, and no APPLY stops. Any other words are [`Status::BadWords`], and nothing is read. The
 /// report is empty before, and tells after, at any status, who the source and the replica are and what they drew.
 pub fn top<S: Source, K: Sink, E: Env, F: Env>(
     alloc: Global,
@@ -64,8 +65,9 @@ pub fn top<S: Source, K: Sink, E: Env, F: Env>(
     requires { IsEmpty report.old }
     ensures words { (result ≡ Status.BadWords) ↔ (asks_run (map string_bytes words.now) ≡ false) }
 
-    // What `run` comes to: each status only by its cause. At Done the answers are those of the machine, all their lines were
-    // written and the report tells their draws; at any other status a front of these lines was written.
+    // What `run` comes to: each status only by its cause. At Done each command was told what both nodes of the definition tell,
+    // all lines of that were written, the report tells the draws, and the replica follows the source; at any other status a front
+    // of these lines was written.
     ensures run { asks_run (map string_bytes words.now) ≡ true → EndsBy result (S.left input.old) (S.left input.new)
         report.new (K.written out.old) (K.written out.new) }
 

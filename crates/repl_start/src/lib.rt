@@ -1,18 +1,20 @@
 //! What each program of the project does around [`top`](repl_run::top): its words, its pages of help, its end.
 //!
-//! - `command_line`: [`words`], those of the command line
+//! - `command_line`: [`words`], those of the command line; which a program has ([`Known`]), and [`asks_log`]
 //! - `pages`: [`Page`], `--help` and `--version`, and which of them some words ask for
 //! - `ending`: [`exit_of`] and [`tell`], how a status ends the process
-//! - `starting`: [`start`], one call of the program over two environments
+//! - `starting`: [`start`], one call of a program over two environments
 //!
 //! # Proved
+//! - The source's log is asked for exactly by the one word `log` ([`asks_log`]).
 //! - A page is shown exactly where the first word is `--help` or `--version` ([`page_asked`]).
 //! - The exit status is the number of the status ([`exit_of`]).
 //! - Where [`tell`] ends well, it put exactly the line of the status at the end of a writer that tells its bytes, which is
 //!   nothing at Done.
 //!
 //! # Only tested
-//! The text of the pages; that they go to standard output, and the line of a status to standard error.
+//! The text of the pages; that just a program that has the word `log` takes it; that pages go to standard output, and the line of
+//! a status to standard error.
 #![tactic(auto)]
 
 mod command_line;
@@ -20,7 +22,7 @@ mod ending;
 mod pages;
 mod starting;
 
-pub use command_line::words;
+pub use command_line::{Known, asks_log, words};
 pub use ending::{exit_of, tell};
 pub use pages::{Page, page_asked};
 pub use starting::start;

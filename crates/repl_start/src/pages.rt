@@ -3,6 +3,8 @@ ghost use Rattle.std.specs.Prelude.{◌≡◌, map, string_bytes};
 ghost use Rattle.std.specs.Str.{bytes_eq};
 ghost use Rattle.repl_start.specs.Pages.{page_asked, page_of};
 
+use crate::command_line::Known;
+
 /// A page: how the program is called, or which version it is.
 #[derive(Clone, Copy, PartialEq, Eq, Debug)]
 pub enum Page {
@@ -10,19 +12,29 @@ pub enum Page {
     Version,
 }
 
-/// How the program is called.
-const HELP: &str = "A MySQL 5.7 source and replica for a subset of SQL, in memory.
+/// How the program is called: the word that every program has.
+const RUN_HELP: &str = "A MySQL 5.7 source and replica for a subset of SQL, in memory.
 
 usage: run < SCRIPT      carries out the script on standard input
-       --help            shows this page
+";
+
+/// The word that some programs have.
+const LOG_HELP: &str =
+    "       log < SCRIPT      does the same, and writes the source's binary log in place of answers\n";
+
+/// All behind the words.
+const REST_OF_HELP: &str = "       --help            shows this page
        --version         shows the version
 
 A script is a list of commands `actor: text //`, each with its `//` at the end of a line:
     s1: CREATE TABLE t (id INT, v INT, PRIMARY KEY (id)) //
     s2: INSERT INTO t VALUES (1, 10) //
+    replica: FETCH 1000 //
+    replica: APPLY 2 //
     replica: SELECT * FROM t //
-Actors are the sessions s1 to s99 of the source, whose texts are statements, and the replica, whose texts begin with
-SELECT. Each command is answered on standard output before the next is carried out.
+Actors are the sessions s1 to s99 of the source, whose texts are statements, and the replica, which fetches so many bytes
+of the source's log, applies so many groups of them, and shows its rows. Each command is answered on standard output
+before the next is carried out.
 
 Exit status, with a line on standard error but for 0:
     0 done              1 bad words         2 bad script
@@ -36,11 +48,12 @@ or where it is anything else, the number is 1. The replica is server 2.
 const VERSION: &str = "cedarchisel 0.4.0 (statements of MySQL 5.7, log version 4)\n";
 
 impl Page {
-    /// The text of the page.
-    pub fn text(self) -> &'static str {
-        match self {
-            Page::Help => HELP,
-            Page::Version => VERSION,
+    /// The text of the page for a program that has these words, part by part.
+    pub fn parts(self, known: Known) -> [&'static str; 3] {
+        match (self, known) {
+            (Page::Help, Known::Run) => [RUN_HELP, "", REST_OF_HELP],
+            (Page::Help, Known::RunAndLog) => [RUN_HELP, LOG_HELP, REST_OF_HELP],
+            (Page::Version, _) => [VERSION, "", ""],
         }
     }
 }

@@ -1,27 +1,31 @@
 //! One call of the program.
 
-use crate::command_line::words;
+use crate::command_line::{Known, asks_log, words};
 use crate::ending::{exit_of, tell};
 use crate::pages::{Page, page_asked};
 use answer_text::Status;
 use port_traits::{Env, StdSink, StdSource};
-use repl_run::top;
+use repl_run::{top, write_log};
 use run_streams::empty_report;
 use std::io;
 use std::io::Write;
 use std::process::ExitCode;
 
 /// Shows a page on standard output.
-fn show(rt: &HostRuntime, page: Page) -> Status {
-    match io::writer(rt).write_all(page.text().as_bytes()) {
-        Ok(()) => Status::Done,
-        Err(_) => Status::WriteFault,
+fn show(rt: &HostRuntime, known: Known, page: Page) -> Status {
+    let mut out = io::writer(rt);
+    for part in page.parts(known) {
+        if out.write_all(part.as_bytes()).is_err() {
+            return Status::WriteFault;
+        }
     }
+    Status::Done
 }
 
 /// The program over standard input and output, a source in the one environment and a replica in the other.
 fn call<E: Env, F: Env>(
     rt: &HostRuntime,
+    known: Known,
     words: &[String],
     src_env: &mut E,
     rep_env: &mut F,
@@ -29,6 +33,16 @@ fn call<E: Env, F: Env>(
     let mut input = StdSource::new(rt.reader());
     let mut out = StdSink::new(io::writer(rt));
     let mut report = empty_report(rt.alloc());
+    if matches!(known, Known::RunAndLog) && asks_log(words) {
+        return write_log(
+            rt.alloc(),
+            &mut input,
+            &mut out,
+            src_env,
+            rep_env,
+            &mut report,
+        );
+    }
     top(
         rt.alloc(),
         words,
@@ -41,19 +55,30 @@ fn call<E: Env, F: Env>(
 }
 
 /// What the words of the command line ask for, done.
-fn asked<E: Env, F: Env>(rt: &HostRuntime, src_env: &mut E, rep_env: &mut F) -> Status {
+fn asked<E: Env, F: Env>(
+    rt: &HostRuntime,
+    known: Known,
+    src_env: &mut E,
+    rep_env: &mut F,
+) -> Status {
     match words(rt) {
         Err(status) => status,
         Ok(words) => match page_asked(words.as_slice()) {
-            Some(page) => show(rt, page),
-            None => call(rt, words.as_slice(), src_env, rep_env),
+            Some(page) => show(rt, known, page),
+            None => call(rt, known, words.as_slice(), src_env, rep_env),
         },
     }
 }
 
-/// Does what the words of the command line ask for, tells how it ended on standard error, and gives what the process ends with.
-pub fn start<E: Env, F: Env>(rt: &HostRuntime, src_env: &mut E, rep_env: &mut F) -> ExitCode {
-    let status = asked(rt, src_env, rep_env);
+/// Does what the words of the command line ask of a program that has these, tells how it ended on standard error, and gives
+/// what the process ends with.
+pub fn start<E: Env, F: Env>(
+    rt: &HostRuntime,
+    known: Known,
+    src_env: &mut E,
+    rep_env: &mut F,
+) -> ExitCode {
+    let status = asked(rt, known, src_env, rep_env);
     // where standard error takes nothing, the exit status says it
     let _ = tell(rt.alloc(), &mut rt.stderr(), &status);
     exit_of(&status)

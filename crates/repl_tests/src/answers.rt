@@ -23,13 +23,13 @@ fn script_of(alloc: Global, made: &str, rest: &str) -> Result<Bytes, Fail> {
 static OF_T: [(&str, &str); 12] = [
     // a savepoint
     (
-        "s1: BEGIN //\ns1: INSERT INTO t VALUES (1, 10) //\ns1: SAVEPOINT x //\ns1: INSERT INTO t VALUES (2, 20) //\ns1: ROLLBACK TO x //\ns1: COMMIT //\nreplica: SELECT * FROM t //\n",
-        "2 ok 0\n3 ok 1\n4 ok 0\n5 ok 1\n6 ok 0\n7 ok 0\n8 row 1, 10\n8 rows 1\n",
+        "s1: BEGIN //\ns1: INSERT INTO t VALUES (1, 10) //\ns1: SAVEPOINT x //\ns1: INSERT INTO t VALUES (2, 20) //\ns1: ROLLBACK TO x //\ns1: COMMIT //\nreplica: FETCH 100000 //\nreplica: APPLY 100 //\nreplica: SELECT * FROM t //\n",
+        "2 ok 0\n3 ok 1\n4 ok 0\n5 ok 1\n6 ok 0\n7 ok 0\n8 fetched 348\n9 applied 2 1:352\n10 row 1, 10\n10 rows 1\n",
     ),
     // a writer, and readers beside it
     (
-        "s1: INSERT INTO t VALUES (1, 10) //\ns1: BEGIN //\ns1: INSERT INTO t VALUES (2, 20) //\ns2: UPDATE t SET v = 0 //\ns2: SELECT * FROM t //\nreplica: SELECT * FROM t //\ns1: COMMIT //\nreplica: SELECT v FROM t WHERE id = 2 //\n",
-        "2 ok 1\n3 ok 0\n4 ok 1\n5 error 1205 by s1\n6 row 1, 10\n6 rows 1\n7 row 1, 10\n7 rows 1\n8 ok 0\n9 row 20\n9 rows 1\n",
+        "s1: INSERT INTO t VALUES (1, 10) //\ns1: BEGIN //\ns1: INSERT INTO t VALUES (2, 20) //\ns2: UPDATE t SET v = 0 //\ns2: SELECT * FROM t //\nreplica: FETCH 100000 //\nreplica: APPLY 100 //\nreplica: SELECT * FROM t //\ns1: COMMIT //\nreplica: FETCH 100000 //\nreplica: APPLY 100 //\nreplica: SELECT v FROM t WHERE id = 2 //\n",
+        "2 ok 1\n3 ok 0\n4 ok 1\n5 error 1205 by s1\n6 row 1, 10\n6 rows 1\n7 fetched 348\n8 applied 2 1:352\n9 row 1, 10\n9 rows 1\n10 ok 0\n11 fetched 146\n12 applied 1 1:498\n13 row 20\n13 rows 1\n",
     ),
     // the lock ends with the transaction, and a statement that changed nothing or failed does not keep it
     (
@@ -102,8 +102,8 @@ static OF_A: [(&str, &str); 4] = [
         "1 ok 0\n2 error 1062\n3 ok 1\n4 row 3, 5\n4 rows 1\n",
     ),
     (
-        "s1: INSERT INTO a VALUES (149, 1) //\ns1: INSERT INTO a VALUES (NULL, 2), (300, 3), (NULL, 4) //\ns1: SELECT id FROM a //\nreplica: SELECT id FROM a //\n",
-        "1 ok 0\n2 ok 1\n3 ok 3\n4 row 149\n4 row 150\n4 row 300\n4 row 301\n4 rows 4\n5 row 149\n5 row 150\n5 row 300\n5 row 301\n5 rows 4\n",
+        "s1: INSERT INTO a VALUES (149, 1) //\ns1: INSERT INTO a VALUES (NULL, 2), (300, 3), (NULL, 4) //\ns1: SELECT id FROM a //\nreplica: FETCH 100000 //\nreplica: APPLY 100 //\nreplica: SELECT id FROM a //\n",
+        "1 ok 0\n2 ok 1\n3 ok 3\n4 row 149\n4 row 150\n4 row 300\n4 row 301\n4 rows 4\n5 fetched 564\n6 applied 3 1:568\n7 row 149\n7 row 150\n7 row 300\n7 row 301\n7 rows 4\n",
     ),
     (
         "s1: INSERT INTO a VALUES (3, 1) //\ns1: SET auto_increment_increment = 10, auto_increment_offset = 3 //\ns1: INSERT INTO a (k) VALUES (2) //\ns1: SET auto_increment_offset = 20 //\ns1: INSERT INTO a (k) VALUES (3) //\ns1: SELECT id FROM a //\n",

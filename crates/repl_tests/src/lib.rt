@@ -5,14 +5,20 @@
 //! - `playing`: a call of the program on a script
 //! - `answers`: scripts and what they write: transactions, generated values, limits of trees, errors and their order
 //! - `programs`: stored functions and triggers
+//! - `replication`: logs fetched in pieces and carried out in groups
+//! - `logs`: the source's log in place of the answers
 //! - `statuses`: words, scripts that do not split, streams that fail, what the report tells
 #![tactic(auto)]
 
 #[cfg(test)]
 mod answers;
 #[cfg(test)]
+mod logs;
+#[cfg(test)]
 mod playing;
 #[cfg(test)]
 mod programs;
+#[cfg(test)]
+mod replication;
 #[cfg(test)]
 mod statuses;

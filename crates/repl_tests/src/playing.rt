@@ -38,7 +38,7 @@ pub fn identity_of(alloc: Global, server_id: u32, user: &str) -> Result<Identity
 }
 
 /// An environment with three draws.
-fn environment(alloc: Global, identity: Identity, first: u32) -> Result<MemEnv, Fail> {
+pub fn environment(alloc: Global, identity: Identity, first: u32) -> Result<MemEnv, Fail> {
     let mut draws = List::new(alloc);
     draws.push(draw(first, 0))?;
     draws.push(draw(first, 1))?;

@@ -22,8 +22,8 @@ static BAD_SCRIPTS: [(&str, u64); 13] = [
     ("s1: SELECT 1 //\nx", 16),
     ("s1: SELECT 1 // s1: SELECT 2 /", 0),
     ("s1: SELECT 1 //\n\ns1: SELECT 2 /", 17),
-    ("s1: SELECT 1 //\nreplica: FETCH 1000 //", 16),
-    ("replica: APPLY 1 //\nsource: FLUSH //", 0),
+    ("s1: SELECT 1 //\nreplica: CHECKPOINT //", 16),
+    ("replica: APPLY 1 //\nsource: FLUSH //", 20),
     ("s1: SELECT 1 //\nsource: CHECKPOINT //", 16),
     ("replica: RESTART //", 0),
     // what does not split comes before what is asked too early
@@ -115,15 +115,27 @@ fn words_of_the_command_line(rt: HostRuntime) -> Result<(), Fail> {
     Ok(())
 }
 
-/// A script of 141 bytes: 15 reads of 10 bytes at the most, and the 16th finds the end.
+/// A script of 185 bytes: 19 reads of 10 bytes at the most, and the 20th finds the end.
 const SCRIPT: &str =
-    "s1: CREATE TABLE t (id INT, PRIMARY KEY (id)) //\ns1: INSERT INTO t VALUES (1) //\ns2: INSERT INTO t VALUES (1) //\nreplica: SELECT * FROM t //\n";
+    "s1: CREATE TABLE t (id INT, PRIMARY KEY (id)) //\ns1: INSERT INTO t VALUES (1) //\ns2: INSERT INTO t VALUES (1) //\nreplica: FETCH 1000 //\nreplica: APPLY 10 //\nreplica: SELECT * FROM t //\n";
 
-/// What it shows, in writes of 7, 7, 10, 3, 10 and 7 bytes.
-const SHOWN: &str = "1 ok 0\n2 ok 1\n3 error 1062\n4 row 1\n4 rows 1\n";
+/// What it shows, in writes of 7, 7, 10, 3, 10, 4, 10, 8, 10 and 7 bytes.
+const SHOWN: &str =
+    "1 ok 0\n2 ok 1\n3 error 1062\n4 fetched 336\n5 applied 2 1:340\n6 row 1\n6 rows 1\n";
 
 /// Its writes, and how many bytes were written before each.
-static WRITES: [(u64, usize); 6] = [(1, 0), (2, 7), (3, 14), (4, 24), (5, 27), (6, 37)];
+static WRITES: [(u64, usize); 10] = [
+    (1, 0),
+    (2, 7),
+    (3, 14),
+    (4, 24),
+    (5, 27),
+    (6, 37),
+    (7, 41),
+    (8, 51),
+    (9, 59),
+    (10, 69),
+];
 
 /// A list of one call.
 fn only(alloc: Global, call: u64) -> Result<List<u64>, Fail> {
@@ -150,7 +162,7 @@ fn expect_write_fault(
     let input = source_of(alloc, SCRIPT.as_bytes(), List::new(alloc))?;
     let played = play(alloc, "run", input, sink_of(alloc, only(alloc, call)?))?;
     assert_eq!(rt; played.status.number(), 4, "write {call}");
-    assert_eq!(rt; played.reads, 16, "write {call}");
+    assert_eq!(rt; played.reads, 20, "write {call}");
     assert_eq!(rt; played.writes, call, "write {call}");
     assert_eq!(rt; played.written.len(), written, "write {call}");
     assert!(rt;
@@ -166,15 +178,15 @@ fn streams_that_do_not_fail(rt: HostRuntime) -> Result<(), Fail> {
     let input = source_of(alloc, SCRIPT.as_bytes(), List::new(alloc))?;
     let played = play(alloc, "run", input, sink_of(alloc, List::new(alloc)))?;
     assert_eq!(rt; played.status.number(), 0);
-    assert_eq!(rt; played.reads, 16);
-    assert_eq!(rt; played.writes, 6);
+    assert_eq!(rt; played.reads, 20);
+    assert_eq!(rt; played.writes, 10);
     assert_eq!(rt; played.written.as_slice(), SHOWN.as_bytes());
     Ok(())
 }
 
 #[test]
 fn streams_that_fail(rt: HostRuntime) -> Result<(), Fail> {
-    for call in 1..=16u64 {
+    for call in 1..=20u64 {
         expect_read_fault(&rt, rt.alloc(), call)?;
     }
     for (call, written) in &WRITES {
@@ -188,7 +200,7 @@ fn report_of_a_run(rt: HostRuntime) -> Result<(), Fail> {
     let alloc = rt.alloc();
     let input = MemSource::new(bytes(alloc, SCRIPT)?, List::new(alloc));
     let report = play(alloc, "run", input, MemSink::new(alloc, List::new(alloc)))?.report;
-    // each node's opening has its first draw; the third is the source's last, and so the fourth is the same
+    // each node's opening has its first draw; the third is the source's last, and so the fourth is the same; FETCH takes none
     assert_eq!(rt;
         report.src_draws.as_slice(),
         [
@@ -201,7 +213,12 @@ fn report_of_a_run(rt: HostRuntime) -> Result<(), Fail> {
     );
     assert_eq!(rt;
         report.rep_draws.as_slice(),
-        [draw(REPLICA_MOMENT, 0), draw(REPLICA_MOMENT, 1)].as_slice()
+        [
+            draw(REPLICA_MOMENT, 0),
+            draw(REPLICA_MOMENT, 1),
+            draw(REPLICA_MOMENT, 2)
+        ]
+        .as_slice()
     );
     assert_eq!(rt;
         report.src_identity,
@@ -211,9 +228,10 @@ fn report_of_a_run(rt: HostRuntime) -> Result<(), Fail> {
         report.rep_identity,
         Some(identity_of(alloc, 2, "rep@localhost")?)
     );
-    // the last command was the fourth, and the table and its row were committed before
-    assert_eq!(rt; report.now.command, 4);
+    // the last command was the sixth, and the table and its row were committed and carried out before
+    assert_eq!(rt; report.now.command, 6);
     assert_eq!(rt; report.now.committed, 2);
+    assert_eq!(rt; report.now.applied, 2);
     assert!(rt; report.marks.is_empty());
     Ok(())
 }

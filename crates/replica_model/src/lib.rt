@@ -7,6 +7,9 @@
 //! replica), `Lines` (the lines that show FETCH and APPLY), `Worked`.
 //!
 //! - `worked`: small logs, fetched and carried out, which the checker computes
+//!
+//! # Proved
+//! - The worked log of a table and a row: where a replica fetches next, what it carries out of it, whole, cut and damaged.
 #![tactic(auto)]
 
 mod worked;

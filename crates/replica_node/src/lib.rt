@@ -1,21 +1,37 @@
-//! A replica, as far as there is one: it shows what it is handed.
+//! A replica in memory: it fetches the bytes of its source's logs, carries out the whole groups among them, and shows its rows.
 //!
-//! Until it has a log of its own to carry out, it is handed what the source last committed wherever it is asked for rows, and
-//! keeps only who it is.
+//! It stands on `relay_log`, which keeps what was fetched and reads groups of it, and `stmt_apply`, which carries one out; a run asks
+//! it by its commands. The definitions are `replica_model`'s.
 //!
-//! - `replica`: [`ReplicaNode`], with [`ReplicaNode::open`] and [`ReplicaNode::select`]
+//! - `replica`: [`ReplicaNode`]: [`ReplicaNode::open`], [`ReplicaNode::number`], [`ReplicaNode::want`],
+//!   [`ReplicaNode::fetch`] and [`ReplicaNode::select`]
+//! - `applying`: [`ReplicaNode::apply`]; `told`: [`Applied`] and [`Stopped`], what it tells
+//! - `lines`: [`fetched_line`] and [`applied_line`], which show FETCH and APPLY
+//! - `selecting`: a text of a reader
 //!
-//! The definition of its answers is `run_model`'s (`Selecting`).
+//! The definitions in specs/ say what contracts see of a node (`Kept`), and APPLY step by step (`Steps`).
 //!
 //! # Proved
-//! - [`ReplicaNode::select`]: the answer to a text on the rows that are handed in is exactly the definition's: what is no
-//!   statement is refused at its place, then come the catalog's checks, 1290 for what would write, and the run in a new session
-//!   without a number, with the replica's identity and draw.
+//! - [`ReplicaNode::open`] has the identity that it is given, and is the definition's first replica.
+//! - [`ReplicaNode::want`] is exactly the definition's place, and [`ReplicaNode::number`] the count of what was carried out.
+//! - [`ReplicaNode::fetch`] puts just the piece behind what was fetched, or memory is short and all is as before.
+//! - [`ReplicaNode::apply`] makes just the replica of the definition, and tells just its count, its place and its stop; or memory is
+//!   short, and then nothing is said of what it keeps.
+//! - [`ReplicaNode::select`]: the answer to a text is exactly the definition's: what is no statement is refused at its place, then
+//!   come the catalog's checks, 1290 for what would write, and the run in a new session without a number, with the replica's
+//!   identity and draw. What the replica keeps is as before, also where memory is short.
+//! - [`fetched_line`] and [`applied_line`] are exactly the definition's lines, or memory is short.
 //!
 //! # Only tested
-//! Nothing here: that SELECTs succeed with ample memory is tested where scripts run.
+//! Nothing here: that bytes are fetched and groups carried out with ample memory is tested where scripts run.
 #![tactic(auto)]
 
+mod applying;
+mod lines;
 mod replica;
+mod selecting;
+mod told;
 
+pub use lines::{applied_line, fetched_line};
 pub use replica::ReplicaNode;
+pub use told::{Applied, Stopped};

@@ -1,129 +1,96 @@
 //! The replica.
-ghost use Rattle.std.specs.Prelude.{◌≡◌, ◌≤◌, ◌^◌, [], false, length, IfOk};
-ghost use Rattle.sql_tree.specs.StatementView.{view};
-ghost use Rattle.catalog_objects.specs.Keys.{objects_of};
-ghost use Rattle.catalog_rules.specs.Checks.{session_scope, statement_refusal};
-ghost use Rattle.prog_run.specs.Contents.{base_of};
-ghost use Rattle.sql_reach.specs.Reach.{is_definition, writes};
-ghost use Rattle.run_model.specs.Selecting.{select_answer, select_checked, select_run};
+ghost use Rattle.std.specs.Prelude.{◌≡◌, ◌≤◌, ◌+◌, ◌^◌, length, IfOk, OnErr, OnOk};
+ghost use Rattle.replica_model.specs.Replica.{fetched, first_replica, want};
+ghost use Rattle.replica_model.specs.Selecting.{select_answer};
+ghost use Rattle.replica_node.specs.Kept.{replica_of};
 
+use crate::selecting::answer;
 use answer_text::Answer;
-use node_answers::{NodeFault, refused, refused_at, statement_of, told};
+use node_answers::NodeFault;
 use port_traits::{Draw, Identity};
-use prog_run::{Meter, Work, run_stmt};
-use session_ctx::SessionVars;
-use sql_locals::Locals;
-use sql_parse::ParseRefusal;
-use sql_tree::Stmt;
+use prog_run::Work;
+use relay_log::Relay;
 use std::alloc::Global;
-use unsafe_rules::writes;
-use val_types::{SqlError, SqlRefusal};
+use std::marker::Model;
+use val_types::Bytes;
 
-/// A text is too deep.
-const TOO_DEEP: u16 = 30007;
-
-/// A replica's rows are changed by its source alone.
-const READ_ONLY: u16 = 1290;
-
-/// A replica.
+/// A replica in memory, which contracts see as who it is and what it keeps.
 #[derive(Drop)]
 pub struct ReplicaNode {
-    identity: Identity,
+    pub(crate) alloc: Global,
+    pub(crate) identity: Identity,
+    pub(crate) work: Work,
+    pub(crate) number: u64,
+    pub(crate) relay: Relay,
 }
 
-/// What the catalog's checks refuse a statement for.
-fn checked(alloc: Global, work: &Work, statement: &Stmt) -> Option<SqlError>
-    ensures { result ≡ statement_refusal (objects_of work.now.objects) session_scope (view statement.now) }
-{
-    let locals = Locals::new(alloc);
-    match work.catalog().check(statement, &locals) {
-        Err(SqlRefusal::Sql(code)) => Some(code),
-        _ => None,
-    }
-}
+impl Model for ReplicaNode {
+    ghost use Rattle.std.specs.Prelude.{◌≡◌, []};
+    ghost use Rattle.replica_node.specs.Kept.{Kept};
 
-/// Runs a statement that is no definition in a session of its own, which has no number.
-fn run(
-    alloc: Global,
-    identity: &Identity,
-    work: &mut Work,
-    statement: &Stmt,
-    draw: &Draw,
-) -> Result<Answer, NodeFault>
-    requires plain { is_definition (view statement.now) ≡ false }
-    requires changes { work.old.changes ≡ [] }
-    ensures { IfOk result (λ answer. answer ≡ select_run identity.now draw.entry.now (work.old.counters) (base_of work.old) (view statement.now)) }
-{
-    let mut session = SessionVars::new(alloc, identity, 0, draw)?;
-    let mut meter = Meter {
-        depth: 16,
-        turns: 1_000_000,
-        uuids: 0,
-    };
-    match run_stmt(
-        alloc,
-        work,
-        statement,
-        &mut session.context,
-        draw,
-        &mut meter,
-    ) {
-        Err(SqlRefusal::NoMemory) => Err(NodeFault::NoMemory),
-        Err(SqlRefusal::Sql(code)) => Ok(refused(alloc, code)),
-        Ok(outcome) => Ok(told(alloc, &outcome)?),
-    }
-}
+    ghost Value = { Kept };
 
-/// A statement of the replica: checked, refused where it would write, and run.
-#[tactic(auto, using(crate::proofs::Reading::no_definition))]
-fn select_checked(
-    alloc: Global,
-    identity: &Identity,
-    work: &mut Work,
-    statement: &Stmt,
-    draw: &Draw,
-) -> Result<Answer, NodeFault>
-    requires { work.old.changes ≡ [] }
-    ensures { IfOk result (λ answer. answer ≡ select_checked identity.now draw.entry.now (work.old.counters) (base_of work.old) (view statement.now)) }
-{
-    if let Some(code) = checked(alloc, work, statement) {
-        return Ok(refused(alloc, code));
-    }
-    if writes(statement, work.catalog().objects()) {
-        return Ok(refused(alloc, READ_ONLY));
-    }
-    run(alloc, identity, work, statement, draw)
+    ghost use Rattle.sql_tree.specs.contracts.statements.Stmt as stmt;
+    ghost use Rattle.std.specs.Coded.{codes};
+
+    ghost coded = { Prim.hlevel (codes, stmt.the_row.coded) };
+
+    ghost view = { λ n. record { identity = n.identity; work = n.work; number = n.number; relay = n.relay } };
+
+    ghost invariant = { λ n. n.work.changes ≡ [] };
 }
 
 impl ReplicaNode {
-    /// A replica. As long as it has no log to carry out, it uses nothing of its draw.
-    pub fn open(identity: Identity, draw: &Draw) -> ReplicaNode
-        ensures { result.identity ≡ identity }
+    /// A replica that has fetched nothing. It uses nothing of its draw as long as it opens no files.
+    pub fn open(alloc: Global, identity: Identity, draw: &Draw) -> ReplicaNode
+        ensures identity { result.identity ≡ identity }
+        ensures replica { replica_of result ≡ first_replica }
     {
         let _ = draw;
-        ReplicaNode { identity }
+        ReplicaNode {
+            alloc,
+            identity,
+            work: Work::new(alloc),
+            number: 0,
+            relay: Relay::new(alloc),
+        }
     }
 
-    /// The answer to a text whose first word is SELECT, on rows that are handed in: 1064 or 30007 where it is no statement, then
-    /// the error of the first of the catalog's checks, 1290 where it would change rows, then its own.
-    #[tactic(auto, unfolding(run_model::specs::Selecting::select_answer))]
-    pub fn select(
-        &self,
-        alloc: Global,
-        committed: Work,
-        text: &[u8],
-        draw: &Draw,
-    ) -> Result<Answer, NodeFault>
-        requires length { length text.now ≤ 2 ^ 20 }
-        requires changes { committed.changes ≡ [] }
-        ensures { IfOk result (λ answer. answer ≡ select_answer (self.now.identity) draw.entry.now committed.counters (base_of committed) text.now) }
+    /// How many definitions and transactions were carried out.
+    pub fn number(&self) -> u64
+        ensures { result ≡ (replica_of self.now).number }
     {
-        let mut work = committed;
-        match statement_of(alloc, text) {
-            Err(ParseRefusal::NoMemory) => Err(NodeFault::NoMemory),
-            Err(ParseRefusal::Deep) => Ok(refused(alloc, TOO_DEEP)),
-            Err(ParseRefusal::Syntax { at }) => Ok(refused_at(alloc, at)),
-            Ok(statement) => select_checked(alloc, &self.identity, &mut work, &statement, draw),
-        }
+        self.number
+    }
+
+    /// The log and the position from which the next bytes are fetched.
+    #[tactic(auto, unfolding(replica_model::specs::Replica::want))]
+    pub fn want(&self) -> (u32, u32)
+        ensures { record { log = result.0; pos = result.1 } ≡ want (replica_of self.now) }
+    {
+        let place = self.relay.want();
+        (place.log, place.pos)
+    }
+
+    /// Takes a piece of the source's log from the place that is wanted on, which ends within 4,294,967,295.
+    #[tactic(auto, unfolding(replica_model::specs::Replica::want))]
+    pub fn fetch(&mut self, piece: &Bytes) -> Result<(), NodeFault>
+        requires { (want (replica_of self.old)).pos + length piece.now ≤ 4294967295 }
+        ensures identity { self.new.identity ≡ self.old.identity }
+        ensures ok { OnOk result (replica_of self.new ≡ fetched piece.now (replica_of self.old)) }
+        ensures err { OnErr result (self.new ≡ self.old) }
+    {
+        self.relay.append(piece.as_slice())?;
+        Ok(())
+    }
+
+    /// The answer to a text of at most 1,048,576 bytes whose first word is SELECT: 1064 or 30007 where it is no statement, then
+    /// the error of the first of the catalog's checks, 1290 where it would change rows, then its own.
+    pub fn select(&mut self, text: &[u8], draw: &Draw) -> Result<Answer, NodeFault>
+        requires { length text.now ≤ 2 ^ 20 }
+        ensures answer { IfOk result (λ answer. answer ≡ select_answer self.old.identity draw.entry.now (replica_of self.old).counters (replica_of self.old).base text.now) }
+        ensures same { self.new ≡ self.old }
+    {
+        answer(self.alloc, &self.identity, &mut self.work, text, draw)
     }
 }

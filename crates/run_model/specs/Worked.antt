@@ -2,7 +2,7 @@
 use Rattle.std.specs.Prelude.{ℕ, zero, suc, ◌+◌, List, [], ◌∷◌, ◌++◌, codes, length}
 use Rattle.port_traits.specs.declared.identity.Draw.{Draw}
 use Rattle.session_model.specs.Worked.{root, draw_of}
-use Rattle.run_model.specs.Asked.{Asked, say, select}
+use Rattle.run_model.specs.Asked.{Asked, say}
 use Rattle.run_model.specs.Run.{Names, first_both, lines_shown}
 
 -- the source is server 1, the replica server 2

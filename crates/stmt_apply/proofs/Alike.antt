@@ -1,5 +1,5 @@
 -- Types of columns, one after the other.
-use Rattle.std.proofs.Common.{◌≡◌, ℕ, ◌+◌, ◌<◌, List, [], ◌∷◌, map, drop, length, get_or, Bool, false, refl, sym, ap, ◌∙◌, arith}
+use Rattle.std.proofs.Common.{◌≡◌, ℕ, ◌<◌, List, [], ◌∷◌, map, drop, length, get_or, Bool, false, refl, sym, ap, ◌∙◌, arith}
 use Rattle.val_types.specs.declared.definitions.ColType.{ColType}
 use Rattle.val_types.specs.declared.definitions.ColumnDef.{ColumnDef}
 use Rattle.log_model.specs.Images.{types_of as types_in}

@@ -1,22 +1,27 @@
 -- A transaction under way, step by step.
-use Rattle.std.proofs.Common.{◌≡◌, ℕ, ◌+◌, ◌<◌, List, [], ◌∷◌, ◌++◌, Bool, true, false, ◌||◌, map, reverse, length, Option, Some, None, Result, Ok, Err, refl, sym, ap, subst, ◌∙◌, arith}
-use Rattle.std.specs.Prelude.{if◌then◌else◌, min, nat_lt, unwrap_or}
+use Rattle.std.proofs.Common.{◌≡◌, ℕ, ◌+◌, ◌<◌, List, [], ◌∷◌, ◌++◌, Bool, true, false, map, reverse, length, Option, Some, None, Result, Ok, Err, refl, sym, ap, subst, ◌∙◌, arith}
+use Rattle.std.specs.Prelude.{if◌then◌else◌, unwrap_or}
 use Rattle.std.proofs.lemmas.List.{append_assoc, append-nil, map-append, reverse-append}
 use Rattle.val_types.specs.declared.change.Change.{Change}
-use Rattle.auto_inc.specs.declared.counters.Counter.{Counter}
 use Rattle.event_codec.specs.declared.event.MapView.{MapView}
 use Rattle.event_codec.specs.Event.{Map, Rows, map_of}
 use Rattle.log_model.specs.Events.{Placed}
+use Rattle.log_model.specs.Groups.{find}
 use Rattle.log_model.specs.Images.{changes_of}
+use Rattle.log_groups.specs.Views.{walked}
+use Rattle.catalog_rules.specs.Objects.{Object as Tree}
+use Rattle.catalog_objects.specs.declared.object.Object.{Object}
+use Rattle.catalog_objects.specs.Keys.{objects_of}
 use Rattle.applier_model.specs.Stops.{Differs, stop_at}
 use Rattle.applier_model.specs.Rows.{Store, carry_change}
-use Rattle.applier_model.specs.Sizes.{change_size, changes_size, most_bytes}
+use Rattle.row_events.specs.Sizes.{bounded}
+use Rattle.transaction_sizes.specs.Sizes.{changes_size}
 use Rattle.applier_model.specs.Texts.{Applier, Needs, Progress, no_needs}
 use Rattle.applier_model.specs.Groups.{Applied, Going, and_then, applied_by, carry_changes, carry_rows, event_carried, first_place, going_from, is_too_large, item_ended, items_carried, rows_ended, store_of, with_bytes, with_needs, with_store}
 use Rattle.prog_run.specs.Contents.{Contents, base_of}
 use Rattle.stmt_apply.specs.Changes.{change_carried}
 use Rattle.stmt_apply.specs.Ends.{Ends, progress_in, applied_in}
-use Rattle.stmt_apply.specs.UnderWay.{ComesTo, Goes, Stands, bounded, items_from, transaction_carried}
+use Rattle.stmt_apply.specs.UnderWay.{ComesTo, Goes, Stands, items_from, transaction_carried}
 use Rattle.stmt_apply.specs.declared.stop.Stop.{Stop}
 use Rattle.stmt_apply.specs.declared.stop.Stop.TheVariants as stop
 use Rattle.stmt_apply.specs.declared.under_way.UnderWay.{UnderWay}
@@ -103,3 +108,196 @@ rows_go_on first work here g h = (
   refl,
   record { progress = h.progress; bytes = h.bytes; changed = h.changed; maps = h.maps; begun = refl },
 )
+
+-- ---- the rows of an event
+
+goes_stopped : {A : Type 0} (s : Stop) (now : A) (work : Contents) (here : UnderWay) (carried : Result A Differs) (more : A → Result Going Differs)
+    → Ends (Err s) now carried → Goes (Err s) work here (and_then more carried)
+goes_stopped (stop.Differs place code table key) now work here carried more e = ap (and_then more) e
+goes_stopped stop.NoMemory now work here carried more e = tt
+
+-- no map has their id
+pub rows_unknown : (pos : ℕ) (r : Rows) (work : Contents) (here : UnderWay) (g : Going) → Stands work here g → None ≡ find r.id (map map_of here.maps)
+    → Goes (Ok tt) work here (carry_rows pos r g (find r.id g.maps))
+rows_unknown pos r work here g h none = (g, ap (λ (ms : List Map). carry_rows pos r g (find r.id ms)) h.maps ∙ ap (carry_rows pos r g) (sym none), h)
+
+abbrev rows_then : (pos : ℕ) → Rows → Going → Progress → Result Going Differs
+rows_then pos r g p = rows_ended r.ends (first_place pos g.begun) (record g { progress = p })
+
+rows_known : (pos : ℕ) (r : Rows) (work : Contents) (here : UnderWay) (g : Going) (m : Map) → Stands work here g → Some m ≡ find r.id (map map_of here.maps)
+    → carry_rows pos r g (find r.id g.maps) ≡ and_then (rows_then pos r g) (carry_changes pos m (changes_of m r) (progress_in work))
+rows_known pos r work here g m h some =
+    ap (λ (ms : List Map). carry_rows pos r g (find r.id ms)) h.maps
+    ∙ ap (carry_rows pos r g) (sym some)
+    ∙ ap (λ (p : Progress). and_then (rows_then pos r g) (carry_changes pos m (changes_of m r) p)) h.progress
+
+pub rows_stopped : (s : Stop) (pos : ℕ) (r : Rows) (work after : Contents) (here : UnderWay) (g : Going) (m : Map) → Stands work here g → Some m ≡ find r.id (map map_of here.maps)
+    → Ends (Err s) (progress_in after) (carry_changes pos m (changes_of m r) (progress_in work)) → Goes (Err s) after here (carry_rows pos r g (find r.id g.maps))
+rows_stopped s pos r work after here g m h some e =
+    subst (λ (x : Result Going Differs). Goes (Err s) after here x) (sym (rows_known pos r work here g m h some))
+    (goes_stopped s (progress_in after) after here (carry_changes pos m (changes_of m r) (progress_in work)) (rows_then pos r g) e)
+
+-- where they stand when all were carried out
+pub rows_stand : (pos : ℕ) (cs : List Change) (old new : Contents) (here : UnderWay) (g : Going) (m : Map) (size changed : ℕ) → Stands old here g
+    → carry_changes pos m cs (progress_in old) ≡ Ok (progress_in new) → size ≡ bounded (changes_size cs) → changed ≡ bounded (here.changed + size)
+    → Stands new (record { bytes = here.bytes; changed = changed; maps = here.maps; begun = here.begun }) (record g { progress = progress_in new })
+rows_stand pos cs old new here g m size changed h e sized added = record {
+  progress = refl;
+  bytes = h.bytes;
+  changed =
+      let sum : changes_size new.changes ≡ changes_size old.changes + changes_size cs = ap changes_size (changes_noted pos m cs (progress_in old) (progress_in new) e) ∙ sizes_both old.changes cs in
+      let before : here.changed ≡ bounded (changes_size old.changes) = h.changed in
+      omega arith;
+  maps = h.maps;
+  begun = h.begun;
+}
+
+first_by : (pos : ℕ) (q : Option ℕ) → unwrap_or q pos ≡ first_place pos q
+first_by pos None = refl
+first_by pos (Some n) = refl
+
+-- the place of the first rows of their item
+pub first_is : (pos : ℕ) (o p : Option ℕ) → o ≡ p → unwrap_or p pos ≡ first_place pos o
+first_is pos o p e = first_by pos p ∙ sym (ap (first_place pos) e)
+
+pub rows_ended_so : (res : Result (Unit {0}) Stop) (pos first : ℕ) (r : Rows) (old new : Contents) (here later : UnderWay) (g : Going) (m : Map)
+    → Stands old here g → Some m ≡ find r.id (map map_of here.maps) → carry_changes pos m (changes_of m r) (progress_in old) ≡ Ok (progress_in new)
+    → first ≡ unwrap_or here.begun pos → Goes res new later (rows_ended r.ends first (record g { progress = progress_in new }))
+    → Goes res new later (carry_rows pos r g (find r.id g.maps))
+rows_ended_so res pos first r old new here later g m h some e is goes =
+    subst (λ (x : Result Going Differs). Goes res new later x)
+    (ap (λ (k : ℕ). rows_ended r.ends k (record g { progress = progress_in new })) (is ∙ first_is pos g.begun here.begun h.begun)
+    ∙ sym (ap (and_then (rows_then pos r g)) e)
+    ∙ sym (rows_known pos r old here g m h some))
+    goes
+
+-- ---- other events
+
+pub passes : (work : Contents) (here : UnderWay) (g : Going) → Stands work here g → Goes (Ok tt) work here (Ok g)
+passes work here g h = (g, refl, h)
+
+pub passes_needs : (work : Contents) (here : UnderWay) (g : Going) (needs : Needs) → Stands work here g → Goes (Ok tt) work here (Ok (with_needs needs g))
+passes_needs work here g needs h =
+    (with_needs needs g, refl, record { progress = h.progress; bytes = h.bytes; changed = h.changed; maps = h.maps; begun = h.begun })
+
+-- one more map
+pub mapped : (work : Contents) (here : UnderWay) (g : Going) (maps : List MapView) (m : MapView) → Stands work here g → maps ≡ here.maps ++ m ∷ []
+    → Goes (Ok tt) work (record { bytes = here.bytes; changed = here.changed; maps = maps; begun = here.begun }) (Ok (record g { maps = g.maps ++ map_of m ∷ [] }))
+mapped work here g maps m h is = (
+  record g { maps = g.maps ++ map_of m ∷ [] },
+  refl,
+  record {
+    progress = h.progress;
+    bytes = h.bytes;
+    changed = h.changed;
+    maps = ap (λ (ms : List Map). ms ++ map_of m ∷ []) h.maps ∙ sym (map-append map_of here.maps (m ∷ [])) ∙ sym (ap (map map_of) is);
+    begun = h.begun;
+  },
+)
+
+-- the bytes of an event are counted
+pub counted : (work : Contents) (here : UnderWay) (g : Going) (size bytes : ℕ) → Stands work here g → bytes ≡ bounded (here.bytes + size)
+    → Stands work (record { bytes = bytes; changed = here.changed; maps = here.maps; begun = here.begun }) (with_bytes size g)
+counted work here g size bytes h is = record {
+  progress = h.progress;
+  bytes = let before : here.bytes ≡ bounded g.bytes = h.bytes in omega arith;
+  changed = h.changed;
+  maps = h.maps;
+  begun = h.begun;
+}
+
+-- ---- the events of a transaction
+
+-- so far as the code has come the definition has come, too
+pub record Reached (a : Applier) (all : List Placed) (first : Contents) (left : List Placed) (work : Contents) (here : UnderWay) : Type 0 where
+  pub going : Going
+  pub stands : Stands work here going
+  pub same : items_carried a left going ≡ items_from a all first
+
+pub begins : (a : Applier) (all left : List Placed) (first : Contents) (here : UnderWay) → first.changes ≡ [] → left ≡ all → here ≡ record { bytes = 0; changed = 0; maps = []; begun = None }
+    → Reached a all first left first here
+begins a all left first here none is new = record {
+  going = going_from (store_of (base_of first) first.counters);
+  stands = record {
+    progress = λ i. record { store = record { tables = first.tables; counters = first.counters }; changes = sym none i };
+    bytes = ap (λ (u : UnderWay). u.bytes) new;
+    changed = ap (λ (u : UnderWay). u.changed) new ∙ sym (ap (λ (cs : List Change). bounded (changes_size cs)) none);
+    maps = sym (ap (λ (u : UnderWay). map map_of u.maps) new);
+    begun = sym (ap (λ (u : UnderWay). u.begun) new);
+  };
+  same = ap (λ (es : List Placed). items_carried a es (going_from (store_of (base_of first) first.counters))) is;
+}
+
+walked_some : (xs ys : List Placed) (x : Placed) → (Some x, ys) ≡ walked xs → xs ≡ x ∷ ys
+walked_some [] ys x e = let f = ap (λ (r : Option Placed × List Placed). r.0) e in cc
+walked_some (y ∷ xs) ys x e =
+    let f = ap (λ (r : Option Placed × List Placed). r.0) e in
+    let g = ap (λ (r : Option Placed × List Placed). r.1) e in
+    cc
+
+abbrev pub nothing_left : List Placed → Option Placed × List Placed
+nothing_left ys = (None, ys)
+
+walked_none : (xs ys : List Placed) → nothing_left ys ≡ walked xs → xs ≡ []
+walked_none [] ys e = refl
+walked_none (x ∷ xs) ys e = let f = ap (λ (r : Option Placed × List Placed). r.0) e in cc
+
+pub fewer : (xs ys : List Placed) (x : Placed) → (Some x, ys) ≡ walked xs → length ys < length xs
+fewer xs ys x e = let f = ap (λ (zs : List Placed). length zs) (walked_some xs ys x e) in omega arith
+
+event_first : (a : Applier) (left rest : List Placed) (e : Placed) (g : Going) → (Some e, rest) ≡ walked left
+    → items_carried a left g ≡ and_then (items_carried a rest) (event_carried a e (with_bytes e.event.size g) e.event.body)
+event_first a left rest e g is = ap (λ (es : List Placed). items_carried a es g) (walked_some left rest e is)
+
+-- one more event was carried out
+pub event_on : (a : Applier) (all left rest : List Placed) (e : Placed) (first work after : Contents) (here later : UnderWay) → (Some e, rest) ≡ walked left
+    → Reached a all first left work here
+    → ((g : Going) → Stands work here g → Goes (Ok tt) after later (event_carried a e (with_bytes e.event.size g) e.event.body))
+    → Reached a all first rest after later
+event_on a all left rest e first work after here later is reached goes =
+    let went = goes reached.going reached.stands in
+    record {
+      going = went.0;
+      stands = went.2;
+      same = sym (event_first a left rest e reached.going is ∙ ap (and_then (items_carried a rest)) went.1) ∙ reached.same;
+    }
+
+comes_stopped : (s : Stop) (work : Contents) (here : UnderWay) (carried : Result Going Differs) (more : Going → Result Going Differs)
+    → Goes (Err s) work here carried → ComesTo (Err s) work (and_then more carried)
+comes_stopped (stop.Differs place code table key) work here carried more e = ap (and_then more) e
+comes_stopped stop.NoMemory work here carried more e = tt
+
+-- one stopped
+pub event_stopped : (s : Stop) (a : Applier) (all left rest : List Placed) (e : Placed) (first work after : Contents) (here later : UnderWay) → (Some e, rest) ≡ walked left
+    → Reached a all first left work here
+    → ((g : Going) → Stands work here g → Goes (Err s) after later (event_carried a e (with_bytes e.event.size g) e.event.body))
+    → ComesTo (Err s) after (items_from a all first)
+event_stopped s a all left rest e first work after here later is reached goes =
+    subst (λ (x : Result Going Differs). ComesTo (Err s) after x) (sym (event_first a left rest e reached.going is) ∙ reached.same)
+    (comes_stopped s after later (event_carried a e (with_bytes e.event.size reached.going) e.event.body) (items_carried a rest) (goes reached.going reached.stands))
+
+-- all were
+pub events_done : (a : Applier) (all left rest : List Placed) (first work : Contents) (here : UnderWay) → nothing_left rest ≡ walked left
+    → Reached a all first left work here → ComesTo (Ok tt) work (items_from a all first)
+events_done a all left rest first work here is reached =
+    (reached.going, sym reached.same ∙ ap (λ (es : List Placed). items_carried a es reached.going) (walked_none left rest is), reached.stands.progress)
+
+-- ---- a whole transaction
+
+abbrev behind_transaction : Contents → Going → Result Applied Differs
+behind_transaction c g = Ok (applied_by (base_of c) g)
+
+abbrev came_to : List Tree → Progress → Result Applied Differs
+came_to os p = Ok (record { base = record { catalog = os; tables = p.store.tables }; counters = p.store.counters })
+
+pub transaction_done : (a : Applier) (es : List Placed) (old new : Contents) → new.objects ≡ old.objects → ComesTo (Ok tt) new (items_from a es old)
+    → transaction_carried a es old ≡ Ok (applied_in new)
+transaction_done a es old new same comes =
+    ap (and_then (behind_transaction old)) comes.1
+    ∙ ap (came_to (objects_of old.objects)) comes.2
+    ∙ ap (λ (os : List Object). came_to (objects_of os) (progress_in new)) (sym same)
+
+pub transaction_stopped : (s : Stop) (a : Applier) (es : List Placed) (old work new : Contents) → ComesTo (Err s) work (items_from a es old)
+    → Ends (Err s) (applied_in new) (transaction_carried a es old)
+transaction_stopped (stop.Differs place code table key) a es old work new comes = ap (and_then (behind_transaction old)) comes
+transaction_stopped stop.NoMemory a es old work new comes = tt

@@ -3,7 +3,6 @@ use Rattle.std.proofs.Common.{◌≡◌, ℕ, List, [], ◌∷◌, ◌++◌, Boo
 use Rattle.std.specs.Prelude.{is_ok, unwrap_or, if◌then◌else◌}
 use Rattle.std.specs.Option.{option_map_or}
 use Rattle.val_types.specs.declared.value.Value.{Value}
-use Rattle.val_types.specs.declared.definitions.TableDef.{TableDef}
 use Rattle.val_types.specs.declared.change.Change.{Change}
 use Rattle.val_types.specs.declared.change.Change.TheVariants.{Insert, Update, Delete}
 use Rattle.val_types.specs.Changes.{table_of}
@@ -21,7 +20,7 @@ use Rattle.applier_model.specs.Rows.{Refusal, Store, change_if, change_refusal, 
 use Rattle.applier_model.specs.Texts.{Progress}
 use Rattle.applier_model.specs.Groups.{and_then, with_store}
 use Rattle.stmt_apply.specs.Changes.{change_carried, code_in, is_row, table_code}
-use Rattle.stmt_apply.proofs.Refusing.{no_refusal, key_taken_at, absent_at, not_refused, insert_unfit, insert_taken, update_unfit, update_taken, update_absent, delete_absent, row_found}
+use Rattle.stmt_apply.proofs.Refusing.{not_refused, insert_unfit, insert_taken, update_unfit, update_taken, update_absent, delete_absent}
 
 -- ---- the refusal, by the table
 

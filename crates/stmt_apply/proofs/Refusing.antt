@@ -1,5 +1,5 @@
 -- Whether the rows of a table refuse a change, by what storing its row comes to.
-use Rattle.std.proofs.Common.{◌≡◌, ℕ, List, [], ◌∷◌, Bool, true, false, not, ◌&&◌, Option, Some, None, Result, Ok, Err, refl, sym, ap, subst, ◌∙◌}
+use Rattle.std.proofs.Common.{◌≡◌, ℕ, List, [], ◌∷◌, Bool, true, false, not, ◌&&◌, Option, Some, None, refl, sym, ap, ◌∙◌}
 use Rattle.std.specs.Prelude.{is_some, is_ok, if◌then◌else◌}
 use Rattle.std.specs.List.{list_any}
 use Rattle.std.specs.Option.{option_map, option_and_then, option_map_or}
@@ -14,8 +14,8 @@ use Rattle.val_types.specs.Keys.{primary_key, same_values, agree_on, collide}
 use Rattle.table_rules.specs.Tables.{Table}
 use Rattle.table_rules.specs.Changes.{applied, may_put, put, rows_after, with_row, without, AreKept}
 use Rattle.table_rules.specs.Stored.{table_named, has_key, row_of_key, row_at, rows_beside, fits_table, insertion, replacement}
-use Rattle.table_rules.proofs.Storing.{applied_where, inserts_where, key_is, named_kept, replaces_where, without_is_beside}
-use Rattle.table_rules.proofs.Taking.{Kept, TakenOut, as_kept, same_is, same_self, taken_out}
+use Rattle.table_rules.proofs.Storing.{applied_where, inserts_where, named_kept, replaces_where, without_is_beside}
+use Rattle.table_rules.proofs.Taking.{Kept, as_kept, same_is, same_self, taken_out}
 use Rattle.applier_model.specs.Rows.{Refusal, taken_if, replacing, removing, storing_refusal}
 use Rattle.stmt_apply.specs.Changes.{is_row}
 

@@ -1,5 +1,5 @@
 -- How carrying out a part of a group ends.
-use Rattle.std.specs.Prelude.{◌≡◌, ℕ, List, Result, Ok, Err}
+use Rattle.std.specs.Prelude.{◌≡◌, Result, Ok, Err}
 use Rattle.auto_inc.specs.Counting.{tables_of}
 use Rattle.applier_model.specs.Stops.{Differs}
 use Rattle.applier_model.specs.Texts.{Progress}

@@ -1,8 +1,9 @@
 -- A transaction under way, in the code and in the definition.
-use Rattle.std.specs.Prelude.{◌≡◌, ℕ, ◌-◌, ◌^◌, min, List, map, Result, Ok, Err}
+use Rattle.std.specs.Prelude.{◌≡◌, List, map, Result, Ok, Err}
 use Rattle.event_codec.specs.Event.{map_of}
 use Rattle.log_model.specs.Events.{Placed}
-use Rattle.applier_model.specs.Sizes.{changes_size}
+use Rattle.row_events.specs.Sizes.{bounded}
+use Rattle.transaction_sizes.specs.Sizes.{changes_size}
 use Rattle.applier_model.specs.Stops.{Differs}
 use Rattle.applier_model.specs.Texts.{Applier}
 use Rattle.applier_model.specs.Groups.{Going, Applied, and_then, applied_by, going_from, items_carried, store_of}
@@ -11,10 +12,6 @@ use Rattle.stmt_apply.specs.Ends.{progress_in}
 use Rattle.stmt_apply.specs.declared.stop.Stop.{Stop}
 use Rattle.stmt_apply.specs.declared.stop.Stop.TheVariants as stop
 use Rattle.stmt_apply.specs.declared.under_way.UnderWay.{UnderWay}
-
--- a number, or the greatest of 64 bits
-abbrev pub bounded : ℕ → ℕ
-bounded n = min n (2 ^ 64 - 1)
 
 -- the code is where the definition is; the variables of a text, of which nothing is made, are not kept
 pub record Stands (work : Contents) (here : UnderWay) (g : Going) : Type 0 where

@@ -59,13 +59,7 @@ fn raise(work: &mut Work, table: &Bytes, value: Option<i64>)
 
 /// A row put into a table that takes it, with the counter that it raises: 1062.
 #[tactic(auto, using(crate::proofs::Staying::staying))]
-fn insert(
-    alloc: Global,
-    work: &mut Work,
-    pos: u64,
-    table: Bytes,
-    row: Row,
-) -> Result<(), Stop>
+fn insert(alloc: Global, work: &mut Work, pos: u64, table: Bytes, row: Row) -> Result<(), Stop>
     ensures ends { (m : Map) → table_code m work.old.tables (Insert table row) ≡ None → Ends result (progress_in work.new) (change_carried pos m (Insert table row) (progress_in work.old)) }
     ensures rest { Stays work.old work.new }
 {
@@ -135,13 +129,7 @@ fn update(
 
 /// A row taken out of a table: 1032.
 #[tactic(auto, using(crate::proofs::Staying::staying))]
-fn delete(
-    alloc: Global,
-    work: &mut Work,
-    pos: u64,
-    table: Bytes,
-    row: Row,
-) -> Result<(), Stop>
+fn delete(alloc: Global, work: &mut Work, pos: u64, table: Bytes, row: Row) -> Result<(), Stop>
     ensures ends { (m : Map) → table_code m work.old.tables (Delete table row) ≡ None → Ends result (progress_in work.new) (change_carried pos m (Delete table row) (progress_in work.old)) }
     ensures rest { Stays work.old work.new }
 {
@@ -174,7 +162,7 @@ fn make(alloc: Global, work: &mut Work, pos: u64, change: Change) -> Result<(), 
 
 /// A change of an event at a place, by the map of its table.
 #[tactic(auto, using(crate::proofs::Staying::staying))]
-fn carry_change(
+pub(crate) fn carry_change(
     alloc: Global,
     work: &mut Work,
     pos: u64,

@@ -33,7 +33,7 @@ const TOO_DEEP: SqlError = 30007;
 const NOT_ALLOWED: SqlError = 30005;
 
 /// The statement that a text of a log is: 1153, 1064, 30007.
-#[tactic(auto, using(crate::proofs::Definitions::reading))]
+#[tactic(auto, using(crate::proofs::Defined::too_long, crate::proofs::Defined::reads_as))]
 fn read(alloc: Global, text: &[u8]) -> Result<Box<Stmt>, SqlRefusal>
     ensures statement { IfOk result (λ s. statement_in text.now ≡ Ok (view s.value)) }
     ensures refused { IfErr result (IsRefusal (statement_in text.now)) }
@@ -70,7 +70,7 @@ fn context(
 }
 
 /// A statement carried out, 30005 for all but definitions.
-#[tactic(auto, using(crate::proofs::Definitions::defining))]
+#[tactic(auto, using(crate::proofs::Defined::no_definition))]
 fn define(
     alloc: Global,
     work: &mut Work,
@@ -97,7 +97,7 @@ fn define(
 }
 
 /// The definition that a text is.
-#[tactic(auto, using(crate::proofs::Definitions::reading))]
+#[tactic(auto, using(crate::proofs::Defined::refused_text, crate::proofs::Defined::read_text))]
 fn define_text(
     alloc: Global,
     work: &mut Work,

@@ -7,9 +7,9 @@
 //! - `stop`: [`Stop`], why a group is not carried out
 //! - `group`: [`apply_group`]
 //! - `definition`: a CREATE, DROP or TRUNCATE
-//! - `transaction`: the events of a transaction; `under_way`: what is kept between them; `sizes`: how many bytes changes have
+//! - `transaction`: the events of a transaction; `under_way`: what is kept between them
 //! - `changing`: one change of a row; `table`: what its table says of it; `columns`: whether the columns of a map and of a table
-//!   are the same
+//!   are the same; `kinds`: the types that a map says
 //!
 //! The definitions in specs/ join the code to the definition: `Ends` and `Defining` (how parts of a group end), `Changes` (one
 //! change, by its steps), `UnderWay` (a transaction under way).
@@ -27,7 +27,7 @@ mod changing;
 mod columns;
 mod definition;
 mod group;
-mod sizes;
+mod kinds;
 mod stop;
 mod table;
 mod transaction;

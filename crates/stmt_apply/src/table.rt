@@ -14,7 +14,9 @@ use crate::columns::matches;
 use event_codec::MapView;
 use row_store::Tables;
 use std::alloc::Global;
-use val_types::{Bytes, Change, NoMemory, Row, SqlError, TableDef, Value, key_cmp, key_of, value_at};
+use val_types::{
+    Bytes, Change, NoMemory, Row, SqlError, TableDef, Value, key_cmp, key_of, value_at,
+};
 
 /// There is no such table (ER_NO_SUCH_TABLE).
 const NO_SUCH_TABLE: SqlError = 1146;

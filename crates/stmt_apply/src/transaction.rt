@@ -9,7 +9,6 @@ ghost use Rattle.stmt_apply.specs.Ends.{Ends, Stays, applied_in, progress_in};
 ghost use Rattle.stmt_apply.specs.UnderWay.{ComesTo, Goes, Stands, items_from, transaction_carried};
 
 use crate::changing::carry_change;
-use crate::sizes::changes_size;
 use crate::stop::{Stop, stop_at};
 use crate::under_way::{UnderWay, find_map};
 use event_codec::{Event, MapView, RowsView};
@@ -17,6 +16,7 @@ use log_groups::{Items, Part};
 use prog_run::Work;
 use row_image::rows_of;
 use std::alloc::Global;
+use transaction_sizes::changes_size;
 use val_types::{Change, Duplicate, List, SqlError};
 
 /// Until transactions are logged by their texts, none may stand in one (this project's number).
@@ -32,7 +32,7 @@ fn backwards(changes: List<Change>) -> List<Change>
 }
 
 /// The changes of an event at a place, one after the other, by the map of their table.
-#[tactic(auto, using(crate::proofs::Going::changes_step, crate::proofs::Staying::staying))]
+#[tactic(auto, using(crate::proofs::Staying::staying))]
 fn carry_changes(
     alloc: Global,
     work: &mut Work,
@@ -51,7 +51,7 @@ fn carry_changes(
 }
 
 /// The rows of an event at a place.
-#[tactic(auto, using(crate::proofs::Going::rows, crate::proofs::Staying::staying))]
+#[tactic(auto, using(crate::proofs::Staying::staying))]
 fn apply_rows(
     alloc: Global,
     work: &mut Work,
@@ -66,14 +66,14 @@ fn apply_rows(
         return Ok(());
     };
     let changes = rows_of(alloc, &map, rows)?;
-    let size = changes_size(&changes);
+    let size = changes_size(changes.as_slice());
     carry_changes(alloc, work, pos, &map, changes)?;
     under_way.changed = under_way.changed.saturating_add(size);
     under_way.end_rows(alloc, under_way.begun.unwrap_or(pos), rows.ends)
 }
 
 /// An event, whose bytes are counted.
-#[tactic(auto, using(crate::proofs::Going::bodies, crate::proofs::Staying::staying))]
+#[tactic(auto, using(crate::proofs::Going::passes, crate::proofs::Going::passes_needs, crate::proofs::Going::mapped, crate::proofs::Staying::staying))]
 fn apply_body<'a>(
     alloc: Global,
     work: &mut Work,
@@ -100,7 +100,6 @@ fn apply_body<'a>(
 }
 
 /// An event.
-#[tactic(auto, using(crate::proofs::Going::counted))]
 fn apply_event<'a>(
     alloc: Global,
     work: &mut Work,
@@ -115,7 +114,7 @@ fn apply_event<'a>(
 }
 
 /// The events of a transaction's items.
-#[tactic(auto, using(crate::proofs::Going::items, crate::proofs::Staying::staying))]
+#[tactic(auto, using(crate::proofs::Staying::staying))]
 fn apply_items(alloc: Global, work: &mut Work, items: Items<'_>) -> Result<(), Stop>
     requires { work.old.changes ≡ [] }
     ensures comes { (a : Applier) → ComesTo result work.new (items_from a (parts items.entry) work.old) }
@@ -130,7 +129,7 @@ fn apply_items(alloc: Global, work: &mut Work, items: Items<'_>) -> Result<(), S
 }
 
 /// The changes of a transaction, all of them or none, as want of memory makes none.
-#[tactic(auto, using(crate::proofs::Going::whole, crate::proofs::Staying::given_back))]
+#[tactic(auto, using(crate::proofs::Going::transaction_done, crate::proofs::Going::transaction_stopped, crate::proofs::Staying::given_back))]
 pub(crate) fn apply_transaction(
     alloc: Global,
     work: &mut Work,

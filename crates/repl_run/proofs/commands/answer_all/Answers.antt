@@ -1,9 +1,8 @@
 use Rattle.std.proofs.Common.{◌≡◌, ◌+◌, length, map, refl, ap, Err, arith, subst, ℕ}
-use Rattle.std.proofs.lemmas.List.{length-map}
 use Rattle.std.proofs.lemmas.Result.{err_from_is_err_and}
 use Rattle.repl_run.specs.Asking.{asked_seen}
 use Rattle.repl_run.specs.Running.{Going}
-use Rattle.repl_run.proofs.Running.{starts, goes_on, stops, ends, grew_none, grew_more, item_seen, mapped_length}
+use Rattle.repl_run.proofs.Running.{starts, goes_on, stops, grew_none, grew_more, item_seen, mapped_length}
 use Rattle.repl_run.proofs.commands.answer_all.Goals as goal
 
 pub loop-i-init : goal.loop-i-init
@@ -32,9 +31,7 @@ loop-i-preserved g c = (
   (λ fresh. c.in_ok-answer_command.ensures.ended (c.loop-i.invariant.5 fresh)),
 )
 
-pub returns-clause-ran : goal.returns-clause-ran
-returns-clause-ran g c =
-    let count : length (map asked_seen c.args.asked.now) ≡ length c.args.asked.now = simp length-map in
-    let all : c.loop-i.i ≡ length (map asked_seen c.args.asked.now) = omega (arith, c.loop-i-test.false, ap length c.as_slice-command-items.ensures, c.loop-i.auto.i-end, count) in
-    ends (map asked_seen c.args.asked.now) c.loop-i.report (g.K.Sink.written c.args.out.now) (g.K.Sink.written c.loop-i.out) c.loop-i.nodes
-    (subst (λ (n : ℕ). Going (map asked_seen c.args.asked.now) n c.loop-i.report (g.K.Sink.written c.args.out.now) (g.K.Sink.written c.loop-i.out) c.loop-i.nodes) all c.loop-i.invariant.0)
+pub returns-clause-going : goal.returns-clause-going
+returns-clause-going g c =
+    let all : c.loop-i.i ≡ length c.args.asked.now = omega (arith, c.loop-i-test.false, ap length c.as_slice-command-items.ensures, c.loop-i.auto.i-end) in
+    subst (λ (n : ℕ). Going (map asked_seen c.args.asked.now) n c.loop-i.report (g.K.Sink.written c.args.out.now) (g.K.Sink.written c.loop-i.out) c.loop-i.nodes) all c.loop-i.invariant.0

@@ -1,4 +1,4 @@
-use Rattle.std.proofs.Common.{◌≡◌, List, Some, true, sym, ap, ◌∙◌, rules}
+use Rattle.std.proofs.Common.{◌≡◌, List, true, sym, ap, ◌∙◌, rules}
 use Rattle.val_types.specs.declared.change.Change.TheVariants.{Insert}
 use Rattle.auto_inc.specs.declared.counters.Counter.{Counter}
 use Rattle.table_rules.specs.Tables.{Table}

@@ -1,0 +1,185 @@
+-- A step puts out transactions and definitions, and no beginning of a log.
+use Rattle.std.proofs.Common.{ℕ, Bool, true, false, List, [], ◌∷◌, ◌++◌, map, Option, Some, None, Result, Ok, Err}
+use Rattle.std.specs.Prelude.{if◌then◌else◌, find, is_some, slice_index_or, zip, ℤ}
+use Rattle.std.specs.Option.{option_map}
+use Rattle.val_types.specs.declared.change.Change.{Change}
+use Rattle.val_types.specs.declared.value.Value.{Value}
+use Rattle.port_traits.specs.declared.identity.Identity.{Identity}
+use Rattle.port_traits.specs.declared.identity.Draw.{Draw}
+use Rattle.sql_tree.specs.Tree.{Tree, Trees}
+use Rattle.sql_tree.specs.Statement.{Statement, evaluate, set_all, call_procedure, begin, commit, rollback, savepoint, rollback_to, release_savepoint}
+use Rattle.sql_tree.specs.declared.statements.Target.{Target}
+use Rattle.catalog_rules.specs.Bases.{Base, defined}
+use Rattle.catalog_rules.specs.Checks.{session_scope, statement_refusal}
+use Rattle.catalog_rules.specs.Creating.{ddl_refusal}
+use Rattle.log_entries.specs.declared.entries.Entry.{Entry}
+use Rattle.log_entries.specs.declared.entries.Entry.TheVariants.{Transaction, Definition, LogStart}
+use Rattle.answer_text.specs.declared.answer.Answer.{Answer}
+use Rattle.sql_meaning.specs.Frames.{Context}
+use Rattle.sql_meaning.specs.Scenes.{Scene, Ending, done, failed}
+use Rattle.sql_meaning.specs.Changing.{Did}
+use Rattle.sql_meaning.specs.Running.{most_nested, effect, evaluation, context_after}
+use Rattle.sql_reach.specs.Defining.{number_of_bytes, is_still_refused}
+use Rattle.sql_reach.specs.Reach.{is_definition}
+use Rattle.sql_print.specs.StatementSpelling.{spelling}
+use Rattle.text_answers.specs.Answers.{TextAnswer, a_statement, a_syntax_error, too_deep, text_answer}
+use Rattle.session_model.specs.Answers.{ok, refused}
+use Rattle.session_model.specs.Sessions.{Save, Open, Session, Shared, State}
+use Rattle.session_model.specs.Running.{Call, Fuel, full, Turn, Given, is_other, items_of, commit_open, commit_entries, kept_entries, keep, settle, ended, takes_too_much, undone, setting_of, scene_for, made_behind, item_of, with_counters, with_context, fuel_of, statement_run, expressions_run, writing_refusal, lock_refusal}
+use Rattle.session_model.specs.Commands.{is_too_long, definition_turn, define_turn, made_turn, unless_answered, unless_refused, code_answer, assign_unless, first_refused, set_by, set_given, set_turn, set_expressions, call_turn, plain_turn, given_turn, answered, back_in, back_to_save, release_in, definition_entry, is_save_of, saves_but, with_answer}
+use Rattle.session_model.specs.Machine.{Whole, whole, step, text_turn, statement_turn, at_work}
+use Rattle.run_model.specs.Following.{AreCommitted}
+
+-- entries behind others
+pub committed_behind : (front back : List (Entry Whole)) → AreCommitted front → AreCommitted back → AreCommitted (front ++ back)
+committed_behind [] back f k = k
+committed_behind (Transaction stamp server items ∷ es) back f k = committed_behind es back f k
+committed_behind (Definition stamp server i ∷ es) back f k = committed_behind es back f k
+committed_behind (LogStart stamp server ∷ es) back f k = f
+
+-- what a turn puts out
+abbrev Puts : {A : Type 0} → Turn Whole A → Type 0
+Puts t = AreCommitted t.committed
+
+by_test : {A : Type 0} (b : Bool) (x y : Turn Whole A) → Puts x → Puts y → Puts (if b then x else y)
+by_test true x y p q = p
+by_test false x y p q = q
+
+-- ---- transactions
+
+commit_puts : (call : Call Whole) (context : Context) (items : List Whole) → AreCommitted (commit_entries call context items)
+commit_puts call context [] = tt
+commit_puts call context (i ∷ is) = tt
+
+opened_puts : (call : Call Whole) (shared : Shared) (session : Session Whole) → Puts (commit_open call shared session)
+opened_puts call shared session = commit_puts call session.vars.context (items_of session.transaction)
+
+back_puts : (call : Call Whole) (name : List ℕ) (open' : Open Whole) (save : Option Save) (shared : Shared) (session : Session Whole) → Puts (back_to_save call name open' save shared session)
+back_puts call name open' None shared session = tt
+back_puts call name open' (Some save) shared session = tt
+
+back_in_puts : (call : Call Whole) (name : List ℕ) (t : Option (Open Whole)) (shared : Shared) (session : Session Whole) → Puts (back_in call name t shared session)
+back_in_puts call name None shared session = tt
+back_in_puts call name (Some open') shared session = back_puts call name open' (find (is_save_of name) open'.saves) shared session
+
+release_puts : (name : List ℕ) (t : Option (Open Whole)) (shared : Shared) (session : Session Whole) → Puts (release_in name t shared session)
+release_puts name None shared session = tt
+release_puts name (Some open') shared session =
+    by_test (is_some (find (is_save_of name) open'.saves)) (answered (ok 0) shared (record session { transaction = Some (record open' { saves = saves_but name open'.saves }) }))
+    (answered (refused 1305) shared session) tt tt
+
+-- ---- definitions
+
+unless_puts : {A : Type 0} (o : Option Answer) (t : Turn Whole A) (next : Turn Whole Answer) → Puts t → Puts next → Puts (unless_answered o t next)
+unless_puts None t next p q = q
+unless_puts (Some answer) t next p q = p
+
+made_puts : (call : Call Whole) (text : List ℕ) (s : Statement) (o : Option Base) (t : Turn Whole (Unit {0})) → Puts t → Puts (made_turn call text s o t)
+made_puts call text s None t p = p
+made_puts call text s (Some base) t p = committed_behind t.committed (definition_entry call text s t.session.vars.context t.shared ∷ []) p tt
+
+define_puts : (call : Call Whole) (text : List ℕ) (s : Statement) (t : Turn Whole (Unit {0})) → Puts t → Puts (define_turn call text s t)
+define_puts call text s t p =
+    let made : Turn Whole Answer = made_turn call text s (defined s t.shared.base) t in
+    unless_puts (option_map refused (ddl_refusal t.shared.base.catalog s)) t (unless_answered (writing_refusal call.number t.shared) t made) p
+    (unless_puts (writing_refusal call.number t.shared) t made p (made_puts call text s (defined s t.shared.base) t p))
+
+definition_puts : (call : Call Whole) (text : List ℕ) (s : Statement) (shared : Shared) (session : Session Whole) → Puts (definition_turn call text s shared session)
+definition_puts call text s shared session =
+    let t : Turn Whole (Unit {0}) = commit_open call shared session in
+    by_test (is_still_refused s) (with_answer (refused 30005) t) (define_turn call text s t) (opened_puts call shared session)
+    (define_puts call text s t (opened_puts call shared session))
+
+-- ---- statements that run
+
+kept_puts : (call : Call Whole) (context : Context) (item : Whole) (t : Option (Open Whole)) → AreCommitted (kept_entries call context item t)
+kept_puts call context item None = tt
+kept_puts call context item (Some open') = tt
+
+settle_puts : {A : Type 0} (call : Call Whole) (item : List Change → Whole) (changes : List Change) (scene : Scene) (shared : Shared) (session : Session Whole) (given : Given A) (refusal : Turn Whole (Given A)) → Puts refusal
+    → Puts (settle call item changes scene shared session given refusal)
+settle_puts call item [] scene shared session given refusal p = tt
+settle_puts call item (c ∷ cs) scene shared session given refusal p =
+    by_test (takes_too_much call session.transaction (item (c ∷ cs))) refusal (keep call (item (c ∷ cs)) scene shared session given) p
+    (kept_puts call session.vars.context (item (c ∷ cs)) session.transaction)
+
+ended_puts : {A : Type 0} (call : Call Whole) (fuel : Fuel) (text : List ℕ) (tree : Statement) (shared : Shared) (session : Session Whole) (first last_id : A → Option ℤ) (before : Scene) (ending : Ending A)
+    → Puts (ended call fuel text tree shared session first last_id before ending)
+ended_puts call fuel text tree shared session first last_id before (done a scene) =
+    settle_puts call (item_of call fuel text tree session.vars.context shared (first a)) (made_behind (is_other call.number shared.writer) before scene) scene (with_counters scene shared)
+    (with_context (context_after session.vars.context tree scene.seeds (last_id a)) session) (record { result = Ok a; fuel = fuel_of scene })
+    (undone 1197 tree shared session scene) tt
+ended_puts call fuel text tree shared session first last_id before (failed code scene) = tt
+
+statement_puts : (call : Call Whole) (fuel : Fuel) (text : List ℕ) (s : Statement) (shared : Shared) (session : Session Whole) → Puts (statement_run call fuel text s shared session)
+statement_puts call fuel text s shared session =
+    ended_puts call fuel text s shared session (λ (did : Did). did.first) (λ (did : Did). did.last_id) (scene_for call.number fuel session.vars.context shared)
+    (effect (setting_of shared.base.catalog session.vars.context (number_of_bytes 0 call.draw.uuid)) most_nested [] s (scene_for call.number fuel session.vars.context shared))
+
+expressions_put : (call : Call Whole) (fuel : Fuel) (text : List ℕ) (ts : Trees) (shared : Shared) (session : Session Whole) → Puts (expressions_run call fuel text ts shared session)
+expressions_put call fuel text ts shared session =
+    ended_puts call fuel text (evaluate ts) shared session (λ _. None) (λ _. None) (scene_for call.number fuel session.vars.context shared)
+    (evaluation (setting_of shared.base.catalog session.vars.context (number_of_bytes 0 call.draw.uuid)) most_nested [] ts (scene_for call.number fuel session.vars.context shared))
+
+-- ---- commands
+
+refused_puts : (o : Option Answer) (shared : Shared) (session : Session Whole) (t : Turn Whole Answer) → Puts t → Puts (unless_refused o shared session t)
+refused_puts None shared session t p = p
+refused_puts (Some answer) shared session t p = tt
+
+assign_puts : (o : Option ℕ) (assignments : List (Target × Value)) (t : Turn Whole (Given (List Value))) → Puts t → Puts (assign_unless o assignments t)
+assign_puts None assignments t p = p
+assign_puts (Some code) assignments t p = p
+
+set_by_puts : (as' : List (Target × Tree)) (r : Result (List Value) ℕ) (t : Turn Whole (Given (List Value))) → Puts t → Puts (set_by as' r t)
+set_by_puts as' (Err code) t p = p
+set_by_puts as' (Ok vs) t p =
+    let assignments : List (Target × Value) = zip (map (λ (a : Target × Tree). a.0) as') vs in
+    assign_puts (first_refused assignments) assignments t p
+
+set_puts : (call : Call Whole) (as' : List (Target × Tree)) (shared : Shared) (session : Session Whole) → Puts (set_turn call as' shared session)
+set_puts call as' shared session =
+    let ts : Trees = set_expressions as' in
+    let text : List ℕ = spelling (evaluate ts) in
+    let t : Turn Whole (Given (List Value)) = expressions_run call full text ts shared session in
+    let given : Turn Whole Answer = set_given as' t in
+    let locked : Turn Whole Answer = unless_refused (lock_refusal call.number shared (evaluate ts)) shared session given in
+    let checked : Turn Whole Answer = unless_refused (code_answer (statement_refusal shared.base.catalog session_scope (set_all as'))) shared session locked in
+    by_test (is_too_long text) (answered (refused 1153) shared session) checked tt
+    (refused_puts (code_answer (statement_refusal shared.base.catalog session_scope (set_all as'))) shared session locked
+    (refused_puts (lock_refusal call.number shared (evaluate ts)) shared session given (set_by_puts as' t.given.result t (expressions_put call full text ts shared session))))
+
+call_puts : (call : Call Whole) (name : List ℕ) (ts : Trees) (shared : Shared) (session : Session Whole) → Puts (call_turn call name ts shared session)
+call_puts call name ts shared session =
+    let none : Turn Whole Answer = answered (refused 1305) shared session in
+    let refusal : Option Answer = code_answer (statement_refusal shared.base.catalog session_scope (call_procedure name ts)) in
+    by_test (is_too_long (spelling (evaluate ts))) (answered (refused 1153) shared session) (unless_refused refusal shared session none) tt (refused_puts refusal shared session none tt)
+
+plain_puts : (call : Call Whole) (text : List ℕ) (s : Statement) (shared : Shared) (session : Session Whole) → Puts (plain_turn call text s shared session)
+plain_puts call text s shared session =
+    let given : Turn Whole Answer = given_turn (statement_run call full text s shared session) in
+    let locked : Turn Whole Answer = unless_refused (lock_refusal call.number shared s) shared session given in
+    refused_puts (code_answer (statement_refusal shared.base.catalog session_scope s)) shared session locked
+    (refused_puts (lock_refusal call.number shared s) shared session given (statement_puts call full text s shared session))
+
+turn_puts : (call : Call Whole) (text : List ℕ) (s : Statement) (shared : Shared) (session : Session Whole) → Puts (statement_turn call text s shared session)
+turn_puts call text begin shared session = opened_puts call shared session
+turn_puts call text commit shared session = opened_puts call shared session
+turn_puts call text rollback shared session = tt
+turn_puts call text (savepoint name) shared session = tt
+turn_puts call text (rollback_to name) shared session = back_in_puts call name session.transaction shared session
+turn_puts call text (release_savepoint name) shared session = release_puts name session.transaction shared session
+turn_puts call text (set_all as') shared session = set_puts call as' shared session
+turn_puts call text (call_procedure name ts) shared session = call_puts call name ts shared session
+turn_puts call text s shared session = by_test (is_definition s) (definition_turn call text s shared session) (plain_turn call text s shared session) (definition_puts call text s shared session) (plain_puts call text s shared session)
+
+text_puts : (call : Call Whole) (text : List ℕ) (answer : TextAnswer) (shared : Shared) (session : Session Whole) → Puts (text_turn call text answer shared session)
+text_puts call text (a_statement s) shared session = turn_puts call text s shared session
+text_puts call text (a_syntax_error place) shared session = tt
+text_puts call text too_deep shared session = tt
+
+pub step_puts : (identity : Identity) (state : State Whole) (n : ℕ) (text : List ℕ) (draw : Draw) → AreCommitted (step whole identity state n text draw).committed
+unfolding step
+step_puts identity state n text draw =
+    let call : Call Whole = record { identity = identity; draw = draw; number = n; known = whole } in
+    text_puts call text (text_answer text) state.shared (at_work call (slice_index_or state.sessions n None))

@@ -1,0 +1,169 @@
+-- From where a replica fetches that follows its source.
+use Rattle.std.proofs.Common.{◌≡◌, ◌<◌, ℕ, ◌+◌, ◌-◌, zero, suc, List, [], ◌∷◌, ◌++◌, length, map, take, drop, refl, sym, ap, ◌∙◌, subst, append_assoc, arith, length-append}
+use Rattle.std.specs.Prelude.{◌^◌}
+use Rattle.std.proofs.Math.Seq.{drop-append_seam}
+use Rattle.std.proofs.lemmas.List.{drop-drop, map-append, take-append-drop}
+use Rattle.log_entries.specs.declared.entries.Item.{Item}
+use Rattle.log_entries.specs.declared.entries.Entry.{Entry}
+use Rattle.log_entries.specs.declared.entries.Entry.TheVariants.{Transaction, Definition, LogStart}
+use Rattle.log_model.specs.Groups.{Group, Next, not_whole, group_at}
+use Rattle.log_model.specs.Log.{LogPlace, moved, behind, counted, description, entry_bytes, log, EntriesHaveLength, HeadsHaveLength, LogGoesOn}
+use Rattle.log_model.specs.Written.{bytes_of}
+use Rattle.entry_groups.specs.Entries.{group_of_entry, start_group, StaysInLog, CanLog, CanLogAll}
+use Rattle.entry_groups.specs.Laws.{Fetched, partly, wholly, EntriesCanLogOn, FewAreCut, GroupsHaveBounds, RelayIsRead, StartRelayIsRead}
+use Rattle.session_model.specs.Machine.{Whole, kept_entry, Machine, log_of, log_bytes, nowhere, first_place}
+use Rattle.replica_model.specs.Replica.{Replica, behind_group, size_of, past_next, past_groups, want, log_begin}
+use Rattle.run_model.specs.Following.{AreCommitted, reader_at}
+use Rattle.run_laws.proofs.Places.{begun, count_of, place_of, front_place, behind_front, behind_magic, first_event_length}
+use Rattle.run_laws.proofs.Carrying.{stays, others, first_ones, last_ones}
+
+-- ---- bytes
+
+-- a front of nothing
+pub empty_front : (xs ys : List ℕ) → xs ++ ys ≡ [] → xs ≡ []
+empty_front [] ys is = refl
+empty_front (x ∷ xs) ys is = cc
+
+-- no bytes are no group
+pub none_whole : FewAreCut → (bytes : List ℕ) (pos : ℕ) → bytes ≡ [] → group_at (record { bytes = bytes; pos = pos }) ≡ not_whole
+none_whole law bytes pos is = law bytes pos (let size : length bytes ≡ 0 = ap length is in omega (arith, size))
+
+-- behind the bytes of a group
+pub past_bytes : (bytes relay more : List ℕ) (n : ℕ) → relay ≡ bytes ++ more → n ≡ length bytes → drop n relay ≡ more
+past_bytes bytes relay more n is size = ap (λ (k : ℕ). drop k relay) size ∙ ap (drop (length bytes)) is ∙ drop-append_seam bytes more
+
+-- ---- groups
+
+-- the group of an entry has its bytes, and leads to the place behind it
+pub group_size : GroupsHaveBounds → (e : Entry Item) (number : ℕ) (p : LogPlace) → StaysInLog e → size_of (group_of_entry e number p) ≡ length (entry_bytes e number p)
+group_size bounds e number p stay = let b = bounds e number p stay in size b.0 b.1
+  where
+    size : {first end at n : ℕ} → first ≡ at → end ≡ at + n → end - first ≡ n
+    size f q = omega (arith, f, q)
+
+pub group_leads : (e : Entry Item) (number : ℕ) (p place : LogPlace) → StaysInLog e → CanLog e number p
+    → behind_group place (group_of_entry e number p) ≡ record { log = place.log; pos = (group_of_entry e number p).end }
+group_leads (Transaction stamp server []) number p place stay can = let no : ⊥ = omega (arith, can.0) in absurd no
+group_leads (Transaction stamp server (i ∷ is)) number p place stay can = refl
+group_leads (Definition stamp server i) number p place stay can = refl
+group_leads (LogStart stamp server) number p place stay can = absurd stay
+
+entry_moves : EntriesHaveLength → (e : Entry Item) (number : ℕ) (p : LogPlace) → StaysInLog e → behind e number p ≡ moved p (length (entry_bytes e number p))
+entry_moves have (Transaction stamp server is) number p stay = have.0 stamp server number is p
+entry_moves have (Definition stamp server i) number p stay = have.1 stamp server number i p
+entry_moves have (LogStart stamp server) number p stay = absurd stay
+
+-- so the place behind it is where a writer stands
+pub group_to : EntriesHaveLength → GroupsHaveBounds → (e : Entry Item) (number : ℕ) (p place : LogPlace) → StaysInLog e → CanLog e number p → place.log ≡ p.log
+    → behind_group place (group_of_entry e number p) ≡ behind e number p
+group_to have bounds e number p place stay can same =
+    group_leads e number p place stay can ∙ rw (same, (bounds e number p stay).1, entry_moves have e number p stay) refl
+
+-- ---- where what was fetched ends
+
+-- what the proofs take from the crates below
+pub record Below : Type 0 where
+  pub have : EntriesHaveLength
+  pub heads : HeadsHaveLength
+  pub goes_on : LogGoesOn
+  pub few : FewAreCut
+  pub bounds : GroupsHaveBounds
+  pub start_is_read : StartRelayIsRead
+  pub is_read : RelayIsRead
+  pub can_on : EntriesCanLogOn
+
+-- behind a front of entries, from the place of the first on
+past_entries : Below → (most : ℕ) (es : List (Entry Whole)) (number : ℕ) (p place : LogPlace) (bytes rest : List ℕ) → AreCommitted es → CanLogAll (map kept_entry es) number p
+    → bytes ++ rest ≡ log (map kept_entry es) number p → place ≡ p → past_groups most place bytes ≡ moved place (length bytes)
+past_entries below zero es number p place bytes rest committed can is at = refl
+past_entries below (suc most) [] number p place bytes rest committed can is at = ap (past_next (past_groups most) place bytes) (none_whole below.few bytes place.pos (empty_front bytes rest is))
+past_entries below (suc most) (e ∷ es) number p place bytes rest committed can is at =
+    by (λ more place' back to. past_entries below most es (counted (kept_entry e) number) (behind (kept_entry e) number p) place' more rest (others e es committed) can.1 back to)
+    (below.is_read (kept_entry e) number p bytes rest (log (map kept_entry es) (counted (kept_entry e) number) (behind (kept_entry e) number p)) stay can.0 is)
+  where
+    stay : StaysInLog (kept_entry e)
+    stay = stays e es committed
+
+    g : Group
+    g = group_of_entry (kept_entry e) number p
+
+    here : {x : Next} → group_at (record { bytes = bytes; pos = p.pos }) ≡ x → group_at (record { bytes = bytes; pos = place.pos }) ≡ x
+    here q = ap (λ (k : LogPlace). group_at (record { bytes = bytes; pos = k.pos })) at ∙ q
+
+    ends_at : (n k l a b : ℕ) → a ≡ b + n → l ≡ n + k → a + k ≡ b + l
+    ends_at n k l a b q s = omega (arith, q, s)
+
+    by : ((more : List ℕ) (place' : LogPlace) → more ++ rest ≡ log (map kept_entry es) (counted (kept_entry e) number) (behind (kept_entry e) number p)
+        → place' ≡ behind (kept_entry e) number p → past_groups most place' more ≡ moved place' (length more))
+        → Fetched (entry_bytes (kept_entry e) number p) p.pos g bytes rest (log (map kept_entry es) (counted (kept_entry e) number) (behind (kept_entry e) number p))
+        → past_groups (suc most) place bytes ≡ moved place (length bytes)
+    by next (partly not) = ap (past_next (past_groups most) place bytes) (here not)
+    by next (wholly more split back read) =
+        let to : behind_group place g ≡ behind (kept_entry e) number p = group_to below.have below.bounds (kept_entry e) number p place stay can.0 (ap (λ (q : LogPlace). q.log) at) in
+        let left : drop (size_of g) bytes ≡ more = past_bytes (entry_bytes (kept_entry e) number p) bytes more (size_of g) split (group_size below.bounds (kept_entry e) number p stay) in
+        let end : g.end ≡ p.pos + length (entry_bytes (kept_entry e) number p) = (below.bounds (kept_entry e) number p stay).1 in
+        let size : length bytes ≡ length (entry_bytes (kept_entry e) number p) + length more = ap length split ∙ length-append (entry_bytes (kept_entry e) number p) more in
+        let sum : g.end + length more ≡ place.pos + length bytes = ends_at (length (entry_bytes (kept_entry e) number p)) (length more) (length bytes) g.end place.pos (end ∙ ap (λ (q : LogPlace). q.pos + length (entry_bytes (kept_entry e) number p)) (sym at)) size in
+        ap (past_next (past_groups most) place bytes) (here read) ∙ ap (past_groups most (behind_group place g)) left
+        ∙ next more (behind_group place g) back to
+        ∙ ap (λ (q : LogPlace). moved q (length more)) (group_leads (kept_entry e) number p place stay can.0) ∙ ap (λ (k : ℕ). record { log = place.log; pos = k }) sum
+
+-- from the beginning of the log on
+past_all : Below → (most stamp server : ℕ) (es : List (Entry Whole)) (bytes rest : List ℕ) → AreCommitted es → stamp < 2 ^ 32 → CanLogAll (map kept_entry es) 0 first_place
+    → bytes ++ rest ≡ bytes_of server 4 (description stamp) ++ log (map kept_entry es) 0 first_place → past_groups most (log_begin 1) bytes ≡ moved (log_begin 1) (length bytes)
+past_all below zero stamp server es bytes rest committed fits can is = refl
+past_all below (suc most) stamp server es bytes rest committed fits can is =
+    by (below.start_is_read stamp server bytes rest (log (map kept_entry es) 0 first_place) fits is)
+  where
+    first : List ℕ
+    first = bytes_of server 4 (description stamp)
+
+    by : Fetched (bytes_of server 4 (description stamp)) 4 start_group bytes rest (log (map kept_entry es) 0 first_place) → past_groups (suc most) (log_begin 1) bytes ≡ moved (log_begin 1) (length bytes)
+    by (partly not) = ap (past_next (past_groups most) (log_begin 1) bytes) not
+    by (wholly more split back read) =
+        let have : length (bytes_of server 4 (description stamp)) ≡ 119 = first_event_length below.heads stamp server in
+        let left : drop 119 bytes ≡ more = past_bytes (bytes_of server 4 (description stamp)) bytes more 119 split (sym have) in
+        let size : length bytes ≡ length (bytes_of server 4 (description stamp)) + length more = ap length split ∙ length-append (bytes_of server 4 (description stamp)) more in
+        let sum : 123 + length more ≡ 4 + length bytes = omega (arith, have, size) in
+        ap (past_next (past_groups most) (log_begin 1) bytes) read ∙ ap (past_groups most first_place) left
+        ∙ past_entries below most es 0 first_place first_place more rest committed can back refl ∙ ap (λ (k : ℕ). record { log = 1; pos = k }) sum
+
+-- ---- what can be logged
+
+-- each of the entries behind the first ones
+pub can_behind : Below → (stamp server : ℕ) (front back : List (Entry Whole)) → CanLogAll (map kept_entry (begun stamp server (front ++ back))) 0 nowhere
+    → CanLogAll (map kept_entry back) (count_of stamp server front) (place_of stamp server front)
+can_behind below stamp server front back can =
+    (below.can_on.0 (map kept_entry (begun stamp server front)) (map kept_entry back) 0 nowhere
+    (subst (λ (es : List (Entry Item)). CanLogAll es 0 nowhere) (map-append kept_entry (begun stamp server front) back) can)).1
+
+-- ---- a replica that follows
+
+-- where it fetches
+pub want_at : Below → (m : Machine) (r : Replica) (stamp server : ℕ) (carried more : List (Entry Whole)) (rest : List ℕ) → m.history ≡ begun stamp server (carried ++ more) → AreCommitted (carried ++ more)
+    → CanLogAll (map kept_entry (begun stamp server (carried ++ more))) 0 nowhere → r.place ≡ record { log = 1; pos = reader_at (LogStart stamp server) carried }
+    → r.relay ++ rest ≡ drop r.place.pos (log_of m) → want r ≡ record { log = 1; pos = r.place.pos + length r.relay }
+unfolding want
+want_at below m r stamp server [] more rest is committed can place relay =
+    let bytes : r.relay ++ rest ≡ bytes_of server 4 (description stamp) ++ log (map kept_entry more) 0 first_place =
+    relay ∙ ap (λ (q : LogPlace). drop q.pos (log_of m)) place ∙ behind_magic m stamp server more is in
+    ap (λ (q : LogPlace). past_groups (length r.relay) q r.relay) place ∙ past_all below (length r.relay) stamp server more r.relay rest committed can.0 can.1 bytes
+    ∙ ap (λ (k : ℕ). record { log = 1; pos = k + length r.relay }) (sym (ap (λ (q : LogPlace). q.pos) place))
+want_at below m r stamp server (x ∷ xs) more rest is committed can place relay =
+    let carried : List (Entry Whole) = x ∷ xs in
+    let number : ℕ = count_of stamp server carried in
+    let p : LogPlace = place_of stamp server carried in
+    let at : r.place ≡ p = place ∙ sym (front_place below.have below.heads stamp server carried (first_ones carried more committed)) in
+    let bytes : r.relay ++ rest ≡ log (map kept_entry more) number p =
+    relay ∙ ap (λ (q : LogPlace). drop q.pos (log_of m)) place ∙ behind_front below.goes_on m stamp server carried more is in
+    past_entries below (length r.relay) more number p r.place r.relay rest (last_ones carried more committed) (can_behind below stamp server carried more can) bytes at
+    ∙ ap (λ (q : LogPlace). record { log = q.log; pos = r.place.pos + length r.relay }) place
+
+-- what FETCH takes is what comes next
+pub piece_is : (w : LogPlace) (bytes relay rest : List ℕ) (pos n : ℕ) → w ≡ record { log = 1; pos = pos + length relay } → relay ++ rest ≡ drop pos bytes → log_bytes bytes w n ≡ take n rest
+piece_is w bytes relay rest pos n at is =
+    ap (λ (q : LogPlace). log_bytes bytes q n) at
+    ∙ ap (take n) (sym (drop-drop (length relay) pos bytes) ∙ ap (drop (length relay)) (sym is) ∙ drop-append_seam relay rest)
+
+pub fetched_rest : (relay rest all : List ℕ) (n : ℕ) → relay ++ rest ≡ all → (relay ++ take n rest) ++ drop n rest ≡ all
+fetched_rest relay rest all n is = append_assoc relay (take n rest) (drop n rest) ∙ ap (λ (bs : List ℕ). relay ++ bs) (take-append-drop n rest) ∙ is

@@ -1,0 +1,6 @@
+pub mod Applying
+pub mod Carrying
+pub mod Committing
+pub mod Fetching
+pub mod Following
+pub mod Places

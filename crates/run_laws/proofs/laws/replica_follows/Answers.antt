@@ -1,0 +1,21 @@
+use Rattle.run_laws.proofs.Fetching.{Below}
+use Rattle.run_laws.proofs.Following.{follows_begins, follows_go_on, no_apply_stops}
+use Rattle.run_laws.proofs.laws.replica_follows.Goals as goal
+
+pub returns : goal.returns
+returns c =
+    let below : Below = record {
+      have = c.entries_have_length.ensures;
+      heads = c.heads_have_length.ensures;
+      goes_on = c.log_goes_on.ensures;
+      few = c.few_are_cut.ensures;
+      bounds = c.groups_have_bounds.ensures;
+      start_is_read = c.start_relay_is_read.ensures;
+      is_read = c.relay_is_read.ensures;
+      can_on = c.entries_can_log_on.ensures;
+    } in
+    record {
+      begins = follows_begins;
+      goes_on = follows_go_on below c.bases_hold.ensures c.entry_is_carried.ensures;
+      stops = no_apply_stops below c.bases_hold.ensures c.entry_is_carried.ensures;
+    }

@@ -1,0 +1,99 @@
+-- A definition of a log: the statement that its text is, and what is made of it.
+use Rattle.std.proofs.Common.{◌≡◌, ℕ, ◌<◌, ◌≤◌, List, length, Bool, true, false, Option, Some, None, Result, Ok, Err, sym, ap, subst, ◌∙◌, arith}
+use Rattle.std.specs.Prelude.{if◌then◌else◌, nat_lt}
+use Rattle.std.proofs.lemmas.Bool.{lt-ltb}
+use Rattle.std.proofs.lemmas.Bool.Decides.{nat_tests}
+use Rattle.val_types.specs.declared.refusal.SqlRefusal.{SqlRefusal}
+use Rattle.val_types.specs.declared.refusal.SqlRefusal.TheVariants.{Sql, NoMemory}
+use Rattle.auto_inc.specs.declared.counters.Counter.{Counter}
+use Rattle.sql_tree.specs.Statement.{Statement}
+use Rattle.catalog_rules.specs.Bases.{Base, defined}
+use Rattle.catalog_rules.specs.Creating.{ddl_refusal}
+use Rattle.catalog_objects.specs.Keys.{objects_of}
+use Rattle.sql_reach.specs.Defining.{counters_after, is_still_refused}
+use Rattle.sql_reach.specs.Reach.{is_definition}
+use Rattle.text_answers.specs.Answers.{TextAnswer, text_answer}
+use Rattle.applier_model.specs.Groups.{Applied, define_allowed, define_if}
+use Rattle.applier_model.specs.Texts.{statement_by, statement_in, most_text}
+use Rattle.prog_run.specs.Contents.{Contents, base_of}
+use Rattle.prog_run.specs.Runs.{Defines, Makes}
+use Rattle.prog_run.specs.declared.meter.Outcome.{Outcome}
+use Rattle.stmt_apply.specs.Defining.{EndsBy, IsRefusal}
+use Rattle.stmt_apply.specs.Ends.{applied_in}
+
+-- ---- the text
+
+abbrev read_by : Bool → TextAnswer → Result Statement ℕ
+read_by long answer = if long then Err 1153 else statement_by answer
+
+pub too_long : (text : List ℕ) → 1048576 < length text → statement_in text ≡ Err 1153
+too_long text long = ap (λ (b : Bool). read_by b (text_answer text)) (lt-ltb most_text (length text) long)
+
+not_above : (n k : ℕ) → k ≤ n → nat_lt n k ≡ false
+not_above n k low = grind (arith, nat_tests)
+
+pub reads_as : (text : List ℕ) (answer : TextAnswer) → length text ≤ 1048576 → text_answer text ≡ answer → statement_in text ≡ statement_by answer
+reads_as text answer short is =
+    ap (λ (b : Bool). read_by b (text_answer text)) (not_above most_text (length text) short) ∙ ap (read_by false) is
+
+-- ---- the definition
+
+abbrev allowed_by : (is still : Bool) → Base → List Counter → Statement → Option ℕ → Option Base → Result Applied ℕ
+allowed_by is still base counters s refusal made = if is then (if still then Err 30005 else define_if base counters s refusal made) else Err 30005
+
+pub no_definition : (base : Base) (counters : List Counter) (s : Statement) → is_definition s ≡ false → define_allowed base counters (Ok s) ≡ Err 30005
+no_definition base counters s e = ap (λ (b : Bool). allowed_by b (is_still_refused s) base counters s (ddl_refusal base.catalog s) (defined s base)) e
+
+abbrev refusal_if : Bool → Option ℕ → Option ℕ
+refusal_if still refusal = if still then Some 30005 else refusal
+
+abbrev made_of : Statement → List Counter → Base → Result Applied ℕ
+made_of s counters b = Ok (record { base = b; counters = counters_after s counters })
+
+abbrev refused_with : ℕ → Result Applied ℕ
+refused_with code = Err code
+
+made_by : (still : Bool) (base b : Base) (counters : List Counter) (s : Statement) (refusal : Option ℕ) (made : Option Base) → refusal_if still refusal ≡ None → made ≡ Some b
+    → allowed_by true still base counters s refusal made ≡ made_of s counters b
+made_by true base b counters s refusal made e m = cc
+made_by false base b counters s refusal made e m =
+    ap (λ (r : Option ℕ). define_if base counters s r made) e ∙ ap (define_if base counters s None) m
+
+refused_by : (still : Bool) (base : Base) (counters : List Counter) (s : Statement) (refusal : Option ℕ) (made : Option Base) (code : ℕ) → refusal_if still refusal ≡ Some code
+    → allowed_by true still base counters s refusal made ≡ refused_with code
+refused_by true base counters s refusal made code e = let same : 30005 ≡ code = cc in ap refused_with same
+refused_by false base counters s refusal made code e = ap (λ (r : Option ℕ). define_if base counters s r made) e
+
+definition_by : (base : Base) (counters : List Counter) (s : Statement) → is_definition s ≡ true
+    → define_allowed base counters (Ok s) ≡ allowed_by true (is_still_refused s) base counters s (ddl_refusal base.catalog s) (defined s base)
+definition_by base counters s e = ap (λ (b : Bool). allowed_by b (is_still_refused s) base counters s (ddl_refusal base.catalog s) (defined s base)) e
+
+-- it is made
+pub definition_made : (s : Statement) (told : Outcome) (before after : Contents) → is_definition s ≡ true → Makes s told before after
+    → define_allowed (base_of before) before.counters (Ok s) ≡ Ok (applied_in after)
+definition_made s told before after is made =
+    definition_by (base_of before) before.counters s is
+    ∙ made_by (is_still_refused s) (base_of before) (base_of after) before.counters s (ddl_refusal (objects_of before.objects) s) (defined s (base_of before)) made.allowed made.base
+    ∙ (λ i. Ok (record { base = base_of after; counters = sym made.counters i }))
+
+-- or refused
+pub definition_refused : (s : Statement) (refusal : SqlRefusal) (before after : Contents) → is_definition s ≡ true → Defines s (Err refusal) before after
+    → IsRefusal (define_allowed (base_of before) before.counters (Ok s)) refusal
+definition_refused s (Sql code) before after is refused =
+    definition_by (base_of before) before.counters s is
+    ∙ refused_by (is_still_refused s) (base_of before) before.counters s (ddl_refusal (objects_of before.objects) s) (defined s (base_of before)) code refused.0
+definition_refused s NoMemory before after is refused = tt
+
+pub definition_left : (s : Statement) (refusal : SqlRefusal) (before after : Contents) → Defines s (Err refusal) before after → after ≡ before
+definition_left s (Sql code) before after refused = refused.1
+definition_left s NoMemory before after refused = refused
+
+-- ---- a text that is none
+
+pub refused_text : (refusal : SqlRefusal) (base : Base) (counters : List Counter) (read : Result Statement ℕ) → IsRefusal read refusal → IsRefusal (define_allowed base counters read) refusal
+refused_text (Sql code) base counters read e = ap (define_allowed base counters) e
+refused_text NoMemory base counters read e = tt
+
+pub read_text : (base : Base) (counters : List Counter) (read : Result Statement ℕ) (s : Statement) (result : Result (Unit {0}) SqlRefusal) (now : Applied) → read ≡ Ok s
+    → EndsBy result now (define_allowed base counters (Ok s)) → EndsBy result now (define_allowed base counters read)
+read_text base counters read s result now e ends = subst (λ (r : Result Statement ℕ). EndsBy result now (define_allowed base counters r)) (sym e) ends

@@ -1,0 +1,18 @@
+//! Laws of whole groups: where they lie among the bytes that they are read from, and that they stay what they are.
+//!
+//! Definitions and laws over those of `log_model`, and no code. Replicas that read a log group by group, as far as they have
+//! fetched it, stand on this crate.
+//!
+//! - `specs/Laws`: what is proved
+//! - `laws`: the laws, as functions that do nothing
+//!
+//! # Proved
+//! - a group begins at its place, has at least the bytes of a header, and ends within the bytes that it is read from and within
+//!   what a log may have ([`groups_lie_within`])
+//! - a group that is read is the same group whatever follows its bytes ([`groups_stay`])
+//! - where there are no bytes, no group is whole ([`nothing_is_not_whole`])
+#![tactic(auto)]
+
+mod laws;
+
+pub use laws::{groups_lie_within, groups_stay, nothing_is_not_whole};
