@@ -48,6 +48,8 @@ mod transactions;
 mod working;
 mod writing;
 
+pub use call::Call;
+pub use keeping::Start;
 pub use saves::Save;
 pub use session::{Open, Session};
 pub use source::SourceNode;
