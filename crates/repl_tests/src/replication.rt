@@ -109,10 +109,10 @@ fn applied_behind(fetched: u32) -> &'static str {
 /// What that script writes.
 fn lines_byte_by_byte(alloc: Global) -> Result<Bytes, Fail> {
     let mut lines = bytes(alloc, "1 ok 0\n2 ok 1\n")?;
-    let mut number = 2;
+    let mut number: u32 = 2;
     for fetched in 1..BYTES + 1 {
-        put_line(alloc, &mut lines, number + 1, "fetched 1")?;
-        number += 2;
+        put_line(alloc, &mut lines, number.saturating_add(1), "fetched 1")?;
+        number = number.saturating_add(2);
         put_line(alloc, &mut lines, number, applied_behind(fetched))?;
     }
     lines.extend_from_slice(b"699 fetched 0\n700 row 1, 10\n700 rows 1\n")?;
