@@ -72,6 +72,7 @@ pub fn is_session_variable(name: &Bytes) -> bool
         || is(name, b"insert_id")
         || is(name, b"rand_seed1")
         || is(name, b"rand_seed2")
+        || is(name, b"binlog_format")
 }
 
 /// How many expressions there are.

@@ -11,11 +11,15 @@ use Rattle.catalog_rules.specs.Names.{is_among}
 
 -- ---- session variables
 
+-- how a session's statements are logged
+abbrev pub format_name : List ℕ
+format_name = codes "binlog_format"
+
 -- the variables that SET writes
 abbrev pub session_variables : List (List ℕ)
 session_variables =
     codes "auto_increment_increment" ∷ codes "auto_increment_offset" ∷ codes "timestamp" ∷ codes "last_insert_id"
-    ∷ codes "insert_id" ∷ codes "rand_seed1" ∷ codes "rand_seed2" ∷ []
+    ∷ codes "insert_id" ∷ codes "rand_seed1" ∷ codes "rand_seed2" ∷ format_name ∷ []
 
 -- the variables that `@@name` reads
 abbrev pub readable_variables : List (List ℕ)

@@ -8,7 +8,7 @@
 //! - `changes`: [`rows_of`]
 //! - `row`: [`put_row`] and [`put_change`], with `bits` for the bits of NULLs and `value` for values
 //! - `map`: [`codes_of`] and [`metadata_of`], what a map says of a table's columns
-//! - `column`: a column's type in a map, and its value in a row
+//! - `column`: a column's type in a map ([`column_type`], [`behind_type`]), and its value in a row
 //!
 //! # Proved
 //! - [`rows_fit`] is true exactly where the event has as many columns as the map and its bytes are one or
@@ -20,6 +20,8 @@
 //!   these bytes are read again is a law of `log_model`.
 //! - [`codes_of`] and [`metadata_of`] give exactly the types and the metadata of a table's map, or want
 //!   of memory.
+//! - [`column_type`] and [`behind_type`] give the type that a map says of its first column, and what is
+//!   left of the metadata behind it, for all bytes.
 //!
 //! # Only tested
 //! That calls succeed with ample memory, in `log_callers`.
@@ -34,6 +36,7 @@ mod row;
 mod value;
 
 pub use changes::rows_of;
+pub use column::{behind_type, column_type};
 pub use fitting::rows_fit;
 pub use map::{codes_of, metadata_of};
 pub use row::{put_change, put_row};

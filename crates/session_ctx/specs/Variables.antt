@@ -1,10 +1,10 @@
 -- The session variables that SET assigns, but for the log's format: by which values, and to what.
-use Rattle.std.specs.Prelude.{◌≡◌, ℕ, max, nat_le, Bool, true, ◌&&◌, if◌then◌else◌, codes, List, [], ◌∷◌, Option, None, Some, ℤ, pos, negsuc, int_le, is_some, Result, Ok, Err}
+use Rattle.std.specs.Prelude.{◌≡◌, ℕ, max, nat_le, Bool, true, ◌&&◌, ◌||◌, if◌then◌else◌, codes, List, [], ◌∷◌, Option, None, Some, ℤ, pos, negsuc, int_le, is_some, Result, Ok, Err}
 use Rattle.std.specs.Ordering.{int_eq}
 use Rattle.val_types.specs.declared.value.Value.{Value}
 use Rattle.val_types.specs.declared.value.Value.TheVariants.{Null, Int, Text}
 use Rattle.catalog_rules.specs.Names.{same_name, is_among}
-use Rattle.catalog_rules.specs.Bodies.{session_variables}
+use Rattle.catalog_rules.specs.Bodies.{format_name, session_variables}
 use Rattle.sql_meaning.specs.Frames.{Context}
 use Rattle.session_ctx.specs.declared.variables.SessionVariable.{SessionVariable}
 use Rattle.session_ctx.specs.declared.variables.SessionVariable.TheVariants.{Increment, Offset, Timestamp, LastInsertId, InsertId, RandSeed1, RandSeed2}
@@ -101,7 +101,7 @@ assigned (Err code) session = session
 
 -- ---- laws
 
--- names and variables are the same, and the names are those that a body may not set
+-- names and variables are the same, and with the log's format the names are those that SET writes
 pub record NamesAreTable : Type 0 where
   pub named : (v : SessionVariable) → variable_named (name_of v) ≡ Some v
-  pub known : (name : List ℕ) → is_some (variable_named name) ≡ is_among session_variables name
+  pub known : (name : List ℕ) → is_among session_variables name ≡ is_some (variable_named name) || same_name name format_name

@@ -7,8 +7,8 @@ pub fn carried_context_stands_in()
     ensures { CarriedStandsIn }
 {}
 
-/// A law: each variable has a name of its own, and the names are those of the session variables that a stored program may
-/// not set.
+/// A law: each variable has a name of its own, and beside that of the log's format the names are those of the variables that
+/// SET writes.
 pub fn names_are_a_table()
     ensures { NamesAreTable }
 {}

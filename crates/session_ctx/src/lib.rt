@@ -21,7 +21,7 @@
 //!   [`set_variable`] refuses just so and changes nothing, or assigns just what its definition says
 //! - [`from_carried`] has all that an item carries and else is as in a new session, or memory is wanted; such a context
 //!   stands in for that of the item ([`carried_context_stands_in`])
-//! - the names are those that the checks of stored programs know, one for each variable ([`names_are_a_table`])
+//! - the names are those that the checks of statements know beside binlog_format, one for each variable ([`names_are_a_table`])
 //! - the worked assignments
 //!
 //! # Only tested

@@ -4,8 +4,8 @@ ghost use Rattle.event_codec.specs.Event.{map_of};
 ghost use Rattle.log_model.specs.Images.{map_types};
 ghost use Rattle.applier_model.specs.Rows.{are_same_types, is_same_type, matches, takes_row, types_of};
 
-use crate::kinds::{behind_type, column_type};
 use event_codec::MapView;
+use row_image::{behind_type, column_type};
 use val_types::{Change, ColType, ColumnDef, List, Row, TableDef};
 
 /// Whether two types are one, with the same greatest length where they are texts.

@@ -9,7 +9,7 @@
 //! - `definition`: a CREATE, DROP or TRUNCATE
 //! - `transaction`: the events of a transaction; `under_way`: what is kept between them
 //! - `changing`: one change of a row; `table`: what its table says of it; `columns`: whether the columns of a map and of a table
-//!   are the same; `kinds`: the types that a map says
+//!   are the same
 //!
 //! The definitions in specs/ join the code to the definition: `Ends` and `Defining` (how parts of a group end), `Changes` (one
 //! change, by its steps), `UnderWay` (a transaction under way).
@@ -27,7 +27,6 @@ mod changing;
 mod columns;
 mod definition;
 mod group;
-mod kinds;
 mod stop;
 mod table;
 mod transaction;
