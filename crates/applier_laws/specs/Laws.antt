@@ -13,7 +13,8 @@ use Rattle.log_entries.specs.Entries.{entry_applied}
 use Rattle.log_model.specs.Log.{LogPlace}
 use Rattle.entry_groups.specs.Entries.{group_of_entry, StaysInLog, CanLog}
 use Rattle.session_model.specs.Machine.{Whole, kept_entry}
-use Rattle.session_model.specs.Holding.{changes_of, define, EntryMade}
+use Rattle.session_model.specs.Holding.{changes_of, define, EntriesIn, EntryMade}
+use Rattle.session_model.specs.declared.format.Format.TheVariants.{Row}
 use Rattle.applier_model.specs.Groups.{group_carried}
 
 -- ---- bases
@@ -46,11 +47,11 @@ OnCatalog base (Transaction stamp server items) = AllOnCatalog base.catalog item
 OnCatalog base (Definition stamp server item) = Unit {0}
 OnCatalog base (LogStart stamp server) = Unit {0}
 
--- an entry that a source made and can log, carried out on the base before it, leaves just the base behind it, whoever carries it
--- out, whatever its draw, and whatever counters it has
+-- an entry that a source made and can log, and that is logged by rows if it is a transaction, carried out on the base before it,
+-- leaves just the base behind it, whoever carries it out, whatever its draw, and whatever counters it has
 abbrev pub EntryIsCarried : Type 0
 EntryIsCarried =
     (identity : Identity) (draw : Draw) (base next : Base) (counters : List Counter) (e : Entry Whole) (number : ℕ) (p : LogPlace)
-    → BaseHolds base → EntryMade e → OnCatalog base e → CanLog (kept_entry e) number p → entry_applied changes_of define e base ≡ Some next → IsGroup e
+    → BaseHolds base → EntryMade e → EntriesIn Row (e ∷ []) → OnCatalog base e → CanLog (kept_entry e) number p → entry_applied changes_of define e base ≡ Some next → IsGroup e
     → (counters' : List Counter)
     × (group_carried identity draw base counters (group_of_entry (kept_entry e) number p) ≡ Ok (record { base = next; counters = counters' }))

@@ -85,18 +85,13 @@ with_number InsertId n needs = record needs { first = Some (pos n) }
 abbrev pub with_needs : Needs → Going → Going
 with_needs needs g = record g { needs = needs }
 
--- a text runs with the variables before it, and with nothing of the items before
 abbrev pub text_ended : (place : ℕ) → Going → Progress → Result Going Differs
 text_ended place g p = item_ended place (record g { progress = p })
 
--- until other formats come, no text stands in a transaction, and one that does is not read
-abbrev pub texts_are_run : Bool
-texts_are_run = false
-
+-- a text runs with the variables before it, and with nothing of the items before
 abbrev pub carry_query : Applier → Placed → Going → Query → Result Going Differs
 carry_query a e g q =
-    if texts_are_run then and_then (text_ended e.pos g) (stops_at e.pos (carry_text a q.text (carried_of e.event.stamp q g.needs) g.progress))
-    else Err (stop_at e.pos 30005)
+    and_then (text_ended e.pos g) (stops_at e.pos (carry_text a q.text (carried_of e.event.stamp q g.needs) g.progress))
 
 abbrev pub event_carried : Applier → Placed → Going → Body → Result Going Differs
 event_carried a e g (query q) = carry_query a e g q

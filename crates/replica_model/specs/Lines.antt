@@ -1,11 +1,12 @@
--- The lines that show FETCH and APPLY.
-use Rattle.std.specs.Prelude.{ℕ, List, ◌++◌, length, codes, Option, Some, None}
+-- The lines that show FETCH and APPLY, and the replay of a log.
+use Rattle.std.specs.Prelude.{ℕ, List, [], ◌∷◌, ◌++◌, length, codes, Option, Some, None}
 use Rattle.std.specs.Fmt.{decimal}
 use Rattle.val_types.specs.Text.{row_text_of}
 use Rattle.answer_text.specs.Shown.{line}
 use Rattle.answer_text.specs.Statuses.{table_text}
 use Rattle.log_model.specs.Log.{LogPlace}
 use Rattle.replica_model.specs.Applying.{Stop, differs, damaged, foreign, Going}
+use Rattle.replica_model.specs.Replaying.{Replay}
 
 -- how many bytes were fetched
 abbrev pub fetched_line : ℕ → ℕ → List ℕ
@@ -25,10 +26,16 @@ stop_if None = codes ""
 stop_if (Some stop) = stop_words stop
 
 -- how many groups were carried out, and the log and the position behind them
+abbrev pub applied_words : (count : ℕ) → LogPlace → List ℕ
+applied_words count place = codes "applied " ++ decimal count ++ codes " " ++ decimal place.log ++ codes ":" ++ decimal place.pos
+
 abbrev pub applied_line : ℕ → (count : ℕ) → LogPlace → Option Stop → List ℕ
-applied_line number count place stop =
-    line number (codes "applied " ++ decimal count ++ codes " " ++ decimal place.log ++ codes ":" ++ decimal place.pos ++ stop_if stop)
+applied_line number count place stop = line number (applied_words count place ++ stop_if stop)
 
 -- the line of an APPLY
 abbrev pub going_line : ℕ → Going → List ℕ
 going_line number a = applied_line number a.count a.replica.place a.stop
+
+-- the line of a replay, which is no command
+abbrev pub replayed_line : Replay → List ℕ
+replayed_line r = applied_words r.count r.place ++ 0x0a ∷ []

@@ -8,6 +8,7 @@ use Rattle.sql_tree.specs.Tree.{Tree, Trees, no_tree, tree}
 use Rattle.sql_tree.specs.declared.statements.Target.{Target}
 use Rattle.catalog_rules.specs.Names.{same_name, first_made}
 use Rattle.catalog_rules.specs.Bases.{Base, defined}
+use Rattle.catalog_rules.specs.Bodies.{format_name}
 use Rattle.catalog_rules.specs.Checks.{session_scope, statement_refusal}
 use Rattle.catalog_rules.specs.Creating.{ddl_refusal}
 use Rattle.log_entries.specs.declared.carried.Carried.{Carried}
@@ -19,6 +20,8 @@ use Rattle.sql_meaning.specs.Changing.{Did}
 use Rattle.sql_meaning.specs.Running.{most_nested}
 use Rattle.sql_reach.specs.Defining.{counters_after, is_still_refused}
 use Rattle.session_model.specs.Answers.{ok, refused}
+use Rattle.session_model.specs.Formats.{format_for, format_refusal}
+use Rattle.session_model.specs.declared.format.Format.{Format}
 use Rattle.session_model.specs.Sessions.{Save, Open, just_opened, Session, Shared}
 use Rattle.session_model.specs.Running.{Call, full, Turn, Given, is_other, writing_refusal, lock_refusal, closed, commit_open, counted_in, logged_by, statement_run, expressions_run, given_answer}
 use Rattle.session_ctx.specs.Variables.{setting, fitting, assigned}
@@ -187,42 +190,59 @@ abbrev pub refusal_of : Result (Unit {0}) ℕ → Option ℕ
 refusal_of (Ok done) = None
 refusal_of (Err code) = Some code
 
-abbrev pub assignment_refusal : Target × Value → Option ℕ
-assignment_refusal (Target.User n, v) = None
-assignment_refusal (Target.Plain n, v) = refusal_of (fitting (setting n v))
-assignment_refusal (Target.System n, v) = refusal_of (fitting (setting n v))
-assignment_refusal (Target.New c, v) = Some 1193
+-- to a session variable, where a transaction is open or not
+abbrev pub variable_refusal : (is_open : Bool) → List ℕ → Value → Option ℕ
+variable_refusal is_open n v =
+    if same_name n format_name then format_refusal is_open (format_for v) else refusal_of (fitting (setting n v))
+
+abbrev pub assignment_refusal : (is_open : Bool) → Target × Value → Option ℕ
+assignment_refusal is_open (Target.User n, v) = None
+assignment_refusal is_open (Target.Plain n, v) = variable_refusal is_open n v
+assignment_refusal is_open (Target.System n, v) = variable_refusal is_open n v
+assignment_refusal is_open (Target.New c, v) = Some 1193
 
 -- the refusal of the first assignment that is refused
-abbrev pub first_refused : List (Target × Value) → Option ℕ
-first_refused as' = first_made assignment_refusal as'
+abbrev pub first_refused : (is_open : Bool) → List (Target × Value) → Option ℕ
+first_refused is_open as' = first_made (assignment_refusal is_open) as'
 
 abbrev pub with_variable : List ℕ → Value → SessionVars → SessionVars
 with_variable n v vars = record vars { context = record (vars.context) { variables = variable_set vars.context.variables n v } }
 
--- an assignment that nothing refuses
-abbrev pub assign : SessionVars → Target × Value → SessionVars
-assign vars (Target.User n, v) = with_variable n v vars
-assign vars (Target.Plain n, v) = assigned (setting n v) vars
-assign vars (Target.System n, v) = assigned (setting n v) vars
-assign vars (Target.New c, v) = vars
-
--- assignments from left to right
-abbrev pub all_assigned : SessionVars → List (Target × Value) → SessionVars
-all_assigned vars [] = vars
-all_assigned vars (a ∷ as') = all_assigned (assign vars a) as'
-
 abbrev pub with_vars : {I : Type 0} → SessionVars → Session I → Session I
 with_vars vars session = record session { vars = vars }
+
+abbrev pub with_format : {I : Type 0} → Result Format ℕ → Session I → Session I
+with_format (Ok format) session = record session { format = format }
+with_format (Err code) session = session
+
+-- a session variable set, the log's format among them
+abbrev pub with_setting : {I : Type 0} → List ℕ → Value → Session I → Session I
+with_setting n v session =
+    if same_name n format_name then with_format (format_for v) session else with_vars (assigned (setting n v) session.vars) session
+
+-- an assignment that nothing refuses
+abbrev pub assign : {I : Type 0} → Session I → Target × Value → Session I
+assign session (Target.User n, v) = with_vars (with_variable n v session.vars) session
+assign session (Target.Plain n, v) = with_setting n v session
+assign session (Target.System n, v) = with_setting n v session
+assign session (Target.New c, v) = session
+
+-- assignments from left to right
+abbrev pub all_assigned : {I : Type 0} → Session I → List (Target × Value) → Session I
+all_assigned session [] = session
+all_assigned session (a ∷ as') = all_assigned (assign session a) as'
 
 -- all assigned, or none where one is refused: then the first refused counts
 abbrev pub assign_unless : {I : Type 0} → Option ℕ → List (Target × Value) → Turn I (Given (List Value)) → Turn I Answer
 assign_unless (Some code) assignments t = with_answer (refused code) t
 assign_unless None assignments t =
-    record { shared = t.shared; session = with_vars (all_assigned t.session.vars assignments) t.session; committed = t.committed; given = ok 0 }
+    record { shared = t.shared; session = all_assigned t.session assignments; committed = t.committed; given = ok 0 }
+
+abbrev pub is_open : {I : Type 0} → Session I → Bool
+is_open session = is_some session.transaction
 
 abbrev pub assign_turn : {I : Type 0} → List (Target × Value) → Turn I (Given (List Value)) → Turn I Answer
-assign_turn assignments t = assign_unless (first_refused assignments) assignments t
+assign_turn assignments t = assign_unless (first_refused (is_open t.session) assignments) assignments t
 
 -- the values assigned, or the error of their evaluation
 abbrev pub set_by : {I : Type 0} → List (Target × Tree) → Result (List Value) ℕ → Turn I (Given (List Value)) → Turn I Answer

@@ -13,7 +13,9 @@ use Rattle.log_entries.specs.declared.entries.Entry.TheVariants.{Transaction, De
 use Rattle.log_entries.specs.Entries.{after}
 use Rattle.log_model.specs.Log.{LogPlace, counted_all, written_to}
 use Rattle.transaction_sizes.specs.Sizes.{are_too_large}
+use Rattle.session_model.specs.Formats.{first_format, is_by_rows}
 use Rattle.session_model.specs.Sessions.{Save, Open, Session, Shared}
+use Rattle.session_model.specs.declared.format.Format.{Format}
 use Rattle.answer_text.specs.declared.answer.Answer.{Answer}
 use Rattle.answer_text.specs.declared.answer.End.{End}
 use Rattle.answer_text.specs.declared.answer.End.TheVariants as ends
@@ -39,15 +41,26 @@ changes_in items = flat_map changes_of items
 
 -- ---- what statements made
 
--- An item of a statement: it is logged by its rows, with the definitions of their tables, and it changed something.
+-- An item of a statement: it has the definitions of the tables that it changed, and it changed something.
 pub record IsMade (i : Whole) : Type 0 where
-  pub rows : i.kept.rows ≡ true
   pub defs : i.kept.defs ≡ definitions_changed i.began.catalog i.kept.changes
   pub some : 1 ≤ length i.kept.changes
 
 abbrev pub AreMade : List Whole → Type 0
 AreMade [] = Unit {0}
 AreMade (i ∷ is) = IsMade i × AreMade is
+
+-- items that are logged in a format, each by its text or each by its rows
+abbrev pub AreIn : Format → List Whole → Type 0
+AreIn format [] = Unit {0}
+AreIn format (i ∷ is) = (i.kept.rows ≡ is_by_rows format) × AreIn format is
+
+-- entries whose transactions are logged in a format
+abbrev pub EntriesIn : Format → List (Entry Whole) → Type 0
+EntriesIn format [] = Unit {0}
+EntriesIn format (Transaction stamp server items ∷ es) = AreIn format items × EntriesIn format es
+EntriesIn format (Definition stamp server i ∷ es) = EntriesIn format es
+EntriesIn format (LogStart stamp server ∷ es) = EntriesIn format es
 
 -- items of one transaction, which have no more bytes than one may have
 pub record AreOne (items : List Whole) : Type 0 where
@@ -84,12 +97,13 @@ abbrev pub SavesFrom : List Whole → ℕ → List Save → Type 0
 SavesFrom items least [] = least ≤ length items
 SavesFrom items least (s ∷ ss) = (least ≤ s.items) × (s.changes ≡ length (changes_in (take s.items items))) × SavesFrom items s.items ss
 
--- the session that has the lock has made the open changes, by its items; another has no item
-pub record Owns (n : ℕ) (shared : Shared) (t : Option (Open Whole)) : Type 0 where
+-- the session that has the lock has made the open changes, by its items, in its format; another has no item
+pub record Owns (n : ℕ) (shared : Shared) (format : Format) (t : Option (Open Whole)) : Type 0 where
   pub own : holds_lock n shared.writer ≡ true → shared.changes ≡ changes_in (items_of t)
   pub none : holds_lock n shared.writer ≡ false → items_of t ≡ []
   pub saves : SavesFrom (items_of t) 0 (saves_of t)
   pub one : AreOne (items_of t)
+  pub formats : AreIn format (items_of t)
 
 -- ---- what all share
 
@@ -100,6 +114,13 @@ pub record SharedHolds (shared : Shared) : Type 0 where
 
 abbrev pub transaction_of : Option (Session Whole) → Option (Open Whole)
 transaction_of session = option_and_then (λ (s : Session Whole). s.transaction) session
+
+abbrev pub format_of : Option (Session Whole) → Format
+format_of session = option_map_or (λ (s : Session Whole). s.format) session first_format
+
+-- the session with a number
+abbrev pub session_at : ℕ → Machine → Option (Session Whole)
+session_at n m = slice_index_or m.state.sessions n None
 
 -- Where a run began: with a base, so many transactions committed, and a log that ends at a place.
 pub record Beginning : Type 0 where
@@ -118,7 +139,7 @@ pub record Holds (from : Beginning) (m : Machine) : Type 0 where
   pub place : written_to (map kept_entry m.history) from.committed from.place ≡ m.state.shared.place
   pub made : EntriesMade m.history
   pub shared : SharedHolds m.state.shared
-  pub each : (n : ℕ) → Owns n m.state.shared (transaction_of (slice_index_or m.state.sessions n None))
+  pub each : (n : ℕ) → Owns n m.state.shared (format_of (session_at n m)) (transaction_of (session_at n m))
 
 -- ---- laws
 
@@ -135,6 +156,13 @@ abbrev pub RunsGoOn : Type 0
 RunsGoOn =
     (from : Beginning) (m : Machine) (identity : Identity) (n : ℕ) (text : List ℕ) (draw : Draw) → Holds from m → n < length m.state.sessions
     → length text ≤ 2 ^ 20 → Holds from (machine_after m (step whole identity m.state n text draw))
+
+-- the transactions that a step puts out are logged in the format that its session had before it: each item by its text under
+-- STATEMENT, and by its rows under ROW
+abbrev pub FormatsDecide : Type 0
+FormatsDecide =
+    (from : Beginning) (m : Machine) (identity : Identity) (n : ℕ) (text : List ℕ) (draw : Draw) → Holds from m → n < length m.state.sessions
+    → EntriesIn (format_of (session_at n m)) (step whole identity m.state n text draw).committed
 
 -- ---- errors and readers
 

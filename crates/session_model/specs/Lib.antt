@@ -1,3 +1,4 @@
+pub mod Formats
 pub mod Sessions
 pub mod Answers
 pub mod Running

@@ -16,6 +16,7 @@ use Rattle.session_ctx.specs.declared.session.SessionVars.{SessionVars}
 use Rattle.sql_reach.specs.Reach.{is_definition}
 use Rattle.text_answers.specs.Answers.{TextAnswer, a_statement, a_syntax_error, too_deep, text_answer}
 use Rattle.session_model.specs.Answers.{refused, refused_at, row_count_after}
+use Rattle.session_model.specs.Formats.{first_format}
 use Rattle.session_model.specs.Sessions.{Open, Session, Shared, State}
 use Rattle.session_model.specs.Running.{Began, Call, Known, Turn, entry_by}
 use Rattle.session_model.specs.Commands.{answered, begin_turn, commit_turn, rollback_turn, save_turn, back_turn, release_in, definition_turn, set_turn, call_turn, plain_turn}
@@ -46,7 +47,11 @@ abbrev pub vars_at_work : {I : Type 0} → Call I → SessionVars → SessionVar
 vars_at_work call vars = record vars { context = at_command vars.timestamp call.draw vars.context }
 
 abbrev pub at_work : {I : Type 0} → Call I → Option (Session I) → Session I
-at_work call None = record { vars = record { context = new_context call.identity call.number call.draw; timestamp = None }; transaction = None }
+at_work call None = record {
+  vars = record { context = new_context call.identity call.number call.draw; timestamp = None };
+  format = first_format;
+  transaction = None;
+}
 at_work call (Some session) = record session { vars = vars_at_work call session.vars }
 
 -- ROW_COUNT() behind the command
@@ -101,7 +106,7 @@ module _ {I J : Type 0} (f : I → J) where
   open_by open' = record { items = map f open'.items; saves = open'.saves; changed = open'.changed }
 
   abbrev pub session_by : Session I → Session J
-  session_by session = record { vars = session.vars; transaction = option_map open_by session.transaction }
+  session_by session = record { vars = session.vars; format = session.format; transaction = option_map open_by session.transaction }
 
   abbrev pub state_by : State I → State J
   state_by state = record { shared = state.shared; sessions = map (option_map session_by) state.sessions }

@@ -27,6 +27,8 @@ use Rattle.sql_reach.specs.Carrying.{carried}
 use Rattle.sql_reach.specs.Reach.{writes}
 use Rattle.sql_reach.specs.Defining.{number_of_bytes}
 use Rattle.session_model.specs.Answers.{ok, showing, refused, refused_by}
+use Rattle.session_model.specs.Formats.{is_by_rows}
+use Rattle.session_model.specs.declared.format.Format.{Format}
 use Rattle.session_model.specs.Sessions.{Open, Session, Shared, tables_with}
 
 -- ---- what an item began with
@@ -156,17 +158,14 @@ commit_open call shared session = record {
 abbrev pub definitions_changed : List Object → List Change → List TableDef
 definitions_changed catalog changes = filter (λ (d : TableDef). is_among (map table_of changes) d.name) (definitions_in catalog)
 
--- until other formats come, each item is logged by its rows
-abbrev pub by_rows : Bool
-by_rows = true
-
-abbrev pub item_of : {I : Type 0} → Call I → Fuel → List ℕ → Statement → Context → Shared → Option ℤ → List Change → I
-item_of call fuel text tree context shared first changes =
+-- a statement's item, in the format of its session
+abbrev pub item_of : {I : Type 0} → Call I → Format → Fuel → List ℕ → Statement → Context → Shared → Option ℤ → List Change → I
+item_of call format fuel text tree context shared first changes =
     call.known.note
     (record {
       text = text;
       carried = carried shared.base.catalog tree context first;
-      rows = by_rows;
+      rows = is_by_rows format;
       defs = definitions_changed shared.base.catalog changes;
       changes = changes;
     })
@@ -261,7 +260,7 @@ settle call item (c ∷ cs) scene shared session given refusal =
 -- how a statement that began on a scene ended: its text and its tree make the item
 abbrev pub ended : {I : Type 0} {A : Type 0} → Call I → Fuel → List ℕ → Statement → Shared → Session I → (A → Option ℤ) → (A → Option ℤ) → Scene → Ending A → Turn I (Given A)
 ended call fuel text tree shared session first last_id before (done a scene) =
-    settle call (item_of call fuel text tree session.vars.context shared (first a)) (made_behind (is_other call.number shared.writer) before scene) scene (with_counters scene shared)
+    settle call (item_of call session.format fuel text tree session.vars.context shared (first a)) (made_behind (is_other call.number shared.writer) before scene) scene (with_counters scene shared)
     (with_context (context_after session.vars.context tree scene.seeds (last_id a)) session) (record { result = Ok a; fuel = fuel_of scene })
     (undone 1197 tree shared session scene)
 ended call fuel text tree shared session first last_id before (failed code scene) = undone code tree shared session scene

@@ -10,6 +10,7 @@ use Rattle.table_rules.specs.Stored.{all_applied}
 use Rattle.catalog_rules.specs.Bases.{Base}
 use Rattle.log_model.specs.Log.{LogPlace}
 use Rattle.session_ctx.specs.declared.session.SessionVars.{SessionVars}
+use Rattle.session_model.specs.declared.format.Format.{Format}
 
 -- ---- transactions
 
@@ -30,9 +31,10 @@ just_opened = record { items = []; saves = []; changed = false }
 
 -- ---- sessions
 
--- A session that has had a command: its variables, and perhaps an open transaction.
+-- A session that has had a command: its variables, how its statements are logged, and perhaps an open transaction.
 pub record Session (I : Type 0) : Type 0 where
   pub vars : SessionVars
+  pub format : Format
   pub transaction : Option (Open I)
 
 -- ---- what all sessions share

@@ -1,0 +1,57 @@
+-- What a replica that has nothing makes of a whole log: group after group, up to its end or to where it stops.
+use Rattle.std.specs.Prelude.{ℕ, ◌+◌, List, [], ◌∷◌, Option, Some, None, Result, Ok, Err}
+use Rattle.auto_inc.specs.declared.counters.Counter.{Counter}
+use Rattle.port_traits.specs.declared.identity.Identity.{Identity}
+use Rattle.port_traits.specs.declared.identity.Draw.{Draw}
+use Rattle.catalog_rules.specs.Bases.{Base, empty_base}
+use Rattle.log_model.specs.Groups.{Form, start, next_log, ddl, txn, Group}
+use Rattle.log_model.specs.Log.{LogPlace}
+use Rattle.whole_logs.specs.Walk.{Piece, grouped}
+use Rattle.applier_model.specs.Stops.{Differs}
+use Rattle.applier_model.specs.Groups.{Applied, group_carried}
+use Rattle.replica_model.specs.Replica.{log_begin}
+
+-- A replay on its way: base and counters, the place behind what was carried out, how many groups that are, and the item that has no
+-- effect, if it stopped at one.
+pub record Replay : Type 0 where
+  pub base : Base
+  pub counters : List Counter
+  pub place : LogPlace
+  pub count : ℕ
+  pub stop : Option Differs
+
+abbrev pub first_replay : Replay
+first_replay = record { base = empty_base; counters = []; place = log_begin 1; count = 0; stop = None }
+
+-- a group that was carried out, or is not
+abbrev pub carried : Group → Replay → Result Applied Differs → Replay
+carried g r (Ok applied) = record {
+  base = applied.base;
+  counters = applied.counters;
+  place = record { log = r.place.log; pos = g.end };
+  count = r.count + 1;
+  stop = None;
+}
+carried g r (Err differs) = record r { stop = Some differs }
+
+-- the beginning of a log is passed over, and its end leads to the next one
+abbrev pub by_form : Identity → Draw → Group → Replay → Form → Replay
+by_form identity draw g r start = r
+by_form identity draw g r (next_log next) = record r { place = log_begin next }
+by_form identity draw g r (ddl s) = carried g r (group_carried identity draw r.base r.counters g)
+by_form identity draw g r (txn opening items number) = carried g r (group_carried identity draw r.base r.counters g)
+
+abbrev pub unless_stopped : (Replay → Replay) → Replay → Option Differs → Replay
+unless_stopped more r None = more r
+unless_stopped more r (Some differs) = r
+
+-- groups, one after the other, all at one draw
+abbrev pub all_replayed : Identity → Draw → List Piece → Replay → Replay
+all_replayed identity draw [] r = r
+all_replayed identity draw (p ∷ ps) r =
+    let s = by_form identity draw p.group r p.group.form in
+    unless_stopped (all_replayed identity draw ps) s s.stop
+
+-- those of a log
+unfoldable pub replayed : Identity → Draw → List ℕ → Replay
+replayed identity draw bytes = all_replayed identity draw (grouped bytes).pieces first_replay
