@@ -1,0 +1,70 @@
+-- A log read from an input, group by group: what one call takes and finds.
+use Rattle.std.specs.Prelude.{◌≡◌, ◌≤◌, ◌⊎◌, ℕ, ◌+◌, Bool, true, false, List, [], ◌++◌, length, Option, option_map, IfSome}
+use Rattle.log_model.specs.Groups.{Form, start, next_log, ddl, txn, Group, group, not_whole, damaged_at, foreign_at, group_at}
+use Rattle.log_reader.specs.declared.reader.Found.{Found}
+use Rattle.log_reader.specs.declared.reader.Found.TheVariants as found
+
+-- ---- a reader
+
+-- The group that was read last: its bytes, and where they begin in the log; and whether it was the name of the next log, behind which
+-- nothing may follow.
+pub record Reader : Type 0 where
+  pub bytes : List ℕ
+  pub begin : ℕ
+  pub closed : Bool
+
+-- where the next byte of the input stands in the log
+abbrev pub next_pos : Reader → ℕ
+next_pos r = r.begin + length r.bytes
+
+-- ---- an input
+
+-- these bytes were taken from the front of an input that tells its bytes
+abbrev pub Took : Option (List ℕ) → Option (List ℕ) → List ℕ → Type 0
+Took before after taken = before ≡ option_map (λ rest. taken ++ rest) after
+
+abbrev pub IsEnd : Option (List ℕ) → Type 0
+IsEnd left = IfSome left (λ rest. rest ≡ [])
+
+-- ---- one group
+
+abbrev pub names_next : Form → Bool
+names_next start = false
+names_next (next_log next) = true
+names_next (ddl s) = false
+names_next (txn opening items number) = false
+
+-- the bytes that were taken are just a group
+pub record IsGroup (old new : Reader) (taken : List ℕ) : Type 0 where
+  pub open : old.closed ≡ false
+  pub bytes : new.bytes ≡ taken
+  pub group : Group
+  pub reads : group_at (record { bytes = taken; pos = new.begin }) ≡ group group
+  pub whole : group.end ≡ new.begin + length taken
+  pub closed : new.closed ≡ names_next group.form
+
+-- they are the bytes behind the name of the next log, or of no group: an event is damaged, or the input ends within one
+abbrev pub IsDamaged : Bool → (begin pos : ℕ) → List ℕ → Option (List ℕ) → Type 0
+IsDamaged true begin pos taken left = (pos ≡ begin) × (1 ≤ length taken)
+IsDamaged false begin pos taken left =
+    (group_at (record { bytes = taken; pos = begin }) ≡ damaged_at pos)
+    ⊎ ((group_at (record { bytes = taken; pos = begin }) ≡ not_whole) × (1 ≤ length taken) × (pos ≡ begin) × IsEnd left)
+
+abbrev pub Finds : Reader → Reader → List ℕ → Option (List ℕ) → Found → Type 0
+Finds old new taken left found.Group = IsGroup old new taken
+Finds old new taken left found.End = (taken ≡ []) × IsEnd left
+Finds old new taken left (found.Damaged pos) = IsDamaged old.closed new.begin pos taken left
+Finds old new taken left (found.Foreign pos kind) =
+    (old.closed ≡ false) × (group_at (record { bytes = taken; pos = new.begin }) ≡ foreign_at pos kind)
+
+-- what a call takes of an input, and what it finds there
+pub record Reads (old new : Reader) (before after : Option (List ℕ)) (found : Found) : Type 0 where
+  pub taken : List ℕ
+  pub took : Took before after taken
+  pub begin : new.begin ≡ next_pos old
+  pub finds : Finds old new taken after found
+
+-- whatever a call came to, it took bytes from the front
+pub record Takes (before after : Option (List ℕ)) : Type 0 where
+  pub taken : List ℕ
+  pub took : Took before after taken
