@@ -2,7 +2,7 @@
 //!
 //! The table `t` has two numbers, `id` and `v`, of which the first is its key; those of `a` are the same, and its key counts by
 //! AUTO_INCREMENT. Each event has 40 bytes, and the first behind BEGIN stands at 246.
-ghost use Rattle.std.specs.Prelude.{◌≡◌, ◌++◌, [], ◌∷◌, codes, length, nat_lt, pos, true, List, ℕ};
+ghost use Rattle.std.specs.Prelude.{◌≡◌, ◌++◌, [], ◌∷◌, codes, length, nat_lt, pos, replicate, true, List, ℕ};
 ghost use Rattle.val_types.specs.declared.value.Value.TheVariants.{Int};
 ghost use Rattle.val_types.specs.declared.value.Value.{Value};
 ghost use Rattle.event_codec.specs.Event.{int_var, table_map, user_var};
@@ -35,6 +35,7 @@ pub fn texts_run()
 /// Texts that are no statement, that may not stand in a transaction, that the catalog refuses, and whose run is refused.
 pub fn texts_refused()
     ensures text { carried_on (pair 1 10 ∷ []) (text_of (codes "SELECT 1 FORM t") ∷ []) ≡ stops 246 1064 [] [] }
+    ensures deep { carried_on [] (text_of (codes "SELECT " ++ replicate 401 0x28) ∷ []) ≡ stops 246 30007 [] [] }
     ensures transaction { carried_on [] (text_of (codes "COMMIT") ∷ []) ≡ stops 246 30005 [] [] }
     ensures definition { carried_on [] (text_of (codes "CREATE TABLE u (id INT PRIMARY KEY)") ∷ []) ≡ stops 246 30005 [] [] }
     ensures assignment { carried_on [] (text_of (codes "SET @x = 1") ∷ []) ≡ stops 246 30005 [] [] }

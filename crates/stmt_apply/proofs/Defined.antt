@@ -10,7 +10,7 @@ use Rattle.sql_tree.specs.Statement.{Statement}
 use Rattle.catalog_rules.specs.Bases.{Base, defined}
 use Rattle.catalog_rules.specs.Creating.{ddl_refusal}
 use Rattle.catalog_objects.specs.Keys.{objects_of}
-use Rattle.sql_reach.specs.Ending.{counters_after, is_still_refused}
+use Rattle.sql_reach.specs.Defining.{counters_after, is_still_refused}
 use Rattle.sql_reach.specs.Reach.{is_definition}
 use Rattle.text_answers.specs.Answers.{TextAnswer, text_answer}
 use Rattle.applier_model.specs.Groups.{Applied, define_allowed, define_if}

@@ -1,5 +1,5 @@
 -- A text run: the statement that it is, and what is made of it.
-use Rattle.std.proofs.Common.{◌≡◌, ℕ, List, ◌++◌, Bool, true, false, length, drop, Option, Some, None, Result, Ok, Err, refl, sym, ap, subst, ◌∙◌}
+use Rattle.std.proofs.Common.{◌≡◌, ℕ, List, [], ◌++◌, Bool, true, false, length, drop, Option, Some, None, Result, Ok, Err, refl, sym, ap, subst, ◌∙◌}
 use Rattle.std.specs.Prelude.{if◌then◌else◌}
 use Rattle.std.proofs.Math.Seq.{drop-append_seam}
 use Rattle.val_types.specs.declared.change.Change.{Change}
@@ -65,12 +65,12 @@ module _ (who : Identity) (draw : Draw) (s : Statement) (old new : Contents) (co
   run_refused (Sql code) ran = ap ended_as ran.0
   run_refused NoMemory ran = tt
 
-  -- its changes stand behind those before it
-  pub run_adds : (told : Outcome) → Runs draw s (Ok told) (moment old context full_meter) (moment new context' meter) → Adds old new
-  run_adds told ran =
-      let well = statements_end (setting_at draw (moment old context full_meter)) full_meter.depth [] s (scene_at (moment old context full_meter)) in
-      let led : Leads (scene_at (moment old context full_meter)) (scene_at (moment new context' meter)) = subst (λ e. EndsWell (scene_at (moment old context full_meter)) e) ran.ends well in
-      led.added ∙ ap (λ (cs : List Change). old.changes ++ cs) (sym (ap (drop (length old.changes)) led.added ∙ drop-append_seam old.changes led.more))
+-- its changes stand behind those before it
+pub run_adds : (draw : Draw) (s : Statement) (told : Outcome) (old new : Contents) (context context' : Context) (meter meter' : Meter) → Runs draw s (Ok told) (moment old context meter) (moment new context' meter') → Adds old new
+run_adds draw s told old new context context' meter meter' ran =
+    let well = statements_end (setting_at draw (moment old context meter)) meter.depth [] s (scene_at (moment old context meter)) in
+    let led : Leads (scene_at (moment old context meter)) (scene_at (moment new context' meter')) = subst (λ e. EndsWell (scene_at (moment old context meter)) e) ran.ends well in
+    led.added ∙ ap (λ (cs : List Change). old.changes ++ cs) (sym (ap (drop (length old.changes)) led.added ∙ drop-append_seam old.changes led.more))
 
 -- ---- what may run
 

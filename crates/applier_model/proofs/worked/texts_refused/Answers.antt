@@ -20,6 +20,10 @@ pub returns-clause-text : goal.returns-clause-text
 unfolding kind steps nested inner created_within tokens_from text_answer statement_refusal ddl_refusal effect evaluation level_of carried writes all_applied all_from number_at row_at changes_at group_carried
 returns-clause-text c = refl
 
+pub returns-clause-deep : goal.returns-clause-deep
+unfolding kind steps nested inner created_within tokens_from text_answer statement_refusal ddl_refusal effect evaluation level_of carried writes all_applied all_from number_at row_at changes_at group_carried
+returns-clause-deep c = refl
+
 pub returns-clause-transaction : goal.returns-clause-transaction
 unfolding kind steps nested inner created_within tokens_from text_answer statement_refusal ddl_refusal effect evaluation level_of carried writes all_applied all_from number_at row_at changes_at group_carried
 returns-clause-transaction c = refl

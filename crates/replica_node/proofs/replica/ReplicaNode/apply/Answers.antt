@@ -6,6 +6,7 @@ use Rattle.replica_model.specs.Replica.{Replica}
 use Rattle.replica_node.specs.declared.told.Step.TheVariants.{Waits, Stopped as StoppedBy}
 use Rattle.replica_node.specs.Kept.{Kept, replica_of}
 use Rattle.replica_node.specs.Steps.{stop_of}
+use Rattle.replica_node.proofs.Fronts.{IsBehind, behind_none}
 use Rattle.replica_node.proofs.Going.{IsUnder, begins, here_over, step_at, stops, told, waits}
 use Rattle.replica_node.proofs.replica.ReplicaNode.apply.Goals as goal
 
@@ -16,6 +17,7 @@ loop-count-init c =
       identity = refl;
       over = here_over c.self.inside.relay start c.here-ahead.result (ap (λ (k : Kept). k.relay) c.self.view_is) c.here-ahead.ensures.ahead c.here-ahead.ensures.place c.here-ahead.ensures.passed;
       low = omega arith;
+      behind = subst (λ (n : ℕ). IsBehind c.args.wanted c.args.self.now.identity c.args.draw.now start start n 0) (sym c.here-ahead.ensures.passed) (behind_none c.args.wanted c.args.self.now.identity c.args.draw.now start);
       under = subst (λ (n : ℕ). IsUnder c.args.wanted c.args.self.now.identity c.args.draw.now start start n 0) (sym c.here-ahead.ensures.passed) (begins c.args.wanted c.args.self.now.identity c.args.draw.now start);
     }
 
