@@ -106,11 +106,7 @@ impl Needs {
     }
 
     /// A user variable before the text.
-    pub fn put_variable(
-        &mut self,
-        alloc: Global,
-        variable: &UserVarView,
-    ) -> Result<(), NoMemory>
+    pub fn put_variable(&mut self, alloc: Global, variable: &UserVarView) -> Result<(), NoMemory>
         ensures { OnOk result (needs_of self.new ≡ record (needs_of self.old) { vars = variable_set (needs_of self.old).vars variable.now.name.now (value_of variable.now.value) }) }
     {
         let name = List::from_slice(alloc, variable.name)?;

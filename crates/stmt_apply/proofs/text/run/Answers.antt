@@ -12,8 +12,8 @@ returns-clause-rest c =
 pub returns-clause-adds : goal.returns-clause-adds
 returns-clause-adds c =
     elim c.match-result.branch [
-      in-Ok w ↦ rw w.result2-is
+      | in-Ok w ↦ rw w.result2-is
           (run_adds c.args.draw.now (view c.args.statement.now) w.in-Ok.field-0 c.args.work.now c.run_stmt-result.new.work c.args.context.now c.run_stmt-result.new.context _ c.run_stmt-result.new.meter
           (w.in-Ok.ensures.runs c.requires))
-    | in-Err w ↦ rw w.result2-is tt
+      | in-Err w ↦ rw w.result2-is tt
     ]
