@@ -1,6 +1,6 @@
 -- A replica that fetched the log of one row, of which worked examples are made: its head, CREATE TABLE t (id INT, v INT, PRIMARY KEY (id))
 -- and the row (1, 10) logged as a row; and the replay of the same log with the row logged by its text.
-use Rattle.std.specs.Prelude.{ℕ, ◌-◌, List, [], ◌∷◌, codes, drop, take, pos, slice_set, true}
+use Rattle.std.specs.Prelude.{ℕ, ◌-◌, List, [], ◌∷◌, codes, drop, pos, slice_set, true}
 use Rattle.val_types.specs.declared.change.Change.TheVariants.{Insert}
 use Rattle.val_types.specs.declared.value.Value.TheVariants.{Int}
 use Rattle.log_entries.specs.declared.entries.Item.{Item}

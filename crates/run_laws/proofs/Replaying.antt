@@ -1,9 +1,8 @@
 -- A source's whole log, read again and carried out.
-use Rattle.std.proofs.Common.{◌≡◌, ◌<◌, ◌^◌, ℕ, ◌+◌, Bool, false, List, [], ◌∷◌, ◌++◌, length, map, Option, Some, None, Result, Ok, refl, sym, ap, ◌∙◌, subst, append_assoc, append-nil, arith}
+use Rattle.std.proofs.Common.{◌≡◌, ◌<◌, ◌^◌, ℕ, ◌+◌, Bool, false, List, [], ◌∷◌, ◌++◌, length, map, Option, Some, None, Result, refl, sym, ap, ◌∙◌, subst, append_assoc, append-nil, arith}
 use Rattle.port_traits.specs.declared.identity.Identity.{Identity}
 use Rattle.port_traits.specs.declared.identity.Draw.{Draw}
 use Rattle.catalog_rules.specs.Bases.{Base, empty_base}
-use Rattle.log_entries.specs.declared.entries.Item.{Item}
 use Rattle.log_entries.specs.declared.entries.Entry.{Entry}
 use Rattle.log_entries.specs.declared.entries.Entry.TheVariants.{Transaction, Definition, LogStart}
 use Rattle.log_model.specs.Groups.{Group, group, group_at}
