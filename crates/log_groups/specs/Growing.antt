@@ -1,15 +1,17 @@
 -- A group that is looked at while its bytes come, event after event.
-use Rattle.std.specs.Prelude.{◌≡◌, ◌≤◌, ◌<◌, ◌+◌, if◌then◌else◌, ℕ, Bool, true, false, List, [], ◌++◌, codes, length, take, drop}
+use Rattle.std.specs.Prelude.{◌≡◌, ◌≤◌, ◌<◌, ◌⊎◌, ◌+◌, if◌then◌else◌, ℕ, Bool, true, false, List, [], ◌++◌, codes, length, take, drop}
 use Rattle.std.specs.Str.{bytes_eq}
 use Rattle.event_codec.specs.declared.event.IntVarKind.{IntVarKind}
 use Rattle.event_codec.specs.declared.event.IntVarKind.TheVariants.{LastInsertId, InsertId}
 use Rattle.event_codec.specs.Event.{Body, query, rotate, int_var, rand, user_var, format_description, xid, table_map, rows, Query, Rows, Seen}
 use Rattle.event_codec.specs.Reading.{event, reading}
 use Rattle.log_model.specs.Events.{Place, Placed, past, events_from, stop_from}
-use Rattle.log_model.specs.Groups.{Stage, first, between, vars, maps, in_rows, scan, Group, Next, group, not_whole, damaged_at, foreign_at, until_xid}
+use Rattle.log_model.specs.Groups.{Stage, first, between, vars, maps, in_rows, scan, Group, Next, group, not_whole, damaged_at, foreign_at, until_xid, group_at}
 use Rattle.log_groups.specs.declared.growing.Mark.{Mark}
 use Rattle.log_groups.specs.declared.growing.Mark.TheVariants as mark
 use Rattle.log_groups.specs.declared.growing.Progress.{Progress}
+use Rattle.log_groups.specs.declared.growing.Look.{Look}
+use Rattle.log_groups.specs.declared.growing.Look.TheVariants as look
 use Rattle.log_groups.specs.Views.{maps_in}
 
 -- ---- marks
@@ -24,7 +26,6 @@ item_parts n p = until_xid (events_from (after n p))
 
 -- the stage that a mark stands for, in a group at a place
 abbrev pub stage_at : Mark → Place → Stage
-stage_at mark.Outside p = first
 stage_at mark.First p = first
 stage_at mark.Between p = between
 stage_at (mark.Vars passed) p = vars passed
@@ -33,7 +34,6 @@ stage_at (mark.Rows item count) p = in_rows (maps_in (take count (item_parts ite
 
 -- behind the maps of an item that may have more stand the events behind so many bytes
 abbrev pub MarkStands : Mark → (looked : ℕ) → Place → Type 0
-MarkStands mark.Outside n p = Unit {0}
 MarkStands mark.First n p = Unit {0}
 MarkStands mark.Between n p = Unit {0}
 MarkStands (mark.Vars passed) n p = Unit {0}
@@ -42,12 +42,19 @@ MarkStands (mark.Rows item count) n p = Unit {0}
 
 -- its item begins within so many bytes
 abbrev pub MarkLies : Mark → (looked : ℕ) → Type 0
-MarkLies mark.Outside n = Unit {0}
 MarkLies mark.First n = Unit {0}
 MarkLies mark.Between n = Unit {0}
 MarkLies (mark.Vars passed) n = Unit {0}
 MarkLies (mark.Maps item count) n = item ≤ n
 MarkLies (mark.Rows item count) n = item ≤ n
+
+-- it counts not more maps than there are bytes before the place
+abbrev pub MarkCounts : Mark → (place : ℕ) → Type 0
+MarkCounts mark.First n = Unit {0}
+MarkCounts mark.Between n = Unit {0}
+MarkCounts (mark.Vars passed) n = Unit {0}
+MarkCounts (mark.Maps item count) n = count ≤ n
+MarkCounts (mark.Rows item count) n = Unit {0}
 
 -- ---- the mark behind an event that goes on
 
@@ -57,7 +64,6 @@ mark_behind_var InsertId = mark.Vars 2
 
 -- a map that begins an item, or is one more of it
 abbrev pub mark_behind_map : Mark → (looked : ℕ) → Mark
-mark_behind_map mark.Outside n = mark.Maps n 1
 mark_behind_map mark.First n = mark.Maps n 1
 mark_behind_map mark.Between n = mark.Maps n 1
 mark_behind_map (mark.Vars passed) n = mark.Maps n 1
@@ -66,7 +72,6 @@ mark_behind_map (mark.Rows item count) n = mark.Maps n 1
 
 -- rows that are not the last of their item
 abbrev pub mark_behind_rows : Mark → Mark
-mark_behind_rows mark.Outside = mark.Between
 mark_behind_rows mark.First = mark.Between
 mark_behind_rows mark.Between = mark.Between
 mark_behind_rows (mark.Vars passed) = mark.Between
@@ -92,8 +97,9 @@ pub record InTransaction (m : Mark) (looked : ℕ) (bytes : List ℕ) (pos : ℕ
   pub opening : Seen
   pub text : Query
   pub is_query : opening.body ≡ query text
-  pub begins : bytes_eq text.text (codes "BEGIN") ≡ true
+  pub is_begin : bytes_eq text.text (codes "BEGIN") ≡ true
   pub stage : Stage
+  pub some : 1 ≤ looked
   pub reads : (more : List ℕ) → reading (bytes ++ more) pos ≡ event opening
   pub scans : (more : List ℕ)
       → scan first (events_from (past opening (record { bytes = bytes ++ more; pos = pos }))) (stop_from (past opening (record { bytes = bytes ++ more; pos = pos })))
@@ -101,23 +107,19 @@ pub record InTransaction (m : Mark) (looked : ℕ) (bytes : List ℕ) (pos : ℕ
   pub stage_is : (more : List ℕ) → stage ≡ stage_at m (record { bytes = bytes ++ more; pos = pos })
   pub stands : (more : List ℕ) → MarkStands m looked (record { bytes = bytes ++ more; pos = pos })
 
--- nothing was passed; or one stands in a transaction
-abbrev pub Stands : Mark → (looked : ℕ) → List ℕ → ℕ → Type 0
-Stands mark.Outside n bytes pos = n ≡ 0
-Stands mark.First n bytes pos = InTransaction mark.First n bytes pos
-Stands mark.Between n bytes pos = InTransaction mark.Between n bytes pos
-Stands (mark.Vars passed) n bytes pos = InTransaction (mark.Vars passed) n bytes pos
-Stands (mark.Maps item count) n bytes pos = InTransaction (mark.Maps item count) n bytes pos
-Stands (mark.Rows item count) n bytes pos = InTransaction (mark.Rows item count) n bytes pos
-
--- these bytes were looked at so far: whole events were passed, and the next one ends where the progress says, or behind it
+-- these bytes were looked at so far: no event was passed yet or one stands in a transaction, and the next event ends where the
+-- progress says, or behind it
 pub record IsLooked (bytes : List ℕ) (pos : ℕ) (p : Progress) : Type 0 where
   pub within : p.looked ≤ length bytes
   pub ends : (p.looked ≡ 0) ⊎ (pos + p.looked ≤ 1200000000)
   pub needs : p.upto ≤ 1200000019
   pub item : MarkLies p.mark p.looked
-  pub stands : Stands p.mark p.looked bytes pos
+  pub stands : (p.looked ≡ 0) ⊎ InTransaction p.mark p.looked bytes pos
   pub next : (more : List ℕ) (e : Seen) → reading (drop p.looked (bytes ++ more)) (pos + p.looked) ≡ event e → p.upto ≤ p.looked + e.size
+
+-- how far bytes are looked at behind one more event
+abbrev pub goes_on : (looked size : ℕ) → Mark → Progress
+goes_on looked size m = record { looked = looked + size; upto = looked + size + 19; mark = m }
 
 -- what it was stays so as more bytes come
 abbrev pub LooksStay : Type 0
@@ -129,3 +131,10 @@ IsSettled low (group g) = low ≤ g.end
 IsSettled low not_whole = ⊥
 IsSettled low (damaged_at pos) = Unit {0}
 IsSettled low (foreign_at pos kind) = Unit {0}
+
+-- what a look gives: the bytes are looked at so far, they are a front of a group, and the next look needs more of them; or it is
+-- settled
+abbrev pub LookGives : List ℕ → (pos : ℕ) → Progress → Look → Type 0
+LookGives bytes pos p (look.GoesOn next) =
+    IsLooked bytes pos next × (length bytes < next.upto) × (group_at (record { bytes = bytes; pos = pos }) ≡ not_whole)
+LookGives bytes pos p look.Settled = IsSettled (pos + p.upto) (group_at (record { bytes = bytes; pos = pos }))

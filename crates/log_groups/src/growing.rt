@@ -1,9 +1,8 @@
 //! A look at a group while its bytes come, event after event.
-ghost use Rattle.std.specs.Prelude.{◌≡◌, ◌≤◌, ◌<◌, ◌+◌, ◌^◌, [], length};
+ghost use Rattle.std.specs.Prelude.{◌≡◌, ◌≤◌, ◌<◌, ◌+◌, ◌^◌, ◌⊎◌, ℕ, List, [], length};
 ghost use Rattle.event_codec.specs.Event.{body_of, seen, size_of};
 ghost use Rattle.event_codec.specs.Reading.{event, reading};
-ghost use Rattle.log_model.specs.Groups.{group_at, not_whole};
-ghost use Rattle.log_groups.specs.Growing.{IsLooked, IsSettled, LooksStay, MarkLies, MarkStands, after, mark_behind, mark_behind_map, mark_behind_rows, mark_behind_var, stage_at};
+ghost use Rattle.log_groups.specs.Growing.{InTransaction, IsLooked, LookGives, LooksStay, MarkCounts, MarkLies, MarkStands, after, goes_on, mark_behind, mark_behind_map, mark_behind_rows, mark_behind_var, stage_at};
 ghost use Rattle.log_groups.specs.Views.{StandsAt, place_of, stage_of};
 
 use crate::items::Items;
@@ -14,11 +13,10 @@ use event_codec::{Event, IntVarKind, Read, read_event};
 /// How many bytes a header has.
 const HEADER_LENGTH: u64 = 19;
 
-/// Where one stands behind events that were passed: before the group's first event, or in a transaction as a stage says, with
-/// the bytes before the item of maps and rows in place of these bytes.
+/// Where one stands in a transaction behind events that were passed, as a stage says, with how many bytes of the group stand
+/// before the item of maps and rows.
 #[derive(Clone, Copy)]
 pub enum Mark {
-    Outside,
     First,
     Between,
     Vars { passed: u64 },
@@ -50,7 +48,7 @@ impl Progress {
         Progress {
             looked: 0,
             upto: HEADER_LENGTH,
-            mark: Mark::Outside,
+            mark: Mark::First,
         }
     }
 }
@@ -60,16 +58,16 @@ pub fn looks_stay()
     ensures { LooksStay }
 {}
 
-/// The stage of a mark in a group that begins at a place.
+/// The stage of a mark in a group that begins here, behind so many bytes.
 fn stage_at<'a>(mark: Mark, group: Items<'a>, looked: u64) -> Stage<'a>
     requires item { MarkLies mark looked }
     requires within { looked ≤ length group.bytes.now }
     requires place { group.pos + looked < 2 ^ 64 }
+    requires stands { MarkStands mark looked (place_of group) }
     ensures exact { stage_of result ≡ stage_at mark (place_of group.entry) }
-    ensures stands { MarkStands mark looked (place_of group.entry) → StandsAt result (after looked (place_of group.entry)) }
+    ensures stands { StandsAt result (after looked (place_of group.entry)) }
 {
     match mark {
-        Mark::Outside => Stage::First,
         Mark::First => Stage::First,
         Mark::Between => Stage::Between,
         Mark::Vars { passed } => Stage::Vars { passed },
@@ -84,8 +82,19 @@ fn stage_at<'a>(mark: Mark, group: Items<'a>, looked: u64) -> Stage<'a>
     }
 }
 
-/// Behind a map.
+/// The mark behind a variable of this kind.
+fn mark_behind_var(kind: IntVarKind) -> Mark
+    ensures { result ≡ mark_behind_var kind }
+{
+    match kind {
+        IntVarKind::LastInsertId => Mark::Vars { passed: 1 },
+        IntVarKind::InsertId => Mark::Vars { passed: 2 },
+    }
+}
+
+/// The mark behind a map, which is the first of an item or one more.
 fn mark_behind_map(mark: Mark, looked: u64) -> Mark
+    requires { MarkCounts mark 1200000000 }
     ensures { result ≡ mark_behind_map mark looked }
 {
     match mark {
@@ -93,30 +102,41 @@ fn mark_behind_map(mark: Mark, looked: u64) -> Mark
             item,
             count: count + 1,
         },
-        Mark::Outside => Mark::Maps { item: looked, count: 1 },
-        Mark::First => Mark::Maps { item: looked, count: 1 },
-        Mark::Between => Mark::Maps { item: looked, count: 1 },
-        Mark::Vars { .. } => Mark::Maps { item: looked, count: 1 },
-        Mark::Rows { .. } => Mark::Maps { item: looked, count: 1 },
+        Mark::First => Mark::Maps {
+            item: looked,
+            count: 1,
+        },
+        Mark::Between => Mark::Maps {
+            item: looked,
+            count: 1,
+        },
+        Mark::Vars { .. } => Mark::Maps {
+            item: looked,
+            count: 1,
+        },
+        Mark::Rows { .. } => Mark::Maps {
+            item: looked,
+            count: 1,
+        },
     }
 }
 
-/// Behind rows that are not the last of their item.
+/// The mark behind rows that are not the last of their item.
 fn mark_behind_rows(mark: Mark) -> Mark
     ensures { result ≡ mark_behind_rows mark }
 {
     match mark {
         Mark::Maps { item, count } => Mark::Rows { item, count },
         Mark::Rows { item, count } => Mark::Rows { item, count },
-        Mark::Outside => Mark::Between,
         Mark::First => Mark::Between,
         Mark::Between => Mark::Between,
         Mark::Vars { .. } => Mark::Between,
     }
 }
 
-/// Behind an event that goes on.
+/// The mark behind an event that goes on.
 fn mark_behind(mark: Mark, looked: u64, event: &Event) -> Mark
+    requires { MarkCounts mark 1200000000 }
     ensures { result ≡ mark_behind mark looked (body_of event.now) }
 {
     match event {
@@ -138,17 +158,84 @@ fn mark_behind(mark: Mark, looked: u64, event: &Event) -> Mark
     }
 }
 
-/// Looks at the event behind those that were passed, of bytes that stand from `pos` on in their log.
-pub fn look(bytes: &[u8], pos: u64, progress: Progress) -> Look
+/// The group goes on behind an event of so many bytes.
+fn go_on(progress: Progress, size: u64, mark: Mark) -> Look
+    requires { progress.looked + size ≤ 1200000000 }
+    ensures { result ≡ Look.GoesOn (goes_on progress.looked size mark) }
+{
+    let looked = progress.looked + size;
+    Look::GoesOn(Progress {
+        looked,
+        upto: looked + HEADER_LENGTH,
+        mark,
+    })
+}
+
+/// What a group's first event comes to.
+fn opened(it: &Event, group: Items<'_>, progress: Progress) -> Look
+    requires looked { IsLooked group.bytes.now group.pos progress }
+    requires few { length group.bytes.now ≤ progress.upto }
+    requires none { progress.looked ≡ 0 }
+    requires here { reading group.bytes.now group.pos ≡ event (seen it.now) }
+    ensures { LookGives group.entry.bytes.now group.entry.pos progress result }
+{
+    match it {
+        Event::Query(query) => {
+            if query.text == BEGIN.as_slice() {
+                go_on(progress, query.length, Mark::First)
+            } else {
+                Look::Settled
+            }
+        }
+        Event::Rotate { .. } => Look::Settled,
+        Event::IntVar { .. } => Look::Settled,
+        Event::Rand { .. } => Look::Settled,
+        Event::UserVar(_) => Look::Settled,
+        Event::FormatDescription { .. } => Look::Settled,
+        Event::Xid { .. } => Look::Settled,
+        Event::TableMap(_) => Look::Settled,
+        Event::Rows(_) => Look::Settled,
+    }
+}
+
+/// What an event in a transaction comes to.
+fn moved<'a>(it: &Event<'a>, group: Items<'a>, here: Items<'a>, progress: Progress) -> Look
+    requires looked { IsLooked group.bytes.now group.pos progress }
+    requires few { length group.bytes.now ≤ progress.upto }
+    requires begun { InTransaction progress.mark progress.looked group.bytes.now group.pos }
+    requires place { place_of here ≡ after progress.looked (place_of group) }
+    requires here { reading here.bytes.now here.pos ≡ event (seen it.now) }
+    ensures { LookGives group.entry.bytes.now group.entry.pos progress result }
+{
+    let stage = stage_at(progress.mark, group, progress.looked);
+    match advance(stage, it, here) {
+        Move::Go(_) => {
+            let mark = mark_behind(progress.mark, progress.looked, it);
+            go_on(progress, it.length(), mark)
+        }
+        Move::Close(_) => Look::Settled,
+        Move::Refuse => Look::Settled,
+    }
+}
+
+/// Looks at the event behind those that were passed, of bytes that stand from `pos` on in their log. Further events are not
+/// looked at: there are none.
+pub fn look_at(bytes: &[u8], pos: u64, progress: Progress) -> Look
     requires looked { IsLooked bytes.now pos progress }
     requires few { length bytes.now ≤ progress.upto }
-    ensures goes_on { LookGoesOn result bytes.now pos }
-    ensures settled { result ≡ Look.Settled → IsSettled (pos + progress.upto) (group_at (record { bytes = bytes.now; pos = pos })) }
+    requires place { pos ≤ 1200000000 }
+    ensures { LookGives bytes.now pos progress result }
 {
     let group = Items { bytes, pos };
     let here = group.past(progress.looked);
     match read_event(here.bytes, here.pos) {
-        Read::Event(event) => passed(&event, group, progress),
+        Read::Event(event) => {
+            if progress.looked == 0 {
+                opened(&event, group, progress)
+            } else {
+                moved(&event, group, here, progress)
+            }
+        }
         Read::Short { need } => Look::GoesOn(Progress {
             looked: progress.looked,
             upto: progress.looked + need,

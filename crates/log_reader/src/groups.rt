@@ -12,7 +12,7 @@ ghost use Rattle.log_reader.specs.Taking.{Ends, Finds, FindsBehindName, FindsSet
 use crate::filling::fill;
 use crate::reader::Found;
 use answer_text::Status;
-use log_groups::{Form, Look, Next, Progress, look, next_group};
+use log_groups::{Form, Look, Next, Progress, look_at, next_group};
 use port_traits::Source;
 use val_types::Bytes;
 
@@ -96,7 +96,7 @@ pub(crate) fn read_group<S: Source>(
     let mut progress = Progress::new();
     loop {
         let whole = fill(input, buffer, bytes, progress.upto as usize)?;
-        match look(bytes.as_slice(), begin, progress) {
+        match look_at(bytes.as_slice(), begin, progress) {
             Look::GoesOn(next) => {
                 if !whole {
                     return Ok(cut(bytes.as_slice(), begin));

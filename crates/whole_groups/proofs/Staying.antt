@@ -27,7 +27,7 @@ little_front i (suc n) xs ys few =
     let rest : little_from (suc i) n (xs ++ ys) ≡ little_from (suc i) n xs = little_front (suc i) n xs ys (omega arith) in
     omega (arith, here, rest)
 
-number_front : (place count : ℕ) (bytes more : List ℕ) → place + count ≤ length bytes → number_at place count (bytes ++ more) ≡ number_at place count bytes
+pub number_front : (place count : ℕ) (bytes more : List ℕ) → place + count ≤ length bytes → number_at place count (bytes ++ more) ≡ number_at place count bytes
 unfolding number_at
 number_front place count bytes more few =
     ap (little_from 0 count) (drop-append-le place bytes more (omega arith))
