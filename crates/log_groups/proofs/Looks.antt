@@ -1,5 +1,5 @@
 -- A group that is looked at while its bytes come.
-use Rattle.std.proofs.Common.{◌≡◌, ◌≤◌, ◌<◌, ◌⊎◌, inl, inr, ℕ, zero, suc, ◌+◌, ◌-◌, Bool, true, false, cond, not, leb, ltb, eqb, List, [], ◌∷◌, ◌++◌, length, take, drop, Option, Some, None, Result, Ok, Err, refl, sym, ap, ◌∙◌, subst, arith, append-nil, append_assoc, length-append, length-drop}
+use Rattle.std.proofs.Common.{◌≡◌, ◌≤◌, ◌<◌, ◌⊎◌, inl, inr, ℕ, ◌+◌, ◌-◌, Bool, true, false, cond, not, leb, ltb, eqb, List, [], ◌∷◌, ◌++◌, length, take, drop, Option, Some, None, Result, Ok, Err, refl, sym, ap, ◌∙◌, subst, arith, append-nil, append_assoc, length-append, length-drop}
 use Rattle.std.specs.Prelude.{codes, slice_index, slice_range, if◌then◌else◌, ◌&&◌}
 use Rattle.std.specs.Str.{bytes_eq}
 use Rattle.std.proofs.lemmas.Bool.{leb-true, ltb-false, ltb-true, eqb-true}
@@ -13,16 +13,16 @@ use Rattle.event_codec.specs.Event.{Body, query, rotate, int_var, rand, user_var
 use Rattle.event_codec.specs.Reading.{Reading, event, none, Stop, short, damaged, foreign, reading, read_as, headed, body_at, Within}
 use Rattle.event_codec.proofs.Lying.{lies_within}
 use Rattle.log_model.specs.Events.{Place, Placed, past, events_from, stop_from}
-use Rattle.log_model.specs.Groups.{Stage, first, between, vars, maps, in_rows, Move, go, close, refuse, move, find, is_free, int_var_move, rows_move, Scan, done, stopped, scan, scanned, start, next_log, ddl, Group, Next, group, not_whole, damaged_at, foreign_at, until_xid, stop_next, txn_of, begun_by, group_at}
+use Rattle.log_model.specs.Groups.{Stage, first, between, maps, in_rows, go, close, refuse, move, int_var_move, rows_move, Scan, done, stopped, scan, start, group, not_whole, damaged_at, until_xid, stop_next, txn_of, begun_by, group_at}
 use Rattle.log_model.specs.Images.{are_rows}
-use Rattle.log_model.proofs.Walking.{events_some, stop_some, events_none, stop_none}
+use Rattle.log_model.proofs.Walking.{events_some, events_none, stop_none}
 use Rattle.whole_groups.proofs.Staying.{event_front, number_front}
 use Rattle.log_groups.specs.declared.growing.Mark.{Mark}
 use Rattle.log_groups.specs.declared.growing.Mark.TheVariants as mark
 use Rattle.log_groups.specs.declared.growing.Progress.{Progress}
 use Rattle.log_groups.specs.declared.growing.Look.TheVariants as look
 use Rattle.log_groups.specs.Views.{maps_in}
-use Rattle.log_groups.specs.Growing.{after, item_parts, stage_at, MarkStands, MarkLies, mark_behind, mark_behind_var, mark_behind_map, mark_behind_rows, goes_on, InTransaction, IsLooked, IsSettled, LookGives, LooksStay}
+use Rattle.log_groups.specs.Growing.{after, item_parts, stage_at, MarkStands, MarkLies, MarkCounts, mark_behind, mark_behind_var, mark_behind_map, mark_behind_rows, goes_on, InTransaction, IsLooked, IsSettled, LookGives, LooksStay}
 use Rattle.log_groups.proofs.Walking as walking
 use Rattle.log_groups.proofs.Walking.{map_next, first_map, first_stands, maps_more, drop_more, begins, no_group}
 
@@ -494,3 +494,57 @@ looks_stay bytes more pos p looked = record {
       stage_is = λ others. subst (λ (bs : List ℕ). at.stage ≡ stage_at p.mark (record { bytes = bs; pos = pos })) (sym (append_assoc bytes more others)) (at.stage_is (more ++ others));
       stands = λ others. subst (λ (bs : List ℕ). MarkStands p.mark p.looked (record { bytes = bs; pos = pos })) (sym (append_assoc bytes more others)) (at.stands (more ++ others));
     })
+
+-- ---- what the code looks at
+
+-- an event that is no BEGIN
+pub no_begin : (e : Seen) (q : Query) → e.body ≡ query q → bytes_eq q.text (codes "BEGIN") ≡ false → (r : Query) → e.body ≡ query r → bytes_eq r.text (codes "BEGIN") ≡ false
+no_begin e q body other r is =
+    let same : query q ≡ query r = sym body ∙ is in
+    let text : q ≡ r = cc in
+    rw (← text) other
+
+abbrev pub IsNoQuery : Body → Type 0
+IsNoQuery (query q) = ⊥
+IsNoQuery (rotate next) = Unit {0}
+IsNoQuery (int_var kind k) = Unit {0}
+IsNoQuery (rand a b) = Unit {0}
+IsNoQuery (user_var name v) = Unit {0}
+IsNoQuery (format_description version) = Unit {0}
+IsNoQuery (xid k) = Unit {0}
+IsNoQuery (table_map m) = Unit {0}
+IsNoQuery (rows r) = Unit {0}
+
+pub no_query : (e : Seen) (b : Body) → e.body ≡ b → IsNoQuery b → (r : Query) → e.body ≡ query r → bytes_eq r.text (codes "BEGIN") ≡ false
+no_query e b body other r is = absurd (subst IsNoQuery (sym body ∙ is) other)
+
+module _ (m : Mark) (n : ℕ) (bytes : List ℕ) (pos : ℕ) (at : InTransaction m n bytes pos) where
+  pub stage_here : at.stage ≡ stage_at m (record { bytes = bytes; pos = pos })
+  stage_here = subst (λ (bs : List ℕ). at.stage ≡ stage_at m (record { bytes = bs; pos = pos })) (append-nil bytes) (at.stage_is [])
+
+  pub stands_here : MarkStands m n (record { bytes = bytes; pos = pos })
+  stands_here = subst (λ (bs : List ℕ). MarkStands m n (record { bytes = bs; pos = pos })) (append-nil bytes) (at.stands [])
+
+pub counts : (m : Mark) (n : ℕ) (p : Place) → MarkStands m n p → p.pos + n ≤ 1200000000 → MarkCounts m 1200000000
+counts mark.First n p stands low = tt
+counts mark.Between n p stands low = tt
+counts (mark.Vars passed) n p stands low = tt
+counts (mark.Maps item count) n p stands low = omega (arith, stands.1, low)
+counts (mark.Rows item count) n p stands low = tt
+
+-- where something was passed, it ends within a log
+pub ends_low : (bytes : List ℕ) (pos : ℕ) (p : Progress) → IsLooked bytes pos p → 1 ≤ p.looked → pos + p.looked ≤ 1200000000
+ends_low bytes pos p looked some = by looked.ends
+  where
+    by : (p.looked ≡ 0) ⊎ (pos + p.looked ≤ 1200000000) → pos + p.looked ≤ 1200000000
+    by (inl fresh) = absurd (omega (arith, fresh, some))
+    by (inr low) = low
+
+-- an event behind what was passed
+pub read_there : (p q : Place) (n : ℕ) (r : Reading) → q ≡ after n p → reading q.bytes q.pos ≡ r → reading (drop n p.bytes) (p.pos + n) ≡ r
+read_there p q n r same is = subst (λ (at : Place). reading at.bytes at.pos ≡ r) same is
+
+pub event_fits : (bytes : List ℕ) (pos : ℕ) (p : Progress) (e : Seen) → reading (drop p.looked bytes) (pos + p.looked) ≡ event e → p.looked + e.size ≤ 1200000000
+event_fits bytes pos p e is =
+    let within : Within (drop p.looked bytes) (pos + p.looked) (event e) = subst (Within (drop p.looked bytes) (pos + p.looked)) is (lies_within (drop p.looked bytes) (pos + p.looked)) in
+    omega (arith, within.2)

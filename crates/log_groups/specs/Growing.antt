@@ -1,12 +1,12 @@
 -- A group that is looked at while its bytes come, event after event.
-use Rattle.std.specs.Prelude.{◌≡◌, ◌≤◌, ◌<◌, ◌⊎◌, ◌+◌, if◌then◌else◌, ℕ, Bool, true, false, List, [], ◌++◌, codes, length, take, drop}
+use Rattle.std.specs.Prelude.{◌≡◌, ◌≤◌, ◌<◌, ◌⊎◌, ◌+◌, if◌then◌else◌, ℕ, true, List, ◌++◌, codes, length, take, drop}
 use Rattle.std.specs.Str.{bytes_eq}
 use Rattle.event_codec.specs.declared.event.IntVarKind.{IntVarKind}
 use Rattle.event_codec.specs.declared.event.IntVarKind.TheVariants.{LastInsertId, InsertId}
-use Rattle.event_codec.specs.Event.{Body, query, rotate, int_var, rand, user_var, format_description, xid, table_map, rows, Query, Rows, Seen}
+use Rattle.event_codec.specs.Event.{Body, query, rotate, int_var, rand, user_var, format_description, xid, table_map, rows, Query, Seen}
 use Rattle.event_codec.specs.Reading.{event, reading}
 use Rattle.log_model.specs.Events.{Place, Placed, past, events_from, stop_from}
-use Rattle.log_model.specs.Groups.{Stage, first, between, vars, maps, in_rows, scan, Group, Next, group, not_whole, damaged_at, foreign_at, until_xid, group_at}
+use Rattle.log_model.specs.Groups.{Stage, first, between, vars, maps, in_rows, scan, Next, group, not_whole, damaged_at, foreign_at, until_xid, group_at}
 use Rattle.log_groups.specs.declared.growing.Mark.{Mark}
 use Rattle.log_groups.specs.declared.growing.Mark.TheVariants as mark
 use Rattle.log_groups.specs.declared.growing.Progress.{Progress}
