@@ -32,12 +32,12 @@ IsEnd left = IfSome left (λ rest. rest ≡ [])
 
 -- the bytes that were taken are just a group
 pub record IsGroup (old new : Reader) (taken : List ℕ) : Type 0 where
-  pub open : old.closed ≡ false
+  pub opened : old.closed ≡ false
   pub bytes : new.bytes ≡ taken
-  pub group : Group
-  pub reads : group_at (record { bytes = taken; pos = new.begin }) ≡ group group
-  pub whole : group.end ≡ new.begin + length taken
-  pub closed : new.closed ≡ names_next group.form
+  pub one : Group
+  pub reads : group_at (record { bytes = taken; pos = new.begin }) ≡ group one
+  pub whole : one.end ≡ new.begin + length taken
+  pub closed : new.closed ≡ names_next one.form
 
 -- they are the bytes behind the name of the next log, or of no group: an event is damaged, or the input ends within one
 abbrev pub IsDamaged : Bool → (begin pos : ℕ) → List ℕ → Option (List ℕ) → Type 0

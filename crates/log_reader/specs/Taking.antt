@@ -8,10 +8,10 @@ use Rattle.log_reader.specs.Reading.{IsEnd}
 
 -- the bytes are just a group, which is the name of the next log or not
 pub record IsWhole (bytes : List ℕ) (begin : ℕ) (closed : Bool) : Type 0 where
-  pub group : Group
-  pub reads : group_at (record { bytes = bytes; pos = begin }) ≡ group group
-  pub whole : group.end ≡ begin + length bytes
-  pub closed : closed ≡ names_next group.form
+  pub one : Group
+  pub reads : group_at (record { bytes = bytes; pos = begin }) ≡ group one
+  pub whole : one.end ≡ begin + length bytes
+  pub kind : closed ≡ names_next one.form
 
 -- what they are where it is settled
 abbrev pub FindsSettled : List ℕ → (begin : ℕ) → Bool → Found → Type 0

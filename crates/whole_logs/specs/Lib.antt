@@ -1,4 +1,3 @@
 pub mod Walk
 pub mod Passing
 pub mod Printed
-pub mod Worked

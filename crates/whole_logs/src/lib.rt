@@ -23,7 +23,6 @@
 #![tactic(auto)]
 
 mod laws;
-mod worked;
 
 pub use laws::{
     end_is_seen, group_is_first, group_is_passed, magic_is_passed, nothing_behind_names,
