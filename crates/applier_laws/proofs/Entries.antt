@@ -31,7 +31,8 @@ use Rattle.sql_reach.specs.Defining.{counters_after, is_still_refused}
 use Rattle.sql_reach.specs.Reach.{is_definition}
 use Rattle.session_model.specs.Running.{definitions_changed}
 use Rattle.session_model.specs.Machine.{Whole, kept_of}
-use Rattle.session_model.specs.Holding.{changes_of, define, AreMade, AreOne, IsDefined}
+use Rattle.session_model.specs.Holding.{changes_of, define, AreIn, AreMade, AreOne, IsDefined}
+use Rattle.session_model.specs.declared.format.Format.TheVariants.{Row}
 use Rattle.applier_model.specs.Stops.{Differs}
 use Rattle.applier_model.specs.Texts.{Progress, statement_by, statement_in, stops_at}
 use Rattle.applier_model.specs.Groups.{Going, Applied, and_then, going_from, items_carried, applied_by, define_if, define_allowed, applier_of, store_of, group_carried}
@@ -48,14 +49,14 @@ Leaves r next = (counters : List Counter) × (r ≡ Ok (record { base = next; co
 
 -- ---- transactions
 
-by_rows : (all : List TableDef) (catalog : List Object) (items : List Whole) → all ≡ definitions_in catalog → AreMade items → AllOnCatalog catalog items → AllByRows all (map kept_of items)
-by_rows all catalog [] same made on = tt
-by_rows all catalog (i ∷ is) same made on = (
+by_rows : (all : List TableDef) (catalog : List Object) (items : List Whole) → all ≡ definitions_in catalog → AreMade items → AreIn Row items → AllOnCatalog catalog items → AllByRows all (map kept_of items)
+by_rows all catalog [] same made logged on = tt
+by_rows all catalog (i ∷ is) same made logged on = (
   (
-    made.0.rows,
+    logged.0,
     made.0.defs ∙ ap (λ (os : List Object). definitions_changed os i.kept.changes) on.0 ∙ ap (λ (ds : List TableDef). changed_among ds i.kept.changes) (sym same),
   ),
-  by_rows all catalog is same made.1 on.1,
+  by_rows all catalog is same made.1 logged.1 on.1,
 )
 
 module _ (identity : Identity) (draw : Draw) (base : Base) (counters : List Counter) (h : BaseHolds base) where
@@ -86,9 +87,9 @@ module _ (identity : Identity) (draw : Draw) (base : Base) (counters : List Coun
         ∙ ap (λ (b : Base). Ok (record { base = b; counters = read.progress.store.counters })) e,
   )
 
-  transaction_carried : (items : List Whole) (pos : ℕ) (next : Base) → AreOne items → AllOnCatalog base.catalog items → AreCarried (map kept_of items)
+  transaction_carried : (items : List Whole) (pos : ℕ) (next : Base) → AreOne items → AreIn Row items → AllOnCatalog base.catalog items → AreCarried (map kept_of items)
       → option_map (with_tables base) (all_applied (flat_map changes_of items) base.tables) ≡ Some next → Leaves (items_done pos (map kept_of items)) next
-  transaction_carried items pos next one on are e =
+  transaction_carried items pos next one logged on are e =
       let made = tables_made (all_applied (flat_map changes_of items) base.tables) next e in
       let kept : List Item = map kept_of items in
       let same : flat_map item_changes kept ≡ flat_map changes_of items = flat_map-map (λ (i : Item). i.changes) kept_of items in
@@ -96,7 +97,7 @@ module _ (identity : Identity) (draw : Draw) (base : Base) (counters : List Coun
       let bytes = ltb-false most_bytes (all_sizes kept) sizes.0 in
       let changes = ltb-false most_bytes (all_changes_size kept) sizes.1 in
       read_leaves pos kept made.0 next
-      (all_read (applier_of identity draw base) all kept pos begun 0 made.0 (by_rows all base.catalog items h.theirs one.made on) are stands
+      (all_read (applier_of identity draw base) all kept pos begun 0 made.0 (by_rows all base.catalog items h.theirs one.made logged on) are stands
       (ap (λ (cs : List Change). all_applied cs base.tables) same ∙ made.1) (omega (arith, bytes)) (omega (arith, changes))) made.2
 
   -- ---- definitions
@@ -130,8 +131,8 @@ module _ (identity : Identity) (draw : Draw) (base : Base) (counters : List Coun
 
 pub entry_is_carried : EntryIsCarried
 unfolding group_carried
-entry_is_carried identity draw base next counters (Transaction stamp server []) number p h made on can e is = absurd (omega (arith, made.0))
-entry_is_carried identity draw base next counters (Transaction stamp server (i ∷ is)) number p h made on can e is-group =
-    transaction_carried identity draw base counters h (i ∷ is) (p.pos + size (query (begin_query i.kept.carried.connection))) next made.1 on can.1 e
-entry_is_carried identity draw base next counters (Definition stamp server i) number p h made on can e is = definition_carried identity draw base counters h i p.pos next made e
-entry_is_carried identity draw base next counters (LogStart stamp server) number p h made on can e is = absurd is
+entry_is_carried identity draw base next counters (Transaction stamp server []) number p h made logged on can e is = absurd (omega (arith, made.0))
+entry_is_carried identity draw base next counters (Transaction stamp server (i ∷ is)) number p h made logged on can e is-group =
+    transaction_carried identity draw base counters h (i ∷ is) (p.pos + size (query (begin_query i.kept.carried.connection))) next made.1 logged.0 on can.1 e
+entry_is_carried identity draw base next counters (Definition stamp server i) number p h made logged on can e is = definition_carried identity draw base counters h i p.pos next made e
+entry_is_carried identity draw base next counters (LogStart stamp server) number p h made logged on can e is = absurd is

@@ -6,8 +6,8 @@ pub fn bases_hold()
     ensures { BasesHold }
 {}
 
-/// A law: an entry that a source made and can log, carried out by a replica on the base before it, leaves just the
-/// base behind it, whatever identity, draw and counters the replica has.
+/// A law: an entry that a source made and can log, by rows if it is a transaction, carried out by a replica on the base
+/// before it, leaves just the base behind it, whatever identity, draw and counters the replica has.
 pub fn entry_is_carried()
     ensures { EntryIsCarried }
 {}

@@ -10,12 +10,12 @@
 //! # Proved
 //! - In each base that entries make, the tables are those of the catalog, no two have the same name, and they hold what tables
 //!   have to hold ([`bases_hold`]).
-//! - A transaction or a definition that a source made and can log, read as its group and carried out on the base before it,
-//!   leaves just the base behind it, whoever carries it out, whatever its draw and its counters; it never stops there
-//!   ([`entry_is_carried`]).
+//! - A transaction whose items are logged by their rows, or a definition, that a source made and can log, read as its group and
+//!   carried out on the base before it, leaves just the base behind it, whoever carries it out, whatever its draw and its
+//!   counters; it never stops there ([`entry_is_carried`]).
 //!
-//! Each item is logged by its rows. Nothing is said here of the counters that are left, in which a replica may differ from its
-//! source.
+//! Nothing is said here of items that are logged by their texts, nor of the counters that are left, in which a replica may
+//! differ from its source.
 #![tactic(auto)]
 
 mod laws;

@@ -8,6 +8,7 @@
 //!
 //! - `group`: [`Next`], [`Group`] and [`Form`]
 //! - `reading`: [`next_group`]
+//! - `growing`: [`look_at`], a look at a group while its bytes come, with [`Progress`] and [`Look`]
 //! - `items`: [`Items`], a walk over the events of a transaction, which gives each as a [`Part`]
 //! - `stage`: where one stands in a transaction, and what an event does there
 //!
@@ -17,6 +18,9 @@
 //!   that no group has there, and rows that do not fit their map, are damaged at their own place.
 //! - [`Items::next`] gives the events of a transaction in order, and None where its XID stands; `ends`
 //!   says of each whether it is the last of its item.
+//! - [`look_at`] says of bytes that end where the last look asked, whether they are a front of a group, and how many are needed to look
+//!   again; or else that a group ends with them, or that an event is damaged or not known. It looks at one event, so that all looks
+//!   at a group together take the time of one. More bytes change nothing in what was looked at ([`looks_stay`]).
 //!
 //! What is a transaction by that definition, and that 'not whole' is just a front of one, follows by the
 //! laws of `log_model`.
@@ -26,10 +30,12 @@
 #![tactic(auto)]
 
 mod group;
+mod growing;
 mod items;
 mod reading;
 mod stage;
 
 pub use group::{Form, Group, Next};
+pub use growing::{Look, Mark, Progress, look_at, looks_stay};
 pub use items::{Items, Part};
 pub use reading::next_group;

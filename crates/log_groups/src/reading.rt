@@ -11,7 +11,7 @@ use crate::stage::{Move, Stage, advance};
 use event_codec::{Event, QueryView, Read, read_event};
 
 /// The text that begins a transaction.
-const BEGIN: [u8; 5] = *b"BEGIN";
+pub(crate) const BEGIN: [u8; 5] = *b"BEGIN";
 
 /// The transaction behind its BEGIN.
 fn transaction<'a>(opening: &QueryView<'a>, begin: u64, items: Items<'a>) -> Next<'a>

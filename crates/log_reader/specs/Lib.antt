@@ -1,1 +1,4 @@
 pub mod Reading
+pub mod Filling
+pub mod Taking
+pub mod Behind

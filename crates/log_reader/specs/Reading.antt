@@ -1,6 +1,8 @@
 -- A log read from an input, group by group: what one call takes and finds.
-use Rattle.std.specs.Prelude.{◌≡◌, ◌≤◌, ◌⊎◌, ℕ, ◌+◌, Bool, true, false, List, [], ◌++◌, length, Option, option_map, IfSome}
-use Rattle.log_model.specs.Groups.{Form, start, next_log, ddl, txn, Group, group, not_whole, damaged_at, foreign_at, group_at}
+use Rattle.std.specs.Prelude.{◌≡◌, ◌≤◌, ◌<◌, ◌⊎◌, ℕ, ◌+◌, Bool, true, false, List, [], ◌++◌, length, Option, option_map, IfSome}
+use Rattle.log_model.specs.Groups.{Group, group, not_whole, damaged_at, foreign_at, group_at}
+use Rattle.log_model.specs.Log.{magic}
+use Rattle.whole_logs.specs.Passing.{names_next}
 use Rattle.log_reader.specs.declared.reader.Found.{Found}
 use Rattle.log_reader.specs.declared.reader.Found.TheVariants as found
 
@@ -28,20 +30,14 @@ IsEnd left = IfSome left (λ rest. rest ≡ [])
 
 -- ---- one group
 
-abbrev pub names_next : Form → Bool
-names_next start = false
-names_next (next_log next) = true
-names_next (ddl s) = false
-names_next (txn opening items number) = false
-
 -- the bytes that were taken are just a group
 pub record IsGroup (old new : Reader) (taken : List ℕ) : Type 0 where
-  pub open : old.closed ≡ false
+  pub opened : old.closed ≡ false
   pub bytes : new.bytes ≡ taken
-  pub group : Group
-  pub reads : group_at (record { bytes = taken; pos = new.begin }) ≡ group group
-  pub whole : group.end ≡ new.begin + length taken
-  pub closed : new.closed ≡ names_next group.form
+  pub one : Group
+  pub reads : group_at (record { bytes = taken; pos = new.begin }) ≡ group one
+  pub whole : one.end ≡ new.begin + length taken
+  pub closed : new.closed ≡ names_next one.form
 
 -- they are the bytes behind the name of the next log, or of no group: an event is damaged, or the input ends within one
 abbrev pub IsDamaged : Bool → (begin pos : ℕ) → List ℕ → Option (List ℕ) → Type 0
@@ -68,3 +64,15 @@ pub record Reads (old new : Reader) (before after : Option (List ℕ)) (found : 
 pub record Takes (before after : Option (List ℕ)) : Type 0 where
   pub taken : List ℕ
   pub took : Took before after taken
+
+-- ---- the magic
+
+-- the magic was taken; or four other bytes, or all bytes of an input that has fewer
+abbrev pub FindsMagic : Bool → List ℕ → Option (List ℕ) → Type 0
+FindsMagic true taken left = taken ≡ magic
+FindsMagic false taken left = ((length taken ≡ 4) × (taken ≡ magic → ⊥)) ⊎ ((length taken < 4) × IsEnd left)
+
+pub record ReadsMagic (before after : Option (List ℕ)) (found : Bool) : Type 0 where
+  pub taken : List ℕ
+  pub took : Took before after taken
+  pub finds : FindsMagic found taken after

@@ -1,5 +1,5 @@
 -- The lines that show FETCH and APPLY, and the replay of a log.
-use Rattle.std.specs.Prelude.{ℕ, List, [], ◌∷◌, ◌++◌, length, codes, Option, Some, None}
+use Rattle.std.specs.Prelude.{ℕ, List, [], ◌∷◌, ◌++◌, codes, Option, Some, None}
 use Rattle.std.specs.Fmt.{decimal}
 use Rattle.val_types.specs.Text.{row_text_of}
 use Rattle.answer_text.specs.Shown.{line}

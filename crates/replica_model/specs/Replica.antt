@@ -1,6 +1,6 @@
 -- What a replica keeps: its base and counters, how many transactions it has carried out, its place in the source's log, and what it
 -- has fetched from there on.
-use Rattle.std.specs.Prelude.{ℕ, zero, suc, ◌+◌, ◌-◌, List, [], ◌++◌, length, drop}
+use Rattle.std.specs.Prelude.{ℕ, zero, suc, ◌-◌, List, [], ◌++◌, length, drop}
 use Rattle.auto_inc.specs.declared.counters.Counter.{Counter}
 use Rattle.catalog_rules.specs.Bases.{Base, empty_base}
 use Rattle.log_model.specs.Groups.{Form, start, next_log, ddl, txn, Group, Next, group, not_whole, damaged_at, foreign_at, group_at}

@@ -1,6 +1,6 @@
 -- A replica that fetched the log of one row, of which worked examples are made: its head, CREATE TABLE t (id INT, v INT, PRIMARY KEY (id))
--- and the row (1, 10) logged as a row.
-use Rattle.std.specs.Prelude.{ℕ, ◌-◌, List, [], ◌∷◌, codes, drop, take, pos, slice_set, true}
+-- and the row (1, 10) logged as a row; and the replay of the same log with the row logged by its text.
+use Rattle.std.specs.Prelude.{ℕ, ◌-◌, List, [], ◌∷◌, codes, drop, pos, slice_set, true}
 use Rattle.val_types.specs.declared.change.Change.TheVariants.{Insert}
 use Rattle.val_types.specs.declared.value.Value.TheVariants.{Int}
 use Rattle.log_entries.specs.declared.entries.Item.{Item}
@@ -11,6 +11,7 @@ use Rattle.log_model.specs.Worked.{by_rows, creating, nowhere, plainly, table_na
 use Rattle.applier_model.specs.Worked.{no_draw, replica}
 use Rattle.replica_model.specs.Replica.{Replica, fetched, first_replica}
 use Rattle.replica_model.specs.Applying.{Going, apply}
+use Rattle.replica_model.specs.Replaying.{Replay, replayed}
 
 abbrev pub row_item : Item
 row_item = by_rows (plainly 1700000002 1) (table_named (codes "t") (codes "v") true ∷ []) (Insert (codes "t") (Int (pos 1) ∷ Int (pos 10) ∷ []) ∷ [])
@@ -33,3 +34,7 @@ applied_from bytes = apply 10 replica no_draw (replica_with bytes)
 -- with another byte at a position of the log
 abbrev pub spoiled : (place byte : ℕ) → List ℕ
 spoiled place byte = slice_set served (place - 4) byte
+
+-- what a replica makes of a whole log that it is given
+abbrev pub replayed_from : List ℕ → Replay
+replayed_from bytes = replayed replica no_draw bytes

@@ -4,14 +4,15 @@
 //! them, one after the other, each whole or not at all (`applier_model`). It shows its rows and changes none by itself.
 //!
 //! The definitions stand in specs/: `Replica` (what it keeps, and where it fetches), `Applying` (APPLY), `Selecting` (a SELECT of the
-//! replica), `Lines` (the lines that show FETCH and APPLY), `Worked`.
+//! replica), `Replaying` (the replay of a whole log), `Lines` (the lines that show FETCH, APPLY and a replay), `Worked`.
 //!
 //! - `worked`: small logs, fetched and carried out, which the checker computes
 //!
 //! # Proved
-//! - The worked log of a table and a row: where a replica fetches next, what it carries out of it, whole, cut and damaged.
+//! - The worked log of a table and a row: where a replica fetches next, what it carries out of it, whole, cut and damaged; the replay
+//!   of such a log whose row is logged by its text, whole and cut.
 #![tactic(auto)]
 
 mod worked;
 
-pub use worked::first_row_applied;
+pub use worked::{first_row_applied, first_text_replayed};

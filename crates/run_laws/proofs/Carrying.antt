@@ -1,5 +1,5 @@
 -- What a source committed can be carried out, entry after entry.
-use Rattle.std.proofs.Common.{◌≡◌, ℕ, List, [], ◌∷◌, ◌++◌, map, Option, Some, None, Ok, refl, sym, ◌∙◌, ap}
+use Rattle.std.proofs.Common.{◌≡◌, ℕ, List, [], ◌∷◌, ◌++◌, Option, Some, None, Ok, refl, sym, ◌∙◌, ap}
 use Rattle.std.specs.Option.{option_and_then}
 use Rattle.val_types.specs.declared.change.Change.{Change}
 use Rattle.auto_inc.specs.declared.counters.Counter.{Counter}
@@ -9,12 +9,14 @@ use Rattle.catalog_rules.specs.Bases.{Base, empty_base}
 use Rattle.log_entries.specs.declared.entries.Entry.{Entry}
 use Rattle.log_entries.specs.declared.entries.Entry.TheVariants.{Transaction, Definition, LogStart}
 use Rattle.log_entries.specs.Entries.{entry_applied, after}
-use Rattle.log_model.specs.Log.{LogPlace, behind, counted}
+use Rattle.log_model.specs.Log.{LogPlace}
 use Rattle.applier_model.specs.Groups.{group_carried}
-use Rattle.entry_groups.specs.Entries.{group_of_entry, StaysInLog, CanLogAll}
+use Rattle.entry_groups.specs.Entries.{group_of_entry, StaysInLog, CanLog}
 use Rattle.applier_laws.specs.Laws.{BaseHolds, BasesHold, AllOnCatalog, OnCatalog, EntryIsCarried}
 use Rattle.session_model.specs.Machine.{Whole, kept_entry, Machine}
-use Rattle.session_model.specs.Holding.{changes_of, define, EntriesMade, with_nothing}
+use Rattle.session_model.specs.Holding.{changes_of, define, EntriesIn, EntriesMade, with_nothing}
+use Rattle.session_model.specs.declared.format.Format.{Format}
+use Rattle.session_model.specs.declared.format.Format.TheVariants.{Row}
 use Rattle.session_replays.specs.Again.{AllGive, EntryGives, EntriesGive}
 use Rattle.session_replays.specs.Replaying.{Replays}
 use Rattle.run_model.specs.Following.{AreCommitted}
@@ -97,29 +99,34 @@ history_ready hold m stamp server front back base replays is at =
     let makes : after changes_of define (begun stamp server (front ++ back)) empty_base ≡ Some m.state.shared.base = rw is at replays.holds.entries in
     ready_behind hold front back empty_base base m.state.shared.base at (record { holds = hold.0; made = made.1; give = give.1 empty_base refl; makes = makes })
 
+-- ---- entries in a format
+
+pub in_front : (format : Format) (front back : List (Entry Whole)) → EntriesIn format (front ++ back) → EntriesIn format front
+in_front format [] back m = tt
+in_front format (Transaction stamp server items ∷ es) back m = (m.0, in_front format es back m.1)
+in_front format (Definition stamp server item ∷ es) back m = in_front format es back m
+in_front format (LogStart stamp server ∷ es) back m = in_front format es back m
+
+pub in_back : (format : Format) (front back : List (Entry Whole)) → EntriesIn format (front ++ back) → EntriesIn format back
+in_back format [] back m = m
+in_back format (Transaction stamp server items ∷ es) back m = in_back format es back m.1
+in_back format (Definition stamp server item ∷ es) back m = in_back format es back m
+in_back format (LogStart stamp server ∷ es) back m = in_back format es back m
+
 -- ---- entries carried out
 
--- an entry that a replica carries out on a base, and what holds of the base behind it
-pub record Carries (identity : Identity) (draw : Draw) (base : Base) (e : Entry Whole) (number : ℕ) (p : LogPlace) (more : Base → Type 0) : Type 0 where
+-- An entry that a replica carries out on a base, and what is known of the others on the base behind it.
+pub record Carries (identity : Identity) (draw : Draw) (base last : Base) (counters : List Counter) (e : Entry Whole) (es : List (Entry Whole)) (number : ℕ) (p : LogPlace) : Type 0 where
   pub next : Base
   pub makes : entry_applied changes_of define e base ≡ Some next
-  pub does : (counters : List Counter) → (counters' : List Counter)
-      × (group_carried identity draw base counters (group_of_entry (kept_entry e) number p) ≡ Ok (record { base = next; counters = counters' }))
-  pub on : more next
+  pub ready : Ready next last es
+  pub counters' : List Counter
+  pub does : group_carried identity draw base counters (group_of_entry (kept_entry e) number p) ≡ Ok (record { base = next; counters = counters' })
 
-abbrev pub AllCarried : Identity → Draw → Base → List (Entry Whole) → ℕ → LogPlace → Type 0
-AllCarried identity draw base [] number p = Unit {0}
-AllCarried identity draw base (e ∷ es) number p =
-    Carries identity draw base e number p (λ next. AllCarried identity draw next es (counted (kept_entry e) number) (behind (kept_entry e) number p))
-
-pub all_carried : BasesHold → EntryIsCarried → (identity : Identity) (draw : Draw) (es : List (Entry Whole)) (base last : Base) (number : ℕ) (p : LogPlace) → Ready base last es → AreCommitted es
-    → CanLogAll (map kept_entry es) number p → AllCarried identity draw base es number p
-all_carried hold law identity draw [] base last number p ready committed can = tt
-all_carried hold law identity draw (e ∷ es) base last number p ready committed can =
+-- one that is logged by its rows, if it is a transaction
+pub entry_carried : BasesHold → EntryIsCarried → (identity : Identity) (draw : Draw) (base last : Base) (counters : List Counter) (e : Entry Whole) (es : List (Entry Whole)) (number : ℕ) (p : LogPlace)
+    → Ready base last (e ∷ es) → EntriesIn Row (e ∷ []) → AreCommitted (e ∷ es) → CanLog (kept_entry e) number p → Carries identity draw base last counters e es number p
+entry_carried hold law identity draw base last counters e es number p ready rows committed can =
     let s : Stepped base last e es = step_on hold base last e es ready in
-    record {
-      next = s.next;
-      makes = s.makes;
-      does = λ counters. law identity draw base s.next counters e number p ready.holds ready.made.0 (on_catalog base e ready.give.0) can.0 s.makes (stays e es committed);
-      on = all_carried hold law identity draw es s.next last (counted (kept_entry e) number) (behind (kept_entry e) number p) s.ready (others e es committed) can.1;
-    }
+    let does = law identity draw base s.next counters e number p ready.holds ready.made.0 rows (on_catalog base e ready.give.0) can s.makes (stays e es committed) in
+    record { next = s.next; makes = s.makes; ready = s.ready; counters' = does.0; does = does.1 }

@@ -26,7 +26,7 @@ use Rattle.text_answers.specs.Answers.{TextAnswer, a_statement, a_syntax_error, 
 use Rattle.session_model.specs.Answers.{ok, refused}
 use Rattle.session_model.specs.Sessions.{Save, Open, Session, Shared, State}
 use Rattle.session_model.specs.Running.{Call, Fuel, full, Turn, Given, is_other, items_of, commit_open, commit_entries, kept_entries, keep, settle, ended, takes_too_much, undone, setting_of, scene_for, made_behind, item_of, with_counters, with_context, fuel_of, statement_run, expressions_run, writing_refusal, lock_refusal}
-use Rattle.session_model.specs.Commands.{is_too_long, definition_turn, define_turn, made_turn, unless_answered, unless_refused, code_answer, assign_unless, first_refused, set_by, set_given, set_turn, set_expressions, call_turn, plain_turn, given_turn, answered, back_in, back_to_save, release_in, definition_entry, is_save_of, saves_but, with_answer}
+use Rattle.session_model.specs.Commands.{is_too_long, definition_turn, define_turn, made_turn, unless_answered, unless_refused, code_answer, assign_unless, first_refused, is_open, set_by, set_given, set_turn, set_expressions, call_turn, plain_turn, given_turn, answered, back_in, back_to_save, release_in, definition_entry, is_save_of, saves_but, with_answer}
 use Rattle.session_model.specs.Machine.{Whole, whole, step, text_turn, statement_turn, at_work}
 use Rattle.run_model.specs.Following.{AreCommitted}
 
@@ -106,7 +106,7 @@ settle_puts call item (c ∷ cs) scene shared session given refusal p =
 ended_puts : {A : Type 0} (call : Call Whole) (fuel : Fuel) (text : List ℕ) (tree : Statement) (shared : Shared) (session : Session Whole) (first last_id : A → Option ℤ) (before : Scene) (ending : Ending A)
     → Puts (ended call fuel text tree shared session first last_id before ending)
 ended_puts call fuel text tree shared session first last_id before (done a scene) =
-    settle_puts call (item_of call fuel text tree session.vars.context shared (first a)) (made_behind (is_other call.number shared.writer) before scene) scene (with_counters scene shared)
+    settle_puts call (item_of call session.format fuel text tree session.vars.context shared (first a)) (made_behind (is_other call.number shared.writer) before scene) scene (with_counters scene shared)
     (with_context (context_after session.vars.context tree scene.seeds (last_id a)) session) (record { result = Ok a; fuel = fuel_of scene })
     (undone 1197 tree shared session scene) tt
 ended_puts call fuel text tree shared session first last_id before (failed code scene) = tt
@@ -135,7 +135,7 @@ set_by_puts : (as' : List (Target × Tree)) (r : Result (List Value) ℕ) (t : T
 set_by_puts as' (Err code) t p = p
 set_by_puts as' (Ok vs) t p =
     let assignments : List (Target × Value) = zip (map (λ (a : Target × Tree). a.0) as') vs in
-    assign_puts (first_refused assignments) assignments t p
+    assign_puts (first_refused (is_open t.session) assignments) assignments t p
 
 set_puts : (call : Call Whole) (as' : List (Target × Tree)) (shared : Shared) (session : Session Whole) → Puts (set_turn call as' shared session)
 set_puts call as' shared session =

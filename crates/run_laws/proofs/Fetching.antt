@@ -48,7 +48,7 @@ group_leads (Transaction stamp server (i ∷ is)) number p place stay can = refl
 group_leads (Definition stamp server i) number p place stay can = refl
 group_leads (LogStart stamp server) number p place stay can = absurd stay
 
-entry_moves : EntriesHaveLength → (e : Entry Item) (number : ℕ) (p : LogPlace) → StaysInLog e → behind e number p ≡ moved p (length (entry_bytes e number p))
+pub entry_moves : EntriesHaveLength → (e : Entry Item) (number : ℕ) (p : LogPlace) → StaysInLog e → behind e number p ≡ moved p (length (entry_bytes e number p))
 entry_moves have (Transaction stamp server is) number p stay = have.0 stamp server number is p
 entry_moves have (Definition stamp server i) number p stay = have.1 stamp server number i p
 entry_moves have (LogStart stamp server) number p stay = absurd stay

@@ -15,11 +15,10 @@ use Rattle.replica_model.specs.Applying.{apply}
 use Rattle.run_model.specs.Asked.{say, select, take_bytes, take_groups}
 use Rattle.run_model.specs.Run.{Both, first_both}
 use Rattle.run_model.specs.Following.{AreCommitted, Follows}
-use Rattle.run_laws.specs.Laws.{IsSound, FollowsBegins, FollowsGoOn, NoApplyStops, AllCarriedIsEqual}
-use Rattle.run_laws.proofs.Places.{begun, count_of, place_of, log_grows}
+use Rattle.run_laws.specs.Laws.{IsSound, FollowsBegins, FollowsGoOn, NoApplyStops, NothingIsDamaged, AllCarriedIsEqual}
+use Rattle.run_laws.proofs.Places.{begun, log_grows}
 use Rattle.run_laws.proofs.Committing.{committed_behind, step_puts}
-use Rattle.run_laws.proofs.Carrying.{last_ones, history_ready, all_carried, AllCarried}
-use Rattle.run_laws.proofs.Fetching.{Below, can_behind, want_at, piece_is, fetched_rest}
+use Rattle.run_laws.proofs.Fetching.{Below, want_at, piece_is, fetched_rest}
 use Rattle.run_laws.proofs.Applying.{Came, apply_from}
 
 pub follows_begins : FollowsBegins
@@ -30,7 +29,7 @@ follows_begins names src = record {
   more = [];
   history = refl;
   committed = tt;
-  base = refl;
+  base = λ rows. refl;
   number = refl;
   place = refl;
   rest = drop 4 (log_of (first_both names src).machine);
@@ -87,11 +86,7 @@ fetch_follows below b n f sound =
 apply_came : Below → BasesHold → EntryIsCarried → (identity : Identity) (draw : Draw) (wanted : ℕ) (b : Both) → Follows b → IsSound b.machine → Came b.machine (apply wanted identity draw b.replica)
 apply_came below hold law identity draw wanted b f sound =
     let can : CanLogAll (map kept_entry (begun f.stamp f.server (f.carried ++ f.more))) 0 nowhere = subst (λ (es : List (Entry Whole)). CanLogAll (map kept_entry es) 0 nowhere) f.history sound.logs in
-    let ready = history_ready hold b.machine f.stamp f.server f.carried f.more b.replica.base sound.replays f.history f.base in
-    let carries : AllCarried identity draw b.replica.base f.more (count_of f.stamp f.server f.carried) (place_of f.stamp f.server f.carried) =
-    all_carried hold law identity draw f.more b.replica.base b.machine.state.shared.base (count_of f.stamp f.server f.carried) (place_of f.stamp f.server f.carried) ready
-    (last_ones f.carried f.more f.committed) (can_behind below f.stamp f.server f.carried f.more can) in
-    apply_from below identity draw b.machine f.stamp f.server wanted f.carried f.more f.rest b.replica f.history f.committed f.base f.number f.place f.relay carries can
+    apply_from below hold law identity draw b.machine f.stamp f.server sound.replays wanted f.carried f.more f.rest b.replica f.history f.committed f.base f.number f.place f.relay can
 
 -- ---- each command
 
@@ -102,15 +97,18 @@ follows_go_on below hold law names b (take_bytes n) draw f sound = fetch_follows
 follows_go_on below hold law names b (take_groups n) draw f sound = (apply_came below hold law names.replica draw n b f sound).follows
 
 pub no_apply_stops : Below → BasesHold → EntryIsCarried → NoApplyStops
-no_apply_stops below hold law identity draw wanted b f sound = (apply_came below hold law identity draw wanted b f sound).stop
+no_apply_stops below hold law identity draw wanted b f sound rows = (apply_came below hold law identity draw wanted b f sound).through rows
+
+pub nothing_is_damaged : Below → BasesHold → EntryIsCarried → NothingIsDamaged
+nothing_is_damaged below hold law identity draw wanted b f sound = (apply_came below hold law identity draw wanted b f sound).stop
 
 -- ---- all carried out
 
 pub all_carried_is_equal : AllCarriedIsEqual
-all_carried_is_equal b f replays none =
+all_carried_is_equal b f replays none rows =
     let history : b.machine.history ≡ begun f.stamp f.server f.carried = f.history ∙ ap (λ (es : List (Entry Whole)). begun f.stamp f.server (f.carried ++ es)) none ∙ ap (begun f.stamp f.server) (append-nil f.carried) in
     let made : after changes_of define f.carried empty_base ≡ Some b.machine.state.shared.base = rw history at replays.holds.entries in
-    same (sym f.base ∙ made)
+    same (sym (f.base rows) ∙ made)
   where
     same : {x y : Base} → Some x ≡ Some y → x ≡ y
     same q = cc

@@ -4,3 +4,4 @@ pub mod Committing
 pub mod Fetching
 pub mod Following
 pub mod Places
+pub mod Replaying

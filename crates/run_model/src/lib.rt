@@ -10,10 +10,10 @@
 //! - `worked`: runs by hand, which the checker computes from their texts to their lines
 //!
 //! # Proved
-//! - The worked runs: a table and a row, logged, fetched and carried out, to their lines; what the replica refuses. That the replica
-//!   follows in every run is proved in `run_laws`.
+//! - The worked runs: a table and a row, logged by its text and as a row, fetched and carried out, to their lines; what the replica
+//!   refuses. That the replica follows in every run is proved in `run_laws`.
 #![tactic(auto)]
 
 mod worked;
 
-pub use worked::{a_row_replicated, replica_only_reads};
+pub use worked::{a_row_replicated, a_row_replicated_by_rows, replica_only_reads};

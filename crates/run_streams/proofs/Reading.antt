@@ -23,6 +23,15 @@ taken_more front start (Some left) now count joined room rest = record {
   rest = rest ∙ ap Some (sym (drop_more front left count)) ∙ ap (option_map (drop (length front + count))) joined;
 }
 
+-- no more bytes than those that were read
+pub taken_all : (front : List ℕ) (start now : Option (List ℕ)) → option_map (λ rest. front ++ rest) now ≡ start → length front ≤ 67108865 → TakesUpToLimit start now
+taken_all front start None joined room = record { count = length front; within = room; rest = ap (option_map (drop (length front))) joined }
+taken_all front start (Some left) joined room = record {
+  count = length front;
+  within = room;
+  rest = ap Some (sym (drop-append_seam front left)) ∙ ap (option_map (drop (length front))) joined;
+}
+
 -- ---- the whole input, split
 
 whatever : {A E P : Type 0} (r : Result A E) → P → IfOk r (λ value. P)

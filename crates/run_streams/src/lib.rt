@@ -1,7 +1,7 @@
 //! What the words of the program do at its edges: the input read and split, bytes written whole, what
 //! environments hand out told in a report.
 //!
-//! - `streams`: [`read_script`], [`write_all`], [`write_line`]
+//! - `streams`: [`read_script`] and [`read_piece`], [`write_all`], [`write_line`]
 //! - `scripts`: [`split_commands`], the commands of a script or the status that tells why there are none
 //! - `reports`: [`empty_report`], [`open`] and [`take_draw`], which tell what they take
 //! - `words`: [`Word`] and [`asked_word`], what the words ask for
@@ -19,6 +19,7 @@
 //!   (`at_end`). It stops only at a
 //!   fault, for which the stream's count of faults rose, or for want of memory (`stop`), and a fault is the last
 //!   call on the stream (`once`, `last`).
+//! - [`read_piece`] puts just what one read took to the end of some bytes, and says where the input ends.
 //! - [`split_commands`] gives exactly the commands of the script, or BadScript exactly at its first bad byte, or
 //!   wants memory (`gives`); each session has a number from 1 to 99 (`sessions`), and there are at most
 //!   13,421,772 commands (`count`).
@@ -44,5 +45,5 @@ pub use laws::{draws_begin, writes_join};
 pub use reports::{empty_report, open, take_draw};
 pub use scripts::split_commands;
 pub use statuses::with_status;
-pub use streams::{read_script, write_all, write_line};
+pub use streams::{read_piece, read_script, write_all, write_line};
 pub use words::{Word, asked_word};

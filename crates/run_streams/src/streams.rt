@@ -1,5 +1,5 @@
 //! The input read to its end or past the limit, and bytes written whole.
-ghost use Rattle.std.specs.Prelude.{◌≡◌, ℕ, ◌+◌, ◌<◌, ◌≤◌, ◌++◌, ◌⊎◌, if◌then◌else◌, is_err, [], length, drop, option_map, IfOk, IfErr, IfSome, OnOk, OnErr, vec_len};
+ghost use Rattle.std.specs.Prelude.{◌≡◌, ℕ, ◌+◌, ◌<◌, ◌≤◌, ◌++◌, ◌⊎◌, if◌then◌else◌, is_err, List, [], length, drop, option_map, IfOk, IfErr, IfSome, OnOk, OnErr, vec_len};
 ghost use Rattle.port_traits.specs.Causes.{HasCause};
 ghost use Rattle.script_read.specs.Script.{split_of};
 ghost use Rattle.run_streams.specs.Wrote.{Wrote, WroteFront};
@@ -23,17 +23,18 @@ fn make_buffer(alloc: Global, size: usize) -> Result<Vec<u8>, NoMemory>
     vec![in alloc; 0u8; size]
 }
 
-/// Reads once into the buffer and puts what came to the end of the script; says how many bytes that
-/// were, 0 at the end of the input.
-fn read_piece<S: Source>(
+/// Reads once into the buffer and puts what came to the end of these bytes; says how many that were, 0 at the
+/// end of the input.
+pub fn read_piece<S: Source>(
     input: &mut S,
     buffer: &mut [u8],
-    script: &mut Bytes,
+    bytes: &mut Bytes,
 ) -> Result<usize, Status>
     requires { 0 < length buffer.old }
-    ensures joined { OnOk result (option_map (λ rest. script.new ++ rest) (S.left input.new)
-        ≡ option_map (λ rest. script.old ++ rest) (S.left input.old)) }
-    ensures size { IfOk result (λ count. (length script.new ≡ length script.old + count)
+    ensures joined { OnOk result (option_map (λ rest. bytes.new ++ rest) (S.left input.new)
+        ≡ option_map (λ rest. bytes.old ++ rest) (S.left input.old)) }
+    ensures grows { OnOk result ((piece : List ℕ) × (bytes.new ≡ bytes.old ++ piece)) }
+    ensures size { IfOk result (λ count. (length bytes.new ≡ length bytes.old + count)
         × (count ≤ length buffer.old)) }
     ensures end { result ≡ Ok 0 → IfSome (S.left input.new) (λ rest. rest ≡ []) }
     ensures taken { (count : ℕ) × (count ≤ length buffer.old)
@@ -48,7 +49,7 @@ fn read_piece<S: Source>(
     match input.read(buffer) {
         Ok(count) => {
             let (piece, _) = buffer.split_at(count);
-            with_status(script.extend_from_slice(piece))?;
+            with_status(bytes.extend_from_slice(piece))?;
             Ok(count)
         }
         Err(Failed) => Err(Status::ReadFault),

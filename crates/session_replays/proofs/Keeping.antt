@@ -12,6 +12,7 @@ use Rattle.session_ctx.specs.declared.session.SessionVars.{SessionVars}
 use Rattle.session_model.specs.Sessions.{Open, Session, Shared, tables_with}
 use Rattle.sql_reach.specs.Defining.{number_of_bytes}
 use Rattle.session_model.specs.Running.{Known, Call, Fuel, Turn, Given, is_other, items_of, keep, made_behind, with_counters, scene_for, takes_too_much, undone, settle, ended, item_of, fuel_of, with_context, setting_of}
+use Rattle.session_model.specs.declared.format.Format.{Format}
 use Rattle.session_model.specs.Machine.{Whole, whole}
 use Rattle.session_model.specs.Holding.{changes_in, Owns, SharedHolds}
 use Rattle.session_model.proofs.Owning.{own_changes, made_kept}
@@ -61,12 +62,12 @@ pub record WasDone (call : Call Whole) (shared : Shared) (context : Context) (tr
 
 module _ (call : Call Whole) (fuel : Fuel) (text : List ℕ) (tree : Statement) (shared : Shared) where
   -- its item gives its changes behind those of the items before
-  item_gives : (context : Context) (scene : Scene) (first : Option ℤ) (cs before : List Change) → call.known ≡ whole → is_other call.number shared.writer ≡ false
+  item_gives : (format : Format) (context : Context) (scene : Scene) (first : Option ℤ) (cs before : List Change) → call.known ≡ whole → is_other call.number shared.writer ≡ false
       → shared.changes ≡ before → scene.changes ≡ shared.changes ++ cs → WasDone call shared context tree (scene_for call.number fuel context shared) scene
-      → Gives shared.base before (item_of call fuel text tree context shared first cs)
-  item_gives context scene first cs before noted q own f d =
-      subst (λ (known : Known Whole). Gives shared.base before (item_of (record call { known = known }) fuel text tree context shared first cs)) (sym noted)
-      (subst (λ (ds : List Change). Gives shared.base ds (item_of (record call { known = whole }) fuel text tree context shared first cs)) own
+      → Gives shared.base before (item_of call format fuel text tree context shared first cs)
+  item_gives format context scene first cs before noted q own f d =
+      subst (λ (known : Known Whole). Gives shared.base before (item_of (record call { known = known }) format fuel text tree context shared first cs)) (sym noted)
+      (subst (λ (ds : List Change). Gives shared.base ds (item_of (record call { known = whole }) format fuel text tree context shared first cs)) own
       (record {
         did = d.did;
         scene = scene;
@@ -77,11 +78,11 @@ module _ (call : Call Whole) (fuel : Fuel) (text : List ℕ) (tree : Statement) 
 
   -- ---- kept
 
-  keep_kept : {A : Type 0} (item : Whole) (scene : Scene) (new : Shared) (vars : SessionVars) (t : Option (Open Whole)) (a : A) → new.base ≡ shared.base → is_other call.number shared.writer ≡ false
+  keep_kept : {A : Type 0} (item : Whole) (scene : Scene) (new : Shared) (vars : SessionVars) (format : Format) (t : Option (Open Whole)) (a : A) → new.base ≡ shared.base → is_other call.number shared.writer ≡ false
       → AllGive shared.base [] (items_of t) → Gives shared.base (changes_in (items_of t)) item
-      → let turn : Turn Whole A = keep call item scene new (record { vars = vars; transaction = t }) a in Kept call.number shared turn.shared turn.session.transaction turn.committed
-  keep_kept item scene new vars None a e q g one = record { entries = ((one, tt), λ next made. tt); items = tt; frame = inr q }
-  keep_kept item scene new vars (Some open') a e q g one = record {
+      → let turn : Turn Whole A = keep call item scene new (record { vars = vars; format = format; transaction = t }) a in Kept call.number shared turn.shared turn.session.transaction turn.committed
+  keep_kept item scene new vars format None a e q g one = record { entries = ((one, tt), λ next made. tt); items = tt; frame = inr q }
+  keep_kept item scene new vars format (Some open') a e q g one = record {
     entries = tt;
     items = all_behind new.base [] open'.items item (subst (λ b. AllGive b [] open'.items) (sym e) g) (subst (λ b. Gives b (changes_in open'.items) item) (sym e) one);
     frame = inl e;
@@ -89,22 +90,22 @@ module _ (call : Call Whole) (fuel : Fuel) (text : List ℕ) (tree : Statement) 
 
   -- a statement that changed nothing leaves no item, and so does one whose item is too much
   settle_kept : {A : Type 0} (context : Context) (scene : Scene) (first : Option ℤ) (made : List Change) (session : Session Whole) (given : Given A) (refusal : Turn Whole (Given A)) → call.known ≡ whole
-      → SharedHolds shared → Owns call.number shared session.transaction → AllGive shared.base [] (items_of session.transaction)
+      → SharedHolds shared → Owns call.number shared session.format session.transaction → AllGive shared.base [] (items_of session.transaction)
       → WasDone call shared context tree (scene_for call.number fuel context shared) scene → TurnKept call.number shared refusal
       → ((c : Change) (cs : List Change) → made ≡ c ∷ cs → (is_other call.number shared.writer ≡ false) × (scene.changes ≡ shared.changes ++ made))
-      → TurnKept call.number shared (settle call (item_of call fuel text tree context shared first) made scene (with_counters scene shared) session given refusal)
+      → TurnKept call.number shared (settle call (item_of call session.format fuel text tree context shared first) made scene (with_counters scene shared) session given refusal)
   settle_kept context scene first [] session given refusal noted h o g d taken some = record { entries = tt; items = g; frame = inl refl }
-  settle_kept {A = A} context scene first (c ∷ cs) session given refusal noted h o g d taken some = by (takes_too_much call session.transaction (item_of call fuel text tree context shared first (c ∷ cs)))
+  settle_kept {A = A} context scene first (c ∷ cs) session given refusal noted h o g d taken some = by (takes_too_much call session.transaction (item_of call session.format fuel text tree context shared first (c ∷ cs)))
     where
-      by : (b : Bool) → TurnKept call.number shared (cond b refusal (keep call (item_of call fuel text tree context shared first (c ∷ cs)) scene (with_counters scene shared) session given))
+      by : (b : Bool) → TurnKept call.number shared (cond b refusal (keep call (item_of call session.format fuel text tree context shared first (c ∷ cs)) scene (with_counters scene shared) session given))
       by true = taken
       by false =
           let k = some c cs refl in
-          keep_kept (item_of call fuel text tree context shared first (c ∷ cs)) scene (with_counters scene shared) session.vars session.transaction given refl k.0 g
-          (item_gives context scene first (c ∷ cs) (changes_in (items_of session.transaction)) noted k.0 (own_changes call.number shared session.transaction h o k.0) k.1 d)
+          keep_kept (item_of call session.format fuel text tree context shared first (c ∷ cs)) scene (with_counters scene shared) session.vars session.format session.transaction given refl k.0 g
+          (item_gives session.format context scene first (c ∷ cs) (changes_in (items_of session.transaction)) noted k.0 (own_changes call.number shared session.format session.transaction h o k.0) k.1 d)
 
   -- a statement that ended, done or with an error
-  pub ended_kept : {A : Type 0} (session : Session Whole) (first last_id : A → Option ℤ) (e : Ending A) → call.known ≡ whole → SharedHolds shared → Owns call.number shared session.transaction
+  pub ended_kept : {A : Type 0} (session : Session Whole) (first last_id : A → Option ℤ) (e : Ending A) → call.known ≡ whole → SharedHolds shared → Owns call.number shared session.format session.transaction
       → AllGive shared.base [] (items_of session.transaction) → EndsWell (scene_for call.number fuel session.vars.context shared) e
       → ((a : A) (scene : Scene) → e ≡ done a scene → WasDone call shared session.vars.context tree (scene_for call.number fuel session.vars.context shared) scene)
       → let turn : Turn Whole (Given A) = ended call fuel text tree shared session first last_id (scene_for call.number fuel session.vars.context shared) e in

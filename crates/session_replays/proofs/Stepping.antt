@@ -9,9 +9,10 @@ use Rattle.text_answers.specs.Answers.{text_answer}
 use Rattle.sql_meaning.specs.Leading.{StatementsEndWell, EvaluationsEndWell}
 use Rattle.session_model.specs.Sessions.{Open, Session, Shared}
 use Rattle.session_model.specs.Running.{Call, Turn, is_other, items_of}
+use Rattle.session_model.specs.declared.format.Format.{Format}
 use Rattle.session_model.specs.Machine.{Whole, whole, text_turn, at_work, with_count, session_slots, step}
-use Rattle.session_model.specs.Holding.{Owns, transaction_of, RunsBegin, RunsOpen, RunsGoOn}
-use Rattle.session_model.proofs.Holding.{none_there, work_same}
+use Rattle.session_model.specs.Holding.{Owns, format_of, transaction_of, RunsBegin, RunsOpen, RunsGoOn}
+use Rattle.session_model.proofs.Holding.{none_there, work_owns, work_same}
 use Rattle.session_model.proofs.Owning.{not_both}
 use Rattle.session_replays.specs.Again.{AllGive}
 use Rattle.session_replays.specs.Replaying.{ReplaysBegin, ReplaysOpen, ReplaysGoOn}
@@ -19,13 +20,13 @@ use Rattle.session_replays.proofs.Giving.{none_give, entries_behind}
 use Rattle.session_replays.proofs.Turning.{command_kept}
 
 -- for a session of another number: the base stays, or it has no item
-other_gives : (n k : ℕ) (old : Shared) (base : Base) (t : Option (Open Whole)) → k ≢ n → (base ≡ old.base) ⊎ (is_other n old.writer ≡ false) → Owns k old t → AllGive old.base [] (items_of t)
+other_gives : (n k : ℕ) (old : Shared) (base : Base) (format : Format) (t : Option (Open Whole)) → k ≢ n → (base ≡ old.base) ⊎ (is_other n old.writer ≡ false) → Owns k old format t → AllGive old.base [] (items_of t)
     → AllGive base [] (items_of t)
-other_gives n k old base t differ (inl e) o g = subst (λ (b : Base). AllGive b [] (items_of t)) (sym e) g
-other_gives n k old base t differ (inr q) o g = none_give base (items_of t) (o.none (not_both n k old.writer differ q))
+other_gives n k old base format t differ (inl e) o g = subst (λ (b : Base). AllGive b [] (items_of t)) (sym e) g
+other_gives n k old base format t differ (inr q) o g = none_give base (items_of t) (o.none (not_both n k old.writer differ q))
 
 each_gives : (n k : ℕ) (old : Shared) (base : Base) (sessions : List (Option (Session Whole))) (session : Session Whole) → n < length sessions → AllGive base [] (items_of session.transaction)
-    → (base ≡ old.base) ⊎ (is_other n old.writer ≡ false) → ((j : ℕ) → Owns j old (transaction_of (slice_index_or sessions j None)))
+    → (base ≡ old.base) ⊎ (is_other n old.writer ≡ false) → ((j : ℕ) → Owns j old (format_of (slice_index_or sessions j None)) (transaction_of (slice_index_or sessions j None)))
     → ((j : ℕ) → AllGive old.base [] (items_of (transaction_of (slice_index_or sessions j None))))
     → AllGive base [] (items_of (transaction_of (slice_index_or (slice_set sessions n (Some session)) k None)))
 each_gives n k old base sessions session within own frame owns each = by (k == n) refl
@@ -37,7 +38,7 @@ each_gives n k old base sessions session within own frame owns each = by (k == n
     by false e =
         let differ : k ≢ n = eqb-false k n e in
         subst (λ (s : Option (Session Whole)). AllGive base [] (items_of (transaction_of s))) (sym (get_or-set_other sessions n k (Some session) None differ))
-        (other_gives n k old base _ differ frame (owns k) (each k))
+        (other_gives n k old base _ _ differ frame (owns k) (each k))
 
 pub replays_go_on : StatementsEndWell → EvaluationsEndWell → RunsGoOn → ReplaysGoOn
 unfolding step
@@ -45,7 +46,7 @@ replays_go_on statements evaluations goes_on from m identity n text draw r withi
     let call : Call Whole = record { identity = identity; draw = draw; number = n; known = whole } in
     let session : Session Whole = at_work call (slice_index_or m.state.sessions n None) in
     let same : session.transaction ≡ transaction_of (slice_index_or m.state.sessions n None) = work_same call (slice_index_or m.state.sessions n None) in
-    let own : Owns n m.state.shared session.transaction = subst (λ (t : Option (Open Whole)). Owns n m.state.shared t) (sym same) (r.holds.each n) in
+    let own : Owns n m.state.shared session.format session.transaction = work_owns call n m.state.shared (slice_index_or m.state.sessions n None) (r.holds.each n) in
     let open_items : AllGive m.state.shared.base [] (items_of session.transaction) =
     subst (λ (t : Option (Open Whole)). AllGive m.state.shared.base [] (items_of t)) (sym same) (r.open_ones n) in
     let turn : Turn Whole Answer = with_count (text_turn call text (text_answer text) m.state.shared session) in

@@ -20,9 +20,10 @@ use Rattle.session_model.specs.Answers.{ok, refused, refused_at}
 use Rattle.session_model.specs.Sessions.{Save, Open, Session, Shared}
 use Rattle.sql_reach.specs.Defining.{is_still_refused, number_of_bytes}
 use Rattle.session_model.specs.Running.{Call, Turn, Given, is_other, released, items_of, commit_shared, commit_entries, commit_open, scene_for, full, statement_run, expressions_run, setting_of, lock_refusal, writing_refusal}
-use Rattle.session_model.specs.Commands.{answered, unless_refused, begin_turn, dropped, rollback_turn, is_save_of, saves_but, changes_of_own, saved, save_turn, cut_back, changes_cut, back_to_save, back_in, release_in, with_answer, definition_item, made_turn, unless_answered, define_turn, definition_turn, assign_unless, first_refused, set_by, set_expressions, set_turn, code_answer, is_too_long, call_turn, plain_turn}
+use Rattle.session_model.specs.Commands.{answered, unless_refused, begin_turn, dropped, rollback_turn, is_save_of, saves_but, changes_of_own, saved, save_turn, cut_back, changes_cut, back_to_save, back_in, release_in, with_answer, definition_item, made_turn, unless_answered, define_turn, definition_turn, assign_unless, first_refused, is_open, set_by, set_expressions, set_turn, code_answer, is_too_long, call_turn, plain_turn}
 use Rattle.session_model.specs.Machine.{Whole, whole, statement_turn, text_turn, with_count}
 use Rattle.session_model.specs.Holding.{Owns, SharedHolds}
+use Rattle.session_model.proofs.Assigning.{all_keep}
 use Rattle.session_model.proofs.Owning.{held_not_other, must_own, free_to_write}
 use Rattle.session_replays.specs.Again.{AllGive, without_values}
 use Rattle.session_replays.proofs.Giving.{all_front, define_behind}
@@ -30,7 +31,7 @@ use Rattle.session_replays.proofs.Evaluating.{sets_run_as_dos}
 use Rattle.session_replays.proofs.Locking.{released_base, commit_other, dropped_base, cut_base}
 use Rattle.session_replays.proofs.Keeping.{Kept, TurnKept, nothing_kept, ended_kept}
 
-module _ (call : Call Whole) (noted : call.known ≡ whole) (shared : Shared) (session : Session Whole) (h : SharedHolds shared) (o : Owns call.number shared session.transaction)
+module _ (call : Call Whole) (noted : call.known ≡ whole) (shared : Shared) (session : Session Whole) (h : SharedHolds shared) (o : Owns call.number shared session.format session.transaction)
     (g : AllGive shared.base [] (items_of session.transaction)) where
   same_kept : (answer : Answer) → TurnKept call.number shared (answered answer shared session)
   same_kept answer = nothing_kept call.number shared session.transaction g
@@ -53,7 +54,7 @@ module _ (call : Call Whole) (noted : call.known ≡ whole) (shared : Shared) (s
   commit_by context (i ∷ is) e = record {
     entries = (subst (λ (items : List Whole). AllGive shared.base [] items) e g, λ next made. tt);
     items = tt;
-    frame = inr (held_not_other call.number shared.writer (must_own call.number shared i is session.transaction o e));
+    frame = inr (held_not_other call.number shared.writer (must_own call.number shared session.format i is session.transaction o e));
   }
 
   commit_kept : Kept call.number shared (commit_open call shared session).shared None (commit_open call shared session).committed
@@ -148,13 +149,15 @@ module _ (call : Call Whole) (noted : call.known ≡ whole) (shared : Shared) (s
         (λ vs scene e. record { did = _; ends = sets_run_as_dos setting most_nested [] ts before ∙ ap without_values e })
 
     assigned_kept : (refusal : Option ℕ) (assignments : List (Target × Value)) (t : Turn Whole (Given (List Value))) → TurnKept call.number shared t → TurnKept call.number shared (assign_unless refusal assignments t)
-    assigned_kept None assignments t k = k
+    assigned_kept None assignments t k =
+        record { entries = k.entries; items = subst (λ (u : Option (Open Whole)). AllGive t.shared.base [] (items_of u)) (sym (all_keep assignments t.session)) k.items; frame = k.frame }
     assigned_kept (Some code) assignments t k = k
 
     set_given_kept : (as' : List (Target × Tree)) (r : Result (List Value) ℕ) (t : Turn Whole (Given (List Value))) → TurnKept call.number shared t → TurnKept call.number shared (set_by as' r t)
     set_given_kept as' (Err code) t k = k
     set_given_kept as' (Ok vs) t k =
-        assigned_kept (first_refused (zip (map (λ (a : Target × Tree). a.0) as') vs)) (zip (map (λ (a : Target × Tree). a.0) as') vs) t k
+        let assignments = zip (map (λ (a : Target × Tree). a.0) as') vs in
+        assigned_kept (first_refused (is_open t.session) assignments) assignments t k
 
     set_kept : (as' : List (Target × Tree)) → TurnKept call.number shared (set_turn call as' shared session)
     set_kept as' =

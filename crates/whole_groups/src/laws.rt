@@ -1,5 +1,5 @@
 //! Laws of whole groups: each function proves one, and does nothing.
-ghost use Rattle.whole_groups.specs.Laws.{GroupsLieWithin, GroupsStay, NothingIsNotWhole};
+ghost use Rattle.whole_groups.specs.Laws.{GroupsLieWithin, GroupsStay, NothingIsNotWhole, StopsStay};
 
 /// A group begins at its place and ends within its bytes, and within a log.
 pub fn groups_lie_within()
@@ -9,6 +9,11 @@ pub fn groups_lie_within()
 /// What is read as a group is read as the same group, whatever follows.
 pub fn groups_stay()
     ensures { GroupsStay }
+{}
+
+/// What is damaged or not known at the front of some bytes is so whatever follows.
+pub fn stops_stay()
+    ensures { StopsStay }
 {}
 
 /// Where there are no bytes, no group is whole.

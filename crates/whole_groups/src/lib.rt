@@ -10,9 +10,10 @@
 //! - a group begins at its place, has at least the bytes of a header, and ends within the bytes that it is read from and within
 //!   what a log may have ([`groups_lie_within`])
 //! - a group that is read is the same group whatever follows its bytes ([`groups_stay`])
+//! - an event that is damaged or not known where a group is looked for is so whatever follows ([`stops_stay`])
 //! - where there are no bytes, no group is whole ([`nothing_is_not_whole`])
 #![tactic(auto)]
 
 mod laws;
 
-pub use laws::{groups_lie_within, groups_stay, nothing_is_not_whole};
+pub use laws::{groups_lie_within, groups_stay, nothing_is_not_whole, stops_stay};

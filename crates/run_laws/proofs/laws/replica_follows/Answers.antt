@@ -1,5 +1,5 @@
 use Rattle.run_laws.proofs.Fetching.{Below}
-use Rattle.run_laws.proofs.Following.{follows_begins, follows_go_on, no_apply_stops}
+use Rattle.run_laws.proofs.Following.{follows_begins, follows_go_on, no_apply_stops, nothing_is_damaged}
 use Rattle.run_laws.proofs.laws.replica_follows.Goals as goal
 
 pub returns : goal.returns
@@ -18,4 +18,5 @@ returns c =
       begins = follows_begins;
       goes_on = follows_go_on below c.bases_hold.ensures c.entry_is_carried.ensures;
       stops = no_apply_stops below c.bases_hold.ensures c.entry_is_carried.ensures;
+      damaged = nothing_is_damaged below c.bases_hold.ensures c.entry_is_carried.ensures;
     }

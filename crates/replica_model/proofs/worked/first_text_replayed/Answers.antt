@@ -1,0 +1,52 @@
+use Rattle.std.proofs.Common.{refl}
+use Rattle.sql_grammar.specs.Reader.{steps}
+use Rattle.sql_syntax.specs.Tokens.{kind}
+use Rattle.sql_syntax.specs.Expressions.{nested}
+use Rattle.sql_syntax.specs.Programs.{inner, created_within}
+use Rattle.text_answers.specs.Answers.{tokens_from, text_answer}
+use Rattle.table_rules.specs.Stored.{all_applied}
+use Rattle.catalog_rules.specs.Checks.{statement_refusal}
+use Rattle.catalog_rules.specs.Creating.{ddl_refusal}
+use Rattle.sql_meaning.specs.Running.{effect, evaluation, level_of}
+use Rattle.sql_reach.specs.Carrying.{carried}
+use Rattle.sql_reach.specs.Reach.{writes}
+use Rattle.byte_fields.specs.Unroll.{all_from}
+use Rattle.byte_fields.specs.Field.{number_at, number_bytes}
+use Rattle.byte_fields.specs.LengthEncoded.{lenenc_at, lenenc_bytes}
+use Rattle.event_codec.specs.Bodies.{step_at, query_body, rotate_body, xid_body, table_map_body, rows_body, format_description_body}
+use Rattle.event_codec.specs.Columns.{columns_at}
+use Rattle.event_codec.specs.Parts.{text}
+use Rattle.event_codec.specs.Reading.{reading}
+use Rattle.event_codec.specs.Writing.{size, event_bytes, header_bytes, query_bytes, names_bytes, table_map_bytes, rows_bytes, format_description_bytes, layout_bytes}
+use Rattle.log_model.specs.Events.{walk}
+use Rattle.log_model.specs.Groups.{group_at}
+use Rattle.log_model.specs.Images.{row_at, changes_at, row_bytes}
+use Rattle.applier_model.specs.Groups.{group_carried}
+use Rattle.log_model.specs.Worked.{first_log}
+use Rattle.whole_logs.specs.Walk.{grouped}
+use Rattle.replica_model.specs.Replaying.{replayed}
+use Rattle.replica_model.proofs.worked.first_text_replayed.Goals as goal
+
+pub returns-clause-count : goal.returns-clause-count
+unfolding kind steps nested inner created_within tokens_from text_answer all_applied statement_refusal ddl_refusal effect evaluation level_of carried writes all_from number_at number_bytes lenenc_at lenenc_bytes step_at columns_at text query_body rotate_body xid_body table_map_body rows_body format_description_body reading size event_bytes header_bytes query_bytes names_bytes table_map_bytes rows_bytes format_description_bytes layout_bytes walk group_at row_at changes_at row_bytes group_carried first_log grouped replayed
+returns-clause-count c = refl
+
+pub returns-clause-place : goal.returns-clause-place
+unfolding kind steps nested inner created_within tokens_from text_answer all_applied statement_refusal ddl_refusal effect evaluation level_of carried writes all_from number_at number_bytes lenenc_at lenenc_bytes step_at columns_at text query_body rotate_body xid_body table_map_body rows_body format_description_body reading size event_bytes header_bytes query_bytes names_bytes table_map_bytes rows_bytes format_description_bytes layout_bytes walk group_at row_at changes_at row_bytes group_carried first_log grouped replayed
+returns-clause-place c = refl
+
+pub returns-clause-stop : goal.returns-clause-stop
+unfolding kind steps nested inner created_within tokens_from text_answer all_applied statement_refusal ddl_refusal effect evaluation level_of carried writes all_from number_at number_bytes lenenc_at lenenc_bytes step_at columns_at text query_body rotate_body xid_body table_map_body rows_body format_description_body reading size event_bytes header_bytes query_bytes names_bytes table_map_bytes rows_bytes format_description_bytes layout_bytes walk group_at row_at changes_at row_bytes group_carried first_log grouped replayed
+returns-clause-stop c = refl
+
+pub returns-clause-cut : goal.returns-clause-cut
+unfolding kind steps nested inner created_within tokens_from text_answer all_applied statement_refusal ddl_refusal effect evaluation level_of carried writes all_from number_at number_bytes lenenc_at lenenc_bytes step_at columns_at text query_body rotate_body xid_body table_map_body rows_body format_description_body reading size event_bytes header_bytes query_bytes names_bytes table_map_bytes rows_bytes format_description_bytes layout_bytes walk group_at row_at changes_at row_bytes group_carried first_log grouped replayed
+returns-clause-cut c = refl
+
+pub returns-clause-cut_place : goal.returns-clause-cut_place
+unfolding kind steps nested inner created_within tokens_from text_answer all_applied statement_refusal ddl_refusal effect evaluation level_of carried writes all_from number_at number_bytes lenenc_at lenenc_bytes step_at columns_at text query_body rotate_body xid_body table_map_body rows_body format_description_body reading size event_bytes header_bytes query_bytes names_bytes table_map_bytes rows_bytes format_description_bytes layout_bytes walk group_at row_at changes_at row_bytes group_carried first_log grouped replayed
+returns-clause-cut_place c = refl
+
+pub returns-clause-cut_stop : goal.returns-clause-cut_stop
+unfolding kind steps nested inner created_within tokens_from text_answer all_applied statement_refusal ddl_refusal effect evaluation level_of carried writes all_from number_at number_bytes lenenc_at lenenc_bytes step_at columns_at text query_body rotate_body xid_body table_map_body rows_body format_description_body reading size event_bytes header_bytes query_bytes names_bytes table_map_bytes rows_bytes format_description_bytes layout_bytes walk group_at row_at changes_at row_bytes group_carried first_log grouped replayed
+returns-clause-cut_stop c = refl
