@@ -57,7 +57,7 @@ pub fn replay<S: Source, K: Sink, F: Env>(
     requires { IsEmpty report.old }
     // At Done, LogDamaged and LogForeign all groups of the log were carried out, up to its end or to what is damaged or not known; at
     // Differs those before the first that is not. The line of them was written, at WriteFault a front of it, and else nothing.
-    ensures ends { ReplayEnds result (S.left input.old) (S.left input.new) report.new (K.written out.old) (K.written out.new) }
+    ensures run { ReplayEnds result (S.left input.old) (S.left input.new) report.new (K.written out.old) (K.written out.new) }
 
     // A fault has its cause, and is the last call on its stream; nothing is read behind the end of the input, and at Done it was
     // read to there.
