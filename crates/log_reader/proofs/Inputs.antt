@@ -1,5 +1,5 @@
 -- Bytes that are taken from the front of an input.
-use Rattle.std.proofs.Common.{◌≡◌, ◌≤◌, ◌<◌, ℕ, ◌+◌, List, [], ◌++◌, length, take, drop, Option, Some, None, option_map, IfSome, Result, Ok, Err, OnErr, refl, sym, ap, ◌∙◌, subst, arith, append-nil, append_assoc}
+use Rattle.std.proofs.Common.{◌≡◌, ℕ, List, [], ◌++◌, take, drop, Option, Some, None, option_map, IfSome, Result, Ok, Err, OnErr, refl, sym, ap, ◌∙◌, append-nil, append_assoc}
 use Rattle.std.proofs.lemmas.List.{take-append-drop}
 use Rattle.log_reader.specs.Reading.{Took, Takes, IsEnd}
 use Rattle.log_reader.specs.Filling.{Grows}

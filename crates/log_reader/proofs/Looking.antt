@@ -1,5 +1,5 @@
 -- Groups that are looked at while their bytes are read.
-use Rattle.std.proofs.Common.{◌≡◌, ◌≤◌, ◌⊎◌, inl, inr, ℕ, ◌+◌, Bool, true, false, List, [], length, Option, refl, sym, ap, ◌∙◌, subst, arith}
+use Rattle.std.proofs.Common.{◌≡◌, ◌≤◌, inl, inr, ℕ, ◌+◌, Bool, true, false, List, length, Option, refl, sym, ap, ◌∙◌, subst, arith}
 use Rattle.log_model.specs.Groups.{Next, group, not_whole, damaged_at, foreign_at, group_at}
 use Rattle.log_groups.specs.declared.growing.Progress.{Progress}
 use Rattle.log_groups.specs.Growing.{IsLooked, IsSettled}
@@ -10,7 +10,7 @@ use Rattle.whole_groups.proofs.Lying.{group_lies}
 use Rattle.log_reader.specs.Reading.{Reader, next_pos, Took, IsEnd, IsDamaged, Reads}
 use Rattle.log_reader.specs.Reading as reading
 use Rattle.log_reader.specs.Filling.{Grows}
-use Rattle.log_reader.specs.Taking.{IsWhole, FindsSettled, Ends, Finds, FindsBehindName, FindsNext, IsKept}
+use Rattle.log_reader.specs.Taking.{FindsSettled, Ends, Finds, FindsNext, IsKept}
 
 pub looked_more : (old new : List ℕ) (pos : ℕ) (p : Progress) → Grows old new → IsLooked old pos p → IsLooked new pos p
 looked_more old new pos p grows looked = subst (λ (bs : List ℕ). IsLooked bs pos p) (sym grows.1) (looks_stay old grows.0 pos p looked)

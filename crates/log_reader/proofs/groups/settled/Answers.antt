@@ -1,7 +1,7 @@
-use Rattle.std.proofs.Common.{◌≡◌, ◌≤◌, ◌+◌, ℕ, sym, arith, subst, length}
+use Rattle.std.proofs.Common.{◌≤◌, ◌+◌, sym, arith, subst, length}
 use Rattle.log_groups.specs.Growing.{IsSettled}
-use Rattle.log_groups.specs.Views.{group_seen, form_of}
-use Rattle.log_model.specs.Groups.{Next, group}
+use Rattle.log_groups.specs.Views.{group_seen}
+use Rattle.log_model.specs.Groups.{Next}
 use Rattle.whole_groups.proofs.Lying.{group_lies}
 use Rattle.log_reader.proofs.groups.settled.Goals as goal
 
