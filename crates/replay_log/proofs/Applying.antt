@@ -18,7 +18,7 @@ use Rattle.whole_logs.specs.Passing.{names_next}
 use Rattle.whole_groups.proofs.Lying.{group_lies}
 use Rattle.replay_log.specs.declared.replaying.Replaying as code_replaying
 use Rattle.replay_log.specs.Keeping.{IsWhole, IsBegun, Keeps, Follows}
-use Rattle.replay_log.specs.Replaying.{Stands, IsReady, IsNext, WentThrough, Differed, WentOn}
+use Rattle.replay_log.specs.Replaying.{Stands, IsReady, IsNext, WentOn}
 use Rattle.replay_log.proofs.Stepping.{few, group_follows, room}
 
 -- the group that a reader has can be fetched

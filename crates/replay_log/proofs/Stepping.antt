@@ -1,10 +1,10 @@
 -- One group that was fetched, carried out.
-use Rattle.std.proofs.Common.{◌≡◌, ◌⊎◌, inl, inr, ◌≤◌, ◌<◌, ℕ, zero, suc, ◌+◌, ◌-◌, Bool, true, false, cond, eqb, leb, List, [], ◌∷◌, ◌++◌, length, drop, Option, Some, None, Result, Ok, Err, refl, sym, ap, ◌∙◌, arith, subst, append-nil, length-drop, length-append}
+use Rattle.std.proofs.Common.{◌≡◌, ◌⊎◌, inl, inr, ◌≤◌, ℕ, zero, suc, ◌+◌, ◌-◌, Bool, true, false, cond, eqb, leb, List, [], ◌∷◌, ◌++◌, length, drop, None, Result, Ok, Err, refl, sym, ap, ◌∙◌, arith, subst, length-append}
 use Rattle.std.specs.Prelude.{codes}
 use Rattle.std.specs.Str.{bytes_eq}
 use Rattle.std.specs.Option.{option_map}
 use Rattle.std.proofs.lemmas.Bool.{le-leb, lt-leb}
-use Rattle.std.proofs.lemmas.List.{drop_all, drop-append-le}
+use Rattle.std.proofs.lemmas.List.{drop_all}
 use Rattle.std.proofs.Math.Seq.{drop-append_seam}
 use Rattle.port_traits.specs.declared.identity.Identity.{Identity}
 use Rattle.port_traits.specs.declared.identity.Draw.{Draw}
@@ -19,7 +19,6 @@ use Rattle.replica_model.specs.Replica.{Replica, behind_form, behind_group, fetc
 use Rattle.replica_model.specs.Applying.{Going, apply, by_form, by_next, carry, carried_out, differs, go_on, moved_behind, next_at}
 use Rattle.replica_model.specs.Replaying.{Replay, carried, by_form as replay_form}
 use Rattle.whole_logs.specs.Passing.{names_next}
-use Rattle.whole_groups.specs.Laws.{Lies}
 use Rattle.whole_groups.proofs.Lying.{group_lies, nothing_there}
 use Rattle.whole_groups.proofs.Staying.{group_stays}
 use Rattle.replay_log.specs.Keeping.{IsWhole, IsBegun, Keeps, Follows}

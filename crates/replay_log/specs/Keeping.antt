@@ -1,5 +1,5 @@
 -- A replica that carries out the groups of one log, one after the other.
-use Rattle.std.specs.Prelude.{◌≡◌, ◌⊎◌, ℕ, ◌+◌, Bool, false, List, [], length, Option, None}
+use Rattle.std.specs.Prelude.{◌≡◌, ◌⊎◌, ℕ, ◌+◌, Bool, false, List, [], length, None}
 use Rattle.std.specs.Option.{option_map}
 use Rattle.log_model.specs.Groups.{start, Group, group, group_at}
 use Rattle.replica_model.specs.Applying.{Going, differs}

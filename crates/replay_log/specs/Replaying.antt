@@ -1,5 +1,5 @@
 -- What is known of a log on the input and of the replica, group by group.
-use Rattle.std.specs.Prelude.{◌≡◌, ◌≤◌, ◌<◌, ◌^◌, ℕ, ◌+◌, Bool, true, false, List, [], ◌∷◌, ◌++◌, length, Option, Some, None, IfSome}
+use Rattle.std.specs.Prelude.{◌≡◌, ◌<◌, ℕ, Bool, true, false, List, [], ◌∷◌, ◌++◌, Option, Some, None}
 use Rattle.port_traits.specs.declared.identity.Identity.{Identity}
 use Rattle.port_traits.specs.declared.identity.Draw.{Draw}
 use Rattle.answer_text.specs.declared.status.Status.{Status}
@@ -7,7 +7,6 @@ use Rattle.answer_text.specs.declared.status.Status.TheVariants.{Done, ReadFault
 use Rattle.answer_text.specs.declared.report.Report.{Report}
 use Rattle.applier_model.specs.Stops.{Differs as Stop}
 use Rattle.log_model.specs.Groups.{Group}
-use Rattle.log_model.specs.Log.{LogPlace}
 use Rattle.log_reader.specs.Behind.{Behind, IsLog, IsLogFront}
 use Rattle.log_reader.specs.Reading.{Reader, IsEnd, next_pos}
 use Rattle.replica_model.specs.Lines.{applied_words}

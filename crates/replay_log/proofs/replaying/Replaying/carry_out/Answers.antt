@@ -1,4 +1,3 @@
-use Rattle.std.proofs.Common.{refl}
 use Rattle.replay_log.proofs.Applying.{never_damaged, never_foreign}
 use Rattle.replay_log.proofs.replaying.Replaying.carry_out.Goals as goal
 

@@ -1,8 +1,7 @@
-use Rattle.std.proofs.Common.{◌≤◌, ◌∙◌, Ok, Err, ap, refl, arith}
+use Rattle.std.proofs.Common.{◌∙◌, Ok, Err, ap, refl, arith}
 use Rattle.std.proofs.lemmas.Result.{err_from_is_err_and}
 use Rattle.answer_text.specs.declared.status.Status.TheVariants.{Done}
 use Rattle.log_reader.specs.declared.reader.Found.TheVariants as found
-use Rattle.run_streams.specs.Stops.{status_of}
 use Rattle.replay_log.proofs.Taking.{further, under_more, stops_more, at_end, at_damage, at_foreign, no_fault, no_end, found_is, leads_by}
 use Rattle.replay_log.proofs.replaying.Replaying.carry_out_all.Goals as goal
 
