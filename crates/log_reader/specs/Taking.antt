@@ -1,5 +1,5 @@
 -- What bytes are that were taken from a place on: just a group, of no group, or none.
-use Rattle.std.specs.Prelude.{◌≡◌, ◌≤◌, ◌⊎◌, ℕ, ◌+◌, Bool, List, [], length, Option}
+use Rattle.std.specs.Prelude.{◌≡◌, ◌≤◌, ◌⊎◌, ℕ, ◌+◌, Bool, true, false, List, [], length, Option}
 use Rattle.log_model.specs.Groups.{Group, group, not_whole, damaged_at, foreign_at, group_at}
 use Rattle.whole_logs.specs.Passing.{names_next}
 use Rattle.log_reader.specs.declared.reader.Found.{Found}
@@ -43,3 +43,14 @@ FindsBehindName bytes begin left found.Group = ⊥
 FindsBehindName bytes begin left found.End = (bytes ≡ []) × IsEnd left
 FindsBehindName bytes begin left (found.Damaged pos) = (pos ≡ begin) × (1 ≤ length bytes)
 FindsBehindName bytes begin left (found.Foreign pos kind) = ⊥
+
+abbrev pub FindsNext : (was : Bool) → List ℕ → (begin : ℕ) → (closed : Bool) → Option (List ℕ) → Found → Type 0
+FindsNext true bytes begin closed left found = FindsBehindName bytes begin left found
+FindsNext false bytes begin closed left found = Finds bytes begin closed left found
+
+-- what is kept of them: a group, and whether it is the name of the next log
+abbrev pub IsKept : Found → (closed : Bool) → List ℕ → Bool → List ℕ → Bool → Type 0
+IsKept found.Group closed before was after now = (after ≡ before) × (now ≡ closed)
+IsKept found.End closed before was after now = (after ≡ []) × (now ≡ was)
+IsKept (found.Damaged pos) closed before was after now = (after ≡ []) × (now ≡ was)
+IsKept (found.Foreign pos kind) closed before was after now = (after ≡ []) × (now ≡ was)

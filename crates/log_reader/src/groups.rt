@@ -7,7 +7,7 @@ ghost use Rattle.run_streams.specs.Stops.{StopsReading};
 ghost use Rattle.whole_logs.specs.Passing.{names_next};
 ghost use Rattle.log_reader.specs.declared.reader.Found.TheVariants as found;
 ghost use Rattle.log_reader.specs.Reading.{IsEnd, Takes};
-ghost use Rattle.log_reader.specs.Taking.{Ends, Finds, FindsBehindName, FindsSettled};
+ghost use Rattle.log_reader.specs.Taking.{Ends, Finds, FindsBehindName, FindsNext, FindsSettled, IsKept};
 
 use crate::filling::fill;
 use crate::reader::Found;
@@ -74,7 +74,7 @@ fn cut(bytes: &[u8], begin: u64) -> Taken
 }
 
 /// Reads a group that begins at this place, and no byte behind it.
-pub(crate) fn read_group<S: Source>(
+fn read_group<S: Source>(
     input: &mut S,
     buffer: &mut [u8],
     bytes: &mut Bytes,
@@ -109,7 +109,7 @@ pub(crate) fn read_group<S: Source>(
 }
 
 /// Reads a byte behind the name of the next log, where none may stand.
-pub(crate) fn read_behind_name<S: Source>(
+fn read_behind_name<S: Source>(
     input: &mut S,
     buffer: &mut [u8],
     bytes: &mut Bytes,
@@ -130,5 +130,45 @@ pub(crate) fn read_behind_name<S: Source>(
         Ok(plain(Found::Damaged { pos: begin }))
     } else {
         Ok(plain(Found::End))
+    }
+}
+
+/// Reads what stands behind the groups that were read: a group, unless the last was the name of the next log.
+pub(crate) fn read_next<S: Source>(
+    input: &mut S,
+    buffer: &mut [u8],
+    bytes: &mut Bytes,
+    begin: u64,
+    closed: bool,
+) -> Result<Taken, Status>
+    requires room { 0 < length buffer.old }
+    requires place { begin ≤ 1200000000 }
+    requires empty { bytes.old ≡ [] }
+    ensures took { OnOk result (S.left input.old ≡ option_map (λ rest. bytes.new ++ rest) (S.left input.new)) }
+    ensures finds { IfOk result (λ taken. FindsNext closed bytes.new begin taken.closed (S.left input.new) taken.found) }
+    ensures takes { OnErr result (Takes (S.left input.old) (S.left input.new)) }
+    ensures stop { IfErr result (λ status. StopsReading status (S.faults input.old) (S.faults input.new)) }
+    ensures later { S.faults input.old ≤ S.faults input.new }
+    ensures goes_on { IfOk result (λ taken. taken.found ≡ found.Group → S.ended input.old ≡ 0 → S.ended input.new ≡ 0) }
+    ensures at_end { IfOk result (λ taken. taken.found ≡ found.End → S.ended input.old ≡ 0 → S.ended input.new ≡ 1) }
+    ensures once { S.ended input.old ≡ 0 → S.ended input.new ≤ 1 }
+    ensures last { result ≡ Err Status.ReadFault → S.ended input.old ≡ 0 → S.ended input.new ≡ 1 }
+{
+    if closed {
+        read_behind_name(input, buffer, bytes, begin)
+    } else {
+        read_group(input, buffer, bytes, begin)
+    }
+}
+
+/// Keeps the bytes of a group, and whether it is the name of the next log; other bytes are let go.
+pub(crate) fn keep(taken: Taken, bytes: &mut Bytes, closed: &mut bool)
+    ensures { IsKept taken.found taken.closed bytes.old closed.old bytes.new closed.new }
+{
+    match taken.found {
+        Found::Group => *closed = taken.closed,
+        Found::End => bytes.clear(),
+        Found::Damaged { .. } => bytes.clear(),
+        Found::Foreign { .. } => bytes.clear(),
     }
 }

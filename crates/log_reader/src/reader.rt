@@ -3,7 +3,7 @@ ghost use Rattle.std.specs.Prelude.{◌≡◌, ◌≤◌, ◌+◌, [], false, le
 ghost use Rattle.run_streams.specs.Stops.{StopsReading};
 ghost use Rattle.log_reader.specs.Reading.{Reads, Takes};
 
-use crate::groups::{Taken, read_behind_name, read_group};
+use crate::groups::{keep, read_next};
 use answer_text::Status;
 use port_traits::Source;
 use run_streams::with_status;
@@ -85,19 +85,10 @@ impl LogReader {
         self.bytes.clear();
         with_status(make_buffer(self.alloc, &mut self.buffer))?;
         let buffer = self.buffer.as_mut_slice();
-        let read = if self.closed {
-            read_behind_name(input, buffer, &mut self.bytes, self.begin)
-        } else {
-            read_group(input, buffer, &mut self.bytes, self.begin)
-        };
-        match read {
-            Ok(Taken { found: Found::Group, closed }) => {
-                self.closed = closed;
-                Ok(Found::Group)
-            }
-            Ok(Taken { found, .. }) => {
-                self.bytes.clear();
-                Ok(found)
+        match read_next(input, buffer, &mut self.bytes, self.begin, self.closed) {
+            Ok(taken) => {
+                keep(taken, &mut self.bytes, &mut self.closed);
+                Ok(taken.found)
             }
             Err(status) => {
                 self.bytes.clear();

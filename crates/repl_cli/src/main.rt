@@ -25,7 +25,7 @@ use val_types::NoMemory;
 fn run(rt: &HostRuntime) -> Result<ExitCode, NoMemory> {
     let mut src_env = HostEnv::new(rt, source_identity(rt)?);
     let mut rep_env = HostEnv::new(rt, replica_identity(rt.alloc())?);
-    Ok(start(rt, Known::Run, &mut src_env, &mut rep_env))
+    Ok(start(rt, Known::Plain, &mut src_env, &mut rep_env))
 }
 
 fn main(rt: HostRuntime) -> ExitCode {

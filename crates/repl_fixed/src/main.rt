@@ -1,7 +1,7 @@
 //! The program with told identities and draws: a run gives the same bytes everywhere.
 //!
 //! It is the program `repl_cli` but for its environments, in which the clock and the random source of the system have no part, and
-//! for a second word: `log` carries out the script on standard input as `run` does, and writes the bytes of the source's binary log
+//! for one more word: `log` carries out the script on standard input as `run` does, and writes the bytes of the source's binary log
 //! in place of the answers, for whoever compares logs or reads them with other programs.
 //!
 //! - `main` (here): both nodes at environments in memory, handed to [`start`]
@@ -26,7 +26,7 @@ use val_types::NoMemory;
 fn run(rt: &HostRuntime) -> Result<ExitCode, NoMemory> {
     let mut src_env = source_env(rt.alloc())?;
     let mut rep_env = replica_env(rt.alloc())?;
-    Ok(start(rt, Known::RunAndLog, &mut src_env, &mut rep_env))
+    Ok(start(rt, Known::WithLog, &mut src_env, &mut rep_env))
 }
 
 fn main(rt: HostRuntime) -> ExitCode {

@@ -86,10 +86,10 @@ no_stop names b [] = tt
 no_stop names b (c ∷ cs) = tt
 
 stop_last : (names : Names) (b : Both) (cs : List Asked) (ds : List Draw) (d : Draw) (c : Asked) → slice_get cs (length ds) ≡ Some c → NoneStops names b cs ds
-    → GoesThrough (next names (end_of names b cs ds) c d).told → NoneStops names b cs (ds ++ d ∷ [])
+    → GoesThrough (end_of names b cs ds).machine.history (next names (end_of names b cs ds) c d).told → NoneStops names b cs (ds ++ d ∷ [])
 stop_last names b [] ds d c is before here = cc
 stop_last names b (x ∷ cs) [] d c is before here =
-    let same : x ≡ c = cc in (subst (λ (y : Asked). GoesThrough (next names b y d).told) (sym same) here, no_stop names (next names b x d).both cs)
+    let same : x ≡ c = cc in (subst (λ (y : Asked). GoesThrough b.machine.history (next names b y d).told) (sym same) here, no_stop names (next names b x d).both cs)
 stop_last names b (x ∷ cs) (y ∷ ds) d c is before here = (before.0, stop_last names (next names b x y).both cs ds d c is before.1 here)
 
 -- ---- the report

@@ -28,7 +28,7 @@ use Rattle.replica_node.specs.Steps.{IsTold, stop_of}
 use Rattle.run_model.specs.Asked.{Asked, say, select, take_bytes, take_groups}
 use Rattle.run_model.specs.Run.{Names, Both}
 use Rattle.run_model.specs.Following.{Follows}
-use Rattle.run_laws.specs.Laws.{IsSound, FollowsBegins, FollowsGoOn, NoApplyStops}
+use Rattle.run_laws.specs.Laws.{IsSound, FollowsBegins, FollowsGoOn, NoApplyStops, NothingIsDamaged}
 use Rattle.repl_run.specs.declared.nodes.Nodes.{Nodes}
 use Rattle.run_streams.specs.Reports.{first_mark}
 use Rattle.repl_run.specs.Together.{Together, Drew, Grew, Shows, CarriedOut, Opened}
@@ -128,12 +128,12 @@ fetched_shown nodes nodes' k n log pos piece lines follows source wanted is iden
     }
 
 -- APPLY
-pub applied : (nodes nodes' : Nodes) (k n : ℕ) (draw : Draw) (old new : Report) (told : Applied) (lines : List ℕ) → FollowsGoOn → NoApplyStops → nodes'.source ≡ nodes.source
+pub applied : (nodes nodes' : Nodes) (k n : ℕ) (draw : Draw) (old new : Report) (told : Applied) (lines : List ℕ) → FollowsGoOn → NoApplyStops → NothingIsDamaged → nodes'.source ≡ nodes.source
     → nodes'.replica.identity ≡ nodes.replica.identity → replica_of nodes'.replica ≡ (apply n nodes.replica.identity draw (replica_of nodes.replica)).replica
     → IsTold told (apply n nodes.replica.identity draw (replica_of nodes.replica))
     → lines ≡ applied_line k told.count (record { log = told.log; pos = told.pos }) (option_map stop_of told.stop) → Drew (take_groups n) draw old new → new.now ≡ old.now
     → (names : Names) (b : Both) → Together names nodes b → CarriedOut names b k (take_groups n) old new nodes' lines
-applied nodes nodes' k n draw old new told lines follows stops source identity replica is lines_are drew stays names b t =
+applied nodes nodes' k n draw old new told lines follows stops damaged source identity replica is lines_are drew stays names b t =
     let here : apply n nodes.replica.identity draw (replica_of nodes.replica) ≡ apply n names.replica draw b.replica =
     ap (λ (i : Identity). apply n i draw (replica_of nodes.replica)) t.replica_name ∙ ap (apply n names.replica draw) t.replica in
     let a : Going = apply n names.replica draw b.replica in
@@ -141,7 +141,7 @@ applied nodes nodes' k n draw old new told lines follows stops source identity r
     shown_out names b k (take_groups n) draw old new nodes' lines drew stays (record {
       lines_are = lines_are ∙ ap (λ (c : ℕ). applied_line k c (record { log = told.log; pos = told.pos }) (option_map stop_of told.stop)) is'.count
           ∙ ap (λ (p : LogPlace). applied_line k a.count p (option_map stop_of told.stop)) is'.place ∙ ap (applied_line k a.count a.replica.place) is'.stop;
-      through = stops names.replica draw n b t.follows t.sound;
+      through = (stops names.replica draw n b t.follows t.sound, damaged names.replica draw n b t.follows t.sound);
       together = replica_changed names nodes nodes' b (apply n names.replica draw b.replica).replica source identity (replica ∙ ap (λ (a : Going). a.replica) here)
           (follows names b (take_groups n) draw t.follows t.sound) t;
     })

@@ -23,9 +23,10 @@ pub record Reports (names : Names) (src rep : Draw) (cs : List Asked) (ds : List
   pub now : report.now ≡ last_mark names (first_both names src) 1 cs ds first_mark
   pub marks : report.marks ≡ []
 
--- All commands were carried out, each at a draw, and the lines of what they were told were written; no APPLY stopped. What was
--- committed on the way makes the committed base, and its statements, run again one transaction after the other, give just the changes
--- of its entries. The replica follows the source: its base is what the first entries make that were committed.
+-- All commands were carried out, each at a draw, and the lines of what they were told were written. No APPLY stopped before something
+-- was logged by its text, and none at anything but an item that has no effect. What was committed on the way makes the committed base,
+-- and its statements, run again one transaction after the other, give just the changes of its entries. The replica follows the source:
+-- it has carried out the first entries that were committed, and where these are logged by their rows, its base is what they make.
 pub record Ran (cs : List Asked) (report : Report) (before after : Option (List ℕ)) : Type 0 where
   pub names : Names
   pub src : Draw

@@ -46,10 +46,11 @@ pub record Grew (old new : Report) : Type 0 where
 
 -- ---- one command
 
--- these lines show a command that was carried out at a draw, which no APPLY stopped
+-- these lines show a command that was carried out at a draw, which no APPLY stopped where nothing was logged by its text, and none at
+-- anything but an item that has no effect
 pub record Shows (names : Names) (b : Both) (k : ℕ) (c : Asked) (draw : Draw) (nodes : Nodes) (lines : List ℕ) : Type 0 where
   pub lines_are : lines ≡ told_lines k (next names b c draw).told
-  pub through : GoesThrough (next names b c draw).told
+  pub through : GoesThrough b.machine.history (next names b c draw).told
   pub together : Together names nodes (next names b c draw).both
 
 -- and the draw was told
@@ -72,7 +73,7 @@ pub record Told (names : Names) (b : Both) (k : ℕ) (c : Asked) (old new : Repo
   pub drew : Drew c draw old new
   pub began : new.now ≡ mark_at k b
   pub wrote : Wrote before after (told_lines k (next names b c draw).told)
-  pub through : GoesThrough (next names b c draw).told
+  pub through : GoesThrough b.machine.history (next names b c draw).told
   pub together : Together names nodes (next names b c draw).both
 
 -- a front of them was written
@@ -81,7 +82,7 @@ pub record ToldFront (names : Names) (b : Both) (k : ℕ) (c : Asked) (old new :
   pub drew : Drew c draw old new
   pub began : new.now ≡ mark_at k b
   pub wrote : WroteFront before after (told_lines k (next names b c draw).told)
-  pub through : GoesThrough (next names b c draw).told
+  pub through : GoesThrough b.machine.history (next names b c draw).told
 
 -- a command that stopped: at a fault of the output, or where memory was short
 abbrev pub Stopped : Status → Names → Both → ℕ → Asked → Report → Report → Option (List ℕ) → Option (List ℕ) → Type 0

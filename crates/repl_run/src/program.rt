@@ -1,10 +1,13 @@
 //! The whole program, over any input, output and environments.
-ghost use Rattle.std.specs.Prelude.{◌≡◌, ◌↔◌, ◌≤◌, true, false, map, string_bytes, IfSome, IfErr};
+ghost use Rattle.std.specs.Prelude.{◌≡◌, ◌↔◌, ◌≤◌, [], true, Some, None, map, string_bytes, IfSome, IfErr};
 ghost use Rattle.port_traits.specs.Causes.{Rose};
 ghost use Rattle.run_streams.specs.Read.{RestBehindScript, TakesUpToLimit};
 ghost use Rattle.run_streams.specs.Reports.{AllTold, IsEmpty, Tells};
 ghost use Rattle.run_streams.specs.Stops.{failed_writes, is_early, status_of};
-ghost use Rattle.run_streams.specs.Words.{asks_run};
+ghost use Rattle.run_streams.specs.Words.{word_asked};
+ghost use Rattle.run_streams.specs.declared.words.Word.TheVariants.{Print, Replay, Run};
+ghost use Rattle.print_log.specs.Ends.{PrintEnds};
+ghost use Rattle.replay_log.specs.Ends.{ReplayEnds};
 ghost use Rattle.repl_run.specs.Faults.{HasFault};
 ghost use Rattle.repl_run.specs.Ran.{EndsBy};
 
@@ -12,7 +15,9 @@ use crate::asked::read_asked;
 use crate::commands::run_commands;
 use answer_text::{Report, Status};
 use port_traits::{Env, Sink, Source};
-use run_streams::{asks_run, read_script};
+use print_log::print;
+use replay_log::replay;
+use run_streams::{Word, asked_word, read_script};
 use std::alloc::Global;
 
 /// Carries out the script on the input, which is read whole and split before anything runs.
@@ -46,13 +51,52 @@ fn run<S: Source, K: Sink, E: Env, F: Env>(
     run_commands(alloc, &asked, src_env, rep_env, report, out)
 }
 
+/// The word `run`, with its end as a status.
+fn run_script<S: Source, K: Sink, E: Env, F: Env>(
+    alloc: Global,
+    input: &mut S,
+    out: &mut K,
+    src_env: &mut E,
+    rep_env: &mut F,
+    report: &mut Report,
+) -> Status
+    requires { IsEmpty report.old }
+    ensures run { EndsBy result (S.left input.old) (S.left input.new) report.new (K.written out.old) (K.written out.new) }
+    ensures refused { IfSome (S.left input.old) (λ script. RestBehindScript result script (S.left input.new)) }
+    ensures limit { TakesUpToLimit (S.left input.old) (S.left input.new) }
+    ensures idle { is_early result ≡ true → (out.new ≡ out.old)
+        × (src_env.new ≡ src_env.old) × (rep_env.new ≡ rep_env.old) × (report.new ≡ report.old) }
+    ensures read_fault { result ≡ Status.ReadFault → Rose (S.faults input.old) (S.faults input.new) }
+    ensures write_fault { result ≡ Status.WriteFault → Rose (K.faults out.old) (K.faults out.new) }
+    ensures reads_once { S.ended input.old ≡ 0 → S.ended input.new ≤ 1 }
+    ensures last_read { result ≡ Status.ReadFault → S.ended input.old ≡ 0 → S.ended input.new ≡ 1 }
+    ensures read_end { result ≡ Status.Done → S.ended input.old ≡ 0 → S.ended input.new ≡ 1 }
+    ensures last_write { K.ended out.old ≡ 0 → K.ended out.new ≡ failed_writes result }
+    ensures src_drawn { AllTold result (E.draws src_env.old) (E.draws src_env.new) report.new.src_draws }
+    ensures rep_drawn { AllTold result (F.draws rep_env.old) (F.draws rep_env.new) report.new.rep_draws }
+    ensures source { Tells (E.told src_env.old) (E.draws src_env.old)
+        report.new.src_identity report.new.src_draws }
+    ensures replica { Tells (F.told rep_env.old) (F.draws rep_env.old)
+        report.new.rep_identity report.new.rep_draws }
+{
+    match run(alloc, input, out, src_env, rep_env, report) {
+        Ok(()) => Status::Done,
+        Err(status) => status,
+    }
+}
+
 /// The whole program: the words ask for something to be done with the input and the output, by a
 /// source in the one environment and a replica in the other.
 ///
-/// The words `run` carry out the script on the input: each command is carried out by the source or the replica, which begin without
-/// tables, and what it is told is written before the next begins. The replica fetches the log of the source and carries out what
-/// stands there; it follows the source, however the log is cut, and no APPLY stops. Any other words are [`Status::BadWords`], and nothing is read. The
-/// report is empty before, and tells after, at any status, who the source and the replica are and what they drew.
+/// - `run` carries out the script on the input: each command is carried out by the source or the replica, which begin without
+///   tables, and what it is told is written before the next begins. The replica fetches the log of the source and carries out what
+///   stands there; it follows the source, however the log is cut, and no APPLY stops as long as all is logged by its rows.
+/// - `print` shows the binary log on the input, a line for each event of each whole group.
+/// - `replay` carries out the binary log on the input, by a replica that begins without tables and is gone behind the call, and writes
+///   how many groups these were and the place behind them.
+///
+/// Any other words are [`Status::BadWords`], and nothing is read. The report is empty before, and tells after, at any status, who the
+/// source and the replica are, as far as they were opened, and what they drew.
 pub fn top<S: Source, K: Sink, E: Env, F: Env>(
     alloc: Global,
     words: &[String],
@@ -63,23 +107,41 @@ pub fn top<S: Source, K: Sink, E: Env, F: Env>(
     report: &mut Report,
 ) -> Status
     requires { IsEmpty report.old }
-    ensures words { (result ≡ Status.BadWords) ↔ (asks_run (map string_bytes words.now) ≡ false) }
+    ensures words { (result ≡ Status.BadWords) ↔ (word_asked (map string_bytes words.now) ≡ None) }
 
     // What `run` comes to: each status only by its cause. At Done each command was told what both nodes of the definition tell,
     // all lines of that were written, the report tells the draws, and the replica follows the source; at any other status a front
     // of these lines was written.
-    ensures run { asks_run (map string_bytes words.now) ≡ true → EndsBy result (S.left input.old) (S.left input.new)
+    ensures run { word_asked (map string_bytes words.now) ≡ Some Run → EndsBy result (S.left input.old) (S.left input.new)
+        report.new (K.written out.old) (K.written out.new) }
+
+    // What `print` comes to: the lines of all groups of the log on the input were written, at Done up to its end, at LogDamaged and
+    // LogForeign up to what is damaged or not known; at any other status a front of them.
+    ensures print { word_asked (map string_bytes words.now) ≡ Some Print → PrintEnds result (S.left input.old) (S.left input.new)
+        (K.written out.old) (K.written out.new) }
+
+    // What `replay` comes to: all groups of the log on the input were carried out, at one draw that the report tells, at Done up to
+    // its end, at LogDamaged and LogForeign up to what is damaged or not known, at Differs up to the first that is not carried out; and
+    // the line of these was written, at WriteFault a front of it, at ReadFault and NoMemory nothing.
+    ensures replay { word_asked (map string_bytes words.now) ≡ Some Replay → ReplayEnds result (S.left input.old) (S.left input.new)
         report.new (K.written out.old) (K.written out.new) }
 
     // What is left of the input: all of it behind bad words, what is past the limit behind a bad
-    // script, and never less.
+    // script, and never less of a script.
     ensures unread { result ≡ Status.BadWords → input.new ≡ input.old }
     ensures refused { IfSome (S.left input.old) (λ script. RestBehindScript result script (S.left input.new)) }
-    ensures limit { TakesUpToLimit (S.left input.old) (S.left input.new) }
+    ensures limit { word_asked (map string_bytes words.now) ≡ Some Run → TakesUpToLimit (S.left input.old) (S.left input.new) }
 
-    // Before the script was read and split, nothing else is touched.
-    ensures idle { is_early result ≡ true → (out.new ≡ out.old)
+    // Behind bad words nothing is touched; before a script was read and split, nothing but the input; `print` touches no
+    // environment and no report, and `replay` none of a source.
+    ensures untouched { result ≡ Status.BadWords → (out.new ≡ out.old)
         × (src_env.new ≡ src_env.old) × (rep_env.new ≡ rep_env.old) × (report.new ≡ report.old) }
+    ensures idle { word_asked (map string_bytes words.now) ≡ Some Run → is_early result ≡ true → (out.new ≡ out.old)
+        × (src_env.new ≡ src_env.old) × (rep_env.new ≡ rep_env.old) × (report.new ≡ report.old) }
+    ensures print_alone { word_asked (map string_bytes words.now) ≡ Some Print →
+        (src_env.new ≡ src_env.old) × (rep_env.new ≡ rep_env.old) × (report.new ≡ report.old) }
+    ensures replay_alone { word_asked (map string_bytes words.now) ≡ Some Replay →
+        (src_env.new ≡ src_env.old) × (report.new.src_identity ≡ None) × (report.new.src_draws ≡ []) }
 
     // A fault has its cause, whatever the streams are, and is the last call on its stream; nothing is
     // read behind the end of the input, and at Done it was read to there.
@@ -98,11 +160,10 @@ pub fn top<S: Source, K: Sink, E: Env, F: Env>(
     ensures replica { Tells (F.told rep_env.old) (F.draws rep_env.old)
         report.new.rep_identity report.new.rep_draws }
 {
-    if !asks_run(words) {
-        return Status::BadWords;
-    }
-    match run(alloc, input, out, src_env, rep_env, report) {
-        Ok(()) => Status::Done,
-        Err(status) => status,
+    match asked_word(words) {
+        None => Status::BadWords,
+        Some(Word::Run) => run_script(alloc, input, out, src_env, rep_env, report),
+        Some(Word::Print) => print(alloc, input, out),
+        Some(Word::Replay) => replay(alloc, input, out, rep_env, report),
     }
 }

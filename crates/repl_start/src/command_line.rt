@@ -10,10 +10,10 @@ use std::{env, io};
 /// The words that a program has, beside those that show a page.
 #[derive(Clone, Copy)]
 pub enum Known {
-    /// `run`
-    Run,
-    /// `run`, and `log`, which writes the source's log in place of the answers
-    RunAndLog,
+    /// `run`, `replay` and `print`
+    Plain,
+    /// these, and `log`, which writes the source's log in place of the answers
+    WithLog,
 }
 
 /// The words of the command line, without the program's name. BadWords where one of them is not UTF-8.

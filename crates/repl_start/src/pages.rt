@@ -12,15 +12,17 @@ pub enum Page {
     Version,
 }
 
-/// How the program is called: the word that every program has.
-const RUN_HELP: &str = "A MySQL 5.7 source and replica for a subset of SQL, in memory.
+/// How the program is called: the words that every program has.
+const WORDS_HELP: &str = "A MySQL 5.7 source and replica for a subset of SQL, in memory.
 
 usage: run < SCRIPT      carries out the script on standard input
+       replay < LOG      carries out the binary log on standard input, by a replica that begins without tables
+       print < LOG       shows the binary log on standard input, a line for each event
 ";
 
 /// The word that some programs have.
 const LOG_HELP: &str =
-    "       log < SCRIPT      does the same, and writes the source's binary log in place of answers\n";
+    "       log < SCRIPT      carries out the script, and writes the source's binary log in place of answers\n";
 
 /// All behind the words.
 const REST_OF_HELP: &str = "       --help            shows this page
@@ -34,25 +36,26 @@ A script is a list of commands `actor: text //`, each with its `//` at the end o
     replica: SELECT * FROM t //
 Actors are the sessions s1 to s99 of the source, whose texts are statements, and the replica, which fetches so many bytes
 of the source's log, applies so many groups of them, and shows its rows. Each command is answered on standard output
-before the next is carried out.
+before the next is carried out. Behind a replay stands how many groups were carried out, and the place behind them.
 
 Exit status, with a line on standard error but for 0:
     0 done              1 bad words         2 bad script
-    3 read fault        4 write fault      12 out of memory
+    3 read fault        4 write fault       9 log damaged
+   10 log foreign      11 differs          12 out of memory
 
 REPL_SERVER_ID in the environment is the number of the source's server, from 1 to 4294967295 in decimal digits; without it,
 or where it is anything else, the number is 1. The replica is server 2.
 ";
 
 /// Which version the program is.
-const VERSION: &str = "cedarchisel 0.4.0 (statements of MySQL 5.7, log version 4)\n";
+const VERSION: &str = "cedarchisel 0.5.0 (statements of MySQL 5.7, log version 4)\n";
 
 impl Page {
     /// The text of the page for a program that has these words, part by part.
     pub fn parts(self, known: Known) -> [&'static str; 3] {
         match (self, known) {
-            (Page::Help, Known::Run) => [RUN_HELP, "", REST_OF_HELP],
-            (Page::Help, Known::RunAndLog) => [RUN_HELP, LOG_HELP, REST_OF_HELP],
+            (Page::Help, Known::Plain) => [WORDS_HELP, "", REST_OF_HELP],
+            (Page::Help, Known::WithLog) => [WORDS_HELP, LOG_HELP, REST_OF_HELP],
             (Page::Version, _) => [VERSION, "", ""],
         }
     }

@@ -33,7 +33,7 @@ fn call<E: Env, F: Env>(
     let mut input = StdSource::new(rt.reader());
     let mut out = StdSink::new(io::writer(rt));
     let mut report = empty_report(rt.alloc());
-    if matches!(known, Known::RunAndLog) && asks_log(words) {
+    if matches!(known, Known::WithLog) && asks_log(words) {
         return write_log(
             rt.alloc(),
             &mut input,

@@ -4,7 +4,7 @@
 //! - `streams`: [`read_script`] and [`read_piece`], [`write_all`], [`write_line`]
 //! - `scripts`: [`split_commands`], the commands of a script or the status that tells why there are none
 //! - `reports`: [`empty_report`], [`open`] and [`take_draw`], which tell what they take
-//! - `words`: [`asks_run`], which words ask for a run
+//! - `words`: [`Word`] and [`asked_word`], what the words ask for
 //! - `statuses`: [`with_status`], want of memory as a status
 //! - `laws`: what follows of writes and of draws
 //!
@@ -27,7 +27,7 @@
 //!   call on the stream.
 //! - [`open`] and [`take_draw`] tell just what they took, want of memory apart (`told`, `drawn`); the identity told is
 //!   the environment's (`named`). [`empty_report`] is empty.
-//! - [`asks_run`] says yes just for the word `run`, a first `--` apart.
+//! - [`asked_word`] is the one word `run`, `replay` or `print`, a first `--` apart, and none at any other words.
 //! - Laws: [`writes_join`], [`draws_begin`].
 //!
 //! # Only tested
@@ -46,4 +46,4 @@ pub use reports::{empty_report, open, take_draw};
 pub use scripts::split_commands;
 pub use statuses::with_status;
 pub use streams::{read_piece, read_script, write_all, write_line};
-pub use words::asks_run;
+pub use words::{Word, asked_word};

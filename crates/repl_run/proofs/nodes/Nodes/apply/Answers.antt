@@ -17,5 +17,5 @@ returns-clause-grew g c = rep_one c.args.report.now c.take_draw.new.draws c.in_o
 pub returns-clause-carried : goal.returns-clause-carried
 returns-clause-carried g c =
     applied c.args.self.now _ c.args.number c.args.count c.in_ok-draw.draw c.args.report.now _ c.in_ok-applied.applied c.in_ok-applied_line.field-0
-    c.replica_follows.ensures.goes_on c.replica_follows.ensures.stops refl c.apply.ensures.identity c.in_ok-applied.ensures.replica c.in_ok-applied.ensures.told c.in_ok-applied_line.ensures
+    c.replica_follows.ensures.goes_on c.replica_follows.ensures.stops c.replica_follows.ensures.damaged refl c.apply.ensures.identity c.in_ok-applied.ensures.replica c.in_ok-applied.ensures.told c.in_ok-applied_line.ensures
     (applied_drew c.args.report.now c.args.count c.take_draw.new.draws c.in_ok-draw.draw c.in_ok-draw.ensures.told) refl

@@ -1,0 +1,127 @@
+-- What is written of a log while it is read.
+use Rattle.std.proofs.Common.{◌≡◌, ◌≤◌, ◌<◌, ℕ, ◌+◌, true, false, List, [], ◌∷◌, ◌++◌, length, map, Option, Some, None, IfSome, refl, sym, ap, ◌∙◌, subst, arith, append-nil}
+use Rattle.std.specs.Prelude.{flat_map}
+use Rattle.std.proofs.lemmas.Grind.{flat_map-append}
+use Rattle.answer_text.specs.declared.status.Status.{Status}
+use Rattle.answer_text.specs.declared.status.Status.TheVariants as status
+use Rattle.log_model.specs.Events.{events_from}
+use Rattle.log_model.specs.Groups.{Group, group, group_at}
+use Rattle.run_streams.specs.Stops.{StopsReading, StopsWriting}
+use Rattle.run_streams.specs.Wrote.{Wrote, WroteFront}
+use Rattle.run_streams.proofs.Writing.{wrote_nothing, wrote_more, broken_behind, front_of_more, whole_front}
+use Rattle.whole_groups.specs.Laws.{Lies}
+use Rattle.whole_groups.proofs.Lying.{group_lies}
+use Rattle.whole_logs.specs.Walk.{Ending, ended, damaged, foreign, Piece, Grouped, grouped}
+use Rattle.whole_logs.specs.Passing.{with_pieces, ending_with}
+use Rattle.whole_logs.specs.Printed.{lines_from, piece_lines, log_lines}
+use Rattle.log_reader.specs.declared.reader.Found.{Found}
+use Rattle.log_reader.specs.declared.reader.Found.TheVariants as found
+use Rattle.log_reader.specs.Reading.{Reader, next_pos, Reads, ReadsMagic}
+use Rattle.log_reader.specs.Behind.{Behind, IsLog, IsLogFront, piece_read, LeadsTo, fresh}
+use Rattle.log_reader.proofs.Known.{magic_leads, calls_lead, fronts_are_known}
+use Rattle.print_log.specs.Ends.{Printed, PrintedFront, PrintEnds}
+use Rattle.print_log.specs.Printing.{IsShown}
+
+-- ---- the lines of a log by those of its groups
+
+lines_of : (bytes : List ℕ) (ps : List Piece) (g : Grouped) → grouped bytes ≡ g → g.pieces ≡ ps → log_lines bytes ≡ flat_map piece_lines ps
+unfolding log_lines
+lines_of bytes ps g is pieces = ap (λ (h : Grouped). flat_map piece_lines h.pieces) is ∙ ap (flat_map piece_lines) pieces
+
+-- those of one group more
+more_lines : (ps : List Piece) (x : Piece) → flat_map piece_lines (ps ++ x ∷ []) ≡ flat_map piece_lines ps ++ piece_lines x
+more_lines ps x = flat_map-append piece_lines ps (x ∷ []) ∙ ap (λ (ls : List ℕ). flat_map piece_lines ps ++ ls) (append-nil (piece_lines x))
+
+-- ---- a log that was read
+
+printed : (start before now : Option (List ℕ)) (ps : List Piece) (e : Ending) → IsLog start ps e → Wrote before now (flat_map piece_lines ps) → Printed e start before now
+printed start before now ps e log wrote = record {
+  bytes = log.bytes;
+  input_is = log.input_is;
+  ends = ap (λ (g : Grouped). g.ending) log.groups;
+  wrote = subst (Wrote before now) (sym (lines_of log.bytes ps _ log.groups refl)) wrote;
+}
+
+-- and a front of it, of which a front of the lines of these groups was written
+fronted : (start before now : Option (List ℕ)) (ps : List Piece) → IsLogFront start ps → WroteFront before now (flat_map piece_lines ps) → PrintedFront start before now
+fronted start before now ps log front =
+    let lines : log_lines log.bytes ≡ flat_map piece_lines ps ++ flat_map piece_lines log.more.pieces =
+    lines_of log.bytes (ps ++ log.more.pieces) _ log.groups refl ∙ flat_map-append piece_lines ps log.more.pieces in
+    record {
+      bytes = log.bytes;
+      input_is = log.input_is;
+      front = subst (WroteFront before now) (sym lines) (front_of_more before now (flat_map piece_lines ps) (flat_map piece_lines log.more.pieces) front);
+    }
+
+-- nothing was written
+pub nothing_printed : (start before : Option (List ℕ)) → PrintedFront start before before
+nothing_printed None before = record { bytes = []; input_is = tt; front = record { front = []; rest = log_lines []; split = refl; wrote = wrote_nothing before } }
+nothing_printed (Some all) before =
+    record { bytes = all; input_is = refl; front = record { front = []; rest = log_lines all; split = refl; wrote = wrote_nothing before } }
+
+-- ---- the magic
+
+pub magic_shown : (start after before : Option (List ℕ)) → ReadsMagic start after true → IsShown start after before before fresh
+magic_shown start after before reads = record { groups = []; behind = magic_leads start after true reads; wrote = wrote_nothing before }
+
+pub no_magic_ends : (start after before : Option (List ℕ)) → ReadsMagic start after false → PrintEnds (status.LogDamaged 0) start after before before
+no_magic_ends start after before reads = printed start before before [] (damaged 0) (magic_leads start after false reads) (wrote_nothing before)
+
+-- ---- a call
+
+module _ (start left before now : Option (List ℕ)) (old : Reader) (shown : IsShown start left before now old) where
+  -- it stopped
+  pub stopped : PrintedFront start before now
+  stopped =
+      fronted start before now shown.groups (fronts_are_known start left shown.groups old shown.behind)
+      (whole_front before now (flat_map piece_lines shown.groups) shown.wrote)
+
+  module _ (after : Option (List ℕ)) (new : Reader) where
+    leads : (f : Found) → Reads old new left after f → LeadsTo start after shown.groups new f
+    leads f reads = calls_lead start left after shown.groups old new f shown.behind reads
+
+    -- the group begins where the reader says
+    begins : (reads : Reads old new left after found.Group) → (leads found.Group reads).0.begin ≡ new.begin
+    begins reads = (group_lies new.bytes new.begin (leads found.Group reads).0 (leads found.Group reads).1).begins
+
+    lines_read : (reads : Reads old new left after found.Group)
+        → piece_lines (piece_read new (leads found.Group reads).0) ≡ lines_from [] (events_from (record { bytes = new.bytes; pos = new.begin }))
+    lines_read reads = ap (λ (at : ℕ). lines_from [] (events_from (record { bytes = new.bytes; pos = at }))) (begins reads)
+
+    all_lines : (reads : Reads old new left after found.Group)
+        → flat_map piece_lines (shown.groups ++ piece_read new (leads found.Group reads).0 ∷ [])
+        ≡ flat_map piece_lines shown.groups ++ lines_from [] (events_from (record { bytes = new.bytes; pos = new.begin }))
+    all_lines reads =
+        more_lines shown.groups (piece_read new (leads found.Group reads).0)
+        ∙ ap (λ (ls : List ℕ). flat_map piece_lines shown.groups ++ ls) (lines_read reads)
+
+    pub group_shown : (then : Option (List ℕ)) → Reads old new left after found.Group → Wrote now then (lines_from [] (events_from (record { bytes = new.bytes; pos = new.begin })))
+        → IsShown start after before then new
+    group_shown then reads wrote = record {
+      groups = shown.groups ++ piece_read new (leads found.Group reads).0 ∷ [];
+      behind = (leads found.Group reads).2;
+      wrote = subst (Wrote before then) (sym (all_lines reads)) (wrote_more before now then _ _ shown.wrote wrote);
+    }
+
+    pub group_broken : (then : Option (List ℕ)) → Reads old new left after found.Group → WroteFront now then (lines_from [] (events_from (record { bytes = new.bytes; pos = new.begin })))
+        → PrintedFront start before then
+    group_broken then reads front =
+        fronted start before then (shown.groups ++ piece_read new (leads found.Group reads).0 ∷ []) (fronts_are_known start after _ new (leads found.Group reads).2)
+        (subst (WroteFront before then) (sym (all_lines reads)) (broken_behind before now then _ _ shown.wrote front))
+
+    pub end_shown : Reads old new left after found.End → PrintEnds status.Done start after before now
+    end_shown reads = (printed start before now shown.groups ended (leads found.End reads) shown.wrote, reads.finds.1)
+
+    pub damaged_shown : (pos : ℕ) → Reads old new left after (found.Damaged pos) → PrintEnds (status.LogDamaged pos) start after before now
+    damaged_shown pos reads = printed start before now shown.groups (damaged pos) (leads (found.Damaged pos) reads) shown.wrote
+
+    pub foreign_shown : (pos kind : ℕ) → Reads old new left after (found.Foreign pos kind) → PrintEnds (status.LogForeign pos kind) start after before now
+    foreign_shown pos kind reads = printed start before now shown.groups (foreign pos kind) (leads (found.Foreign pos kind) reads) shown.wrote
+
+    -- the next group begins behind this one, within a log
+    pub goes_forward : Reads old new left after found.Group → (next_pos old < next_pos new) × (next_pos new ≤ 1200000000)
+    goes_forward reads =
+        let is = reads.finds in
+        let lies = group_lies reads.taken new.begin is.one is.reads in
+        let same = ap length is.bytes in
+        (omega (arith, reads.begin, lies.header, is.whole, same), omega (arith, lies.ends, is.whole, same))

@@ -1,0 +1,13 @@
+-- A log on an input of which some groups are shown.
+use Rattle.std.specs.Prelude.{ℕ, List, flat_map, Option}
+use Rattle.run_streams.specs.Wrote.{Wrote}
+use Rattle.whole_logs.specs.Walk.{Piece}
+use Rattle.whole_logs.specs.Printed.{piece_lines}
+use Rattle.log_reader.specs.Reading.{Reader}
+use Rattle.log_reader.specs.Behind.{Behind}
+
+-- a reader stands behind groups whose lines were written
+pub record IsShown (start left before now : Option (List ℕ)) (r : Reader) : Type 0 where
+  pub groups : List Piece
+  pub behind : Behind start left groups r
+  pub wrote : Wrote before now (flat_map piece_lines groups)

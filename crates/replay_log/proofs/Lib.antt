@@ -1,0 +1,5 @@
+pub mod Stepping
+pub mod Applying
+pub mod Groups
+pub mod Taking
+pub mod Endings

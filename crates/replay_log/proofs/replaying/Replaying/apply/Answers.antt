@@ -1,0 +1,19 @@
+use Rattle.std.proofs.Common.{arith, ◌∙◌}
+use Rattle.replay_log.proofs.Applying.{room_for, room_to_count, went_on}
+use Rattle.replay_log.proofs.replaying.Replaying.apply.Goals as goal
+
+pub fetch-requires : goal.fetch-requires
+fetch-requires c = room_for c.args.self.now c.args.reader.now c.in_ok-group.group c.requires (c.in_ok-group.ensures ∙ c.bytes.ensures)
+
+pub overflow_add-self : goal.overflow_add-self
+overflow_add-self c =
+    omega (
+      arith,
+      room_to_count c.args.draw.now c.args.self.now c.args.reader.now c.requires c.in_ok-group.group (c.in_ok-group.ensures ∙ c.bytes.ensures)
+          c.fetch.new.self c.apply.new.self c.in_ok-fetch.ensures.identity c.in_ok-fetch.ensures.ok c.in_ok-count.field-0 c.in_ok-count.ensures.replica c.in_ok-count.ensures.told,
+    )
+
+pub returns-clause-went_on : goal.returns-clause-went_on
+returns-clause-went_on c =
+    went_on c.args.draw.now c.args.self.now c.args.reader.now c.requires c.in_ok-group.group (c.in_ok-group.ensures ∙ c.bytes.ensures)
+    c.fetch.new.self c.apply.new.self c.in_ok-fetch.ensures.identity c.in_ok-fetch.ensures.ok c.in_ok-count.field-0 c.in_ok-count.ensures.replica c.in_ok-count.ensures.told
