@@ -35,7 +35,7 @@ fn expect_bad(rt: &impl Abort, alloc: Global, script: &str, at: u64) -> Result<(
     let played = play(alloc, "run", input, sink_of(alloc, List::new(alloc)))?;
     assert_eq!(rt; played.status.number(), 2, "{script}");
     assert_eq!(rt; place_of(&played.status), Some(at), "{script}");
-    assert_eq!(rt; played.writes, 0, "{script}");
+    assert_eq!(rt; played.writes(), 0, "{script}");
     assert!(rt; played.report.src_draws.is_empty(), "{script}");
     Ok(())
 }
@@ -62,7 +62,7 @@ fn limit_of_a_command(rt: HostRuntime) -> Result<(), Fail> {
     let longest = run(alloc, long_command(alloc, 1_048_571)?)?;
     assert_eq!(rt; longest.status.number(), 0);
     assert_eq!(rt;
-        longest.written.as_slice(),
+        longest.written(),
         b"1 error 1064 at 0\n".as_slice()
     );
     let longer = run(alloc, long_command(alloc, 1_048_572)?)?;
@@ -85,7 +85,7 @@ fn limit_of_a_script(rt: HostRuntime) -> Result<(), Fail> {
 }
 
 /// Lines of words, and whether they ask for a run.
-static WORDS: [(&str, bool); 9] = [
+static WORDS: [(&str, bool); 13] = [
     ("run", true),
     ("-- run", true),
     ("run --", true),
@@ -94,7 +94,11 @@ static WORDS: [(&str, bool); 9] = [
     ("-- -- run", false),
     ("run fast", false),
     ("Run", false),
-    ("replay", false),
+    ("log", false),
+    ("print log", false),
+    ("run print", false),
+    ("Replay", false),
+    ("dump source", false),
 ];
 
 fn expect_words(rt: &impl Abort, alloc: Global, line: &str, asks: bool) -> Result<(), Fail> {
@@ -102,7 +106,7 @@ fn expect_words(rt: &impl Abort, alloc: Global, line: &str, asks: bool) -> Resul
     let played = play(alloc, line, input, sink_of(alloc, List::new(alloc)))?;
     let number = if asks { 0 } else { 1 };
     assert_eq!(rt; played.status.number(), number, "{line}");
-    assert_eq!(rt; played.reads == 0, !asks, "{line}");
+    assert_eq!(rt; played.reads() == 0, !asks, "{line}");
     assert_eq!(rt; played.report.src_draws.is_empty(), !asks, "{line}");
     Ok(())
 }
@@ -121,7 +125,7 @@ const SCRIPT: &str =
 
 /// What it shows, in writes of 7, 7, 10, 3, 10, 4, 10, 8, 10 and 7 bytes.
 const SHOWN: &str =
-    "1 ok 0\n2 ok 1\n3 error 1062\n4 fetched 336\n5 applied 2 1:340\n6 row 1\n6 rows 1\n";
+    "1 ok 0\n2 ok 1\n3 error 1062\n4 fetched 321\n5 applied 2 1:325\n6 row 1\n6 rows 1\n";
 
 /// Its writes, and how many bytes were written before each.
 static WRITES: [(u64, usize); 10] = [
@@ -148,8 +152,8 @@ fn expect_read_fault(rt: &impl Abort, alloc: Global, call: u64) -> Result<(), Fa
     let input = source_of(alloc, SCRIPT.as_bytes(), only(alloc, call)?)?;
     let played = play(alloc, "run", input, sink_of(alloc, List::new(alloc)))?;
     assert_eq!(rt; played.status.number(), 3, "read {call}");
-    assert_eq!(rt; played.reads, call, "read {call}");
-    assert_eq!(rt; played.writes, 0, "read {call}");
+    assert_eq!(rt; played.reads(), call, "read {call}");
+    assert_eq!(rt; played.writes(), 0, "read {call}");
     Ok(())
 }
 
@@ -162,11 +166,11 @@ fn expect_write_fault(
     let input = source_of(alloc, SCRIPT.as_bytes(), List::new(alloc))?;
     let played = play(alloc, "run", input, sink_of(alloc, only(alloc, call)?))?;
     assert_eq!(rt; played.status.number(), 4, "write {call}");
-    assert_eq!(rt; played.reads, 20, "write {call}");
-    assert_eq!(rt; played.writes, call, "write {call}");
-    assert_eq!(rt; played.written.len(), written, "write {call}");
+    assert_eq!(rt; played.reads(), 20, "write {call}");
+    assert_eq!(rt; played.writes(), call, "write {call}");
+    assert_eq!(rt; played.written().len(), written, "write {call}");
     assert!(rt;
-        SHOWN.as_bytes().starts_with(played.written.as_slice()),
+        SHOWN.as_bytes().starts_with(played.written()),
         "write {call}"
     );
     Ok(())
@@ -178,9 +182,9 @@ fn streams_that_do_not_fail(rt: HostRuntime) -> Result<(), Fail> {
     let input = source_of(alloc, SCRIPT.as_bytes(), List::new(alloc))?;
     let played = play(alloc, "run", input, sink_of(alloc, List::new(alloc)))?;
     assert_eq!(rt; played.status.number(), 0);
-    assert_eq!(rt; played.reads, 20);
-    assert_eq!(rt; played.writes, 10);
-    assert_eq!(rt; played.written.as_slice(), SHOWN.as_bytes());
+    assert_eq!(rt; played.reads(), 20);
+    assert_eq!(rt; played.writes(), 10);
+    assert_eq!(rt; played.written(), SHOWN.as_bytes());
     Ok(())
 }
 
