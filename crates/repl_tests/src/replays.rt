@@ -391,7 +391,8 @@ fn expect_read_fault(
     let played = play(alloc, word, input, sink_of(alloc, List::new(alloc)))?;
     assert_eq!(rt; played.status.number(), 3, "read {call} of {word}");
     assert_eq!(rt; played.reads(), call, "read {call} of {word}");
-    assert!(rt; shown.starts_with(played.written()), "read {call} of {word}");
+    let begins = shown.starts_with(played.written());
+    assert_eq!(rt; begins, true, "read {call} of {word}");
     Ok(())
 }
 
@@ -408,7 +409,8 @@ fn expect_write_fault(
     let played = play(alloc, word, input, sink_of(alloc, only(alloc, call)?))?;
     assert_eq!(rt; played.status.number(), 4, "write {call} of {word}");
     assert_eq!(rt; played.writes(), call, "write {call} of {word}");
-    assert!(rt; shown.starts_with(played.written()), "write {call} of {word}");
+    let begins = shown.starts_with(played.written());
+    assert_eq!(rt; begins, true, "write {call} of {word}");
     Ok(())
 }
 
