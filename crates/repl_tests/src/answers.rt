@@ -94,7 +94,13 @@ fn statements_of_sessions(rt: HostRuntime) -> Result<(), Fail> {
     for (script, lines) in &OF_T {
         let mut all = bytes(alloc, "1 ok 0\n")?;
         all.extend_from_slice(lines.as_bytes())?;
-        expect_lines(&rt, alloc, script_of(alloc, T, *script)?, all.as_slice(), *script)?;
+        expect_lines(
+            &rt,
+            alloc,
+            script_of(alloc, T, *script)?,
+            all.as_slice(),
+            *script,
+        )?;
     }
     Ok(())
 }

@@ -68,27 +68,14 @@ fn two_nodes(alloc: Global) -> Result<Nodes, Fail> {
     Ok(Nodes { source, replica })
 }
 
-/// What a call of the program came to.
+/// What a call of the program came to: what was written, the line that tells its status, nothing at Done, and how many reads and
+/// writes there were.
 #[derive(Drop)]
 pub struct Played {
-    pub status: Status,
-    pub report: Report,
-    input: MemSource,
-    out: MemSink,
-}
-
-impl Played {
-    pub fn written(&self) -> &[u8] {
-        self.out.written().as_slice()
-    }
-
-    pub fn reads(&self) -> u64 {
-        self.input.calls()
-    }
-
-    pub fn writes(&self) -> u64 {
-        self.out.calls()
-    }
+    pub written: Bytes,
+    pub ending: Bytes,
+    pub reads: u64,
+    pub writes: u64,
 }
 
 /// The words of a command line.
@@ -121,6 +108,18 @@ fn called(
     (status, report)
 }
 
+/// A call of the program, and the line that tells its status.
+fn ended(
+    alloc: Global,
+    words: &[String],
+    input: &mut MemSource,
+    out: &mut MemSink,
+    nodes: &mut Nodes,
+) -> Result<Bytes, Fail> {
+    let (status, _) = called(alloc, words, input, out, nodes);
+    Ok(status_line(alloc, &status)?)
+}
+
 /// A call of the program with the words of a line, over an input and an output.
 pub fn play(
     alloc: Global,
@@ -130,19 +129,23 @@ pub fn play(
 ) -> Result<Played, Fail> {
     let words = words_of(alloc, line)?;
     let mut nodes = two_nodes(alloc)?;
-    let (status, report) = called(
-        alloc,
-        words.as_slice(),
-        &mut input,
-        &mut out,
-        &mut nodes,
-    );
+    let ending = ended(alloc, words.as_slice(), &mut input, &mut out, &mut nodes)?;
     Ok(Played {
-        status,
-        report,
-        input,
-        out,
+        ending,
+        reads: input.calls(),
+        writes: out.calls(),
+        written: List::from_slice(alloc, out.written().as_slice())?,
     })
+}
+
+/// The report of a call of the program with the words of a line, over an input.
+pub fn report_of(alloc: Global, line: &str, input: &[u8]) -> Result<Report, Fail> {
+    let words = words_of(alloc, line)?;
+    let mut nodes = two_nodes(alloc)?;
+    let mut input = MemSource::new(List::from_slice(alloc, input)?, List::new(alloc));
+    let mut out = MemSink::new(alloc, List::new(alloc));
+    let (_, report) = called(alloc, words.as_slice(), &mut input, &mut out, &mut nodes);
+    Ok(report)
 }
 
 /// The writing of a log, of which nothing is said either: the number of its status.
@@ -164,10 +167,7 @@ pub fn write_log_of(alloc: Global, script: &str) -> Result<(u8, Bytes), Fail> {
     let mut input = source_of(alloc, script.as_bytes(), List::new(alloc))?;
     let mut out = sink_of(alloc, List::new(alloc));
     let number = logged(alloc, &mut input, &mut out, &mut nodes);
-    Ok((
-        number,
-        List::from_slice(alloc, out.written().as_slice())?,
-    ))
+    Ok((number, List::from_slice(alloc, out.written().as_slice())?))
 }
 
 /// The log of a script.
@@ -182,31 +182,16 @@ pub fn over_log(alloc: Global, word: &str, log: &[u8]) -> Result<Played, Fail> {
     play(alloc, word, input, MemSink::new(alloc, List::new(alloc)))
 }
 
-/// Expects of a word over a log what it writes, and with which line of a status it ends.
-pub fn expect_told(
-    rt: &impl Abort,
-    alloc: Global,
-    word: &str,
-    log: &[u8],
-    expected: (&[u8], &str),
-    of: &str,
-) -> Result<(), Fail> {
-    let (written, ending) = expected;
-    let played = over_log(alloc, word, log)?;
-    assert_eq!(rt; played.written(), written, "{word} of {of}");
-    expect_ending(rt, alloc, &played.status, ending)
+/// Expects what was written, and the line that tells the status.
+pub fn expect_played(rt: &impl Abort, played: &Played, written: &[u8], ending: &str, of: &str) {
+    assert_eq!(rt; played.written.as_slice(), written, "{of}");
+    assert_eq!(rt; played.ending.as_slice(), ending.as_bytes());
 }
 
-/// Expects that a status is told by this line, nothing at Done.
-pub fn expect_ending(
-    rt: &impl Abort,
-    alloc: Global,
-    status: &Status,
-    ending: &str,
-) -> Result<(), Fail> {
-    let line = status_line(alloc, status)?;
-    assert_eq!(rt; line.as_slice(), ending.as_bytes());
-    Ok(())
+/// Expects the line that tells the status, and how many reads and writes there were.
+pub fn expect_calls(rt: &impl Abort, played: &Played, ending: &str, calls: (u64, u64)) {
+    assert_eq!(rt; (played.reads, played.writes), calls, "{ending}");
+    assert_eq!(rt; played.ending.as_slice(), ending.as_bytes());
 }
 
 /// An input of these bytes that is read in pieces of 10.
@@ -225,14 +210,6 @@ pub fn run(alloc: Global, script: Bytes) -> Result<Played, Fail> {
     play(alloc, "run", input, MemSink::new(alloc, List::new(alloc)))
 }
 
-/// The byte at which a script is bad.
-pub fn place_of(status: &Status) -> Option<u64> {
-    match status {
-        Status::BadScript { at } => Some(*at),
-        _ => None,
-    }
-}
-
 /// Expects of a script that it runs to its end and writes these lines.
 pub fn expect_lines(
     rt: &impl Abort,
@@ -242,7 +219,6 @@ pub fn expect_lines(
     of: &str,
 ) -> Result<(), Fail> {
     let played = run(alloc, script)?;
-    assert_eq!(rt; played.status.number(), 0, "{of}");
-    assert_eq!(rt; played.written(), lines, "{of}");
+    expect_played(rt, &played, lines, "", of);
     Ok(())
 }

@@ -2,8 +2,11 @@
 
 use crate::made::{FIRST_BODY, Piece, begun, put_all, put_text};
 use crate::playing::{
-    REPLICA_MOMENT, draw, expect_ending, expect_told, identity_of, log_of, over_log, play, sink_of, source_of,
+    Played, REPLICA_MOMENT, draw, expect_calls, expect_played, identity_of, log_of, over_log, play,
+    report_of, sink_of, source_of,
 };
+use answer_text::Report;
+use port_traits::{Draw, Identity};
 use std::alloc::Global;
 use std::process::Abort;
 use std::test::Fail;
@@ -16,37 +19,79 @@ const T: &str = "CREATE TABLE t (id INT, v INT, PRIMARY KEY (id))";
 const MAP: &[u8] = b"\x01\x00\x00\x00\x00\x00\x00\x00\x02db\x00\x01t\x00\x02\x03\x03\x00\x02";
 
 /// The row (1, 10) by that map: the number 1, the end of a statement, two columns, both there, none NULL.
-const ROW: &[u8] = b"\x01\x00\x00\x00\x00\x00\x01\x00\x02\x00\x02\x03\x00\x01\x00\x00\x00\x0a\x00\x00\x00";
+const ROW: &[u8] =
+    b"\x01\x00\x00\x00\x00\x00\x01\x00\x02\x00\x02\x03\x00\x01\x00\x00\x00\x0a\x00\x00\x00";
 
 /// What stands in a log behind that table, the line of its replay, and the line of the status that it ends with.
 static CASES: [(&[Piece<'_>], &str, &str); 43] = [
     // a row to delete that is not there
     (
-        &[Piece::Begin, Piece::Event(19, MAP), Piece::Event(32, ROW), Piece::Xid(2)],
+        &[
+            Piece::Begin,
+            Piece::Event(19, MAP),
+            Piece::Event(32, ROW),
+            Piece::Xid(2),
+        ],
         "applied 1 1:206\n",
         "differs at 285 code 1032 table t key (1)\n",
     ),
     // a row to add whose key is taken
     (
-        &[Piece::Begin, Piece::Event(19, MAP), Piece::Event(30, ROW), Piece::Xid(2), Piece::Begin, Piece::Event(19, MAP), Piece::Event(30, ROW), Piece::Xid(3)],
+        &[
+            Piece::Begin,
+            Piece::Event(19, MAP),
+            Piece::Event(30, ROW),
+            Piece::Xid(2),
+            Piece::Begin,
+            Piece::Event(19, MAP),
+            Piece::Event(30, ROW),
+            Piece::Xid(3),
+        ],
         "applied 2 1:352\n",
         "differs at 431 code 1062 table t key (1)\n",
     ),
     // a row of a table that is not there
     (
-        &[Piece::Begin, Piece::Event(19, b"\x01\x00\x00\x00\x00\x00\x00\x00\x02db\x00\x01u\x00\x02\x03\x03\x00\x02"), Piece::Event(30, ROW), Piece::Xid(2)],
+        &[
+            Piece::Begin,
+            Piece::Event(
+                19,
+                b"\x01\x00\x00\x00\x00\x00\x00\x00\x02db\x00\x01u\x00\x02\x03\x03\x00\x02",
+            ),
+            Piece::Event(30, ROW),
+            Piece::Xid(2),
+        ],
         "applied 1 1:206\n",
         "differs at 285 code 1146 table u key ()\n",
     ),
     // columns of another type
     (
-        &[Piece::Begin, Piece::Event(19, b"\x01\x00\x00\x00\x00\x00\x00\x00\x02db\x00\x01t\x00\x02\x03\x08\x00\x02"), Piece::Event(30, b"\x01\x00\x00\x00\x00\x00\x01\x00\x02\x00\x02\x03\x00\x01\x00\x00\x00\x0a\x00\x00\x00\x00\x00\x00\x00"), Piece::Xid(2)],
+        &[
+            Piece::Begin,
+            Piece::Event(
+                19,
+                b"\x01\x00\x00\x00\x00\x00\x00\x00\x02db\x00\x01t\x00\x02\x03\x08\x00\x02",
+            ),
+            Piece::Event(
+                30,
+                b"\x01\x00\x00\x00\x00\x00\x01\x00\x02\x00\x02\x03\x00\x01\x00\x00\x00\x0a\x00\x00\x00\x00\x00\x00\x00",
+            ),
+            Piece::Xid(2),
+        ],
         "applied 1 1:206\n",
         "differs at 285 code 30010 table t key ()\n",
     ),
     // NULL where none may stand
     (
-        &[Piece::Begin, Piece::Event(19, MAP), Piece::Event(30, b"\x01\x00\x00\x00\x00\x00\x01\x00\x02\x00\x02\x03\x01\x0a\x00\x00\x00"), Piece::Xid(2)],
+        &[
+            Piece::Begin,
+            Piece::Event(19, MAP),
+            Piece::Event(
+                30,
+                b"\x01\x00\x00\x00\x00\x00\x01\x00\x02\x00\x02\x03\x01\x0a\x00\x00\x00",
+            ),
+            Piece::Xid(2),
+        ],
         "applied 1 1:206\n",
         "differs at 285 code 30010 table t key ()\n",
     ),
@@ -68,7 +113,11 @@ static CASES: [(&[Piece<'_>], &str, &str); 43] = [
     ),
     // texts that are no statements
     (
-        &[Piece::Begin, Piece::Text("INSERT INTO t VALUES (1, 10"), Piece::Xid(2)],
+        &[
+            Piece::Begin,
+            Piece::Text("INSERT INTO t VALUES (1, 10"),
+            Piece::Xid(2),
+        ],
         "applied 1 1:206\n",
         "differs at 246 code 1064 table - key ()\n",
     ),
@@ -79,7 +128,11 @@ static CASES: [(&[Piece<'_>], &str, &str); 43] = [
     ),
     // what the tables and definitions refuse
     (
-        &[Piece::Begin, Piece::Text("INSERT INTO u VALUES (1, 10)"), Piece::Xid(2)],
+        &[
+            Piece::Begin,
+            Piece::Text("INSERT INTO u VALUES (1, 10)"),
+            Piece::Xid(2),
+        ],
         "applied 1 1:206\n",
         "differs at 246 code 1146 table - key ()\n",
     ),
@@ -90,19 +143,48 @@ static CASES: [(&[Piece<'_>], &str, &str); 43] = [
     ),
     // an error of the second item; the first is taken back with it
     (
-        &[Piece::Begin, Piece::Text("INSERT INTO t VALUES (1, 10)"), Piece::Text("UPDATE t SET v = 9223372036854775807 + v"), Piece::Xid(2)],
+        &[
+            Piece::Begin,
+            Piece::Text("INSERT INTO t VALUES (1, 10)"),
+            Piece::Text("UPDATE t SET v = 9223372036854775807 + v"),
+            Piece::Xid(2),
+        ],
         "applied 1 1:206\n",
         "differs at 309 code 1690 table - key ()\n",
     ),
     // a variable goes with its item alone: the rows that are deleted are (1, 5) and (2, 7)
     (
-        &[Piece::Begin, Piece::Event(14, b"\x01\x00\x00\x00x\x00\x02?\x00\x00\x00\x08\x00\x00\x00\x05\x00\x00\x00\x00\x00\x00\x00\x00"), Piece::Text("INSERT INTO t VALUES (1, @x)"), Piece::Text("INSERT INTO t VALUES (2, COALESCE(@x, 7))"), Piece::Xid(2), Piece::Begin, Piece::Event(19, MAP), Piece::Event(32, b"\x01\x00\x00\x00\x00\x00\x01\x00\x02\x00\x02\x03\x00\x01\x00\x00\x00\x05\x00\x00\x00\x00\x02\x00\x00\x00\x07\x00\x00\x00"), Piece::Xid(3)],
+        &[
+            Piece::Begin,
+            Piece::Event(
+                14,
+                b"\x01\x00\x00\x00x\x00\x02?\x00\x00\x00\x08\x00\x00\x00\x05\x00\x00\x00\x00\x00\x00\x00\x00",
+            ),
+            Piece::Text("INSERT INTO t VALUES (1, @x)"),
+            Piece::Text("INSERT INTO t VALUES (2, COALESCE(@x, 7))"),
+            Piece::Xid(2),
+            Piece::Begin,
+            Piece::Event(19, MAP),
+            Piece::Event(
+                32,
+                b"\x01\x00\x00\x00\x00\x00\x01\x00\x02\x00\x02\x03\x00\x01\x00\x00\x00\x05\x00\x00\x00\x00\x02\x00\x00\x00\x07\x00\x00\x00",
+            ),
+            Piece::Xid(3),
+        ],
         "applied 3 1:610\n",
         "",
     ),
     // an unknown type behind a whole log
     (
-        &[Piece::Begin, Piece::Text("INSERT INTO t VALUES (1, 10)"), Piece::Xid(2), Piece::Event(34, b"\x00\x00\x00\x00\x00\x00\x00\x00\x00\x00\x00\x00\x00\x00\x00\x00\x00\x00\x00\x00\x00\x00\x00\x00\x00\x00\x00\x00\x00\x00\x00\x00\x00\x00\x00\x00\x00\x00\x00\x00\x00\x00")],
+        &[
+            Piece::Begin,
+            Piece::Text("INSERT INTO t VALUES (1, 10)"),
+            Piece::Xid(2),
+            Piece::Event(
+                34,
+                b"\x00\x00\x00\x00\x00\x00\x00\x00\x00\x00\x00\x00\x00\x00\x00\x00\x00\x00\x00\x00\x00\x00\x00\x00\x00\x00\x00\x00\x00\x00\x00\x00\x00\x00\x00\x00\x00\x00\x00\x00\x00\x00",
+            ),
+        ],
         "applied 2 1:336\n",
         "log foreign at 336 type 34\n",
     ),
@@ -119,13 +201,19 @@ static CASES: [(&[Piece<'_>], &str, &str); 43] = [
         "",
     ),
     (
-        &[Piece::Event(4, b"\x04\x00\x00\x00\x00\x00\x00\x00binlog.000007"), Piece::Xid(2)],
+        &[
+            Piece::Event(4, b"\x04\x00\x00\x00\x00\x00\x00\x00binlog.000007"),
+            Piece::Xid(2),
+        ],
         "applied 1 7:4\n",
         "log damaged at 246\n",
     ),
     // events of unknown types, and values that have another meaning
     (
-        &[Piece::Event(34, b"\x00\x00\x00\x00\x00\x00\x00\x00\x00\x00\x00\x00\x00\x00\x00\x00\x00\x00\x00\x00\x00\x00\x00\x00\x00\x00\x00\x00\x00\x00\x00\x00\x00\x00\x00\x00\x00\x00\x00\x00\x00\x00")],
+        &[Piece::Event(
+            34,
+            b"\x00\x00\x00\x00\x00\x00\x00\x00\x00\x00\x00\x00\x00\x00\x00\x00\x00\x00\x00\x00\x00\x00\x00\x00\x00\x00\x00\x00\x00\x00\x00\x00\x00\x00\x00\x00\x00\x00\x00\x00\x00\x00",
+        )],
         "applied 1 1:206\n",
         "log foreign at 206 type 34\n",
     ),
@@ -145,53 +233,94 @@ static CASES: [(&[Piece<'_>], &str, &str); 43] = [
         "log foreign at 206 type 4\n",
     ),
     (
-        &[Piece::Event(2, b"\x07\x00\x00\x00\x00\x00\x00\x00\x02\x01\x00\x00\x00db\x00BEGIN")],
+        &[Piece::Event(
+            2,
+            b"\x07\x00\x00\x00\x00\x00\x00\x00\x02\x01\x00\x00\x00db\x00BEGIN",
+        )],
         "applied 1 1:206\n",
         "log foreign at 206 type 2\n",
     ),
     (
-        &[Piece::Event(2, b"\x07\x00\x00\x00\x00\x00\x00\x00\x02\x00\x00\x00\x00da\x00BEGIN")],
+        &[Piece::Event(
+            2,
+            b"\x07\x00\x00\x00\x00\x00\x00\x00\x02\x00\x00\x00\x00da\x00BEGIN",
+        )],
         "applied 1 1:206\n",
         "log foreign at 206 type 2\n",
     ),
     (
-        &[Piece::Event(2, b"\x07\x00\x00\x00\x00\x00\x00\x00\x02\x00\x00\x05\x00\x04\x01\x00\x01\x00db\x00BEGIN")],
+        &[Piece::Event(
+            2,
+            b"\x07\x00\x00\x00\x00\x00\x00\x00\x02\x00\x00\x05\x00\x04\x01\x00\x01\x00db\x00BEGIN",
+        )],
         "applied 1 1:206\n",
         "log foreign at 206 type 2\n",
     ),
     (
-        &[Piece::Begin, Piece::Event(5, b"\x02\x00\x00\x00\x00\x00\x00\x00\x80")],
+        &[
+            Piece::Begin,
+            Piece::Event(5, b"\x02\x00\x00\x00\x00\x00\x00\x00\x80"),
+        ],
         "applied 1 1:206\n",
         "log foreign at 246 type 5\n",
     ),
     (
-        &[Piece::Begin, Piece::Event(14, b"\x01\x00\x00\x00x\x00\x01?\x00\x00\x00\x00\x00\x00\x00\x00")],
+        &[
+            Piece::Begin,
+            Piece::Event(
+                14,
+                b"\x01\x00\x00\x00x\x00\x01?\x00\x00\x00\x00\x00\x00\x00\x00",
+            ),
+        ],
         "applied 1 1:206\n",
         "log foreign at 246 type 14\n",
     ),
     (
-        &[Piece::Begin, Piece::Event(19, b"\x01\x00\x00\x00\x00\x00\x00\x00\x02db\x00\x01t\x00\x02\x03\x02\x00\x02")],
+        &[
+            Piece::Begin,
+            Piece::Event(
+                19,
+                b"\x01\x00\x00\x00\x00\x00\x00\x00\x02db\x00\x01t\x00\x02\x03\x02\x00\x02",
+            ),
+        ],
         "applied 1 1:206\n",
         "log foreign at 246 type 19\n",
     ),
     // events outside their forms
     (
-        &[Piece::Event(2, b"\x07\x00\x00\x00\x00\x00\x00\x00\x02\x00\x00\x05\x00\x03\x00\x00\x01\x00db\x00BEGIN")],
+        &[Piece::Event(
+            2,
+            b"\x07\x00\x00\x00\x00\x00\x00\x00\x02\x00\x00\x05\x00\x03\x00\x00\x01\x00db\x00BEGIN",
+        )],
         "applied 1 1:206\n",
         "log damaged at 206\n",
     ),
     (
-        &[Piece::Begin, Piece::Event(5, b"\x03\x01\x00\x00\x00\x00\x00\x00\x00")],
+        &[
+            Piece::Begin,
+            Piece::Event(5, b"\x03\x01\x00\x00\x00\x00\x00\x00\x00"),
+        ],
         "applied 1 1:206\n",
         "log damaged at 246\n",
     ),
     (
-        &[Piece::Begin, Piece::Event(16, b"\x02\x00\x00\x00\x00\x00\x00")],
+        &[
+            Piece::Begin,
+            Piece::Event(16, b"\x02\x00\x00\x00\x00\x00\x00"),
+        ],
         "applied 1 1:206\n",
         "log damaged at 246\n",
     ),
     (
-        &[Piece::Begin, Piece::Event(19, MAP), Piece::Event(30, b"\x01\x00\x00\x00\x00\x00\x01\x00\x02\x00\x02\x03\x00\x01\x00\x00\x00\x0a\x00\x00"), Piece::Xid(2)],
+        &[
+            Piece::Begin,
+            Piece::Event(19, MAP),
+            Piece::Event(
+                30,
+                b"\x01\x00\x00\x00\x00\x00\x01\x00\x02\x00\x02\x03\x00\x01\x00\x00\x00\x0a\x00\x00",
+            ),
+            Piece::Xid(2),
+        ],
         "applied 1 1:206\n",
         "log damaged at 285\n",
     ),
@@ -212,7 +341,10 @@ static CASES: [(&[Piece<'_>], &str, &str); 43] = [
         "log damaged at 246\n",
     ),
     (
-        &[Piece::Begin, Piece::Event(4, b"\x04\x00\x00\x00\x00\x00\x00\x00binlog.000007")],
+        &[
+            Piece::Begin,
+            Piece::Event(4, b"\x04\x00\x00\x00\x00\x00\x00\x00binlog.000007"),
+        ],
         "applied 1 1:206\n",
         "log damaged at 246\n",
     ),
@@ -222,18 +354,33 @@ static CASES: [(&[Piece<'_>], &str, &str); 43] = [
         "log damaged at 285\n",
     ),
     (
-        &[Piece::Begin, Piece::Event(19, b"\x01\x00\x00\x00\x00\x00\x00\x00\x02db\x00\x01u\x00\x02\x03\x03\x00\x02"), Piece::Event(30, b"\x02\x00\x00\x00\x00\x00\x01\x00\x02\x00\x02\x03\x00\x01\x00\x00\x00\x0a\x00\x00\x00"), Piece::Xid(2)],
+        &[
+            Piece::Begin,
+            Piece::Event(
+                19,
+                b"\x01\x00\x00\x00\x00\x00\x00\x00\x02db\x00\x01u\x00\x02\x03\x03\x00\x02",
+            ),
+            Piece::Event(
+                30,
+                b"\x02\x00\x00\x00\x00\x00\x01\x00\x02\x00\x02\x03\x00\x01\x00\x00\x00\x0a\x00\x00\x00",
+            ),
+            Piece::Xid(2),
+        ],
         "applied 1 1:206\n",
         "log damaged at 285\n",
     ),
     // headers: too short a length, another next position, a length of a GiB of which nothing came
     (
-        &[Piece::Raw(b"\x01\x00\x00\x00\x10\x09\x00\x00\x00\x12\x00\x00\x00\xe0\x00\x00\x00\x00\x00")],
+        &[Piece::Raw(
+            b"\x01\x00\x00\x00\x10\x09\x00\x00\x00\x12\x00\x00\x00\xe0\x00\x00\x00\x00\x00",
+        )],
         "applied 1 1:206\n",
         "log damaged at 206\n",
     ),
     (
-        &[Piece::Raw(b"\x01\x00\x00\x00\x10\x09\x00\x00\x00\x1b\x00\x00\x00\xea\x00\x00\x00\x00\x00\x02\x00\x00\x00\x00\x00\x00\x00")],
+        &[Piece::Raw(
+            b"\x01\x00\x00\x00\x10\x09\x00\x00\x00\x1b\x00\x00\x00\xea\x00\x00\x00\x00\x00\x02\x00\x00\x00\x00\x00\x00\x00",
+        )],
         "applied 1 1:206\n",
         "log damaged at 206\n",
     ),
@@ -249,7 +396,12 @@ static CASES: [(&[Piece<'_>], &str, &str); 43] = [
         "log damaged at 206\n",
     ),
     (
-        &[Piece::Begin, Piece::Text("INSERT INTO t VALUES (1, 10)"), Piece::Xid(2), Piece::Raw(b"\x01")],
+        &[
+            Piece::Begin,
+            Piece::Text("INSERT INTO t VALUES (1, 10)"),
+            Piece::Xid(2),
+            Piece::Raw(b"\x01"),
+        ],
         "applied 2 1:336\n",
         "log damaged at 336\n",
     ),
@@ -265,7 +417,11 @@ fn behind_table(alloc: Global, pieces: &[Piece<'_>]) -> Result<Bytes, Fail> {
 
 /// How the printing of a log ends whose replay ends so: tables are nothing to it.
 fn printing_ends(replay: &str) -> &str {
-    if replay.starts_with("differs") { "" } else { replay }
+    if replay.starts_with("differs") {
+        ""
+    } else {
+        replay
+    }
 }
 
 /// Expects how printing and replaying a log end, and what the replay writes.
@@ -276,9 +432,17 @@ fn expect_ends(
     line: &str,
     ending: &str,
 ) -> Result<(), Fail> {
-    expect_told(rt, alloc, "replay", log, (line.as_bytes(), ending), line)?;
+    let replayed = over_log(alloc, "replay", log)?;
+    expect_played(rt, &replayed, line.as_bytes(), ending, ending);
     let printed = over_log(alloc, "print", log)?;
-    expect_ending(rt, alloc, &printed.status, printing_ends(ending))
+    expect_played(
+        rt,
+        &printed,
+        printed.written.as_slice(),
+        printing_ends(ending),
+        ending,
+    );
+    Ok(())
 }
 
 #[test]
@@ -377,8 +541,19 @@ fn only(alloc: Global, call: u64) -> Result<List<u64>, Fail> {
     Ok(calls)
 }
 
-/// Expects of a word over a log that is read and written in pieces of 10, with a read that fails: status 3, that read the last, and a
-/// front of what is shown.
+/// A word over a log that is read and written in pieces of 10, where the calls of these numbers fail.
+fn over_pieces(
+    alloc: Global,
+    word: &str,
+    log: &[u8],
+    reads: List<u64>,
+    writes: List<u64>,
+) -> Result<Played, Fail> {
+    let input = source_of(alloc, log, reads)?;
+    play(alloc, word, input, sink_of(alloc, writes))
+}
+
+/// Expects that a read that fails is the last, and that a front of what is shown was written.
 fn expect_read_fault(
     rt: &impl Abort,
     alloc: Global,
@@ -387,16 +562,13 @@ fn expect_read_fault(
     shown: &[u8],
     call: u64,
 ) -> Result<(), Fail> {
-    let input = source_of(alloc, log, only(alloc, call)?)?;
-    let played = play(alloc, word, input, sink_of(alloc, List::new(alloc)))?;
-    assert_eq!(rt; played.status.number(), 3, "read {call} of {word}");
-    assert_eq!(rt; played.reads(), call, "read {call} of {word}");
-    let begins = shown.starts_with(played.written());
-    assert_eq!(rt; begins, true, "read {call} of {word}");
+    let played = over_pieces(alloc, word, log, only(alloc, call)?, List::new(alloc))?;
+    expect_calls(rt, &played, "read fault\n", (call, played.writes));
+    assert_eq!(rt; shown.starts_with(played.written.as_slice()), true);
     Ok(())
 }
 
-/// The same with a write that fails: status 4, and that write the last.
+/// Expects that a write that fails is the last, and that a front of what is shown was written.
 fn expect_write_fault(
     rt: &impl Abort,
     alloc: Global,
@@ -405,20 +577,16 @@ fn expect_write_fault(
     shown: &[u8],
     call: u64,
 ) -> Result<(), Fail> {
-    let input = source_of(alloc, log, List::new(alloc))?;
-    let played = play(alloc, word, input, sink_of(alloc, only(alloc, call)?))?;
-    assert_eq!(rt; played.status.number(), 4, "write {call} of {word}");
-    assert_eq!(rt; played.writes(), call, "write {call} of {word}");
-    let begins = shown.starts_with(played.written());
-    assert_eq!(rt; begins, true, "write {call} of {word}");
+    let played = over_pieces(alloc, word, log, List::new(alloc), only(alloc, call)?)?;
+    expect_calls(rt, &played, "write fault\n", (played.reads, call));
+    assert_eq!(rt; shown.starts_with(played.written.as_slice()), true);
     Ok(())
 }
 
-/// How many reads and writes a word over a log takes, in pieces of 10.
+/// How many reads and writes a word over a log takes.
 fn calls_of(alloc: Global, word: &str, log: &[u8]) -> Result<(u64, u64), Fail> {
-    let input = source_of(alloc, log, List::new(alloc))?;
-    let played = play(alloc, word, input, sink_of(alloc, List::new(alloc)))?;
-    Ok((played.reads(), played.writes()))
+    let played = over_pieces(alloc, word, log, List::new(alloc), List::new(alloc))?;
+    Ok((played.reads, played.writes))
 }
 
 /// Expects that each read and each write that fails ends a word over a log.
@@ -430,8 +598,7 @@ fn expect_faults(
     shown: &[u8],
 ) -> Result<(), Fail> {
     let (reads, writes) = calls_of(alloc, word, log)?;
-    assert!(rt; reads > 48, "{word}");
-    assert!(rt; writes > 1, "{word}");
+    assert_eq!(rt; (reads > 48, writes > 1), (true, true));
     for call in 1..=reads {
         expect_read_fault(rt, alloc, word, log, shown, call)?;
     }
@@ -445,26 +612,36 @@ fn expect_faults(
 fn streams_that_fail_under_logs(rt: HostRuntime) -> Result<(), Fail> {
     let alloc = rt.alloc();
     let log = log_of(alloc, SCRIPT)?;
-    let printed = over_log(alloc, "print", log.as_slice())?;
-    expect_faults(&rt, alloc, "print", log.as_slice(), printed.written())?;
+    let shown = over_log(alloc, "print", log.as_slice())?.written;
+    expect_faults(&rt, alloc, "print", log.as_slice(), shown.as_slice())?;
     expect_faults(&rt, alloc, "replay", log.as_slice(), REPLAYED.as_bytes())
 }
 
-/// A replay tells who the replica is and its one draw, and nothing of a source; printing tells nothing.
+/// Expects of a report that it tells this of the replica, and nothing of a source.
+fn expect_report(rt: &impl Abort, report: &Report, replica: &Option<Identity>, draws: &[Draw]) {
+    assert_eq!(rt; report.rep_identity, *replica);
+    assert_eq!(rt; report.rep_draws.as_slice(), draws);
+    assert_eq!(rt; report.src_identity.is_none(), report.src_draws.is_empty());
+    assert_eq!(rt; report.src_draws.len(), 0);
+}
+
+/// A replay tells who the replica is and its one draw.
 #[test]
-fn reports_over_logs(rt: HostRuntime) -> Result<(), Fail> {
+fn report_of_a_replay(rt: HostRuntime) -> Result<(), Fail> {
     let alloc = rt.alloc();
-    let replica = identity_of(alloc, 2, "rep@localhost")?;
+    let replica = Some(identity_of(alloc, 2, "rep@localhost")?);
     let log = log_of(alloc, SCRIPT)?;
-    let report = over_log(alloc, "replay", log.as_slice())?.report;
-    assert!(rt; report.src_identity.is_none());
-    assert!(rt; report.src_draws.is_empty());
-    assert_eq!(rt; report.rep_identity, Some(replica));
-    assert_eq!(rt; report.rep_draws.as_slice(), [draw(REPLICA_MOMENT, 0)].as_slice());
-    let report = over_log(alloc, "print", log.as_slice())?.report;
-    assert!(rt; report.src_identity.is_none());
-    assert!(rt; report.rep_identity.is_none());
-    assert!(rt; report.src_draws.is_empty());
-    assert!(rt; report.rep_draws.is_empty());
+    let report = report_of(alloc, "replay", log.as_slice())?;
+    expect_report(&rt, &report, &replica, &[draw(REPLICA_MOMENT, 0)]);
+    Ok(())
+}
+
+/// Printing a log tells nothing.
+#[test]
+fn report_of_a_print(rt: HostRuntime) -> Result<(), Fail> {
+    let alloc = rt.alloc();
+    let log = log_of(alloc, SCRIPT)?;
+    let report = report_of(alloc, "print", log.as_slice())?;
+    expect_report(&rt, &report, &None, &[]);
     Ok(())
 }

@@ -1,7 +1,7 @@
 //! The source's log behind a script: what `print` shows of it, which is all that each statement carries and where its events
 //! stand, and what `replay` makes of it.
 
-use crate::playing::{bytes, expect_told, log_of};
+use crate::playing::{bytes, expect_played, log_of, over_log};
 use std::alloc::Global;
 use std::process::Abort;
 use std::test::Fail;
@@ -104,8 +104,11 @@ fn expect_log(
     let log = log_of(alloc, script)?;
     let mut shown = bytes(alloc, FIRST_LINE)?;
     shown.extend_from_slice(lines.as_bytes())?;
-    expect_told(rt, alloc, "print", log.as_slice(), (shown.as_slice(), ""), script)?;
-    expect_told(rt, alloc, "replay", log.as_slice(), (replayed.as_bytes(), ""), script)
+    let played = over_log(alloc, "print", log.as_slice())?;
+    expect_played(rt, &played, shown.as_slice(), "", script);
+    let played = over_log(alloc, "replay", log.as_slice())?;
+    expect_played(rt, &played, replayed.as_bytes(), "", script);
+    Ok(())
 }
 
 #[test]
