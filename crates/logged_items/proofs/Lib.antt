@@ -2,4 +2,4 @@ pub mod Naming
 pub mod Parts
 pub mod Fitting
 pub mod Encoding
-pub mod Texts
+pub mod Forms

@@ -1,5 +1,5 @@
 //! Whether a log can carry an item by its text.
-ghost use Rattle.std.specs.Prelude.{◌<◌, ◌≤◌, ◌^◌, IfSome};
+ghost use Rattle.std.specs.Prelude.{◌<◌, ◌≤◌, ◌^◌, FitsSigned, IfSome};
 ghost use Rattle.std.specs.Bool.{OnTrue};
 ghost use Rattle.std.specs.Int.{w64, cast_unsigned};
 ghost use Rattle.std.specs.Option.{option_map};
@@ -42,14 +42,19 @@ fn are_steps(increment: u16, offset: u16) -> bool
     increment >= 1 && offset >= 1
 }
 
+/// A fact of a number: it has 64 bits.
+fn is_number(number: i64)
+    ensures { FitsSigned w64 number }
+{
+    let _ = number;
+}
+
 /// A fact of a value: an integer has 64 bits.
 fn has_width(value: &Value)
     ensures { FitsValue value.now }
 {
     match value {
-        Value::Int(number) => {
-            let _ = *number;
-        }
+        Value::Int(number) => is_number(*number),
         Value::Null | Value::Text(_) => {}
     }
 }

@@ -1,16 +1,16 @@
 -- The events of a text have the forms of their kinds.
-use Rattle.std.proofs.Common.{◌≡◌, ℕ, ◌+◌, ◌<◌, ◌≤◌, ◌^◌, zero, suc, Bool, true, false, List, [], ◌∷◌, length, drop, Option, Some, None, if◌then◌else◌, refl, sym, ap, subst, arith}
+use Rattle.std.proofs.Common.{◌≡◌, ℕ, ◌+◌, ◌<◌, ◌≤◌, ◌^◌, zero, suc, Bool, true, false, List, [], ◌∷◌, drop, Option, Some, None, if◌then◌else◌, subst, arith}
 use Rattle.std.specs.Prelude.{◌==◌, ◌&&◌, IfSome, slice_get}
 use Rattle.std.specs.Int.{w64, cast_unsigned}
 use Rattle.std.specs.Option.{option_map}
 use Rattle.val_types.specs.declared.value.Value.{Value}
 use Rattle.event_codec.specs.declared.event.IntVarKind.TheVariants.{LastInsertId, InsertId}
 use Rattle.event_codec.specs.declared.event.Step.{Step}
-use Rattle.event_codec.specs.Event.{Body, int_var, query, rand, user_var}
+use Rattle.event_codec.specs.Event.{Body, int_var, query, rand}
 use Rattle.event_codec.specs.Laws.{Fits, FitsValue}
 use Rattle.event_codec.specs.Writing.{HasForm}
 use Rattle.log_entries.specs.declared.carried.Carried.{Carried}
-use Rattle.log_model.specs.Items.{query_of, step_of, text_of}
+use Rattle.log_model.specs.Items.{query_of, text_of}
 use Rattle.log_model.specs.Spelling.{bodies_of, some_of, vars_before}
 use Rattle.logged_items.specs.Logged.{AreValues, HaveForms}
 
@@ -28,12 +28,6 @@ none_behind [] zero e = tt
 none_behind [] (suc place) e = tt
 none_behind (w ∷ vs) zero e = cc
 none_behind (w ∷ vs) (suc place) e = none_behind vs place e
-
-pub all_behind : (vs : List (List ℕ × Value)) (place : ℕ) → length vs ≤ place → AreValues (drop place vs)
-all_behind [] zero few = tt
-all_behind [] (suc place) few = tt
-all_behind (w ∷ vs) zero few = absurd (omega (arith, few))
-all_behind (w ∷ vs) (suc place) few = all_behind vs place (omega (arith, few))
 
 -- ---- the events of a text
 
