@@ -31,71 +31,77 @@ use Rattle.sql_reach.specs.Reach.{is_definition}
 use Rattle.session_model.specs.Answers.{ok, refused, refused_at}
 use Rattle.session_model.specs.Sessions.{Save, Open, just_opened, Session, Shared}
 use Rattle.session_model.specs.Running.{Call, Fuel, Turn, Given, is_other, released, items_of, commit_shared, commit_entries, commit_open, keep, made_behind, with_counters, scene_for, settle, ended, item_of, fuel_of, with_context, full, statement_run, expressions_run, setting_of, lock_refusal, writing_refusal, kept_entries, kept_shared, takes_too_much, undone}
-use Rattle.session_model.specs.Commands.{answered, unless_refused, begin_turn, commit_turn, rollback_turn, is_save_of, saves_but, changes_of_own, saved, save_turn, cut_back, back_to_save, back_in, back_turn, release_in, with_answer, defined_turn, made_turn, unless_answered, define_turn, definition_turn, assign_unless, first_refused, set_by, set_expressions, set_turn, code_answer, is_too_long, call_turn, plain_turn, definition_entry}
-use Rattle.session_model.specs.Machine.{Whole, whole, statement_turn, text_turn, at_work, with_count, session_slots, step}
-use Rattle.session_model.specs.Holding.{changes_of, define, changes_in, holds_lock, SavesFrom, Owns, SharedHolds, transaction_of, RunsBegin, RunsGoOn, AreOne, IsMade, RunsOpen}
+use Rattle.session_model.specs.Commands.{answered, unless_refused, begin_turn, commit_turn, rollback_turn, is_save_of, saves_but, changes_of_own, saved, save_turn, cut_back, back_to_save, back_in, back_turn, release_in, with_answer, defined_turn, made_turn, unless_answered, define_turn, definition_turn, assign_unless, first_refused, is_open, set_by, set_expressions, set_turn, code_answer, is_too_long, call_turn, plain_turn, definition_entry}
+use Rattle.session_model.specs.Formats.{first_format, is_by_rows}
+use Rattle.session_model.specs.declared.format.Format.{Format}
+use Rattle.session_model.specs.Machine.{Whole, whole, Machine, statement_turn, text_turn, at_work, with_count, session_slots, step}
+use Rattle.session_model.specs.Holding.{changes_of, define, changes_in, holds_lock, SavesFrom, Owns, SharedHolds, format_of, transaction_of, session_at, Beginning, Holds, RunsBegin, RunsGoOn, FormatsDecide, AreIn, AreOne, EntriesIn, IsMade, RunsOpen}
 use Rattle.session_model.proofs.Saving.{none_made, front_made, cut_changes, saves_more, saves_set, saves_without, saves_cut, found_holds}
-use Rattle.session_model.proofs.Logging.{Logged, logged_on, no_entry, none_one, front_one, more_one}
+use Rattle.session_model.proofs.Assigning.{all_owned}
+use Rattle.session_model.proofs.Logging.{Logged, logged_on, no_entry, none_one, front_one, more_one, in_behind, front_in, more_in}
 use Rattle.session_model.proofs.Owning.{same_number, held_not_other, other_not_held, not_both, none_taken, Frame, Left, nothing_done, no_changes, own_changes, closed_owns, entry_made, released_left, must_own, not_other_own, one_item, made_kept, counters_hold, counters_owned, from_counters, free_to_write}
 use Rattle.port_traits.specs.declared.identity.Identity.{Identity}
 use Rattle.port_traits.specs.declared.identity.Draw.{Draw}
 
 -- ---- the commands of a session
 
-module _ (identity : Identity) (draw : Draw) (number : ℕ) where
+module _ (P : Type 0) (identity : Identity) (draw : Draw) (number : ℕ) where
   abbrev call : Call Whole
   call = record { identity = identity; draw = draw; number = number; known = whole }
 
   -- the transaction of some items is committed
-  committed_left : (context : Context) (shared : Shared) (t : Option (Open Whole)) (i : Whole) (is : List Whole) → SharedHolds shared → Owns number shared t → items_of t ≡ i ∷ is
-      → Left number shared (released number (commit_shared call context (i ∷ is) shared)) None (commit_entries call context (i ∷ is))
-  committed_left context shared t i is h o e =
-      let l = must_own number shared i is t o e in
+  committed_left : (context : Context) (shared : Shared) (format : Format) (t : Option (Open Whole)) (i : Whole) (is : List Whole) → SharedHolds shared → Owns number shared format t → items_of t ≡ i ∷ is
+      → Left P number shared (released number (commit_shared call context (i ∷ is) shared)) format format None (commit_entries call context (i ∷ is))
+  committed_left context shared format t i is h o e =
+      let l = must_own number shared format i is t o e in
       let q = held_not_other number shared.writer l in
       let new : Shared = commit_shared call context (i ∷ is) shared in
-      subst (λ (b : Bool). Left number shared (cond b new (record new { writer = None })) None (commit_entries call context (i ∷ is))) (sym q)
+      subst (λ (b : Bool). Left P number shared (cond b new (record new { writer = None })) format format None (commit_entries call context (i ∷ is))) (sym q)
       (record {
         holds = record { free = λ _. refl; makes = none_made _ };
-        own = closed_owns number (record new { writer = None }) refl;
+        own = closed_owns number (record new { writer = None }) format refl;
         entries = entry_made context.stamp identity.server_id (i ∷ is) shared.base shared.changes (o.own l ∙ ap changes_in e) h.makes;
-        log = record { count = refl; place = refl; made = ((omega arith, subst AreOne e o.one), tt) };
+        log = record { count = refl; place = refl; made = λ _. ((omega arith, subst AreOne e o.one), tt) };
+        formats = (subst (AreIn format) e o.formats, tt);
         frame = inr (q, refl);
       })
 
-  commit_in : (context : Context) (shared : Shared) (t : Option (Open Whole)) (is : List Whole) → SharedHolds shared → Owns number shared t → items_of t ≡ is
-      → Left number shared (released number (commit_shared call context is shared)) None (commit_entries call context is)
-  commit_in context shared t [] h o e = released_left number shared t h o e (is_other number shared.writer) refl
-  commit_in context shared t (i ∷ is) h o e = committed_left context shared t i is h o e
+  commit_in : (context : Context) (shared : Shared) (format : Format) (t : Option (Open Whole)) (is : List Whole) → SharedHolds shared → Owns number shared format t → items_of t ≡ is
+      → Left P number shared (released number (commit_shared call context is shared)) format format None (commit_entries call context is)
+  commit_in context shared format t [] h o e = released_left P number shared format t h o e (is_other number shared.writer) refl
+  commit_in context shared format t (i ∷ is) h o e = committed_left context shared format t i is h o e
 
-  commit_left : (shared : Shared) (session : Session Whole) → SharedHolds shared → Owns number shared session.transaction
-      → Left number shared (commit_open call shared session).shared None (commit_open call shared session).committed
-  commit_left shared session h o = commit_in session.vars.context shared session.transaction (items_of session.transaction) h o refl
+  commit_left : (shared : Shared) (session : Session Whole) → SharedHolds shared → Owns number shared session.format session.transaction
+      → Left P number shared (commit_open call shared session).shared session.format session.format None (commit_open call shared session).committed
+  commit_left shared session h o = commit_in session.vars.context shared session.format session.transaction (items_of session.transaction) h o refl
 
   -- ---- a statement's changes kept
 
-  kept_alone : (context : Context) (item : Whole) (scene : Scene) (shared : Shared) (cs : List Change) → SharedHolds shared → shared.changes ≡ [] → is_other number shared.writer ≡ false
-      → changes_of item ≡ cs → scene.changes ≡ cs → is_some (all_applied cs shared.base.tables) ≡ true → AreOne (item ∷ [])
-      → Left number shared (kept_shared call context item None scene shared) None (kept_entries call context item None)
-  kept_alone context item scene shared cs h none q e f m one = record {
+  kept_alone : (format : Format) (context : Context) (item : Whole) (scene : Scene) (shared : Shared) (cs : List Change) → SharedHolds shared → shared.changes ≡ [] → is_other number shared.writer ≡ false
+      → changes_of item ≡ cs → scene.changes ≡ cs → is_some (all_applied cs shared.base.tables) ≡ true → AreOne (item ∷ []) → AreIn format (item ∷ [])
+      → Left P number shared (kept_shared call context item None scene shared) format format None (kept_entries call context item None)
+  kept_alone format context item scene shared cs h none q e f m one is_in = record {
     holds = record { free = λ _. refl; makes = none_made _ };
-    own = closed_owns number (kept_shared call context item None scene shared) refl;
+    own = closed_owns number (kept_shared call context item None scene shared) format refl;
     entries = entry_made context.stamp identity.server_id (item ∷ []) shared.base scene.changes (f ∙ sym (one_item item cs e)) (ap (λ (ds : List Change). is_some (all_applied ds shared.base.tables)) f ∙ m);
-    log = record { count = refl; place = refl; made = ((omega arith, one), tt) };
+    log = record { count = refl; place = refl; made = λ _. ((omega arith, one), tt) };
+    formats = (is_in, tt);
     frame = inr (q, q);
   }
 
-  kept_behind : (item : Whole) (scene : Scene) (shared : Shared) (open' : Open Whole) (cs : List Change) → SharedHolds shared → Owns number shared (Some open')
-      → is_other number shared.writer ≡ false → changes_of item ≡ cs → scene.changes ≡ shared.changes ++ cs → is_some (all_applied (shared.changes ++ cs) shared.base.tables) ≡ true → AreOne (open'.items ++ item ∷ [])
-      → Left number shared (record shared { changes = scene.changes; writer = Some number }) (Some (record { items = open'.items ++ item ∷ []; saves = open'.saves; changed = true })) []
-  kept_behind item scene shared open' cs h o q e f m one =
-      let own = own_changes number shared (Some open') h o q in
+  kept_behind : (format : Format) (item : Whole) (scene : Scene) (shared : Shared) (open' : Open Whole) (cs : List Change) → SharedHolds shared → Owns number shared format (Some open')
+      → is_other number shared.writer ≡ false → changes_of item ≡ cs → scene.changes ≡ shared.changes ++ cs → is_some (all_applied (shared.changes ++ cs) shared.base.tables) ≡ true → AreOne (open'.items ++ item ∷ []) → AreIn format (open'.items ++ item ∷ [])
+      → Left P number shared (record shared { changes = scene.changes; writer = Some number }) format format (Some (record { items = open'.items ++ item ∷ []; saves = open'.saves; changed = true })) []
+  kept_behind format item scene shared open' cs h o q e f m one is_in =
+      let own = own_changes number shared format (Some open') h o q in
       let all : scene.changes ≡ changes_in (open'.items ++ item ∷ []) =
       f ∙ (ap (λ (ds : List Change). ds ++ cs) own ∙ (ap (λ (ds : List Change). changes_in open'.items ++ ds) (sym (one_item item cs e)) ∙ sym (flat_map-append changes_of open'.items (item ∷ [])))) in
       record {
         holds = record { free = λ none. absurd (not_free none); makes = ap (λ (ds : List Change). is_some (all_applied ds shared.base.tables)) f ∙ m };
-        own = record { own = λ _. all; none = λ l. absurd (not_lost l); saves = saves_more open'.items (item ∷ []) 0 open'.saves o.saves; one = one };
+        own = record { own = λ _. all; none = λ l. absurd (not_lost l); saves = saves_more open'.items (item ∷ []) 0 open'.saves o.saves; one = one; formats = is_in };
         entries = refl;
         log = no_entry shared.committed shared.place;
+        formats = tt;
         frame = inr (q, not_other_own number);
       }
     where
@@ -108,94 +114,98 @@ module _ (identity : Identity) (draw : Draw) (number : ℕ) where
       not_lost : holds_lock number (Some number) ≡ false → ⊥
       not_lost l = differ (same_number number) l
 
-  keep_left : {A : Type 0} (item : Whole) (scene : Scene) (shared : Shared) (vars : SessionVars) (t : Option (Open Whole)) (a : A) (cs : List Change) → SharedHolds shared
-      → Owns number shared t → is_other number shared.writer ≡ false → changes_of item ≡ cs → scene.changes ≡ shared.changes ++ cs → is_some (all_applied (shared.changes ++ cs) shared.base.tables) ≡ true
-      → AreOne (items_of t ++ item ∷ [])
-      → let turn : Turn Whole A = keep call item scene shared (record { vars = vars; transaction = t }) a in Left number shared turn.shared turn.session.transaction turn.committed
-  keep_left item scene shared vars None a cs h o q e f m one =
-      let none = no_changes number shared None h o q refl in
+  keep_left : {A : Type 0} (item : Whole) (scene : Scene) (shared : Shared) (vars : SessionVars) (format : Format) (t : Option (Open Whole)) (a : A) (cs : List Change) → SharedHolds shared
+      → Owns number shared format t → is_other number shared.writer ≡ false → changes_of item ≡ cs → scene.changes ≡ shared.changes ++ cs → is_some (all_applied (shared.changes ++ cs) shared.base.tables) ≡ true
+      → AreOne (items_of t ++ item ∷ []) → AreIn format (items_of t ++ item ∷ [])
+      → let turn : Turn Whole A = keep call item scene shared (record { vars = vars; format = format; transaction = t }) a in Left P number shared turn.shared format turn.session.format turn.session.transaction turn.committed
+  keep_left item scene shared vars format None a cs h o q e f m one is_in =
+      let none = no_changes number shared format None h o q refl in
       let only : shared.changes ++ cs ≡ cs = ap (λ (ds : List Change). ds ++ cs) none in
-      kept_alone vars.context item scene shared cs h none q e (f ∙ only) (ap (λ (ds : List Change). is_some (all_applied ds shared.base.tables)) (sym only) ∙ m) one
-  keep_left item scene shared vars (Some open') a cs h o q e f m one = kept_behind item scene shared open' cs h o q e f m one
+      kept_alone format vars.context item scene shared cs h none q e (f ∙ only) (ap (λ (ds : List Change). is_some (all_applied ds shared.base.tables)) (sym only) ∙ m) one is_in
+  keep_left item scene shared vars format (Some open') a cs h o q e f m one is_in = kept_behind format item scene shared open' cs h o q e f m one is_in
 
   -- ---- a statement's end
 
-  -- the item of some changes has these, and a statement made it
-  abbrev MakesItems : (List Change → Whole) → Type 0
-  MakesItems item = (c : Change) (cs : List Change) → (changes_of (item (c ∷ cs)) ≡ c ∷ cs) × IsMade (item (c ∷ cs))
+  -- the item of some changes has these, a statement made it, and it is logged in a format
+  abbrev MakesItems : Format → (List Change → Whole) → Type 0
+  MakesItems format item = (c : Change) (cs : List Change) → (changes_of (item (c ∷ cs)) ≡ c ∷ cs) × IsMade (item (c ∷ cs)) × ((item (c ∷ cs)).kept.rows ≡ is_by_rows format)
 
   settle_left : {A : Type 0} (item : List Change → Whole) (made : List Change) (scene : Scene) (shared : Shared) (session : Session Whole) (given : Given A) (refusal : Turn Whole (Given A))
-      → MakesItems item → SharedHolds shared → Owns number shared session.transaction → Left number shared refusal.shared refusal.session.transaction refusal.committed
+      → MakesItems session.format item → SharedHolds shared → Owns number shared session.format session.transaction → Left P number shared refusal.shared session.format refusal.session.format refusal.session.transaction refusal.committed
       → ((c : Change) (cs : List Change) → made ≡ c ∷ cs
       → (is_other number shared.writer ≡ false) × (scene.changes ≡ shared.changes ++ made) × (is_some (all_applied (shared.changes ++ made) shared.base.tables) ≡ true))
-      → let turn : Turn Whole (Given A) = settle call item made scene shared session given refusal in Left number shared turn.shared turn.session.transaction turn.committed
-  settle_left item [] scene shared session given refusal makes h o taken some = nothing_done number shared session.transaction h o
+      → let turn : Turn Whole (Given A) = settle call item made scene shared session given refusal in Left P number shared turn.shared session.format turn.session.format turn.session.transaction turn.committed
+  settle_left item [] scene shared session given refusal makes h o taken some = nothing_done P number shared session.format session.format session.transaction h o
   settle_left {A = A} item (c ∷ cs) scene shared session given refusal makes h o taken some = by (takes_too_much call session.transaction (item (c ∷ cs))) refl
     where
       by : (b : Bool) → takes_too_much call session.transaction (item (c ∷ cs)) ≡ b
-          → let turn : Turn Whole (Given A) = cond b refusal (keep call (item (c ∷ cs)) scene shared session given) in Left number shared turn.shared turn.session.transaction turn.committed
+          → let turn : Turn Whole (Given A) = cond b refusal (keep call (item (c ∷ cs)) scene shared session given) in Left P number shared turn.shared session.format turn.session.format turn.session.transaction turn.committed
       by true q = taken
       by false q =
           let k = some c cs refl in
           let m = makes c cs in
-          keep_left (item (c ∷ cs)) scene shared session.vars session.transaction given (c ∷ cs) h o k.0 m.0 k.1 k.2
-          (more_one (items_of session.transaction) (item (c ∷ cs)) o.one m.1 q)
+          keep_left (item (c ∷ cs)) scene shared session.vars session.format session.transaction given (c ∷ cs) h o k.0 m.0 k.1 k.2
+          (more_one (items_of session.transaction) (item (c ∷ cs)) o.one m.1 q) (more_in session.format (items_of session.transaction) (item (c ∷ cs)) o.formats m.2)
 
   ended_left : {A : Type 0} (fuel : Fuel) (text : List ℕ) (tree : Statement) (shared : Shared) (session : Session Whole) (first last_id : A → Option ℤ) (e : Ending A)
-      → SharedHolds shared → Owns number shared session.transaction → EndsWell (scene_for number fuel session.vars.context shared) e
+      → SharedHolds shared → Owns number shared session.format session.transaction → EndsWell (scene_for number fuel session.vars.context shared) e
       → let turn : Turn Whole (Given A) = ended call fuel text tree shared session first last_id (scene_for number fuel session.vars.context shared) e in
-      Left number shared turn.shared turn.session.transaction turn.committed
+      Left P number shared turn.shared session.format turn.session.format turn.session.transaction turn.committed
   ended_left {A = A} fuel text tree shared session first last_id e h o ends = by e ends
     where
       -- nothing but counters
-      taken_back : (scene : Scene) → Left number (with_counters scene shared) (with_counters scene shared) session.transaction []
-      taken_back scene = nothing_done number (with_counters scene shared) session.transaction (counters_hold scene shared h) (counters_owned number scene shared session.transaction o)
+      taken_back : (scene : Scene) → Left P number (with_counters scene shared) (with_counters scene shared) session.format session.format session.transaction []
+      taken_back scene =
+          nothing_done P number (with_counters scene shared) session.format session.format session.transaction (counters_hold scene shared h)
+          (counters_owned number scene shared session.format session.transaction o)
 
       by : (e : Ending A) → EndsWell (scene_for number fuel session.vars.context shared) e
           → let turn : Turn Whole (Given A) = ended call fuel text tree shared session first last_id (scene_for number fuel session.vars.context shared) e in
-          Left number shared turn.shared turn.session.transaction turn.committed
+          Left P number shared turn.shared session.format turn.session.format turn.session.transaction turn.committed
       by (done a scene) ends =
-          from_counters number scene shared _ _ _
-          (settle_left (item_of call fuel text tree session.vars.context shared (first a)) (made_behind (is_other number shared.writer) (scene_for number fuel session.vars.context shared) scene)
+          from_counters P number scene shared _ _ _ _ _
+          (settle_left (item_of call session.format fuel text tree session.vars.context shared (first a)) (made_behind (is_other number shared.writer) (scene_for number fuel session.vars.context shared) scene)
           scene (with_counters scene shared) (with_context (context_after session.vars.context tree scene.seeds (last_id a)) session) (record { result = Ok a; fuel = fuel_of scene })
-          (undone 1197 tree shared session scene) (λ c cs. (refl, record { rows = refl; defs = refl; some = omega arith }))
-          (counters_hold scene shared h) (counters_owned number scene shared session.transaction o) (taken_back scene)
+          (undone 1197 tree shared session scene) (λ c cs. (refl, record { defs = refl; some = omega arith }, refl))
+          (counters_hold scene shared h) (counters_owned number scene shared session.format session.transaction o) (taken_back scene)
           (λ c cs q. let k = made_kept number fuel session.vars.context shared scene h (is_other number shared.writer) refl ends c cs q in k))
-      by (failed code scene) ends = from_counters number scene shared _ _ _ (taken_back scene)
+      by (failed code scene) ends = from_counters P number scene shared _ _ _ _ _ (taken_back scene)
 
   -- ---- one command
 
-  abbrev TurnLeft : {A : Type 0} → ℕ → Shared → Turn Whole A → Type 0
-  TurnLeft n shared t = Left n shared t.shared t.session.transaction t.committed
+  abbrev TurnLeft : {A : Type 0} → ℕ → Shared → Format → Turn Whole A → Type 0
+  TurnLeft n shared format t = Left P n shared t.shared format t.session.format t.session.transaction t.committed
 
-  module _ (shared : Shared) (session : Session Whole) (h : SharedHolds shared) (o : Owns number shared session.transaction) where
-    same_left : (answer : Answer) → TurnLeft number shared (answered answer shared session)
-    same_left answer = nothing_done number shared session.transaction h o
+  module _ (shared : Shared) (session : Session Whole) (h : SharedHolds shared) (o : Owns number shared session.format session.transaction) where
+    same_left : (answer : Answer) → TurnLeft number shared session.format (answered answer shared session)
+    same_left answer = nothing_done P number shared session.format session.format session.transaction h o
 
-    unless_left : (refusal : Option Answer) (t : Turn Whole Answer) → TurnLeft number shared t → TurnLeft number shared (unless_refused refusal shared session t)
+    unless_left : (refusal : Option Answer) (t : Turn Whole Answer) → TurnLeft number shared session.format t → TurnLeft number shared session.format (unless_refused refusal shared session t)
     unless_left None t l = l
     unless_left (Some answer) t l = same_left answer
 
-    long_left : (b : Bool) (answer : Answer) (t : Turn Whole Answer) → TurnLeft number shared t → TurnLeft number shared (cond b (answered answer shared session) t)
+    long_left : (b : Bool) (answer : Answer) (t : Turn Whole Answer) → TurnLeft number shared session.format t → TurnLeft number shared session.format (cond b (answered answer shared session) t)
     long_left true answer t l = same_left answer
     long_left false answer t l = l
 
     -- a transaction that is opened has no item
-    opened_left : (new : Shared) (es : List (Entry Whole)) → Left number shared new None es → Left number shared new (Some just_opened) es
-    opened_left new es l = record { holds = l.holds; own = record { own = l.own.own; none = l.own.none; saves = omega arith; one = none_one }; entries = l.entries; log = l.log; frame = l.frame }
+    opened_left : (new : Shared) (format : Format) (es : List (Entry Whole)) → Left P number shared new format format None es → Left P number shared new format format (Some just_opened) es
+    opened_left new format es l =
+        record { holds = l.holds; own = record { own = l.own.own; none = l.own.none; saves = omega arith; one = none_one; formats = tt }; entries = l.entries; log = l.log; formats = l.formats; frame = l.frame }
 
-    begin_left : TurnLeft number shared (begin_turn call shared session)
-    begin_left = opened_left _ _ (commit_left shared session h o)
+    begin_left : TurnLeft number shared session.format (begin_turn call shared session)
+    begin_left = opened_left _ _ _ (commit_left shared session h o)
 
-    commit_turn_left : TurnLeft number shared (commit_turn call shared session)
+    commit_turn_left : TurnLeft number shared session.format (commit_turn call shared session)
     commit_turn_left = commit_left shared session h o
 
-    dropped_by : (b : Bool) → is_other number shared.writer ≡ b → Left number shared (cond b shared (record shared { changes = []; writer = None })) None []
+    dropped_by : (b : Bool) → is_other number shared.writer ≡ b → Left P number shared (cond b shared (record shared { changes = []; writer = None })) session.format session.format None []
     dropped_by true q = record {
       holds = h;
-      own = record { own = λ l. absurd (differ (other_not_held number shared.writer q) l); none = λ _. refl; saves = omega arith; one = none_one };
+      own = record { own = λ l. absurd (differ (other_not_held number shared.writer q) l); none = λ _. refl; saves = omega arith; one = none_one; formats = tt };
       entries = refl;
       log = no_entry shared.committed shared.place;
+      formats = tt;
       frame = inl (refl, refl);
     }
       where
@@ -203,51 +213,53 @@ module _ (identity : Identity) (draw : Draw) (number : ℕ) where
         differ p r = cc
     dropped_by false q = record {
       holds = record { free = λ _. refl; makes = none_made _ };
-      own = closed_owns number (record shared { changes = []; writer = None }) refl;
+      own = closed_owns number (record shared { changes = []; writer = None }) session.format refl;
       entries = refl;
       log = no_entry shared.committed shared.place;
+      formats = tt;
       frame = inr (q, refl);
     }
 
-    rollback_left : TurnLeft number shared (rollback_turn call shared session)
+    rollback_left : TurnLeft number shared session.format (rollback_turn call shared session)
     rollback_left = dropped_by (is_other number shared.writer) refl
 
     -- ---- savepoints
     own_count : (b : Bool) → is_other number shared.writer ≡ b → cond b 0 (length shared.changes) ≡ length (changes_in (items_of session.transaction))
     own_count true q = ap (λ (is : List Whole). length (changes_in is)) (sym (o.none (other_not_held number shared.writer q)))
-    own_count false q = ap length (own_changes number shared session.transaction h o q)
+    own_count false q = ap length (own_changes number shared session.format session.transaction h o q)
 
-    with_saves : (open' : Open Whole) (ss : List Save) → Owns number shared (Some open') → SavesFrom open'.items 0 ss → Owns number shared (Some (record open' { saves = ss }))
-    with_saves open' ss p q = record { own = p.own; none = p.none; saves = q; one = p.one }
+    with_saves : (open' : Open Whole) (ss : List Save) → Owns number shared session.format (Some open') → SavesFrom open'.items 0 ss → Owns number shared session.format (Some (record open' { saves = ss }))
+    with_saves open' ss p q = record { own = p.own; none = p.none; saves = q; one = p.one; formats = p.formats }
 
-    save_by : (name : List ℕ) (t : Option (Open Whole)) → Owns number shared t → changes_of_own number shared ≡ length (changes_in (items_of t))
-        → Owns number shared (option_map (saved name (changes_of_own number shared)) t)
+    save_by : (name : List ℕ) (t : Option (Open Whole)) → Owns number shared session.format t → changes_of_own number shared ≡ length (changes_in (items_of t))
+        → Owns number shared session.format (option_map (saved name (changes_of_own number shared)) t)
     save_by name None p e = p
     save_by name (Some open') p e =
         with_saves open' (saves_but name open'.saves ++ record { name = name; items = length open'.items; changes = changes_of_own number shared } ∷ []) p
         (saves_set open'.items 0 (saves_but name open'.saves) name (changes_of_own number shared) e (saves_without open'.items 0 open'.saves name p.saves))
 
-    save_left : (name : List ℕ) → TurnLeft number shared (save_turn call name shared session)
+    save_left : (name : List ℕ) → TurnLeft number shared session.format (save_turn call name shared session)
     save_left name =
-        nothing_done number shared (option_map (saved name (changes_of_own number shared)) session.transaction) h
+        nothing_done P number shared session.format session.format (option_map (saved name (changes_of_own number shared)) session.transaction) h
         (save_by name session.transaction o (own_count (is_other number shared.writer) refl))
 
-    cut_by : (name : List ℕ) (open' : Open Whole) (save : Save) → Owns number shared (Some open') → find (is_save_of name) open'.saves ≡ Some save → (b : Bool) → is_other number shared.writer ≡ b
-        → Left number shared (cond b shared (record shared { changes = take save.changes shared.changes })) (Some (cut_back name save open')) []
+    cut_by : (name : List ℕ) (open' : Open Whole) (save : Save) → Owns number shared session.format (Some open') → find (is_save_of name) open'.saves ≡ Some save → (b : Bool) → is_other number shared.writer ≡ b
+        → Left P number shared (cond b shared (record shared { changes = take save.changes shared.changes })) session.format session.format (Some (cut_back name save open')) []
     cut_by name open' save p e true q =
         let empty = p.none (other_not_held number shared.writer q) in
-        nothing_done number shared (Some (cut_back name save open')) h
+        nothing_done P number shared session.format session.format (Some (cut_back name save open')) h
         (record {
           own = λ l. absurd (differ (other_not_held number shared.writer q) l);
           none = λ _. none_taken save.items open'.items empty;
           saves = saves_cut open'.items 0 open'.saves name save p.saves e;
           one = front_one save.items open'.items p.one;
+          formats = front_in session.format save.items open'.items p.formats;
         })
       where
         differ : {b : Bool} → b ≡ false → b ≡ true → ⊥
         differ p r = cc
     cut_by name open' save p e false q =
-        let own = own_changes number shared (Some open') h p q in
+        let own = own_changes number shared session.format (Some open') h p q in
         let counts = (found_holds open'.items 0 open'.saves name save p.saves e).1 in
         let cut : take save.changes shared.changes ≡ changes_in (take save.items open'.items) =
         ap (λ (k : ℕ). take k shared.changes) counts ∙ (ap (take (length (changes_in (take save.items open'.items)))) own ∙ cut_changes save.items open'.items) in
@@ -258,31 +270,33 @@ module _ (identity : Identity) (draw : Draw) (number : ℕ) where
             none = λ l. none_taken save.items open'.items (p.none l);
             saves = saves_cut open'.items 0 open'.saves name save p.saves e;
             one = front_one save.items open'.items p.one;
+            formats = front_in session.format save.items open'.items p.formats;
           };
           entries = refl;
           log = no_entry shared.committed shared.place;
+          formats = tt;
           frame = inr (q, q);
         }
 
-    found_by : (name : List ℕ) (open' : Open Whole) (found : Option Save) → Owns number shared (Some open') → session.transaction ≡ Some open' → find (is_save_of name) open'.saves ≡ found
-        → TurnLeft number shared (back_to_save call name open' found shared session)
+    found_by : (name : List ℕ) (open' : Open Whole) (found : Option Save) → Owns number shared session.format (Some open') → session.transaction ≡ Some open' → find (is_save_of name) open'.saves ≡ found
+        → TurnLeft number shared session.format (back_to_save call name open' found shared session)
     found_by name open' None p e q = same_left (refused 1305)
     found_by name open' (Some save) p e q = cut_by name open' save p q (is_other number shared.writer) refl
 
-    back_by : (name : List ℕ) (t : Option (Open Whole)) → Owns number shared t → session.transaction ≡ t → TurnLeft number shared (back_in call name t shared session)
+    back_by : (name : List ℕ) (t : Option (Open Whole)) → Owns number shared session.format t → session.transaction ≡ t → TurnLeft number shared session.format (back_in call name t shared session)
     back_by name None p e = same_left (refused 1305)
     back_by name (Some open') p e = found_by name open' (find (is_save_of name) open'.saves) p e refl
 
-    back_left : (name : List ℕ) → TurnLeft number shared (back_turn call name shared session)
+    back_left : (name : List ℕ) → TurnLeft number shared session.format (back_turn call name shared session)
     back_left name = back_by name session.transaction o refl
 
-    released_by : (name : List ℕ) (open' : Open Whole) (b : Bool) → Owns number shared (Some open')
-        → TurnLeft number shared (cond b (answered (ok 0) shared (record session { transaction = Some (record open' { saves = saves_but name open'.saves }) })) (answered (refused 1305) shared session))
+    released_by : (name : List ℕ) (open' : Open Whole) (b : Bool) → Owns number shared session.format (Some open')
+        → TurnLeft number shared session.format (cond b (answered (ok 0) shared (record session { transaction = Some (record open' { saves = saves_but name open'.saves }) })) (answered (refused 1305) shared session))
     released_by name open' true p =
-        nothing_done number shared (Some (record open' { saves = saves_but name open'.saves })) h (with_saves open' (saves_but name open'.saves) p (saves_without open'.items 0 open'.saves name p.saves))
+        nothing_done P number shared session.format session.format (Some (record open' { saves = saves_but name open'.saves })) h (with_saves open' (saves_but name open'.saves) p (saves_without open'.items 0 open'.saves name p.saves))
     released_by name open' false p = same_left (refused 1305)
 
-    release_left : (name : List ℕ) (t : Option (Open Whole)) → Owns number shared t → TurnLeft number shared (release_in name t shared session)
+    release_left : (name : List ℕ) (t : Option (Open Whole)) → Owns number shared session.format t → TurnLeft number shared session.format (release_in name t shared session)
     release_left name None p = same_left (refused 1305)
     release_left name (Some open') p = released_by name open' (is_some (find (is_save_of name) open'.saves)) p
 
@@ -290,18 +304,18 @@ module _ (identity : Identity) (draw : Draw) (number : ℕ) where
 
     -- where the open transaction is closed and what that left is there
     abbrev EndLeft : Turn Whole (Unit {0}) → Type 0
-    EndLeft t = (t.session.transaction ≡ None) × Left number shared t.shared None t.committed
+    EndLeft t = (t.session.transaction ≡ None) × Left P number shared t.shared session.format t.session.format None t.committed
 
-    end_left : (t : Turn Whole (Unit {0})) → EndLeft t → TurnLeft number shared t
-    end_left t l = subst (λ (u : Option (Open Whole)). Left number shared t.shared u t.committed) (sym l.0) l.1
+    end_left : (t : Turn Whole (Unit {0})) → EndLeft t → TurnLeft number shared session.format t
+    end_left t l = subst (λ (u : Option (Open Whole)). Left P number shared t.shared session.format t.session.format u t.committed) (sym l.0) l.1
 
-    answered_left : (refusal : Option Answer) (t : Turn Whole (Unit {0})) (next : Turn Whole Answer) → TurnLeft number shared t → (refusal ≡ None → TurnLeft number shared next)
-        → TurnLeft number shared (unless_answered refusal t next)
+    answered_left : (refusal : Option Answer) (t : Turn Whole (Unit {0})) (next : Turn Whole Answer) → TurnLeft number shared session.format t → (refusal ≡ None → TurnLeft number shared session.format next)
+        → TurnLeft number shared session.format (unless_answered refusal t next)
     answered_left None t next l more = more refl
     answered_left (Some answer) t next l more = l
 
     -- a definition that a text is
-    module _ (text : List ℕ) (s : Statement) (is : text_answer text ≡ a_statement s) (short : length text ≤ 2 ^ 20) (defines : is_definition s ≡ true) where
+    module _ (text : List ℕ) (s : Statement) (is : text_answer text ≡ a_statement s) (short : P → length text ≤ 2 ^ 20) (defines : is_definition s ≡ true) where
       -- its entry makes of a base what the definition does
       define_entry : (context : Context) (new : Shared) (base : Base) → after changes_of define (definition_entry call text s context new ∷ []) base ≡ defined s base
       define_entry context new base = unit (defined s base)
@@ -312,60 +326,64 @@ module _ (identity : Identity) (draw : Draw) (number : ℕ) where
 
       -- a base that it made, behind the end of the open transaction
       defined_left : (base : Base) (t : Turn Whole (Unit {0})) → EndLeft t → is_other number t.shared.writer ≡ false → is_still_refused s ≡ false → defined s t.shared.base ≡ Some base
-          → TurnLeft number shared (defined_turn call text s base t)
+          → TurnLeft number shared session.format (defined_turn call text s base t)
       defined_left base t l q allowed e =
-          let none = no_changes number t.shared None l.1.holds l.1.own q refl in
+          let none = no_changes number t.shared t.session.format None l.1.holds l.1.own q refl in
           let turn : Turn Whole Answer = defined_turn call text s base t in
           let entry : Entry Whole = definition_entry call text s t.session.vars.context t.shared in
           record {
             holds = record { free = l.1.holds.free; makes = ap (λ (cs : List Change). is_some (all_applied cs base.tables)) none ∙ none_made base.tables };
-            own = subst (λ (u : Option (Open Whole)). Owns number turn.shared u) (sym l.0) (closed_owns number turn.shared none);
+            own = subst (λ (u : Option (Open Whole)). Owns number turn.shared t.session.format u) (sym l.0) (closed_owns number turn.shared t.session.format none);
             entries = go_on changes_of define t.committed (entry ∷ []) shared.base
                 ∙ (ap (λ (made : Option Base). option_and_then (after changes_of define (entry ∷ [])) made) l.1.entries ∙ (define_entry t.session.vars.context t.shared t.shared.base ∙ e));
             log = logged_on t.committed (entry ∷ []) shared.committed t.shared.committed turn.shared.committed shared.place t.shared.place turn.shared.place l.1.log
-                (record { count = refl; place = refl; made = (record { text = is; short = short; is = defines; allowed = allowed }, tt) });
+                (record { count = refl; place = refl; made = λ holds. (record { text = is; short = short holds; is = defines; allowed = allowed }, tt) });
+            formats = in_behind session.format t.committed (entry ∷ []) l.1.formats tt;
             frame = l.1.frame;
           }
 
       made_left : (made : Option Base) (t : Turn Whole (Unit {0})) → EndLeft t → is_other number t.shared.writer ≡ false → is_still_refused s ≡ false → defined s t.shared.base ≡ made
-          → TurnLeft number shared (made_turn call text s made t)
+          → TurnLeft number shared session.format (made_turn call text s made t)
       made_left None t l q allowed e = end_left t l
       made_left (Some base) t l q allowed e = defined_left base t l q allowed e
 
-      define_left : (t : Turn Whole (Unit {0})) → EndLeft t → is_still_refused s ≡ false → TurnLeft number shared (define_turn call text s t)
+      define_left : (t : Turn Whole (Unit {0})) → EndLeft t → is_still_refused s ≡ false → TurnLeft number shared session.format (define_turn call text s t)
       define_left t l allowed =
           answered_left (option_map refused (ddl_refusal t.shared.base.catalog s)) t _ (end_left t l) (λ _.
           answered_left (writing_refusal number t.shared) t _ (end_left t l) (λ free. made_left (defined s t.shared.base) t l (free_to_write number t.shared free) allowed refl))
 
-      still_left : (b : Bool) (t : Turn Whole (Unit {0})) → EndLeft t → is_still_refused s ≡ b → TurnLeft number shared (cond b (with_answer (refused 30005) t) (define_turn call text s t))
+      still_left : (b : Bool) (t : Turn Whole (Unit {0})) → EndLeft t → is_still_refused s ≡ b → TurnLeft number shared session.format (cond b (with_answer (refused 30005) t) (define_turn call text s t))
       still_left true t l e = end_left t l
       still_left false t l e = define_left t l e
 
-      definition_left : TurnLeft number shared (definition_turn call text s shared session)
+      definition_left : TurnLeft number shared session.format (definition_turn call text s shared session)
       definition_left = still_left (is_still_refused s) (commit_open call shared session) (refl, commit_left shared session h o) refl
 
     -- ---- statements that are run
     module _ (statements : StatementsEndWell) (evaluations : EvaluationsEndWell) where
-      statement_left : (text : List ℕ) (s : Statement) → TurnLeft number shared (statement_run call full text s shared session)
+      statement_left : (text : List ℕ) (s : Statement) → TurnLeft number shared session.format (statement_run call full text s shared session)
       statement_left text s =
           ended_left full text s shared session (λ (did : Did). did.first) (λ (did : Did). did.last_id) _ h o
           (statements (setting_of shared.base.catalog session.vars.context (number_of_bytes 0 draw.uuid)) most_nested [] s (scene_for number full session.vars.context shared))
 
-      expressions_left : (text : List ℕ) (ts : Trees) → TurnLeft number shared (expressions_run call full text ts shared session)
+      expressions_left : (text : List ℕ) (ts : Trees) → TurnLeft number shared session.format (expressions_run call full text ts shared session)
       expressions_left text ts =
           ended_left full text (evaluate ts) shared session (λ _. None) (λ _. None) _ h o
           (evaluations (setting_of shared.base.catalog session.vars.context (number_of_bytes 0 draw.uuid)) most_nested [] ts (scene_for number full session.vars.context shared))
 
-      assigned_left : (refusal : Option ℕ) (assignments : List (Target × Value)) (t : Turn Whole (Given (List Value))) → TurnLeft number shared t → TurnLeft number shared (assign_unless refusal assignments t)
-      assigned_left None assignments t l = l
-      assigned_left (Some code) assignments t l = l
+      assigned_left : (refusal : Option ℕ) (assignments : List (Target × Value)) (t : Turn Whole (Given (List Value))) → first_refused (is_open t.session) assignments ≡ refusal
+          → TurnLeft number shared session.format t → TurnLeft number shared session.format (assign_unless refusal assignments t)
+      assigned_left None assignments t e l =
+          record { holds = l.holds; own = all_owned number t.shared assignments t.session e l.own; entries = l.entries; log = l.log; formats = l.formats; frame = l.frame }
+      assigned_left (Some code) assignments t e l = l
 
-      set_given_left : (as' : List (Target × Tree)) (r : Result (List Value) ℕ) (t : Turn Whole (Given (List Value))) → TurnLeft number shared t → TurnLeft number shared (set_by as' r t)
+      set_given_left : (as' : List (Target × Tree)) (r : Result (List Value) ℕ) (t : Turn Whole (Given (List Value))) → TurnLeft number shared session.format t → TurnLeft number shared session.format (set_by as' r t)
       set_given_left as' (Err code) t l = l
       set_given_left as' (Ok vs) t l =
-          assigned_left (first_refused (zip (map (λ (a : Target × Tree). a.0) as') vs)) (zip (map (λ (a : Target × Tree). a.0) as') vs) t l
+          let assignments = zip (map (λ (a : Target × Tree). a.0) as') vs in
+          assigned_left (first_refused (is_open t.session) assignments) assignments t refl l
 
-      set_left : (as' : List (Target × Tree)) → TurnLeft number shared (set_turn call as' shared session)
+      set_left : (as' : List (Target × Tree)) → TurnLeft number shared session.format (set_turn call as' shared session)
       set_left as' =
           let ts = set_expressions as' in
           let text = spelling (evaluate ts) in
@@ -375,17 +393,17 @@ module _ (identity : Identity) (draw : Draw) (number : ℕ) where
           (unless_left (lock_refusal number shared (evaluate ts)) _
           (set_given_left as' run.given.result run (expressions_left text ts))))
 
-      call_left : (name : List ℕ) (ts : Trees) → TurnLeft number shared (call_turn call name ts shared session)
+      call_left : (name : List ℕ) (ts : Trees) → TurnLeft number shared session.format (call_turn call name ts shared session)
       call_left name ts =
           long_left (is_too_long (spelling (evaluate ts))) (refused 1153) _
           (unless_left (code_answer (statement_refusal shared.base.catalog session_scope (call_procedure name ts))) _ (same_left (refused 1305)))
 
-      plain_left : (text : List ℕ) (s : Statement) → TurnLeft number shared (plain_turn call text s shared session)
+      plain_left : (text : List ℕ) (s : Statement) → TurnLeft number shared session.format (plain_turn call text s shared session)
       plain_left text s =
           unless_left (code_answer (statement_refusal shared.base.catalog session_scope s)) _ (unless_left (lock_refusal number shared s) _ (statement_left text s))
 
       -- ---- one command
-      any_left : (text : List ℕ) (s : Statement) → text_answer text ≡ a_statement s → length text ≤ 2 ^ 20 → TurnLeft number shared (statement_turn call text s shared session)
+      any_left : (text : List ℕ) (s : Statement) → text_answer text ≡ a_statement s → (P → length text ≤ 2 ^ 20) → TurnLeft number shared session.format (statement_turn call text s shared session)
       any_left text begin is short = begin_left
       any_left text commit is short = commit_turn_left
       any_left text rollback is short = rollback_left
@@ -414,12 +432,12 @@ module _ (identity : Identity) (draw : Draw) (number : ℕ) where
       any_left text (while_steps c ss) is short = plain_left text (while_steps c ss)
       any_left text (return_value e) is short = plain_left text (return_value e)
 
-      text_left : (text : List ℕ) (a : TextAnswer) → text_answer text ≡ a → length text ≤ 2 ^ 20 → TurnLeft number shared (text_turn call text a shared session)
+      text_left : (text : List ℕ) (a : TextAnswer) → text_answer text ≡ a → (P → length text ≤ 2 ^ 20) → TurnLeft number shared session.format (text_turn call text a shared session)
       text_left text (a_statement s) is short = any_left text s is short
       text_left text (a_syntax_error place) is short = same_left (refused_at place)
       text_left text too_deep is short = same_left (refused 30007)
 
-      command_left : (text : List ℕ) → length text ≤ 2 ^ 20 → TurnLeft number shared (with_count (text_turn call text (text_answer text) shared session))
+      command_left : (text : List ℕ) → (P → length text ≤ 2 ^ 20) → TurnLeft number shared session.format (with_count (text_turn call text (text_answer text) shared session))
       command_left text short = text_left text (text_answer text) refl short
 
 -- ---- a step
@@ -428,55 +446,90 @@ pub work_same : (any : Call Whole) (session : Option (Session Whole)) → (at_wo
 work_same any None = refl
 work_same any (Some session) = refl
 
+work_format : (any : Call Whole) (session : Option (Session Whole)) → (at_work any session).format ≡ format_of session
+work_format any None = refl
+work_format any (Some session) = refl
+
+-- a session at work has the format and the transaction that it had
+pub work_owns : (any : Call Whole) (n : ℕ) (shared : Shared) (session : Option (Session Whole)) → Owns n shared (format_of session) (transaction_of session)
+    → Owns n shared (at_work any session).format (at_work any session).transaction
+work_owns any n shared None o = o
+work_owns any n shared (Some session) o = o
+
 -- for a session of another number
-other_owns : (n k : ℕ) (old new : Shared) (t : Option (Open Whole)) → k ≢ n → Frame n old new → Owns k old t → Owns k new t
-other_owns n k old new t differ (inl (w, c)) o = record {
+other_owns : (n k : ℕ) (old new : Shared) (format : Format) (t : Option (Open Whole)) → k ≢ n → Frame n old new → Owns k old format t → Owns k new format t
+other_owns n k old new format t differ (inl (w, c)) o = record {
   own = λ l. c ∙ o.own (ap (holds_lock k) (sym w) ∙ l);
   none = λ l. o.none (ap (holds_lock k) (sym w) ∙ l);
   saves = o.saves;
   one = o.one;
+  formats = o.formats;
 }
-other_owns n k old new t differ (inr (p, q)) o = record {
+other_owns n k old new format t differ (inr (p, q)) o = record {
   own = λ l. absurd (apart (not_both n k new.writer differ q) l);
   none = λ _. o.none (not_both n k old.writer differ p);
   saves = o.saves;
   one = o.one;
+  formats = o.formats;
 }
   where
     apart : {b : Bool} → b ≡ false → b ≡ true → ⊥
     apart x y = cc
 
-each_owns : (n k : ℕ) (old new : Shared) (sessions : List (Option (Session Whole))) (session : Session Whole) → n < length sessions → Owns n new session.transaction → Frame n old new
-    → ((j : ℕ) → Owns j old (transaction_of (slice_index_or sessions j None))) → Owns k new (transaction_of (slice_index_or (slice_set sessions n (Some session)) k None))
+-- a session owns what is its own by its format and its transaction
+abbrev SessionOwns : ℕ → Shared → Option (Session Whole) → Type 0
+SessionOwns n shared session = Owns n shared (format_of session) (transaction_of session)
+
+each_owns : (n k : ℕ) (old new : Shared) (sessions : List (Option (Session Whole))) (session : Session Whole) → n < length sessions → Owns n new session.format session.transaction → Frame n old new
+    → ((j : ℕ) → SessionOwns j old (slice_index_or sessions j None)) → SessionOwns k new (slice_index_or (slice_set sessions n (Some session)) k None)
 each_owns n k old new sessions session within own frame each = by (k == n) refl
   where
-    by : (b : Bool) → (k == n) ≡ b → Owns k new (transaction_of (slice_index_or (slice_set sessions n (Some session)) k None))
+    by : (b : Bool) → (k == n) ≡ b → SessionOwns k new (slice_index_or (slice_set sessions n (Some session)) k None)
     by true e =
         let same : k ≡ n = eqb-true k n e in
-        subst (λ (j : ℕ). Owns j new (transaction_of (slice_index_or (slice_set sessions n (Some session)) j None))) (sym same)
-        (subst (λ (s : Option (Session Whole)). Owns n new (transaction_of s)) (sym (get_or-set_same sessions n (Some session) None within)) own)
+        subst (λ (j : ℕ). SessionOwns j new (slice_index_or (slice_set sessions n (Some session)) j None)) (sym same)
+        (subst (λ (s : Option (Session Whole)). SessionOwns n new s) (sym (get_or-set_same sessions n (Some session) None within)) own)
     by false e =
         let differ : k ≢ n = eqb-false k n e in
-        subst (λ (s : Option (Session Whole)). Owns k new (transaction_of s)) (sym (get_or-set_other sessions n k (Some session) None differ)) (other_owns n k old new _ differ frame (each k))
+        subst (λ (s : Option (Session Whole)). SessionOwns k new s) (sym (get_or-set_other sessions n k (Some session) None differ)) (other_owns n k old new _ _ differ frame (each k))
+
+module _ (statements : StatementsEndWell) (evaluations : EvaluationsEndWell) (from : Beginning) (m : Machine) (identity : Identity) (n : ℕ) (text : List ℕ) (draw : Draw) (holds : Holds from m) where
+  abbrev at_call : Call Whole
+  at_call = record { identity = identity; draw = draw; number = n; known = whole }
+
+  abbrev session_now : Session Whole
+  session_now = at_work at_call (session_at n m)
+
+  abbrev turn_now : Turn Whole Answer
+  turn_now = with_count (text_turn at_call text (text_answer text) m.state.shared session_now)
+
+  -- what the step leaves, where its text is no longer than a command's
+  step_left : Left (length text ≤ 2 ^ 20) n m.state.shared turn_now.shared session_now.format turn_now.session.format turn_now.session.transaction turn_now.committed
+  step_left =
+      command_left (length text ≤ 2 ^ 20) identity draw n m.state.shared session_now holds.shared (work_owns at_call n m.state.shared (session_at n m) (holds.each n)) statements evaluations text (λ short. short)
 
 pub runs_go_on : StatementsEndWell → EvaluationsEndWell → RunsGoOn
 unfolding step
 runs_go_on statements evaluations from m identity n text draw holds within short =
-    let call : Call Whole = record { identity = identity; draw = draw; number = n; known = whole } in
-    let session : Session Whole = at_work call (slice_index_or m.state.sessions n None) in
-    let own : Owns n m.state.shared session.transaction = subst (λ (t : Option (Open Whole)). Owns n m.state.shared t) (sym (work_same call (slice_index_or m.state.sessions n None))) (holds.each n) in
-    let turn : Turn Whole Answer = with_count (text_turn call text (text_answer text) m.state.shared session) in
-    let left = command_left identity draw n m.state.shared session holds.shared own statements evaluations text short in
-    let so_far : Logged m.history from.committed from.place m.state.shared.committed m.state.shared.place = record { count = holds.count; place = holds.place; made = holds.made } in
+    let turn = turn_now statements evaluations from m identity n text draw holds in
+    let left = step_left statements evaluations from m identity n text draw holds in
+    let so_far : Logged (length text ≤ 2 ^ 20) m.history from.committed from.place m.state.shared.committed m.state.shared.place = record { count = holds.count; place = holds.place; made = λ _. holds.made } in
     let log = logged_on m.history turn.committed from.committed m.state.shared.committed turn.shared.committed from.place m.state.shared.place turn.shared.place so_far left.log in
     record {
       entries = go_on changes_of define m.history turn.committed from.base ∙ (ap (λ (b : Option Base). option_and_then (after changes_of define turn.committed) b) holds.entries ∙ left.entries);
       count = log.count;
       place = log.place;
-      made = log.made;
+      made = log.made short;
       shared = left.holds;
       each = λ k. each_owns n k m.state.shared turn.shared m.state.sessions turn.session within left.own left.frame holds.each;
     }
+
+pub formats_decide : StatementsEndWell → EvaluationsEndWell → FormatsDecide
+unfolding step
+formats_decide statements evaluations from m identity n text draw holds within =
+    let turn = turn_now statements evaluations from m identity n text draw holds in
+    subst (λ (format : Format). EntriesIn format turn.committed) (work_format (at_call statements evaluations from m identity n text draw holds) (session_at n m))
+    (step_left statements evaluations from m identity n text draw holds).formats
 
 -- ---- the beginning
 
@@ -485,8 +538,8 @@ none_there zero n = refl
 none_there (suc count) zero = refl
 none_there (suc count) (suc n) = none_there count n
 
-none_owned : (shared : Shared) → shared.changes ≡ [] → (n : ℕ) → Owns n shared (transaction_of (slice_index_or {A = Option (Session Whole)} (replicate session_slots None) n None))
-none_owned shared e n = subst (λ (s : Option (Session Whole)). Owns n shared (transaction_of s)) (sym (none_there session_slots n)) (closed_owns n shared e)
+none_owned : (shared : Shared) → shared.changes ≡ [] → (n : ℕ) → SessionOwns n shared (slice_index_or {A = Option (Session Whole)} (replicate session_slots None) n None)
+none_owned shared e n = subst (λ (s : Option (Session Whole)). SessionOwns n shared s) (sym (none_there session_slots n)) (closed_owns n shared first_format e)
 
 pub runs_begin : RunsBegin
 runs_begin from counters = record {

@@ -45,12 +45,12 @@ module _ (call : Call Whole) (shared : Shared) (session : Session Whole) where
       kept_or_not true t l x = record { base = refl; changes = refl; writer = refl; count = refl; place = refl; transaction = refl; entries = refl }
       kept_or_not false t l x = absurd (differ x l)
 
-      settled : (made : List Change) → let t = given_turn (settle call (item_of call full text s session.vars.context shared did.first) made scene (with_counters scene shared)
+      settled : (made : List Change) → let t = given_turn (settle call (item_of call session.format full text s session.vars.context shared did.first) made scene (with_counters scene shared)
           (with_context (context_after session.vars.context s scene.seeds did.last_id) session) (record { result = Ok did; fuel = fuel_of scene }) (undone 1197 s shared session scene)) in
           is_refused t.given.end ≡ true → IsLeft shared session t
       settled [] x = absurd (differ x (shown_or_counted did did.shown refl))
       settled (c ∷ cs) x =
-          kept_or_not (takes_too_much call session.transaction (item_of call full text s session.vars.context shared did.first (c ∷ cs))) _ (shown_or_counted did did.shown refl) x
+          kept_or_not (takes_too_much call session.transaction (item_of call session.format full text s session.vars.context shared did.first (c ∷ cs))) _ (shown_or_counted did did.shown refl) x
   ended_left text s before (failed code scene) q = record { base = refl; changes = refl; writer = refl; count = refl; place = refl; transaction = refl; entries = refl }
 
   plain_left : (text : List ℕ) (s : Statement) → is_refused (plain_turn call text s shared session).given.end ≡ true → IsLeft shared session (plain_turn call text s shared session)

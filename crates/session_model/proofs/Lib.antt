@@ -1,3 +1,4 @@
+pub mod Assigning
 pub mod Holding
 mod Leaving
 mod Logging

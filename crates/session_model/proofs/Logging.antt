@@ -5,11 +5,14 @@ use Rattle.std.proofs.lemmas.Bool.{ltb-false, le-ltb}
 use Rattle.std.proofs.lemmas.List.{map-append}
 use Rattle.log_entries.specs.declared.entries.Item.{Item}
 use Rattle.log_entries.specs.declared.entries.Entry.{Entry}
+use Rattle.log_entries.specs.declared.entries.Entry.TheVariants.{Transaction, Definition, LogStart}
 use Rattle.log_model.specs.Items.{item_size}
 use Rattle.log_model.specs.Log.{LogPlace, behind, counted, counted_all, written_to}
 use Rattle.transaction_sizes.specs.Sizes.{all_sizes, all_changes_size, are_too_large, changes_size, most_bytes}
 use Rattle.session_model.specs.Machine.{Whole, kept_of, kept_entry}
-use Rattle.session_model.specs.Holding.{IsMade, AreMade, AreOne, EntriesMade}
+use Rattle.session_model.specs.Formats.{is_by_rows}
+use Rattle.session_model.specs.Holding.{IsMade, AreMade, AreIn, AreOne, EntriesIn, EntriesMade}
+use Rattle.session_model.specs.declared.format.Format.{Format}
 
 -- ---- entries
 
@@ -25,17 +28,24 @@ made_behind : (front back : List (Entry Whole)) → EntriesMade front → Entrie
 made_behind [] back m k = k
 made_behind (e ∷ es) back m k = (m.0, made_behind es back m.1 k)
 
--- Entries that statements made, and that lead from a count of transactions and a place to others.
-pub record Logged (es : List (Entry Whole)) (from : ℕ) (begin : LogPlace) (to : ℕ) (end : LogPlace) : Type 0 where
+-- those of a format
+pub in_behind : (format : Format) (front back : List (Entry Whole)) → EntriesIn format front → EntriesIn format back → EntriesIn format (front ++ back)
+in_behind format [] back m k = k
+in_behind format (Transaction stamp server items ∷ es) back m k = (m.0, in_behind format es back m.1 k)
+in_behind format (Definition stamp server i ∷ es) back m k = in_behind format es back m k
+in_behind format (LogStart stamp server ∷ es) back m k = in_behind format es back m k
+
+-- Entries that statements made, where a premise holds of their texts, and that lead from a count of transactions and a place to others.
+pub record Logged (P : Type 0) (es : List (Entry Whole)) (from : ℕ) (begin : LogPlace) (to : ℕ) (end : LogPlace) : Type 0 where
   pub count : counted_all (map kept_entry es) from ≡ to
   pub place : written_to (map kept_entry es) from begin ≡ end
-  pub made : EntriesMade es
+  pub made : P → EntriesMade es
 
-pub no_entry : (count : ℕ) (place : LogPlace) → Logged [] count place count place
-no_entry count place = record { count = refl; place = refl; made = tt }
+pub no_entry : {P : Type 0} (count : ℕ) (place : LogPlace) → Logged P [] count place count place
+no_entry count place = record { count = refl; place = refl; made = λ _. tt }
 
 -- one after the other
-pub logged_on : (front back : List (Entry Whole)) (a b c : ℕ) (p q r : LogPlace) → Logged front a p b q → Logged back b q c r → Logged (front ++ back) a p c r
+pub logged_on : {P : Type 0} (front back : List (Entry Whole)) (a b c : ℕ) (p q r : LogPlace) → Logged P front a p b q → Logged P back b q c r → Logged P (front ++ back) a p c r
 logged_on front back a b c p q r f g = record {
   count =
       ap (λ (es : List (Entry Item)). counted_all es a) (map-append kept_entry front back)
@@ -44,7 +54,7 @@ logged_on front back a b c p q r f g = record {
       ap (λ (es : List (Entry Item)). written_to es a p) (map-append kept_entry front back)
       ∙ (written_behind (map kept_entry front) (map kept_entry back) a p
       ∙ (ap (λ (n : ℕ). written_to (map kept_entry back) n (written_to (map kept_entry front) a p)) f.count ∙ (ap (written_to (map kept_entry back) b) f.place ∙ g.place)));
-  made = made_behind front back f.made g.made;
+  made = λ holds. made_behind front back (f.made holds) (g.made holds);
 }
 
 -- ---- items of one transaction
@@ -97,3 +107,16 @@ more_made (i ∷ is) item m k = (m.0, more_made is item m.1 k)
 -- with one more, where they do not have too many bytes
 pub more_one : (items : List Whole) (item : Whole) → AreOne items → IsMade item → are_too_large (map kept_of (items ++ item ∷ [])) ≡ false → AreOne (items ++ item ∷ [])
 more_one items item one k small = record { made = more_made items item one.made k; small = small }
+
+-- ---- items of one format
+
+-- the first of some
+pub front_in : (format : Format) (k : ℕ) (items : List Whole) → AreIn format items → AreIn format (take k items)
+front_in format zero items m = tt
+front_in format (suc k) [] m = tt
+front_in format (suc k) (i ∷ is) m = (m.0, front_in format k is m.1)
+
+-- with one more
+pub more_in : (format : Format) (items : List Whole) (item : Whole) → AreIn format items → item.kept.rows ≡ is_by_rows format → AreIn format (items ++ item ∷ [])
+more_in format [] item m e = (e, tt)
+more_in format (i ∷ is) item m e = (m.0, more_in format is item m.1 e)

@@ -32,7 +32,9 @@ use Rattle.text_answers.specs.Answers.{TextAnswer, a_statement, a_syntax_error, 
 use Rattle.session_model.specs.Answers.{ok, refused}
 use Rattle.session_model.specs.Sessions.{Save, Open, Session, Shared, State}
 use Rattle.session_model.specs.Running.{Call, Fuel, full, Turn, Given, is_other, released, all_committed, counted_in, commit_shared, commit_open, keep, takes_too_much, undone, settle, ended, statement_run, expressions_run, writing_refusal, lock_refusal, item_of, made_behind, with_counters, with_context, fuel_of, scene_for, setting_of}
-use Rattle.session_model.specs.Commands.{answered, with_answer, definition_entry, begin_turn, commit_turn, save_turn, is_save_of, saves_but, changes_of_own, saves_up_to, changes_cut, back_to_save, back_in, release_in, defined_turn, made_turn, unless_answered, define_turn, definition_turn, assign_unless, first_refused, set_by, set_given, set_expressions, code_answer, is_too_long, given_turn, unless_refused, set_turn, call_turn, plain_turn}
+use Rattle.session_model.specs.Commands.{answered, with_answer, definition_entry, begin_turn, commit_turn, save_turn, is_save_of, saves_but, changes_of_own, saves_up_to, changes_cut, back_to_save, back_in, release_in, defined_turn, made_turn, unless_answered, define_turn, definition_turn, assign_unless, first_refused, is_open, set_by, set_given, set_expressions, code_answer, is_too_long, given_turn, unless_refused, set_turn, call_turn, plain_turn}
+use Rattle.session_model.specs.declared.format.Format.{Format}
+use Rattle.session_model.proofs.Assigning.{open_same, all_assigned_by}
 use Rattle.session_model.specs.Machine.{statement_turn, text_turn, at_work, with_count, command, stepped, step, open_by, session_by, step_by, Whole, kept_of, whole, kept, kept_state, kept_entry, StepsAreKept}
 
 -- what a node keeps of items is what the log has of them
@@ -63,25 +65,29 @@ module _ (identity : Identity) (draw : Draw) (number : ℕ) where
   shared_same context [] shared = refl
   shared_same context (i ∷ is) shared = ap (λ (items : List Item). all_committed (Transaction context.stamp identity.server_id items) shared) (logged_same (i ∷ is))
 
-  opened_by : (shared : Shared) (vars : SessionVars) (is : List Whole) (saves : List Save) (changed : Bool)
-      → commit_open item_call shared (session_by kept_of (record { vars = vars; transaction = Some (record { items = is; saves = saves; changed = changed }) }))
-      ≡ item_turn (commit_open whole_call shared (record { vars = vars; transaction = Some (record { items = is; saves = saves; changed = changed }) }))
-  opened_by shared vars [] saves changed = refl
-  opened_by shared vars (i ∷ is) saves changed =
+  -- a session with a format and a transaction, as another knows it
+  abbrev session_of : {K : Type 0} → SessionVars → Format → Option (Open K) → Session K
+  session_of vars format t = record { vars = vars; format = format; transaction = t }
+
+  opened_by : (shared : Shared) (vars : SessionVars) (format : Format) (is : List Whole) (saves : List Save) (changed : Bool)
+      → commit_open item_call shared (session_by kept_of (session_of vars format (Some (record { items = is; saves = saves; changed = changed }))))
+      ≡ item_turn (commit_open whole_call shared (session_of vars format (Some (record { items = is; saves = saves; changed = changed }))))
+  opened_by shared vars format [] saves changed = refl
+  opened_by shared vars format (i ∷ is) saves changed =
       ap (λ (new : Shared). record {
         shared = released number new;
-        session = record { vars = vars; transaction = None };
+        session = session_of {K = Item} vars format None;
         committed = Transaction vars.context.stamp identity.server_id (map kept_of (i ∷ is)) ∷ [];
         given = tt;
       }) (shared_same vars.context (i ∷ is) shared)
 
-  commit_by : (shared : Shared) (vars : SessionVars) (t : Option (Open Whole))
-      → commit_open item_call shared (session_by kept_of (record { vars = vars; transaction = t })) ≡ item_turn (commit_open whole_call shared (record { vars = vars; transaction = t }))
-  commit_by shared vars None = refl
-  commit_by shared vars (Some open') = opened_by shared vars open'.items open'.saves open'.changed
+  commit_by : (shared : Shared) (vars : SessionVars) (format : Format) (t : Option (Open Whole))
+      → commit_open item_call shared (session_by kept_of (session_of vars format t)) ≡ item_turn (commit_open whole_call shared (session_of vars format t))
+  commit_by shared vars format None = refl
+  commit_by shared vars format (Some open') = opened_by shared vars format open'.items open'.saves open'.changed
 
   commit_natural : (shared : Shared) (session : Session Whole) → commit_open item_call shared (session_by kept_of session) ≡ item_turn (commit_open whole_call shared session)
-  commit_natural shared session = commit_by shared session.vars session.transaction
+  commit_natural shared session = commit_by shared session.vars session.format session.transaction
 
   -- ---- answers
   unless_natural : (o : Option Answer) (shared : Shared) (session : Session Whole) (t : Turn Item Answer) (u : Turn Whole Answer) → t ≡ item_turn u
@@ -98,15 +104,11 @@ module _ (identity : Identity) (draw : Draw) (number : ℕ) where
   commit_turn_natural : (shared : Shared) (session : Session Whole) → commit_turn item_call shared (session_by kept_of session) ≡ item_turn (commit_turn whole_call shared session)
   commit_turn_natural shared session = ap (λ (t : Turn Item (Unit {0})). with_answer (ok 0) t) (commit_natural shared session)
 
-  -- a session with a transaction, as another knows it
-  abbrev session_of : {K : Type 0} → SessionVars → Option (Open K) → Session K
-  session_of vars t = record { vars = vars; transaction = t }
-
-  save_by : (name : List ℕ) (shared : Shared) (vars : SessionVars) (t : Option (Open Whole))
-      → save_turn item_call name shared (session_by kept_of (session_of vars t)) ≡ item_turn (save_turn whole_call name shared (session_of vars t))
-  save_by name shared vars None = refl
-  save_by name shared vars (Some open') =
-      ap (λ (n : ℕ). answered (ok 0) shared (session_of vars (Some (record {
+  save_by : (name : List ℕ) (shared : Shared) (vars : SessionVars) (format : Format) (t : Option (Open Whole))
+      → save_turn item_call name shared (session_by kept_of (session_of vars format t)) ≡ item_turn (save_turn whole_call name shared (session_of vars format t))
+  save_by name shared vars format None = refl
+  save_by name shared vars format (Some open') =
+      ap (λ (n : ℕ). answered (ok 0) shared (session_of vars format (Some (record {
         items = map kept_of open'.items;
         saves = saves_but name open'.saves ++ record { name = name; items = n; changes = changes_of_own number shared } ∷ [];
         changed = open'.changed;
@@ -116,7 +118,7 @@ module _ (identity : Identity) (draw : Draw) (number : ℕ) where
       → back_to_save item_call name (open_by kept_of open') o shared (session_by kept_of session) ≡ item_turn (back_to_save whole_call name open' o shared session)
   cut_by name open' None shared session = refl
   cut_by name open' (Some save) shared session =
-      ap (λ (is : List Item). answered (ok 0) (changes_cut number save shared) (session_of session.vars (Some (record {
+      ap (λ (is : List Item). answered (ok 0) (changes_cut number save shared) (session_of session.vars session.format (Some (record {
         items = is;
         saves = saves_up_to name open'.saves;
         changed = open'.changed;
@@ -128,8 +130,8 @@ module _ (identity : Identity) (draw : Draw) (number : ℕ) where
   back_by name (Some open') shared session = cut_by name open' (find (is_save_of name) open'.saves) shared session
 
   released_by : (name : List ℕ) (open' : Open Whole) (b : Bool) (shared : Shared) (session : Session Whole)
-      → cond b (answered (ok 0) shared (session_of {K = Item} session.vars (Some (record { items = map kept_of open'.items; saves = saves_but name open'.saves; changed = open'.changed })))) (answered (refused 1305) shared (session_by kept_of session))
-      ≡ item_turn (cond b (answered (ok 0) shared (session_of {K = Whole} session.vars (Some (record { items = open'.items; saves = saves_but name open'.saves; changed = open'.changed })))) (answered (refused 1305) shared session))
+      → cond b (answered (ok 0) shared (session_of {K = Item} session.vars session.format (Some (record { items = map kept_of open'.items; saves = saves_but name open'.saves; changed = open'.changed })))) (answered (refused 1305) shared (session_by kept_of session))
+      ≡ item_turn (cond b (answered (ok 0) shared (session_of {K = Whole} session.vars session.format (Some (record { items = open'.items; saves = saves_but name open'.saves; changed = open'.changed })))) (answered (refused 1305) shared session))
   released_by name open' true shared session = refl
   released_by name open' false shared session = refl
 
@@ -139,13 +141,13 @@ module _ (identity : Identity) (draw : Draw) (number : ℕ) where
   release_by name (Some open') shared session = released_by name open' (is_some (find (is_save_of name) open'.saves)) shared session
 
   -- ---- a statement's run
-  keep_by : {A : Type 0} (item : Whole) (scene : Scene) (shared : Shared) (vars : SessionVars) (t : Option (Open Whole)) (a : A)
-      → keep item_call (kept_of item) scene shared (session_by kept_of (session_of vars t)) a ≡ item_turn (keep whole_call item scene shared (session_of vars t) a)
-  keep_by item scene shared vars None a = refl
-  keep_by {A = A} item scene shared vars (Some open') a =
+  keep_by : {A : Type 0} (item : Whole) (scene : Scene) (shared : Shared) (vars : SessionVars) (format : Format) (t : Option (Open Whole)) (a : A)
+      → keep item_call (kept_of item) scene shared (session_by kept_of (session_of vars format t)) a ≡ item_turn (keep whole_call item scene shared (session_of vars format t) a)
+  keep_by item scene shared vars format None a = refl
+  keep_by {A = A} item scene shared vars format (Some open') a =
       ap (λ (is : List Item). record {
         shared = record shared { changes = scene.changes; writer = Some number };
-        session = session_of vars (Some (record { items = is; saves = open'.saves; changed = true }));
+        session = session_of vars format (Some (record { items = is; saves = open'.saves; changed = true }));
         committed = [];
         given = a;
       }) (sym (map-append kept_of open'.items (item ∷ [])))
@@ -166,12 +168,12 @@ module _ (identity : Identity) (draw : Draw) (number : ℕ) where
       let kept_by : Turn Item (Given A) = keep item_call (kept_of (item (c ∷ cs))) scene shared (session_by kept_of session) given in
       ap (λ (b : Bool). cond b (item_turn refusal) kept_by) (too_much_same session.transaction (item (c ∷ cs)))
       ∙ refused_or (takes_too_much whole_call session.transaction (item (c ∷ cs))) refusal (keep whole_call (item (c ∷ cs)) scene shared session given) kept_by
-      (keep_by (item (c ∷ cs)) scene shared session.vars session.transaction given)
+      (keep_by (item (c ∷ cs)) scene shared session.vars session.format session.transaction given)
 
   ended_by : {A : Type 0} (fuel : Fuel) (text : List ℕ) (tree : Statement) (shared : Shared) (session : Session Whole) (first last_id : A → Option ℤ) (before : Scene) (e : Ending A)
       → ended item_call fuel text tree shared (session_by kept_of session) first last_id before e ≡ item_turn (ended whole_call fuel text tree shared session first last_id before e)
   ended_by fuel text tree shared session first last_id before (done a scene) =
-      settle_by (item_of whole_call fuel text tree session.vars.context shared (first a)) (made_behind (is_other number shared.writer) before scene) scene (with_counters scene shared)
+      settle_by (item_of whole_call session.format fuel text tree session.vars.context shared (first a)) (made_behind (is_other number shared.writer) before scene) scene (with_counters scene shared)
       (with_context (context_after session.vars.context tree scene.seeds (last_id a)) session) (record { result = Ok a; fuel = fuel_of scene }) (undone 1197 tree shared session scene)
   ended_by fuel text tree shared session first last_id before (failed code scene) = refl
 
@@ -232,12 +234,16 @@ module _ (identity : Identity) (draw : Draw) (number : ℕ) where
 
   -- ---- SET, CALL, and statements that are run
   assign_by : (o : Option ℕ) (assignments : List (Target × Value)) (t : Turn Whole (Given (List Value))) → assign_unless o assignments (item_turn t) ≡ item_turn (assign_unless o assignments t)
-  assign_by None assignments t = refl
+  assign_by None assignments t =
+      ap (λ (session : Session Item). record { shared = t.shared; session = session; committed = map kept_entry t.committed; given = ok 0 }) (all_assigned_by assignments t.session)
   assign_by (Some code) assignments t = refl
 
   set_given_by : (as' : List (Target × Tree)) (r : Result (List Value) ℕ) (t : Turn Whole (Given (List Value))) → set_by as' r (item_turn t) ≡ item_turn (set_by as' r t)
   set_given_by as' (Err code) t = refl
-  set_given_by as' (Ok vs) t = assign_by (first_refused (zip (map (λ (a : Target × Tree). a.0) as') vs)) (zip (map (λ (a : Target × Tree). a.0) as') vs) t
+  set_given_by as' (Ok vs) t =
+      let assignments = zip (map (λ (a : Target × Tree). a.0) as') vs in
+      ap (λ (b : Bool). assign_unless (first_refused b assignments) assignments (item_turn t)) (open_same t.session.transaction)
+      ∙ assign_by (first_refused (is_open t.session) assignments) assignments t
 
   long_by : (b : Bool) (answer : Answer) (shared : Shared) (session : Session Whole) (t : Turn Item Answer) (u : Turn Whole Answer) → t ≡ item_turn u
       → cond b (answered answer shared (session_by kept_of session)) t ≡ item_turn (cond b (answered answer shared session) u)
@@ -275,7 +281,7 @@ module _ (identity : Identity) (draw : Draw) (number : ℕ) where
   statement_natural text begin shared session = begin_natural shared session
   statement_natural text commit shared session = commit_turn_natural shared session
   statement_natural text rollback shared session = refl
-  statement_natural text (savepoint name) shared session = save_by name shared session.vars session.transaction
+  statement_natural text (savepoint name) shared session = save_by name shared session.vars session.format session.transaction
   statement_natural text (rollback_to name) shared session = back_by name session.transaction shared session
   statement_natural text (release_savepoint name) shared session = release_by name session.transaction shared session
   statement_natural text (set_all as') shared session = set_natural as' shared session

@@ -20,7 +20,8 @@ use Rattle.session_model.specs.Answers.{refused, refused_by}
 use Rattle.session_model.specs.Sessions.{Open, Shared, tables_with}
 use Rattle.session_model.specs.Running.{Fuel, is_other, items_of, made_behind, with_counters, scene_for, writing_refusal, held_by, most_committed, is_full}
 use Rattle.session_model.specs.Machine.{Whole}
-use Rattle.session_model.specs.Holding.{changes_of, define, changes_in, holds_lock, Owns, SharedHolds}
+use Rattle.session_model.specs.Holding.{changes_of, define, changes_in, holds_lock, EntriesIn, Owns, SharedHolds}
+use Rattle.session_model.specs.declared.format.Format.{Format}
 use Rattle.session_model.proofs.Logging.{Logged, no_entry, none_one}
 
 -- ---- the lock
@@ -70,29 +71,31 @@ none_taken (suc k) (x ∷ xs) e = cc
 abbrev pub Frame : ℕ → Shared → Shared → Type 0
 Frame n old new = ((new.writer ≡ old.writer) × (new.changes ≡ old.changes)) ⊎ ((is_other n old.writer ≡ false) × (is_other n new.writer ≡ false))
 
--- What is left holds; the entries that were put out make the new base and lead to the new end of the log.
-pub record Left (n : ℕ) (old new : Shared) (t : Option (Open Whole)) (es : List (Entry Whole)) : Type 0 where
+-- What is left holds; the entries that were put out make the new base, lead to the new end of the log, and are logged in the format
+-- that the session had at first. A premise is that of their texts.
+pub record Left (P : Type 0) (n : ℕ) (old new : Shared) (first last : Format) (t : Option (Open Whole)) (es : List (Entry Whole)) : Type 0 where
   pub holds : SharedHolds new
-  pub own : Owns n new t
+  pub own : Owns n new last t
   pub entries : after changes_of define es old.base ≡ Some new.base
-  pub log : Logged es old.committed old.place new.committed new.place
+  pub log : Logged P es old.committed old.place new.committed new.place
+  pub formats : EntriesIn first es
   pub frame : Frame n old new
 
 -- nothing is done
-pub nothing_done : (n : ℕ) (shared : Shared) (t : Option (Open Whole)) → SharedHolds shared → Owns n shared t → Left n shared shared t []
-nothing_done n shared t h o = record { holds = h; own = o; entries = refl; log = no_entry shared.committed shared.place; frame = inl (refl, refl) }
+pub nothing_done : (P : Type 0) (n : ℕ) (shared : Shared) (first last : Format) (t : Option (Open Whole)) → SharedHolds shared → Owns n shared last t → Left P n shared shared first last t []
+nothing_done P n shared first last t h o = record { holds = h; own = o; entries = refl; log = no_entry shared.committed shared.place; formats = tt; frame = inl (refl, refl) }
 
 -- without items of its own a session beside no other has no changes
-pub no_changes : (n : ℕ) (shared : Shared) (t : Option (Open Whole)) → SharedHolds shared → Owns n shared t → is_other n shared.writer ≡ false → items_of t ≡ [] → shared.changes ≡ []
-no_changes n shared t h o q e = by (own_or_free n shared.writer q)
+pub no_changes : (n : ℕ) (shared : Shared) (format : Format) (t : Option (Open Whole)) → SharedHolds shared → Owns n shared format t → is_other n shared.writer ≡ false → items_of t ≡ [] → shared.changes ≡ []
+no_changes n shared format t h o q e = by (own_or_free n shared.writer q)
   where
     by : (holds_lock n shared.writer ≡ true) ⊎ (shared.writer ≡ None) → shared.changes ≡ []
     by (inl l) = o.own l ∙ ap changes_in e
     by (inr free) = h.free free
 
 -- the open changes are those of the items of a session beside no other
-pub own_changes : (n : ℕ) (shared : Shared) (t : Option (Open Whole)) → SharedHolds shared → Owns n shared t → is_other n shared.writer ≡ false → shared.changes ≡ changes_in (items_of t)
-own_changes n shared t h o q = by (own_or_free n shared.writer q)
+pub own_changes : (n : ℕ) (shared : Shared) (format : Format) (t : Option (Open Whole)) → SharedHolds shared → Owns n shared format t → is_other n shared.writer ≡ false → shared.changes ≡ changes_in (items_of t)
+own_changes n shared format t h o q = by (own_or_free n shared.writer q)
   where
     free_not_held : (w : Option ℕ) → w ≡ None → holds_lock n w ≡ false
     free_not_held None e = refl
@@ -103,8 +106,8 @@ own_changes n shared t h o q = by (own_or_free n shared.writer q)
     by (inr free) = h.free free ∙ sym (ap changes_in (o.none (free_not_held shared.writer free)))
 
 -- a session that is closed owns nothing, where nothing is open
-pub closed_owns : (n : ℕ) (shared : Shared) → shared.changes ≡ [] → Owns n shared None
-closed_owns n shared e = record { own = λ _. e; none = λ _. refl; saves = omega arith; one = none_one }
+pub closed_owns : (n : ℕ) (shared : Shared) (format : Format) → shared.changes ≡ [] → Owns n shared format None
+closed_owns n shared format e = record { own = λ _. e; none = λ _. refl; saves = omega arith; one = none_one; formats = tt }
 
 -- ---- the end of a transaction
 
@@ -122,28 +125,30 @@ entry_made stamp server is base cs e h =
     let made : all_applied (changes_in is) base.tables ≡ Some (tables_with cs base.tables) = ap (λ (ds : List Change). all_applied ds base.tables) (sym e) ∙ made_tables cs base.tables h in
     ap (λ (o : Option (List Table)). option_and_then (after changes_of define []) (option_map (with_tables base) o)) made
 
-pub released_left : (n : ℕ) (shared : Shared) (t : Option (Open Whole)) → SharedHolds shared → Owns n shared t → items_of t ≡ [] → (b : Bool) → is_other n shared.writer ≡ b
-    → Left n shared (cond b shared (record shared { writer = None })) None []
-released_left n shared t h o e true q = record {
+pub released_left : (P : Type 0) (n : ℕ) (shared : Shared) (format : Format) (t : Option (Open Whole)) → SharedHolds shared → Owns n shared format t → items_of t ≡ [] → (b : Bool) → is_other n shared.writer ≡ b
+    → Left P n shared (cond b shared (record shared { writer = None })) format format None []
+released_left P n shared format t h o e true q = record {
   holds = h;
-  own = record { own = λ l. absurd (by (other_not_held n shared.writer q) l); none = λ _. refl; saves = omega arith; one = none_one };
+  own = record { own = λ l. absurd (by (other_not_held n shared.writer q) l); none = λ _. refl; saves = omega arith; one = none_one; formats = tt };
   entries = refl;
   log = no_entry shared.committed shared.place;
+  formats = tt;
   frame = inl (refl, refl);
 }
   where
     by : {b : Bool} → b ≡ false → b ≡ true → ⊥
     by p r = cc
-released_left n shared t h o e false q = record {
-  holds = record { free = λ _. no_changes n shared t h o q e; makes = h.makes };
-  own = closed_owns n (record shared { writer = None }) (no_changes n shared t h o q e);
+released_left P n shared format t h o e false q = record {
+  holds = record { free = λ _. no_changes n shared format t h o q e; makes = h.makes };
+  own = closed_owns n (record shared { writer = None }) format (no_changes n shared format t h o q e);
   entries = refl;
   log = no_entry shared.committed shared.place;
+  formats = tt;
   frame = inr (q, refl);
 }
 
-pub must_own : (n : ℕ) (shared : Shared) (i : Whole) (is : List Whole) (t : Option (Open Whole)) → Owns n shared t → items_of t ≡ i ∷ is → holds_lock n shared.writer ≡ true
-must_own n shared i is t o e = by (holds_lock n shared.writer) refl
+pub must_own : (n : ℕ) (shared : Shared) (format : Format) (i : Whole) (is : List Whole) (t : Option (Open Whole)) → Owns n shared format t → items_of t ≡ i ∷ is → holds_lock n shared.writer ≡ true
+must_own n shared format i is t o e = by (holds_lock n shared.writer) refl
   where
     not_empty : [] ≡ i ∷ is → ⊥
     not_empty p = cc
@@ -193,12 +198,12 @@ made_kept n fuel context shared scene h false q leads c cs e =
 pub counters_hold : (scene : Scene) (shared : Shared) → SharedHolds shared → SharedHolds (with_counters scene shared)
 counters_hold scene shared h = record { free = h.free; makes = h.makes }
 
-pub counters_owned : (n : ℕ) (scene : Scene) (shared : Shared) (t : Option (Open Whole)) → Owns n shared t → Owns n (with_counters scene shared) t
-counters_owned n scene shared t o = record { own = o.own; none = o.none; saves = o.saves; one = o.one }
+pub counters_owned : (n : ℕ) (scene : Scene) (shared : Shared) (format : Format) (t : Option (Open Whole)) → Owns n shared format t → Owns n (with_counters scene shared) format t
+counters_owned n scene shared format t o = record { own = o.own; none = o.none; saves = o.saves; one = o.one; formats = o.formats }
 
 -- what is left from a base with other counters, is left from the base
-pub from_counters : (n : ℕ) (scene : Scene) (shared new : Shared) (t : Option (Open Whole)) (es : List (Entry Whole)) → Left n (with_counters scene shared) new t es → Left n shared new t es
-from_counters n scene shared new t es l = record { holds = l.holds; own = l.own; entries = l.entries; log = l.log; frame = l.frame }
+pub from_counters : (P : Type 0) (n : ℕ) (scene : Scene) (shared new : Shared) (first last : Format) (t : Option (Open Whole)) (es : List (Entry Whole)) → Left P n (with_counters scene shared) new first last t es → Left P n shared new first last t es
+from_counters P n scene shared new first last t es l = record { holds = l.holds; own = l.own; entries = l.entries; log = l.log; formats = l.formats; frame = l.frame }
 
 -- ---- statements that write
 

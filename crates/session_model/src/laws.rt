@@ -1,5 +1,5 @@
 //! What holds of the machine of sessions.
-ghost use Rattle.session_model.specs.Holding.{ErrorsLeaveAll, ReadersSeeCommitted, RunsBegin, RunsGoOn, RunsOpen};
+ghost use Rattle.session_model.specs.Holding.{ErrorsLeaveAll, FormatsDecide, ReadersSeeCommitted, RunsBegin, RunsGoOn, RunsOpen};
 ghost use Rattle.session_model.specs.Machine.{StepsAreKept};
 
 use sql_meaning::statements_end_well;
@@ -17,6 +17,13 @@ pub fn runs_hold()
     ensures begins { RunsBegin }
     ensures opens { RunsOpen }
     ensures goes_on { RunsGoOn }
+{
+    statements_end_well();
+}
+
+/// A law: the transactions that a step puts out are logged in the format that its session had before it.
+pub fn formats_decide()
+    ensures { FormatsDecide }
 {
     statements_end_well();
 }

@@ -4,10 +4,11 @@
 //! generic in what is known of an item, so that what a node keeps (what the log has of an item) and what a whole run knows
 //! (all that an item began with) are the same machine; one law joins them.
 //!
-//! The definitions stand in specs/: `Sessions` (what is kept), `Answers`, `Running` (the writer's lock, transactions and one
+//! The definitions stand in specs/: `Formats` (how statements are logged), `Sessions` (what is kept), `Answers`, `Running` (the writer's lock, transactions and one
 //! statement's run), `Commands` (one definition a command), `Machine` (a step, and the whole run), `Holding` (what holds of
 //! every run).
 //!
+//! - `format`: how statements are logged
 //! - `laws`: what follows from the definitions
 //! - `worked`: scripts by hand, which the checker computes from their texts to their answers
 //!
@@ -15,17 +16,26 @@
 //! - What a node keeps of a step on whole items is its step on what it keeps of them ([`steps_are_kept`]).
 //! - In every run the committed base is what the entries that were put out make of the base that it began with, and the log
 //!   ends where their bytes end; the open changes are those of the items of the session that has the lock, and no other session
-//!   has an item; a savepoint stands at the changes of its items, so that ROLLBACK TO cuts rows and items at one place; items
-//!   are logged by their rows, with the definitions of their tables, and no transaction has more bytes than one may have
-//!   ([`runs_hold`]).
+//!   has an item; a savepoint stands at the changes of its items, so that ROLLBACK TO cuts rows and items at one place; an item
+//!   changed something and has the definitions of the tables that it changed, and no transaction has more bytes than one may
+//!   have ([`runs_hold`]).
+//! - What a step commits is logged in the format of its session: each item by its text under STATEMENT, and by its rows under ROW
+//!   ([`formats_decide`]).
 //! - A change, a SELECT, a DO or a statement on savepoints that is refused leaves all tables, the open transaction and what was
 //!   committed ([`errors_leave_all`]).
 //! - A session beside another one's open changes reads the rows that were last committed ([`readers_see_committed`]).
-//! - The worked scripts: a writer and a reader, savepoints, variables; where the log ends behind a row.
+//! - The worked scripts: a writer and a reader, savepoints, variables, formats; where the log ends behind a text and behind a row.
 #![tactic(auto)]
 
+mod format;
 mod laws;
 mod worked;
 
-pub use laws::{errors_leave_all, readers_see_committed, runs_hold, steps_are_kept};
-pub use worked::{log_grows, logs_full, savepoints_kept, variables_set, writers_and_readers};
+pub use format::Format;
+pub use laws::{
+    errors_leave_all, formats_decide, readers_see_committed, runs_hold, steps_are_kept,
+};
+pub use worked::{
+    first_refusal_counts, formats_set, log_grows, logs_full, savepoints_kept, variables_set,
+    writers_and_readers,
+};

@@ -29,10 +29,26 @@ pub fn variables_set()
         ≡ refused 1193 ∷ ok 0 ∷ showing ((Int (pos 1) ∷ []) ∷ []) ∷ refused 1231 ∷ refused_at 9 ∷ refused_at 0 ∷ [] }
 {}
 
-/// Where the log ends behind a table that is created, and behind a row that is logged as such.
+/// The format: a text names it in upper or lower case, a transaction keeps it, and it has no value that is read.
+pub fn formats_set()
+    ensures { answers_of (s1 (codes "SET binlog_format = 'MIXED'") ∷ s1 (codes "SET binlog_format = 'row'") ∷ s1 (codes "SELECT @@binlog_format")
+        ∷ s1 (codes "BEGIN") ∷ s1 (codes "SET binlog_format = 'ROW'") ∷ s1 (codes "SET binlog_format = 1") ∷ [])
+        ≡ refused 1231 ∷ ok 0 ∷ refused 1193 ∷ ok 0 ∷ refused 30006 ∷ refused 1231 ∷ [] }
+{}
+
+/// Of two assignments that are refused the first counts, and where one is refused none is made.
+pub fn first_refusal_counts()
+    ensures { answers_of (s1 (codes "BEGIN") ∷ s1 (codes "SET binlog_format = 'ROW', rand_seed1 = 'a'") ∷ s1 (codes "SET rand_seed1 = 'a', binlog_format = 'ROW'")
+        ∷ s1 (codes "SET auto_increment_offset = 5, binlog_format = 1") ∷ s1 (codes "SELECT @@auto_increment_offset") ∷ [])
+        ≡ ok 0 ∷ refused 30006 ∷ refused 1231 ∷ refused 1231 ∷ showing ((Int (pos 1) ∷ []) ∷ []) ∷ [] }
+{}
+
+/// Where the log ends behind a table that is created, and behind an INSERT that is logged by its text, or by its row.
 pub fn log_grows()
-    ensures { places_of (made_t ∷ s1 (codes "INSERT INTO t VALUES (1, 10)") ∷ s1 (codes "SELECT * FROM t") ∷ [])
-        ≡ first_at 206 ∷ first_at 352 ∷ first_at 352 ∷ [] }
+    ensures texts { places_of (made_t ∷ s1 (codes "INSERT INTO t VALUES (1, 10)") ∷ s1 (codes "SELECT * FROM t") ∷ [])
+        ≡ first_at 206 ∷ first_at 336 ∷ first_at 336 ∷ [] }
+    ensures rows { places_of (s1 (codes "SET binlog_format = 'ROW'") ∷ made_t ∷ s1 (codes "INSERT INTO t VALUES (1, 10)") ∷ s1 (codes "SELECT * FROM t") ∷ [])
+        ≡ first_at 123 ∷ first_at 206 ∷ first_at 352 ∷ first_at 352 ∷ [] }
 {}
 
 /// A log takes no transaction more behind 1 GiB, and none is behind the log 60,000.

@@ -17,6 +17,10 @@ use Rattle.log_model.specs.Images.{row_bytes}
 use Rattle.session_model.specs.Machine.{step}
 use Rattle.session_model.proofs.worked.log_grows.Goals as goal
 
-pub returns : goal.returns
+pub returns-clause-texts : goal.returns-clause-texts
 unfolding kind steps nested inner created_within tokens_from text_answer statement_refusal ddl_refusal effect evaluation level_of carried writes all_applied step size query_bytes names_bytes table_map_bytes rows_bytes lenenc_bytes row_bytes number_bytes
-returns c = refl
+returns-clause-texts c = refl
+
+pub returns-clause-rows : goal.returns-clause-rows
+unfolding kind steps nested inner created_within tokens_from text_answer statement_refusal ddl_refusal effect evaluation level_of carried writes all_applied step size query_bytes names_bytes table_map_bytes rows_bytes lenenc_bytes row_bytes number_bytes
+returns-clause-rows c = refl
