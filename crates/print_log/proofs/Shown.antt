@@ -1,27 +1,28 @@
 -- What is written of a log while it is read.
-use Rattle.std.proofs.Common.{◌≡◌, ◌≤◌, ◌<◌, ℕ, ◌+◌, true, false, List, [], ◌∷◌, ◌++◌, length, map, Option, Some, None, IfSome, refl, sym, ap, ◌∙◌, subst, arith, append-nil, append_assoc}
+use Rattle.std.proofs.Common.{◌≡◌, ◌≤◌, ◌<◌, ℕ, true, false, List, [], ◌∷◌, ◌++◌, length, Option, Some, None, refl, sym, ap, ◌∙◌, subst, arith, append-nil, append_assoc}
 use Rattle.std.specs.Prelude.{flat_map}
 use Rattle.std.proofs.lemmas.Grind.{flat_map-append}
 use Rattle.answer_text.specs.declared.status.Status.{Status}
 use Rattle.answer_text.specs.declared.status.Status.TheVariants as status
 use Rattle.event_codec.specs.Event.{Map, Seen}
-use Rattle.event_codec.specs.Reading.{event, none, Stop, reading}
+use Rattle.event_codec.specs.declared.event.Event.{Event}
+use Rattle.event_codec.specs.declared.reading.Read.{Read}
+use Rattle.event_codec.specs.declared.reading.Read.TheVariants as read
+use Rattle.event_codec.specs.Reading.{event, none, Stop, short, reading, reading_of}
+use Rattle.event_codec.specs.Reading as stops
 use Rattle.log_model.specs.Events.{Place, Placed, past, events_from}
 use Rattle.log_model.proofs.Walking.{events_some, events_none}
 use Rattle.log_print.specs.Lines.{line_of}
-use Rattle.log_model.specs.Groups.{Group, group, group_at}
 use Rattle.run_streams.specs.Stops.{StopsReading, StopsWriting}
 use Rattle.run_streams.specs.Wrote.{Wrote, WroteFront}
 use Rattle.run_streams.proofs.Writing.{wrote_nothing, wrote_more, broken_behind, front_of_more, whole_front}
-use Rattle.whole_groups.specs.Laws.{Lies}
 use Rattle.whole_groups.proofs.Lying.{group_lies}
 use Rattle.whole_logs.specs.Walk.{Ending, ended, damaged, foreign, Piece, Grouped, grouped}
-use Rattle.whole_logs.specs.Passing.{with_pieces, ending_with}
 use Rattle.whole_logs.specs.Printed.{map_for, maps_behind, lines_from, piece_lines, log_lines}
 use Rattle.log_reader.specs.declared.reader.Found.{Found}
 use Rattle.log_reader.specs.declared.reader.Found.TheVariants as found
 use Rattle.log_reader.specs.Reading.{Reader, next_pos, Reads, ReadsMagic}
-use Rattle.log_reader.specs.Behind.{Behind, IsLog, IsLogFront, piece_read, LeadsTo, fresh}
+use Rattle.log_reader.specs.Behind.{IsLog, IsLogFront, piece_read, LeadsTo, fresh}
 use Rattle.log_reader.proofs.Known.{magic_leads, calls_lead, fronts_are_known}
 use Rattle.print_log.specs.Ends.{Printed, PrintedFront, PrintEnds}
 use Rattle.print_log.specs.Printing.{IsShown}
@@ -47,8 +48,15 @@ line_more ms then p q e old new all is put maps place so =
     (append_assoc old here (lines_from (maps_behind ms e.body) (events_from (past e p)))
     ∙ ap (λ (es : List Placed). old ++ lines_from ms es) (sym events) ∙ so)
 
-pub lines_end : (ms : List Map) (p : Place) (stop : Stop) (old all : List ℕ) → none stop ≡ reading p.bytes p.pos → old ++ lines_from ms (events_from p) ≡ all → old ≡ all
+lines_end : (ms : List Map) (p : Place) (stop : Stop) (old all : List ℕ) → none stop ≡ reading p.bytes p.pos → old ++ lines_from ms (events_from p) ≡ all → old ≡ all
 lines_end ms p stop old all is so = sym (ap (λ (es : List Placed). old ++ lines_from ms es) (events_none p stop (sym is)) ∙ append-nil old) ∙ so
+
+pub lines_over : (ms : List Map) (p : Place) (old all : List ℕ) (r : Read) → ((e : Event) → r ≡ read.Event e → ⊥) → reading_of r ≡ reading p.bytes p.pos
+    → old ++ lines_from ms (events_from p) ≡ all → old ≡ all
+lines_over ms p old all (read.Event e) not is so = absurd (not e refl)
+lines_over ms p old all (read.Short need) not is so = lines_end ms p (short need) old all is so
+lines_over ms p old all (read.Damaged pos) not is so = lines_end ms p (stops.damaged pos) old all is so
+lines_over ms p old all (read.Foreign pos kind) not is so = lines_end ms p (stops.foreign pos kind) old all is so
 
 -- ---- a log that was read
 

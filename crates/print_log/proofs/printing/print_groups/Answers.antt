@@ -1,9 +1,6 @@
-use Rattle.std.proofs.Common.{rules, ◌≡◌, false, true, Bool, arith, sym, subst}
+use Rattle.std.proofs.Common.{rules, ◌≡◌, false, true, Bool, arith, subst}
 use Rattle.std.proofs.lemmas.Result.{err_from_is_err_and}
-use Rattle.answer_text.specs.declared.status.Status.{Status}
-use Rattle.run_streams.specs.Stops.{StopsReading, StopsWriting}
 use Rattle.log_reader.specs.declared.reader.Found.{Found}
-use Rattle.log_reader.specs.declared.reader.Found.TheVariants as found
 use Rattle.log_reader.specs.Reading.{Reads, ReadsMagic}
 use Rattle.print_log.proofs.Shown.{nothing_printed, magic_shown, no_magic_ends, stopped, group_shown, group_broken, end_shown, damaged_shown, foreign_shown, goes_forward, read_stops, write_stops}
 use Rattle.print_log.proofs.printing.print_groups.Goals as goal
