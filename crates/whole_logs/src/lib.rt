@@ -23,8 +23,10 @@
 #![tactic(auto)]
 
 mod laws;
+mod worked;
 
 pub use laws::{
     end_is_seen, group_is_first, group_is_passed, magic_is_passed, nothing_behind_names,
     others_are_damaged, stop_is_seen, turns_are_enough,
 };
+pub use worked::{first_log_by_hand, magic_by_hand, stops_by_hand};
