@@ -1,10 +1,12 @@
--- Small groups, of which worked examples are made. The table `t` has two numbers, `id` and `v`, of which the first is its key.
-use Rattle.std.specs.Prelude.{ℕ, ◌+◌, List, [], ◌∷◌, codes, replicate, None, Result, Ok, Err, true, false, pos}
+-- Small groups, of which worked examples are made. The table `t` has two numbers, `id` and `v`, of which the first is its key; the
+-- table `a` has the same columns, and `id` counts by AUTO_INCREMENT.
+use Rattle.std.specs.Prelude.{ℕ, ◌+◌, List, [], ◌∷◌, codes, replicate, Some, None, Result, Ok, Err, true, false, pos}
 use Rattle.val_types.specs.declared.definitions.ColType.TheVariants.{Int as IntType}
 use Rattle.val_types.specs.declared.definitions.ColumnDef.{ColumnDef}
 use Rattle.val_types.specs.declared.definitions.TableDef.{TableDef}
 use Rattle.val_types.specs.declared.value.Value.{Value}
 use Rattle.val_types.specs.declared.value.Value.TheVariants.{Int}
+use Rattle.auto_inc.specs.declared.counters.Counter.{Counter}
 use Rattle.event_codec.specs.declared.event.RowsKind.{RowsKind}
 use Rattle.event_codec.specs.Event.{Body, query, rows, Map}
 use Rattle.port_traits.specs.declared.identity.Identity.{Identity}
@@ -14,8 +16,7 @@ use Rattle.catalog_rules.specs.Objects.{table}
 use Rattle.log_model.specs.Events.{Placed}
 use Rattle.log_model.specs.Groups.{Group, txn}
 use Rattle.applier_model.specs.Stops.{Differs}
-use Rattle.applier_model.specs.Texts.{Progress, carried_of, carry_text, no_needs}
-use Rattle.applier_model.specs.Groups.{Applied, applier_of, group_carried}
+use Rattle.applier_model.specs.Groups.{Applied, group_carried}
 
 abbrev pub column : List ℕ → ColumnDef
 column name = record { name = name; kind = IntType; nullable = false; preset = None }
@@ -35,6 +36,16 @@ pair a b = Int (pos a) ∷ Int (pos b) ∷ []
 -- the table with some rows
 abbrev pub t_with : List (List Value) → Base
 t_with rs = record { catalog = table t_definition ∷ []; tables = record { definition = t_definition; rows = rs } ∷ [] }
+
+-- the table that counts, with some rows, and its counter
+abbrev pub a_definition : TableDef
+a_definition = record t_definition { name = codes "a"; auto = Some 0 }
+
+abbrev pub a_with : List (List Value) → Base
+a_with rs = record { catalog = table a_definition ∷ []; tables = record { definition = a_definition; rows = rs } ∷ [] }
+
+abbrev pub a_counter : ℕ → List Counter
+a_counter next = record { table = codes "a"; value = next } ∷ []
 
 abbrev pub replica : Identity
 replica = record { server_id = 2; user = codes "rep@localhost" }
@@ -77,17 +88,15 @@ text_of text = query (record { thread = 1; step = None; text = text })
 abbrev pub carried_on : List (List Value) → List Body → Result Applied Differs
 carried_on rs bs = group_carried replica no_draw (t_with rs) [] (transaction_of bs)
 
--- a transaction under way that has changed nothing yet, over some rows of the table
-abbrev pub progress_with : List (List Value) → Progress
-progress_with rs = record { store = record { tables = (t_with rs).tables; counters = [] }; changes = [] }
-
--- what it comes to by a text alone, with nothing of the items before it
-abbrev pub text_run_on : List (List Value) → List ℕ → Result Progress ℕ
-text_run_on rs text =
-    carry_text (applier_of replica no_draw (t_with rs)) text (carried_of 7 (record { thread = 1; step = None; text = text }) no_needs) (progress_with rs)
-
 abbrev pub leaves : List (List Value) → Result Applied Differs
 leaves rs = Ok (record { base = t_with rs; counters = [] })
 
 abbrev pub stops : ℕ → ℕ → List ℕ → List Value → Result Applied Differs
 stops place code name key = Err (record { place = place; code = code; table = name; key = key })
+
+-- the same over the table that counts
+abbrev pub counted_on : ℕ → List Body → Result Applied Differs
+counted_on next bs = group_carried replica no_draw (a_with []) (a_counter next) (transaction_of bs)
+
+abbrev pub counts : List (List Value) → ℕ → Result Applied Differs
+counts rs next = Ok (record { base = a_with rs; counters = a_counter next })

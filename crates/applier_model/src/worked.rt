@@ -1,13 +1,15 @@
 //! Groups and what an applier makes of them, which the checker computes.
 //!
-//! The table `t` has two numbers, `id` and `v`, of which the first is its key. Each event has 40 bytes, and the first behind BEGIN
-//! stands at 246.
-ghost use Rattle.std.specs.Prelude.{◌≡◌, ◌++◌, [], ◌∷◌, codes, pos, Err, Ok};
+//! The table `t` has two numbers, `id` and `v`, of which the first is its key; those of `a` are the same, and its key counts by
+//! AUTO_INCREMENT. Each event has 40 bytes, and the first behind BEGIN stands at 246.
+ghost use Rattle.std.specs.Prelude.{◌≡◌, ◌++◌, [], ◌∷◌, codes, length, nat_lt, pos, replicate, true, List, ℕ};
 ghost use Rattle.val_types.specs.declared.value.Value.TheVariants.{Int};
-ghost use Rattle.val_types.specs.declared.change.Change.TheVariants.{Delete as Taken};
-ghost use Rattle.event_codec.specs.Event.{table_map};
+ghost use Rattle.val_types.specs.declared.value.Value.{Value};
+ghost use Rattle.event_codec.specs.Event.{int_var, table_map, user_var};
+ghost use Rattle.event_codec.specs.declared.event.IntVarKind.TheVariants.{InsertId};
 ghost use Rattle.event_codec.specs.declared.event.RowsKind.TheVariants.{Write, Update, Delete};
-ghost use Rattle.applier_model.specs.Worked.{carried_on, leaves, pair, pair_bytes, rows_of, stops, t_map, t_with, text_of, text_run_on, wide_map};
+ghost use Rattle.applier_model.specs.Texts.{most_text};
+ghost use Rattle.applier_model.specs.Worked.{carried_on, counted_on, counts, leaves, pair, pair_bytes, rows_of, stops, t_map, text_of, wide_map};
 
 /// Rows of one item: two are put, one is changed, one is taken out.
 pub fn rows_carried()
@@ -23,22 +25,38 @@ pub fn differing_rows()
     ensures columns { carried_on [] (table_map wide_map ∷ rows_of Write (0 ∷ 1 ∷ 0 ∷ 0 ∷ 0 ∷ 2 ∷ 0 ∷ 0 ∷ 0 ∷ 0 ∷ 0 ∷ 0 ∷ 0 ∷ []) ∷ []) ≡ stops 286 30010 (codes "t") [] }
 {}
 
-/// A text in a transaction is refused at its place, whatever it is.
-pub fn texts_refused()
-    ensures first { carried_on (pair 1 10 ∷ []) (text_of (codes "DELETE FROM t WHERE id = 1") ∷ []) ≡ stops 246 30005 [] [] }
-    ensures behind { carried_on (pair 1 10 ∷ []) (table_map t_map ∷ rows_of Write (pair_bytes 2 20) ∷ text_of (codes "SELECT 1 FORM t") ∷ []) ≡ stops 326 30005 [] [] }
-{}
-
-/// What a text does where texts are run.
+/// A text is carried out at its place, also behind rows.
 pub fn texts_run()
-    ensures { text_run_on (pair 1 10 ∷ pair 2 20 ∷ []) (codes "DELETE FROM t WHERE id = 1")
-        ≡ Ok (record { store = record { tables = (t_with (pair 2 20 ∷ [])).tables; counters = [] }; changes = Taken (codes "t") (pair 1 10) ∷ [] }) }
+    ensures first { carried_on (pair 1 10 ∷ pair 2 20 ∷ []) (text_of (codes "DELETE FROM t WHERE id = 1") ∷ []) ≡ leaves (pair 2 20 ∷ []) }
+    ensures behind { carried_on (pair 1 10 ∷ []) (table_map t_map ∷ rows_of Write (pair_bytes 2 20) ∷ text_of (codes "UPDATE t SET v = v + id") ∷ [])
+        ≡ leaves (pair 1 11 ∷ pair 2 22 ∷ []) }
 {}
 
-/// Texts that are no statement, that may not stand in a transaction, and whose run is refused.
-pub fn texts_not_run()
-    ensures text { text_run_on [] (codes "SELECT 1 FORM t") ≡ Err 1064 }
-    ensures place { text_run_on [] (codes "COMMIT") ≡ Err 30005 }
-    ensures check { text_run_on [] (codes "DELETE FROM u") ≡ Err 1146 }
-    ensures run { text_run_on (pair 1 10 ∷ []) (codes "INSERT INTO t VALUES (1, NULL)") ≡ Err 1048 }
+/// Texts that are no statement, that may not stand in a transaction, that the catalog refuses, and whose run is refused.
+pub fn texts_refused()
+    ensures text { carried_on (pair 1 10 ∷ []) (text_of (codes "SELECT 1 FORM t") ∷ []) ≡ stops 246 1064 [] [] }
+    ensures deep { carried_on [] (text_of (codes "SELECT " ++ replicate 401 0x28) ∷ []) ≡ stops 246 30007 [] [] }
+    ensures transaction { carried_on [] (text_of (codes "COMMIT") ∷ []) ≡ stops 246 30005 [] [] }
+    ensures definition { carried_on [] (text_of (codes "CREATE TABLE u (id INT PRIMARY KEY)") ∷ []) ≡ stops 246 30005 [] [] }
+    ensures assignment { carried_on [] (text_of (codes "SET @x = 1") ∷ []) ≡ stops 246 30005 [] [] }
+    ensures check { carried_on [] (text_of (codes "DELETE FROM u") ∷ []) ≡ stops 246 1146 [] [] }
+    ensures null { carried_on [] (text_of (codes "INSERT INTO t VALUES (1, NULL)") ∷ []) ≡ stops 246 1048 [] [] }
+    ensures taken { carried_on (pair 1 10 ∷ []) (table_map t_map ∷ rows_of Write (pair_bytes 2 20) ∷ text_of (codes "INSERT INTO t VALUES (3, 30), (1, 11)") ∷ [])
+        ≡ stops 326 1062 [] [] }
+{}
+
+/// A text of more than 1,048,576 bytes is refused before it is read.
+pub fn long_texts()
+    ensures { (rs : List (List Value)) → (text : List ℕ) → nat_lt most_text (length text) ≡ true → carried_on rs (text_of text ∷ []) ≡ stops 246 1153 [] [] }
+{}
+
+/// What an item carries is for its own text: the next one has not the user variables of the one before.
+pub fn variables_of_one_item()
+    ensures { carried_on [] (user_var (codes "x") (Int (pos 5)) ∷ text_of (codes "INSERT INTO t VALUES (1, @x)") ∷ text_of (codes "INSERT INTO t VALUES (2, IFNULL(@x, 7))") ∷ [])
+        ≡ leaves (pair 1 5 ∷ pair 2 7 ∷ []) }
+{}
+
+/// An INSERT_ID that is carried is the first value that is generated, where the counter would have given another one.
+pub fn first_value_carried()
+    ensures { counted_on 1 (int_var InsertId 2 ∷ text_of (codes "INSERT INTO a VALUES (NULL, 10)") ∷ []) ≡ counts (pair 2 10 ∷ []) 3 }
 {}

@@ -5,7 +5,7 @@ use Rattle.std.specs.Str.{bytes_eq}
 use Rattle.std.proofs.lemmas.Bool.Decides.{nat_tests}
 use Rattle.byte_fields.specs.Field.{number_bytes}
 use Rattle.event_codec.specs.declared.event.Step.{Step}
-use Rattle.event_codec.specs.Event.{Query, format_description, query, xid}
+use Rattle.event_codec.specs.Event.{Body, Query, format_description, query, xid}
 use Rattle.event_codec.specs.Writing.{size, format_description_bytes, layout_bytes, query_bytes, step_bytes}
 use Rattle.log_entries.specs.declared.entries.Item.{Item}
 use Rattle.log_entries.specs.declared.entries.Entry.TheVariants.{Transaction, Definition}
@@ -19,7 +19,7 @@ use Rattle.row_events.proofs.GoingOn.{total_append}
 use Rattle.row_laws.proofs.Writable.{writable}
 use Rattle.transaction_sizes.specs.Sizes.{all_sizes, most_bytes}
 use Rattle.logged_items.specs.Items.{item_by_text}
-use Rattle.logged_items.specs.Logged.{AreLogged, Encodes, IsLogged}
+use Rattle.logged_items.specs.Logged.{AreLogged, Encodes, HaveForms, IsLogged, IsLoggedBy}
 
 -- ---- items
 
@@ -36,12 +36,13 @@ logged_front zero is are = tt
 logged_front (suc n) [] are = tt
 logged_front (suc n) (i ∷ is) are = (are.0, logged_front n is are.1)
 
-carried_one : (i : Item) → IsLogged i → IsCarried i.rows i
-carried_one i logged = subst (λ (b : Bool). IsCarried b i) (sym logged.rows) (logged.some, logged.can)
+carried_by : (rows : Bool) (i : Item) → IsLoggedBy rows i → IsCarried rows i
+carried_by true i form = (form.some, form.can)
+carried_by false i form = tt
 
 pub all_carried : (is : List Item) → AreLogged is → AreCarried is
 all_carried [] are = tt
-all_carried (i ∷ is) are = (carried_one i are.0, all_carried is are.1)
+all_carried (i ∷ is) are = (carried_by i.rows i are.0.form, all_carried is are.1)
 
 -- ---- events
 
@@ -51,14 +52,22 @@ can_join pos (e ∷ xs) ys first second =
     let sum : pos + (size e.body + total xs) ≡ pos + size e.body + total xs = omega arith in
     (first.0, first.1, first.2, can_join (pos + size e.body) xs ys first.3 (subst (λ (n : ℕ). CanWriteAll n ys) sum second))
 
-by_rows : (i : Item) → i.rows ≡ true → item_events i ≡ at_time i.carried.stamp (bodies_of (changes_item i.defs i.changes))
-by_rows i e = ap (λ (b : Bool). at_time i.carried.stamp (bodies_of (if b then changes_item i.defs i.changes else text_of i.text i.carried))) e
+-- of the right form, they can be written where there is room
+forms_can : (bs : List Body) (stamp pos : ℕ) → HaveForms bs → stamp < 2 ^ 32 → pos + total (at_time stamp bs) ≤ 1200000000 → CanWriteAll pos (at_time stamp bs)
+forms_can [] stamp pos forms low end = tt
+forms_can (b ∷ bs) stamp pos forms low end =
+    (record { form = forms.0; end = omega (arith, end) }, forms.1, low, forms_can bs stamp (pos + size b) forms.2 low (omega (arith, end)))
+
+-- the events of an item, by its rows or by its text
+abbrev events_by : Bool → Item → List Stamped
+events_by rows i = at_time i.carried.stamp (bodies_of (if rows then changes_item i.defs i.changes else text_of i.text i.carried))
+
+can_by : (rows : Bool) (i : Item) (pos : ℕ) → IsLoggedBy rows i → i.carried.stamp < 2 ^ 32 → pos + total (events_by rows i) ≤ 1200000000 → CanWriteAll pos (events_by rows i)
+can_by true i pos form low end = writable i.defs i.changes i.carried.stamp pos form.named form.can low end
+can_by false i pos form low end = forms_can (bodies_of (text_of i.text i.carried)) i.carried.stamp pos form low end
 
 item_can : (i : Item) (pos : ℕ) → IsLogged i → pos + item_size i ≤ 1200000000 → CanWriteAll pos (item_events i)
-item_can i pos logged end =
-    let same = by_rows i logged.rows in
-    let size : total (item_events i) ≡ total (at_time i.carried.stamp (bodies_of (changes_item i.defs i.changes))) = ap total same in
-    subst (λ (es : List Stamped). CanWriteAll pos es) (sym same) (writable i.defs i.changes i.carried.stamp pos logged.named logged.can logged.stamp (omega (arith, end, size)))
+item_can i pos logged end = can_by i.rows i pos logged.form logged.stamp end
 
 all_total : (is : List Item) → total (flat_map item_events is) ≡ all_sizes is
 all_total [] = refl

@@ -2,3 +2,4 @@ pub mod Naming
 pub mod Parts
 pub mod Fitting
 pub mod Encoding
+pub mod Forms

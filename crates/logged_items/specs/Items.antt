@@ -1,5 +1,5 @@
 -- What a source makes an item of.
-use Rattle.std.specs.Prelude.{ℕ, true, false, List, [], filter, map, None}
+use Rattle.std.specs.Prelude.{ℕ, Bool, false, List, [], filter, map, None}
 use Rattle.val_types.specs.declared.change.Change.{Change}
 use Rattle.val_types.specs.declared.definitions.TableDef.{TableDef}
 use Rattle.val_types.specs.Changes.{table_of}
@@ -32,10 +32,10 @@ numbers_of context = record { last_id = context.last_id; seeds = context.seeds }
 
 -- ---- items
 
--- a statement, by its rows
-abbrev pub item_by_rows : List ℕ → Carried → List Object → List Change → Item
-item_by_rows text carried catalog changes =
-    record { text = text; carried = carried; rows = true; defs = definitions_changed catalog changes; changes = changes }
+-- a statement that changed rows, by these or by its text
+abbrev pub statement_item : List ℕ → Carried → (rows : Bool) → List Object → List Change → Item
+statement_item text carried rows catalog changes =
+    record { text = text; carried = carried; rows = rows; defs = definitions_changed catalog changes; changes = changes }
 
 -- a CREATE, DROP or TRUNCATE: its text, with its moment, its session and the two AUTO_INCREMENT variables
 abbrev pub item_by_text : List ℕ → Context → Item

@@ -1,14 +1,15 @@
-//! Whether a log can carry an item. In a run it can: definitions come from statements that were read, and rows fit their
-//! tables.
+//! Whether a log can carry an item. In a run it can: definitions come from statements that were read, rows fit their tables,
+//! and the numbers of a context are those that events have.
 ghost use Rattle.std.specs.Prelude.{◌≡◌, ◌<◌, ◌^◌, [], ◌∷◌, map};
 ghost use Rattle.std.specs.Bool.{OnTrue};
 ghost use Rattle.log_model.specs.Images.{IsChange, IsRow};
 ghost use Rattle.log_model.specs.Items.{AreTypes, CanCarry, CanCarryAll, columns_in, kind_of, rows_kind_of};
-ghost use Rattle.logged_items.specs.Logged.{IsLogged};
+ghost use Rattle.logged_items.specs.Logged.{HasRows, IsLogged};
 ghost use Rattle.row_events.specs.Tables.{columns_seen};
 ghost use Rattle.row_laws.specs.Laws.{AreNamed};
 ghost use Rattle.val_types.specs.Changes.{table_of};
 
+use crate::texts::can_carry_text;
 use log_entries::Item;
 use val_types::{Bytes, Change, ColType, ColumnDef, List, Row, TableDef, row_fits};
 
@@ -110,13 +111,24 @@ pub(crate) fn have_words(first: u32, second: u32)
     let _ = (first, second);
 }
 
-/// Whether a log can carry an item by its rows.
+/// Whether a log can carry an item by its rows, of which there are some.
+fn has_rows(item: &Item) -> bool
+    ensures { OnTrue result (HasRows item.now) }
+{
+    if item.changes.len() == 0 || !are_named(item.defs.as_slice()) {
+        return false;
+    }
+    can_carry_all(&item.defs, item.changes.as_slice())
+}
+
+/// Whether a log can carry an item, by its rows or by its text.
 pub(crate) fn is_logged(item: &Item) -> bool
     ensures { OnTrue result (IsLogged item.now) }
 {
-    if !item.rows || item.changes.len() == 0 || !are_named(item.defs.as_slice()) {
-        return false;
-    }
     have_words(item.carried.stamp, item.carried.connection);
-    can_carry_all(&item.defs, item.changes.as_slice())
+    if item.rows {
+        has_rows(item)
+    } else {
+        can_carry_text(&item.text, &item.carried)
+    }
 }

@@ -4,14 +4,15 @@
 //! every item that [`Items`] holds: that is looked at where an item is put in, so that a commit needs no look at each row.
 //!
 //! - `making`: [`item_of`], with `before` ([`Before`]) and `tables` ([`definitions_changed`])
-//! - `items`: [`Items`]; `carrying`: whether a log can carry an item
+//! - `items`: [`Items`]; `carrying` and `texts`: whether a log can carry an item, by its rows or by its text
 //! - `definition`: [`encode_definition`]; `start`: [`encode_start`]
 //!
 //! The definitions in specs/ say what an item is made of (`Items`), and what a log takes (`Logged`).
 //!
 //! # Proved
-//! - [`item_of`] is the item of a statement by its rows: its text, what it carries of the context before it, the definitions
-//!   of just the tables that its changes change, in the order of the catalog, and the changes; or memory is short.
+//! - [`item_of`] is the item of a statement: its text, what it carries of the context before it, whether it is logged by its
+//!   rows or by its text, the definitions of just the tables that its changes change, in the order of the catalog, and the
+//!   changes; or memory is short.
 //! - [`Items`] are a list, which [`Items::add`] makes longer and [`Items::cut`] cuts to a mark; [`Items::are_too_large`]
 //!   tells whether one transaction may not have so many bytes; [`Items::encode`] gives exactly the bytes of their
 //!   transaction at a place, where it can be logged; or memory is short.
@@ -29,6 +30,7 @@ mod items;
 mod making;
 mod start;
 mod tables;
+mod texts;
 
 pub use before::Before;
 pub use definition::encode_definition;

@@ -1,7 +1,7 @@
 //! The item of a statement.
 ghost use Rattle.std.specs.Prelude.{◌≡◌, IfOk};
 ghost use Rattle.catalog_objects.specs.Keys.{objects_of};
-ghost use Rattle.logged_items.specs.Items.{as_before, item_by_rows};
+ghost use Rattle.logged_items.specs.Items.{as_before, statement_item};
 ghost use Rattle.sql_reach.specs.Carrying.{carried};
 ghost use Rattle.sql_tree.specs.StatementView.{view};
 
@@ -14,8 +14,8 @@ use sql_tree::Stmt;
 use std::alloc::Global;
 use val_types::{Bytes, Change, List, NoMemory};
 
-/// The item of a statement, by its rows: the text as given, with what it carries of the context before it, the definitions
-/// of the tables that its changes change, and these. The context is that behind it, with the numbers before it.
+/// The item of a statement, by its rows or by its text: the text as given, with what it carries of the context before it, the
+/// definitions of the tables that its changes change, and these. The context is that behind it, with the numbers before it.
 pub fn item_of(
     alloc: Global,
     text: &[u8],
@@ -24,9 +24,10 @@ pub fn item_of(
     context: &Ctx,
     before: Before,
     first: Option<i64>,
+    rows: bool,
     changes: List<Change>,
 ) -> Result<Item, NoMemory>
-    ensures { IfOk result (λ item. item ≡ item_by_rows text.now (carried (objects_of objects.now) (view statement.now) (as_before before context.now) first) (objects_of objects.now) changes) }
+    ensures { IfOk result (λ item. item ≡ statement_item text.now (carried (objects_of objects.now) (view statement.now) (as_before before context.now) first) rows (objects_of objects.now) changes) }
 {
     let carried = carried_before(alloc, statement, objects, context, before, first)?;
     let defs = definitions_changed(alloc, objects, changes.as_slice())?;
@@ -34,7 +35,7 @@ pub fn item_of(
     Ok(Item {
         text,
         carried,
-        rows: true,
+        rows,
         defs,
         changes,
     })

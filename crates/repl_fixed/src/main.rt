@@ -1,8 +1,8 @@
 //! The program with told identities and draws: a run gives the same bytes everywhere.
 //!
 //! It is the program `repl_cli` but for its environments, in which the clock and the random source of the system have no part, and
-//! for one more word: `log` carries out the script on standard input as `run` does, and writes the bytes of the source's binary log
-//! in place of the answers, for whoever compares logs or reads them with other programs.
+//! for a further word: `log` carries out the script on standard input as `run` does, and writes the bytes of the source's binary log
+//! in place of the answers, for whoever prints or replays it, compares logs or reads them with other programs.
 //!
 //! - `main` (here): both nodes at environments in memory, handed to [`start`]
 //! - `draws`: who the nodes are and what they draw

@@ -20,16 +20,16 @@ fn script_of(alloc: Global, made: &str, rest: &str) -> Result<Bytes, Fail> {
 }
 
 /// Scripts behind the table `t`, and the lines behind `1 ok 0`.
-static OF_T: [(&str, &str); 12] = [
+static OF_T: [(&str, &str); 13] = [
     // a savepoint
     (
         "s1: BEGIN //\ns1: INSERT INTO t VALUES (1, 10) //\ns1: SAVEPOINT x //\ns1: INSERT INTO t VALUES (2, 20) //\ns1: ROLLBACK TO x //\ns1: COMMIT //\nreplica: FETCH 100000 //\nreplica: APPLY 100 //\nreplica: SELECT * FROM t //\n",
-        "2 ok 0\n3 ok 1\n4 ok 0\n5 ok 1\n6 ok 0\n7 ok 0\n8 fetched 348\n9 applied 2 1:352\n10 row 1, 10\n10 rows 1\n",
+        "2 ok 0\n3 ok 1\n4 ok 0\n5 ok 1\n6 ok 0\n7 ok 0\n8 fetched 332\n9 applied 2 1:336\n10 row 1, 10\n10 rows 1\n",
     ),
     // a writer, and readers beside it
     (
         "s1: INSERT INTO t VALUES (1, 10) //\ns1: BEGIN //\ns1: INSERT INTO t VALUES (2, 20) //\ns2: UPDATE t SET v = 0 //\ns2: SELECT * FROM t //\nreplica: FETCH 100000 //\nreplica: APPLY 100 //\nreplica: SELECT * FROM t //\ns1: COMMIT //\nreplica: FETCH 100000 //\nreplica: APPLY 100 //\nreplica: SELECT v FROM t WHERE id = 2 //\n",
-        "2 ok 1\n3 ok 0\n4 ok 1\n5 error 1205 by s1\n6 row 1, 10\n6 rows 1\n7 fetched 348\n8 applied 2 1:352\n9 row 1, 10\n9 rows 1\n10 ok 0\n11 fetched 146\n12 applied 1 1:498\n13 row 20\n13 rows 1\n",
+        "2 ok 1\n3 ok 0\n4 ok 1\n5 error 1205 by s1\n6 row 1, 10\n6 rows 1\n7 fetched 332\n8 applied 2 1:336\n9 row 1, 10\n9 rows 1\n10 ok 0\n11 fetched 130\n12 applied 1 1:466\n13 row 20\n13 rows 1\n",
     ),
     // the lock ends with the transaction, and a statement that changed nothing or failed does not keep it
     (
@@ -55,6 +55,11 @@ static OF_T: [(&str, &str); 12] = [
     (
         "s1: SET nosuch = 1 //\ns1: SET auto_increment_offset = 0 //\ns1: SELECT @@auto_increment_offset //\ns1: SET rand_seed1 = -1 //\ns1: ROLLBACK TO x //\ns1: SET @a = 1, timestamp = 2147483648 //\ns1: SELECT @a //\n",
         "2 error 1193\n3 ok 0\n4 row 1\n4 rows 1\n5 error 1231\n6 error 1305\n7 error 1231\n8 row NULL\n8 rows 1\n",
+    ),
+    // the format: which values it takes, in any case, and that it stays within a transaction
+    (
+        "s1: SET binlog_format = MIXED //\ns1: SET binlog_format = 1 //\ns1: SET binlog_format = 'row' //\ns1: BEGIN //\ns1: SET binlog_format = STATEMENT //\ns1: SET binlog_format = MIXED //\ns1: SET @a = 1, binlog_format = STATEMENT //\ns1: SELECT @a //\ns1: COMMIT //\ns1: SET SESSION binlog_format = Statement //\ns1: SELECT @@binlog_format //\n",
+        "2 error 1231\n3 error 1231\n4 ok 0\n5 ok 0\n6 error 30006\n7 error 1231\n8 error 30006\n9 row NULL\n9 rows 1\n10 ok 0\n11 ok 0\n12 error 1193\n",
     ),
     // a statement that fails at its second row leaves none, and those before it stay
     (
@@ -89,8 +94,13 @@ fn statements_of_sessions(rt: HostRuntime) -> Result<(), Fail> {
     for (script, lines) in &OF_T {
         let mut all = bytes(alloc, "1 ok 0\n")?;
         all.extend_from_slice(lines.as_bytes())?;
-        let written = crate::playing::run(alloc, script_of(alloc, T, *script)?)?.written;
-        assert_eq!(rt; written.as_slice(), all.as_slice(), "{script}");
+        expect_lines(
+            &rt,
+            alloc,
+            script_of(alloc, T, *script)?,
+            all.as_slice(),
+            *script,
+        )?;
     }
     Ok(())
 }
@@ -103,7 +113,7 @@ static OF_A: [(&str, &str); 4] = [
     ),
     (
         "s1: INSERT INTO a VALUES (149, 1) //\ns1: INSERT INTO a VALUES (NULL, 2), (300, 3), (NULL, 4) //\ns1: SELECT id FROM a //\nreplica: FETCH 100000 //\nreplica: APPLY 100 //\nreplica: SELECT id FROM a //\n",
-        "1 ok 0\n2 ok 1\n3 ok 3\n4 row 149\n4 row 150\n4 row 300\n4 row 301\n4 rows 4\n5 fetched 564\n6 applied 3 1:568\n7 row 149\n7 row 150\n7 row 300\n7 row 301\n7 rows 4\n",
+        "1 ok 0\n2 ok 1\n3 ok 3\n4 row 149\n4 row 150\n4 row 300\n4 row 301\n4 rows 4\n5 fetched 566\n6 applied 3 1:570\n7 row 149\n7 row 150\n7 row 300\n7 row 301\n7 rows 4\n",
     ),
     (
         "s1: INSERT INTO a VALUES (3, 1) //\ns1: SET auto_increment_increment = 10, auto_increment_offset = 3 //\ns1: INSERT INTO a (k) VALUES (2) //\ns1: SET auto_increment_offset = 20 //\ns1: INSERT INTO a (k) VALUES (3) //\ns1: SELECT id FROM a //\n",
@@ -190,8 +200,7 @@ fn causes_in_their_order(rt: HostRuntime) -> Result<(), Fail> {
         let mut lines = bytes(alloc, "1 ok 0\n2 ok 0\n3 ok 0\n4 ok 1\n5 error ")?;
         lines.extend_from_slice(refused.as_bytes())?;
         lines.push(b'\n')?;
-        let written = crate::playing::run(alloc, script)?.written;
-        assert_eq!(rt; written.as_slice(), lines.as_slice(), "{text}");
+        expect_lines(&rt, alloc, script, lines.as_slice(), *text)?;
     }
     Ok(())
 }

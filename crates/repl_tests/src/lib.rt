@@ -2,11 +2,14 @@
 //!
 //! They stand in a crate of their own above `repl_run`, since a crate with tests of its own is proved once more for them.
 //!
-//! - `playing`: a call of the program on a script
+//! - `playing`: calls of the program on scripts and on logs
 //! - `answers`: scripts and what they write: transactions, generated values, limits of trees, errors and their order
 //! - `programs`: stored functions and triggers
 //! - `replication`: logs fetched in pieces and carried out in groups
 //! - `logs`: the source's log in place of the answers
+//! - `texts`: that log printed and replayed: what each statement carries, by its text and by its rows
+//! - `made`, `replays`: logs of another server, made event by event: where tables differ, what is damaged or not known, logs that are
+//!   cut, streams that fail
 //! - `statuses`: words, scripts that do not split, streams that fail, what the report tells
 #![tactic(auto)]
 
@@ -15,10 +18,16 @@ mod answers;
 #[cfg(test)]
 mod logs;
 #[cfg(test)]
+mod made;
+#[cfg(test)]
 mod playing;
 #[cfg(test)]
 mod programs;
 #[cfg(test)]
+mod replays;
+#[cfg(test)]
 mod replication;
 #[cfg(test)]
 mod statuses;
+#[cfg(test)]
+mod texts;

@@ -19,12 +19,12 @@ static SCRIPTS: [(&str, &str); 9] = [
     // a function that writes: it needs the lock, may not change what is read around it, and a replica refuses it
     (
         "s1: CREATE FUNCTION f(n INT) RETURNS INT BEGIN INSERT INTO t VALUES (n, 0); RETURN n + 1; END //\ns1: SELECT f(1) //\ns1: SELECT f(1) //\ns1: UPDATE t SET v = f(9) //\ns1: BEGIN //\ns1: DO f(2) //\ns2: SELECT f(3) //\ns1: ROLLBACK //\nreplica: FETCH 100000 //\nreplica: APPLY 100 //\nreplica: SELECT f(7) //\nreplica: SELECT * FROM t //\ns1: SELECT f(9) //\nreplica: FETCH 100000 //\nreplica: APPLY 100 //\nreplica: SELECT * FROM t //\ns1: SELECT * FROM t //\n",
-        "3 ok 0\n4 row 2\n4 rows 1\n5 error 1062\n6 error 1442\n7 ok 0\n8 ok 0\n9 error 1205 by s1\n10 ok 0\n11 fetched 558\n12 applied 4 1:562\n13 error 1290\n14 row 1, 0\n14 rows 1\n15 row 10\n15 rows 1\n16 fetched 146\n17 applied 1 1:708\n18 row 1, 0\n18 row 9, 0\n18 rows 2\n19 row 1, 0\n19 row 9, 0\n19 rows 2\n",
+        "3 ok 0\n4 row 2\n4 rows 1\n5 error 1062\n6 error 1442\n7 ok 0\n8 ok 0\n9 error 1205 by s1\n10 ok 0\n11 fetched 525\n12 applied 4 1:529\n13 error 1290\n14 row 1, 0\n14 rows 1\n15 row 10\n15 rows 1\n16 fetched 113\n17 applied 1 1:642\n18 row 1, 0\n18 row 9, 0\n18 rows 2\n19 row 1, 0\n19 row 9, 0\n19 rows 2\n",
     ),
     // triggers cause triggers
     (
         "s1: CREATE TABLE l (id INT, w INT, PRIMARY KEY (id)) //\ns1: CREATE TRIGGER a AFTER INSERT ON t FOR EACH ROW INSERT INTO l VALUES (NEW.id, NEW.v + 1) //\ns1: CREATE TRIGGER c AFTER INSERT ON l FOR EACH ROW INSERT INTO u VALUES (NEW.id, NEW.w + 1) //\ns1: INSERT INTO t VALUES (4, 40) //\ns1: SELECT * FROM u //\nreplica: FETCH 100000 //\nreplica: APPLY 100 //\nreplica: SELECT * FROM l //\nreplica: SELECT * FROM u //\ns1: DROP TRIGGER c //\ns1: CREATE TRIGGER c AFTER INSERT ON l FOR EACH ROW DELETE FROM t //\ns1: INSERT INTO t VALUES (5, 50) //\ns1: SELECT COUNT(*) FROM l //\n",
-        "3 ok 0\n4 ok 0\n5 ok 0\n6 ok 1\n7 row 4, 42\n7 rows 1\n8 fetched 925\n9 applied 6 1:929\n10 row 4, 41\n10 rows 1\n11 row 4, 42\n11 rows 1\n12 ok 0\n13 ok 0\n14 error 1442\n15 row 1\n15 rows 1\n",
+        "3 ok 0\n4 ok 0\n5 ok 0\n6 ok 1\n7 row 4, 42\n7 rows 1\n8 fetched 747\n9 applied 6 1:751\n10 row 4, 41\n10 rows 1\n11 row 4, 42\n11 rows 1\n12 ok 0\n13 ok 0\n14 error 1442\n15 row 1\n15 rows 1\n",
     ),
     // a function in a function, which fails at the third row
     (

@@ -1,42 +1,47 @@
 //! How a run ends, and what it tells.
 
 use crate::playing::{
-    REPLICA_MOMENT, SOURCE_MOMENT, bytes, draw, identity_of, place_of, play, run, sink_of,
-    source_of,
+    REPLICA_MOMENT, SOURCE_MOMENT, bytes, draw, expect_calls, expect_played, identity_of, play,
+    report_of, run, sink_of, source_of,
 };
-use answer_text::Status;
-use port_traits::{MemSink, MemSource};
+use answer_text::{Report, Status};
 use repl_start::tell;
 use std::alloc::Global;
 use std::process::Abort;
 use std::test::Fail;
 use val_types::{Bytes, List};
 
-/// Scripts that do not split or that ask what no node does yet, and the first bad byte.
-static BAD_SCRIPTS: [(&str, u64); 13] = [
-    ("s1: SELECT 1", 0),
-    ("s0: SELECT 1 //", 0),
-    ("s100: SELECT 1 //", 0),
-    ("replica: DROP TABLE t //", 0),
-    (" \n s1 : SELECT 1 //", 3),
-    ("s1: SELECT 1 //\nx", 16),
-    ("s1: SELECT 1 // s1: SELECT 2 /", 0),
-    ("s1: SELECT 1 //\n\ns1: SELECT 2 /", 17),
-    ("s1: SELECT 1 //\nreplica: CHECKPOINT //", 16),
-    ("replica: APPLY 1 //\nsource: FLUSH //", 20),
-    ("s1: SELECT 1 //\nsource: CHECKPOINT //", 16),
-    ("replica: RESTART //", 0),
+/// Scripts that do not split or that ask what no node does yet, and the line that tells the first bad byte.
+static BAD_SCRIPTS: [(&str, &str); 13] = [
+    ("s1: SELECT 1", "bad script at 0\n"),
+    ("s0: SELECT 1 //", "bad script at 0\n"),
+    ("s100: SELECT 1 //", "bad script at 0\n"),
+    ("replica: DROP TABLE t //", "bad script at 0\n"),
+    (" \n s1 : SELECT 1 //", "bad script at 3\n"),
+    ("s1: SELECT 1 //\nx", "bad script at 16\n"),
+    ("s1: SELECT 1 // s1: SELECT 2 /", "bad script at 0\n"),
+    ("s1: SELECT 1 //\n\ns1: SELECT 2 /", "bad script at 17\n"),
+    (
+        "s1: SELECT 1 //\nreplica: CHECKPOINT //",
+        "bad script at 16\n",
+    ),
+    (
+        "replica: APPLY 1 //\nsource: FLUSH //",
+        "bad script at 20\n",
+    ),
+    (
+        "s1: SELECT 1 //\nsource: CHECKPOINT //",
+        "bad script at 16\n",
+    ),
+    ("replica: RESTART //", "bad script at 0\n"),
     // what does not split comes before what is asked too early
-    ("source: RESTART //\nx", 19),
+    ("source: RESTART //\nx", "bad script at 19\n"),
 ];
 
-fn expect_bad(rt: &impl Abort, alloc: Global, script: &str, at: u64) -> Result<(), Fail> {
+fn expect_bad(rt: &impl Abort, alloc: Global, script: &str, ending: &str) -> Result<(), Fail> {
     let input = source_of(alloc, script.as_bytes(), List::new(alloc))?;
     let played = play(alloc, "run", input, sink_of(alloc, List::new(alloc)))?;
-    assert_eq!(rt; played.status.number(), 2, "{script}");
-    assert_eq!(rt; place_of(&played.status), Some(at), "{script}");
-    assert_eq!(rt; played.writes, 0, "{script}");
-    assert!(rt; played.report.src_draws.is_empty(), "{script}");
+    expect_calls(rt, &played, ending, (played.reads, 0));
     Ok(())
 }
 
@@ -60,32 +65,30 @@ fn long_command(alloc: Global, letters: usize) -> Result<Bytes, Fail> {
 fn limit_of_a_command(rt: HostRuntime) -> Result<(), Fail> {
     let alloc = rt.alloc();
     let longest = run(alloc, long_command(alloc, 1_048_571)?)?;
-    assert_eq!(rt; longest.status.number(), 0);
-    assert_eq!(rt;
-        longest.written.as_slice(),
-        b"1 error 1064 at 0\n".as_slice()
-    );
+    expect_played(&rt, &longest, b"1 error 1064 at 0\n", "", "longest");
     let longer = run(alloc, long_command(alloc, 1_048_572)?)?;
-    assert_eq!(rt; place_of(&longer.status), Some(1));
+    expect_played(&rt, &longer, b"", "bad script at 1\n", "longer");
     Ok(())
 }
 
-fn blanks(alloc: Global, count: usize) -> Result<Option<u64>, Fail> {
+/// Expects of so many blanks that they end a run so.
+fn expect_blanks(rt: &impl Abort, alloc: Global, count: usize, ending: &str) -> Result<(), Fail> {
     let script = List::from_vec(vec![in alloc; b' '; count]?);
-    Ok(place_of(&run(alloc, script)?.status))
+    let played = run(alloc, script)?;
+    expect_played(rt, &played, b"", ending, "blanks");
+    Ok(())
 }
 
 #[test]
 fn limit_of_a_script(rt: HostRuntime) -> Result<(), Fail> {
-    let alloc = rt.alloc();
-    assert_eq!(rt; blanks(alloc, 67_108_864)?, None);
-    assert_eq!(rt; blanks(alloc, 67_108_865)?, Some(67_108_864));
-    assert_eq!(rt; blanks(alloc, 67_108_900)?, Some(67_108_864));
-    Ok(())
+    let too_long = "bad script at 67108864\n";
+    expect_blanks(&rt, rt.alloc(), 67_108_864, "")?;
+    expect_blanks(&rt, rt.alloc(), 67_108_865, too_long)?;
+    expect_blanks(&rt, rt.alloc(), 67_108_900, too_long)
 }
 
 /// Lines of words, and whether they ask for a run.
-static WORDS: [(&str, bool); 9] = [
+static WORDS: [(&str, bool); 13] = [
     ("run", true),
     ("-- run", true),
     ("run --", true),
@@ -94,16 +97,19 @@ static WORDS: [(&str, bool); 9] = [
     ("-- -- run", false),
     ("run fast", false),
     ("Run", false),
-    ("replay", false),
+    ("log", false),
+    ("print log", false),
+    ("run print", false),
+    ("Replay", false),
+    ("dump source", false),
 ];
 
 fn expect_words(rt: &impl Abort, alloc: Global, line: &str, asks: bool) -> Result<(), Fail> {
     let input = source_of(alloc, b"s1: x //", List::new(alloc))?;
     let played = play(alloc, line, input, sink_of(alloc, List::new(alloc)))?;
-    let number = if asks { 0 } else { 1 };
-    assert_eq!(rt; played.status.number(), number, "{line}");
-    assert_eq!(rt; played.reads == 0, !asks, "{line}");
-    assert_eq!(rt; played.report.src_draws.is_empty(), !asks, "{line}");
+    let ending = if asks { "" } else { "bad words\n" };
+    expect_played(rt, &played, played.written.as_slice(), ending, line);
+    assert_eq!(rt; played.reads == 0, !asks);
     Ok(())
 }
 
@@ -121,7 +127,7 @@ const SCRIPT: &str =
 
 /// What it shows, in writes of 7, 7, 10, 3, 10, 4, 10, 8, 10 and 7 bytes.
 const SHOWN: &str =
-    "1 ok 0\n2 ok 1\n3 error 1062\n4 fetched 336\n5 applied 2 1:340\n6 row 1\n6 rows 1\n";
+    "1 ok 0\n2 ok 1\n3 error 1062\n4 fetched 321\n5 applied 2 1:325\n6 row 1\n6 rows 1\n";
 
 /// Its writes, and how many bytes were written before each.
 static WRITES: [(u64, usize); 10] = [
@@ -147,9 +153,7 @@ fn only(alloc: Global, call: u64) -> Result<List<u64>, Fail> {
 fn expect_read_fault(rt: &impl Abort, alloc: Global, call: u64) -> Result<(), Fail> {
     let input = source_of(alloc, SCRIPT.as_bytes(), only(alloc, call)?)?;
     let played = play(alloc, "run", input, sink_of(alloc, List::new(alloc)))?;
-    assert_eq!(rt; played.status.number(), 3, "read {call}");
-    assert_eq!(rt; played.reads, call, "read {call}");
-    assert_eq!(rt; played.writes, 0, "read {call}");
+    expect_calls(rt, &played, "read fault\n", (call, 0));
     Ok(())
 }
 
@@ -161,14 +165,9 @@ fn expect_write_fault(
 ) -> Result<(), Fail> {
     let input = source_of(alloc, SCRIPT.as_bytes(), List::new(alloc))?;
     let played = play(alloc, "run", input, sink_of(alloc, only(alloc, call)?))?;
-    assert_eq!(rt; played.status.number(), 4, "write {call}");
-    assert_eq!(rt; played.reads, 20, "write {call}");
-    assert_eq!(rt; played.writes, call, "write {call}");
-    assert_eq!(rt; played.written.len(), written, "write {call}");
-    assert!(rt;
-        SHOWN.as_bytes().starts_with(played.written.as_slice()),
-        "write {call}"
-    );
+    expect_calls(rt, &played, "write fault\n", (20, call));
+    let front = SHOWN.as_bytes().get(..written).unwrap_or(b"");
+    expect_played(rt, &played, front, "write fault\n", "write fault");
     Ok(())
 }
 
@@ -177,10 +176,8 @@ fn streams_that_do_not_fail(rt: HostRuntime) -> Result<(), Fail> {
     let alloc = rt.alloc();
     let input = source_of(alloc, SCRIPT.as_bytes(), List::new(alloc))?;
     let played = play(alloc, "run", input, sink_of(alloc, List::new(alloc)))?;
-    assert_eq!(rt; played.status.number(), 0);
-    assert_eq!(rt; played.reads, 20);
-    assert_eq!(rt; played.writes, 10);
-    assert_eq!(rt; played.written.as_slice(), SHOWN.as_bytes());
+    expect_calls(&rt, &played, "", (20, 10));
+    expect_played(&rt, &played, SHOWN.as_bytes(), "", "no fault");
     Ok(())
 }
 
@@ -195,45 +192,39 @@ fn streams_that_fail(rt: HostRuntime) -> Result<(), Fail> {
     Ok(())
 }
 
-#[test]
-fn report_of_a_run(rt: HostRuntime) -> Result<(), Fail> {
-    let alloc = rt.alloc();
-    let input = MemSource::new(bytes(alloc, SCRIPT)?, List::new(alloc));
-    let report = play(alloc, "run", input, MemSink::new(alloc, List::new(alloc)))?.report;
-    // each node's opening has its first draw; the third is the source's last, and so the fourth is the same; FETCH takes none
+/// Expects of a report who the nodes are.
+fn expect_identities(rt: &impl Abort, alloc: Global, report: &Report) -> Result<(), Fail> {
+    let source = Some(identity_of(alloc, 1, "root@localhost")?);
+    let replica = Some(identity_of(alloc, 2, "rep@localhost")?);
+    assert_eq!(rt; report.src_identity, source);
+    assert_eq!(rt; report.rep_identity, replica);
+    Ok(())
+}
+
+/// Expects what both nodes drew: each node's opening has its first draw; the third is the source's last, and so the fourth is the
+/// same; FETCH takes none.
+fn expect_draws(rt: &impl Abort, report: &Report) {
+    let last = draw(SOURCE_MOMENT, 2);
     assert_eq!(rt;
         report.src_draws.as_slice(),
-        [
-            draw(SOURCE_MOMENT, 0),
-            draw(SOURCE_MOMENT, 1),
-            draw(SOURCE_MOMENT, 2),
-            draw(SOURCE_MOMENT, 2)
-        ]
-        .as_slice()
+        [draw(SOURCE_MOMENT, 0), draw(SOURCE_MOMENT, 1), last, last].as_slice()
     );
+    let last = draw(REPLICA_MOMENT, 2);
     assert_eq!(rt;
         report.rep_draws.as_slice(),
-        [
-            draw(REPLICA_MOMENT, 0),
-            draw(REPLICA_MOMENT, 1),
-            draw(REPLICA_MOMENT, 2)
-        ]
-        .as_slice()
+        [draw(REPLICA_MOMENT, 0), draw(REPLICA_MOMENT, 1), last].as_slice()
     );
-    assert_eq!(rt;
-        report.src_identity,
-        Some(identity_of(alloc, 1, "root@localhost")?)
-    );
-    assert_eq!(rt;
-        report.rep_identity,
-        Some(identity_of(alloc, 2, "rep@localhost")?)
-    );
+}
+
+#[test]
+fn report_of_a_run(rt: HostRuntime) -> Result<(), Fail> {
+    let report = report_of(rt.alloc(), "run", SCRIPT.as_bytes())?;
+    expect_draws(&rt, &report);
     // the last command was the sixth, and the table and its row were committed and carried out before
-    assert_eq!(rt; report.now.command, 6);
-    assert_eq!(rt; report.now.committed, 2);
-    assert_eq!(rt; report.now.applied, 2);
-    assert!(rt; report.marks.is_empty());
-    Ok(())
+    let now = (report.now.command, report.now.committed, report.now.applied);
+    assert_eq!(rt; now, (6, 2, 2));
+    assert_eq!(rt; report.marks.len(), 0);
+    expect_identities(&rt, rt.alloc(), &report)
 }
 
 #[test]

@@ -52,14 +52,19 @@ none_ahead [] (suc n) few = refl
 none_ahead (b ∷ bs) zero few = absurd (omega (arith, few))
 none_ahead (b ∷ bs) (suc n) few = none_ahead bs n (omega (arith, few))
 
-module _ (wanted : ℕ) (identity : Identity) (draw : Draw) (start r : Replica) (passed count : ℕ) where
-  abbrev all : Going
-  all = apply wanted identity draw start
-
+module _ (wanted : ℕ) (identity : Identity) (draw : Draw) (r : Replica) (passed count : ℕ) where
   -- one step of those that are left
   one : (most : ℕ) → count < wanted → go_on (suc most) wanted identity draw (going_at r passed count)
       ≡ by_next (go_on most wanted identity draw) identity draw (going_at r passed count) (next_at (going_at r passed count))
   one most low = let test : leb wanted count ≡ false = lt-leb _ _ low in rw test refl
+
+  -- of one, all there is
+  pub one_step : count < wanted → go_on 1 wanted identity draw (going_at r passed count) ≡ by_next (λ a. a) identity draw (going_at r passed count) (next_at (going_at r passed count))
+  one_step low = one 0 low
+
+module _ (wanted : ℕ) (identity : Identity) (draw : Draw) (start r : Replica) (passed count : ℕ) where
+  abbrev all : Going
+  all = apply wanted identity draw start
 
   -- no bytes lie ahead
   nothing_ahead : length r.relay ≤ passed → next_at (going_at r passed count) ≡ not_whole
@@ -78,7 +83,7 @@ module _ (wanted : ℕ) (identity : Identity) (draw : Draw) (start r : Replica) 
     goes passed' count' step is on (suc most) enough same less within = record {
       most = most;
       enough = omega (arith, enough, less);
-      same = sym (on (go_on most wanted identity draw)) ∙ sym (is (go_on most wanted identity draw) count) ∙ sym (one most low) ∙ same;
+      same = sym (on (go_on most wanted identity draw)) ∙ sym (is (go_on most wanted identity draw) count) ∙ sym (one wanted identity draw r passed count most low) ∙ same;
     }
 
     pub over : (ahead : Walk) → IsStep identity draw r r' passed (Over ahead) → GoesOn (Over ahead) (length r.relay - passed) r' → IsUnder wanted identity draw start r' ahead.passed count
@@ -96,7 +101,7 @@ module _ (wanted : ℕ) (identity : Identity) (draw : Draw) (start r : Replica) 
         → all ≡ going_at r' passed count
     waits_by is zero enough same =
         sym same ∙ sym (ap (by_next (λ a. a) identity draw (going_at r passed count)) (nothing_ahead (omega (arith, enough)))) ∙ is (λ a. a) count
-    waits_by is (suc most) enough same = sym same ∙ one most low ∙ is (go_on most wanted identity draw) count
+    waits_by is (suc most) enough same = sym same ∙ one wanted identity draw r passed count most low ∙ is (go_on most wanted identity draw) count
 
     pub waits : IsStep identity draw r r' passed Waits → all ≡ going_at r' passed count
     waits is = waits_by is under.most under.enough under.same
@@ -105,7 +110,7 @@ module _ (wanted : ℕ) (identity : Identity) (draw : Draw) (start r : Replica) 
         → go_on most wanted identity draw (going_at r passed count) ≡ all → all ≡ record (going_at r' passed count) { stop = Some (stop_of stop) }
     stops_by stop is zero enough same =
         sym same ∙ sym (ap (by_next (λ a. a) identity draw (going_at r passed count)) (nothing_ahead (omega (arith, enough)))) ∙ is (λ a. a) count
-    stops_by stop is (suc most) enough same = sym same ∙ one most low ∙ is (go_on most wanted identity draw) count
+    stops_by stop is (suc most) enough same = sym same ∙ one wanted identity draw r passed count most low ∙ is (go_on most wanted identity draw) count
 
     pub stops : (stop : Stopped) → IsStep identity draw r r' passed (StoppedBy stop) → all ≡ record (going_at r' passed count) { stop = Some (stop_of stop) }
     stops stop is = stops_by stop is under.most under.enough under.same

@@ -1,11 +1,13 @@
 -- APPLY, step by step.
 use Rattle.std.specs.Prelude.{◌≡◌, ◌≤◌, ◌<◌, ℕ, ◌+◌, length, Option, Some, None, Result, Ok, Err}
 use Rattle.std.specs.Option.{option_map}
+use Rattle.port_traits.specs.declared.identity.Identity.{Identity}
+use Rattle.port_traits.specs.declared.identity.Draw.{Draw}
 use Rattle.applier_model.specs.Stops.{Differs}
 use Rattle.applier_model.specs.Groups.{Applied}
 use Rattle.log_model.specs.Log.{moved}
 use Rattle.prog_run.specs.Contents.{Contents}
-use Rattle.replica_model.specs.Applying.{Going, Stop, differs, damaged, foreign}
+use Rattle.replica_model.specs.Applying.{Going, Stop, differs, damaged, foreign, go_on, going_from}
 use Rattle.replica_model.specs.Replica.{Replica}
 use Rattle.relay_log.specs.declared.place.Walk.{Walk}
 use Rattle.relay_log.specs.Reaching.{Fetched, IsAhead, place_seen}
@@ -69,3 +71,9 @@ GoesOn Moved left r = length r.relay < left
 GoesOn Carried left r = length r.relay < left
 GoesOn Waits left r = Unit {0}
 GoesOn (StoppedBy stop) left r = Unit {0}
+
+-- ---- an APPLY that memory cut short
+
+-- a replica as it is behind so many steps of it
+abbrev pub IsFront : (wanted : ℕ) → Identity → Draw → (first now : Replica) → Type 0
+IsFront wanted identity draw first now = (steps : ℕ) × (now ≡ (go_on steps wanted identity draw (going_from first)).replica)

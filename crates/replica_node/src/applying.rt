@@ -5,7 +5,7 @@ ghost use Rattle.prog_run.specs.Contents.{base_of};
 ghost use Rattle.applier_model.specs.Groups.{group_carried};
 ghost use Rattle.replica_model.specs.Applying.{Going as Under, apply, by_next, next_at};
 ghost use Rattle.replica_node.specs.Kept.{replica_of};
-ghost use Rattle.replica_node.specs.Steps.{CarriesOut, GoesOn, IsOver, IsTold, ended_by, going_at};
+ghost use Rattle.replica_node.specs.Steps.{CarriesOut, GoesOn, IsFront, IsOver, IsTold, ended_by, going_at};
 
 use crate::replica::ReplicaNode;
 use crate::told::{Applied, Step, Stopped};
@@ -60,6 +60,7 @@ impl ReplicaNode {
         ensures identity { self.new.identity ≡ self.old.identity }
         ensures step { IfOk result (λ step. (more : Under → Under) → (count : ℕ) → by_next more self.old.identity draw.entry.now (going_at (replica_of self.old) ahead.now.passed count) (next_at (going_at (replica_of self.old) ahead.now.passed count))
             ≡ ended_by more step (replica_of self.new) ahead.now.passed count) }
+        ensures err { OnErr result (self.new ≡ self.old) }
         ensures goes_on { IfOk result (λ step. GoesOn step (length (replica_of self.old).relay - ahead.now.passed) (replica_of self.new)) }
     {
         match self.relay.next(ahead) {
@@ -110,11 +111,13 @@ impl ReplicaNode {
     }
 
     /// Carries out up to so many definitions and transactions of what was fetched. It stops at one that differs from what is
-    /// there, and at bytes that no group has; that group is left as it is, and a later call tries it again.
+    /// there, and at bytes that no group has; that group is left as it is, and a later call tries it again. Where memory is short,
+    /// what was carried out before stands.
     #[tactic(auto, unfolding(replica_model::specs::Applying::apply))]
     pub fn apply(&mut self, wanted: u32, draw: &Draw) -> Result<Applied, NodeFault>
         ensures identity { self.new.identity ≡ self.old.identity }
         ensures replica { IfOk result (λ told. replica_of self.new ≡ (apply wanted self.old.identity draw.entry.now (replica_of self.old)).replica) }
+        ensures err { OnErr result (IsFront wanted self.old.identity draw.entry.now (replica_of self.old) (replica_of self.new)) }
         ensures told { IfOk result (λ told. IsTold told (apply wanted self.old.identity draw.entry.now (replica_of self.old))) }
     {
         let mut count: u32 = 0;

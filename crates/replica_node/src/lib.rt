@@ -1,7 +1,7 @@
 //! A replica in memory: it fetches the bytes of its source's logs, carries out the whole groups among them, and shows its rows.
 //!
-//! It stands on `relay_log`, which keeps what was fetched and reads groups of it, and `stmt_apply`, which carries one out; a run asks
-//! it by its commands. The definitions are `replica_model`'s.
+//! It stands on `relay_log`, which keeps what was fetched and reads groups of it, and `stmt_apply`, which carries one out, its rows as
+//! they are and its texts with what they carry; a run asks it by its commands. The definitions are `replica_model`'s.
 //!
 //! - `replica`: [`ReplicaNode`]: [`ReplicaNode::open`], [`ReplicaNode::number`], [`ReplicaNode::want`],
 //!   [`ReplicaNode::fetch`] and [`ReplicaNode::select`]
@@ -16,7 +16,7 @@
 //! - [`ReplicaNode::want`] is exactly the definition's place, and [`ReplicaNode::number`] the count of what was carried out.
 //! - [`ReplicaNode::fetch`] puts just the piece behind what was fetched, or memory is short and all is as before.
 //! - [`ReplicaNode::apply`] makes just the replica of the definition, and tells just its count, its place and its stop; or memory is
-//!   short, and then nothing is said of what it keeps.
+//!   short, and then it keeps the definition's replica behind some number of its steps (`err`).
 //! - [`ReplicaNode::select`]: the answer to a text is exactly the definition's: what is no statement is refused at its place, then
 //!   come the catalog's checks, 1290 for what would write, and the run in a new session without a number, with the replica's
 //!   identity and draw. What the replica keeps is as before, also where memory is short.

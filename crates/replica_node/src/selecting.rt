@@ -1,8 +1,6 @@
 //! A text of a reader: a SELECT, in a session of its own that has no number.
 ghost use Rattle.std.specs.Prelude.{◌≡◌, ◌≤◌, ◌^◌, [], false, length, IfOk};
 ghost use Rattle.sql_tree.specs.StatementView.{view};
-ghost use Rattle.catalog_objects.specs.Keys.{objects_of};
-ghost use Rattle.catalog_rules.specs.Checks.{session_scope, statement_refusal};
 ghost use Rattle.prog_run.specs.Contents.{base_of};
 ghost use Rattle.sql_reach.specs.Reach.{is_definition};
 ghost use Rattle.stmt_apply.specs.Ends.{Stays};
@@ -13,29 +11,18 @@ use node_answers::{NodeFault, refused, refused_at, statement_of, told};
 use port_traits::{Draw, Identity};
 use prog_run::{Meter, Work, run_stmt};
 use session_ctx::SessionVars;
-use sql_locals::Locals;
 use sql_parse::ParseRefusal;
 use sql_tree::Stmt;
 use std::alloc::Global;
+use stmt_apply::checked;
 use unsafe_rules::writes;
-use val_types::{Duplicate, SqlError, SqlRefusal};
+use val_types::{Duplicate, SqlRefusal};
 
 /// A text is too deep.
 const TOO_DEEP: u16 = 30007;
 
 /// A replica's rows are changed by its source alone (ER_OPTION_PREVENTS_STATEMENT).
 const READ_ONLY: u16 = 1290;
-
-/// What the catalog's checks refuse a statement for.
-fn checked(alloc: Global, work: &Work, statement: &Stmt) -> Option<SqlError>
-    ensures { result ≡ statement_refusal (objects_of work.now.objects) session_scope (view statement.now) }
-{
-    let locals = Locals::new(alloc);
-    match work.catalog().check(statement, &locals) {
-        Err(SqlRefusal::Sql(code)) => Some(code),
-        _ => None,
-    }
-}
 
 /// Runs a statement that is no definition.
 #[tactic(auto)]

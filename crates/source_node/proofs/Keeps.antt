@@ -24,7 +24,9 @@ use Rattle.session_model.specs.Answers.{refused}
 use Rattle.session_model.specs.Commands.{changes_of_own, given_turn}
 use Rattle.transaction_sizes.specs.Sizes.{are_too_large}
 use Rattle.session_ctx.specs.declared.session.SessionVars.{SessionVars}
+use Rattle.session_model.specs.Formats.{is_by_rows}
 use Rattle.session_model.specs.Sessions.{Open, Session, Shared}
+use Rattle.session_model.specs.declared.format.Format.{Format}
 use Rattle.source_node.specs.Ran.{Came, Gave, place_at, told_of, told_result}
 use Rattle.session_model.specs.Running.{Given, Turn, did_answer, all_committed, commit_entries, commit_shared, expressions_run, full, items_of, statement_run, takes_too_much, transaction_of, with_context}
 use Rattle.source_node.specs.Calls.{call_of}
@@ -81,39 +83,39 @@ module _ (identity : Identity) (draw : Draw) (n : ℕ) where
       ∙ item_if large item mark shared session (too_much session.transaction item)
 
   -- outside a transaction
-  pub alone : (item : Item) (mark : ℕ) (old new : Desk) (vars : SessionVars) → are_too_large (item ∷ []) ≡ false
+  pub alone : (item : Item) (mark : ℕ) (old new : Desk) (vars : SessionVars) (format : Format) → are_too_large (item ∷ []) ≡ false
       → shared_of new ≡ all_committed (Transaction vars.context.stamp identity.server_id (item ∷ [])) (shared_of old) → Logs (Transaction vars.context.stamp identity.server_id (item ∷ []) ∷ []) old new
-      → IsTurn old new (record { vars = vars; transaction = None }) true (item_kept (call_of identity draw n) item mark (shared_of old) (record { vars = vars; transaction = None }))
-  alone item mark old new vars small committed logs =
-      turn_is old new (record { vars = vars; transaction = None }) true (kept_if true (call_of identity draw n) item mark (shared_of old) (record { vars = vars; transaction = None })) _
-      (item_is true item mark (shared_of old) (record { vars = vars; transaction = None }) (ap not (sym small))) ((committed, refl, logs), refl)
+      → IsTurn old new (record { vars = vars; format = format; transaction = None }) true (item_kept (call_of identity draw n) item mark (shared_of old) (record { vars = vars; format = format; transaction = None }))
+  alone item mark old new vars format small committed logs =
+      turn_is old new (record { vars = vars; format = format; transaction = None }) true (kept_if true (call_of identity draw n) item mark (shared_of old) (record { vars = vars; format = format; transaction = None })) _
+      (item_is true item mark (shared_of old) (record { vars = vars; format = format; transaction = None }) (ap not (sym small))) ((committed, refl, logs), refl)
 
-  pub refused_alone : (item : Item) (mark : ℕ) (old new : Desk) (vars : SessionVars) → are_too_large (item ∷ []) ≡ true → shared_of new ≡ cut_to n mark (shared_of old) → new.log ≡ old.log
-      → IsTurn old new (record { vars = vars; transaction = None }) false (item_kept (call_of identity draw n) item mark (shared_of old) (record { vars = vars; transaction = None }))
-  refused_alone item mark old new vars large cut same =
-      turn_is old new (record { vars = vars; transaction = None }) false (kept_if false (call_of identity draw n) item mark (shared_of old) (record { vars = vars; transaction = None })) _
-      (item_is false item mark (shared_of old) (record { vars = vars; transaction = None }) (ap not (sym large))) ((cut, refl, (same, tt)), refl)
+  pub refused_alone : (item : Item) (mark : ℕ) (old new : Desk) (vars : SessionVars) (format : Format) → are_too_large (item ∷ []) ≡ true → shared_of new ≡ cut_to n mark (shared_of old) → new.log ≡ old.log
+      → IsTurn old new (record { vars = vars; format = format; transaction = None }) false (item_kept (call_of identity draw n) item mark (shared_of old) (record { vars = vars; format = format; transaction = None }))
+  refused_alone item mark old new vars format large cut same =
+      turn_is old new (record { vars = vars; format = format; transaction = None }) false (kept_if false (call_of identity draw n) item mark (shared_of old) (record { vars = vars; format = format; transaction = None })) _
+      (item_is false item mark (shared_of old) (record { vars = vars; format = format; transaction = None }) (ap not (sym large))) ((cut, refl, (same, tt)), refl)
 
   -- in an open one
-  pub in_open : (item : Item) (mark : ℕ) (old new : Desk) (vars : SessionVars) (open' later : Open Item) (kept : Bool) → kept ≡ not (are_too_large (open'.items ++ item ∷ [])) → later ≡ one_more_if kept item open'
+  pub in_open : (item : Item) (mark : ℕ) (old new : Desk) (vars : SessionVars) (format : Format) (open' later : Open Item) (kept : Bool) → kept ≡ not (are_too_large (open'.items ++ item ∷ [])) → later ≡ one_more_if kept item open'
       → kept ≡ true → shared_of new ≡ record (shared_of old) { writer = Some n } → new.log ≡ old.log
-      → IsTurn old new (record { vars = vars; transaction = Some later }) kept (item_kept (call_of identity draw n) item mark (shared_of old) (record { vars = vars; transaction = Some open' }))
-  in_open item mark old new vars open' later kept is left stays taken same =
+      → IsTurn old new (record { vars = vars; format = format; transaction = Some later }) kept (item_kept (call_of identity draw n) item mark (shared_of old) (record { vars = vars; format = format; transaction = Some open' }))
+  in_open item mark old new vars format open' later kept is left stays taken same =
       let more : later ≡ one_more_if true item open' = left ∙ ap (λ (b : Bool). one_more_if b item open') stays in
-      turn_is old new (record { vars = vars; transaction = Some later }) kept (kept_if true (call_of identity draw n) item mark (shared_of old) (record { vars = vars; transaction = Some open' })) _
-      (ap (λ (b : Bool). kept_if b (call_of identity draw n) item mark (shared_of old) (record { vars = vars; transaction = Some open' })) (sym stays)
-      ∙ item_is kept item mark (shared_of old) (record { vars = vars; transaction = Some open' }) is)
-      ((taken, ap (λ (o : Open Item). record { vars = vars; transaction = Some o }) more, (same, tt)), stays)
+      turn_is old new (record { vars = vars; format = format; transaction = Some later }) kept (kept_if true (call_of identity draw n) item mark (shared_of old) (record { vars = vars; format = format; transaction = Some open' })) _
+      (ap (λ (b : Bool). kept_if b (call_of identity draw n) item mark (shared_of old) (record { vars = vars; format = format; transaction = Some open' })) (sym stays)
+      ∙ item_is kept item mark (shared_of old) (record { vars = vars; format = format; transaction = Some open' }) is)
+      ((taken, ap (λ (o : Open Item). record { vars = vars; format = format; transaction = Some o }) more, (same, tt)), stays)
 
-  pub not_in_open : (item : Item) (mark : ℕ) (old new : Desk) (vars : SessionVars) (open' later : Open Item) (kept : Bool) → kept ≡ not (are_too_large (open'.items ++ item ∷ [])) → later ≡ one_more_if kept item open'
+  pub not_in_open : (item : Item) (mark : ℕ) (old new : Desk) (vars : SessionVars) (format : Format) (open' later : Open Item) (kept : Bool) → kept ≡ not (are_too_large (open'.items ++ item ∷ [])) → later ≡ one_more_if kept item open'
       → kept ≡ false → shared_of new ≡ cut_to n mark (shared_of old) → new.log ≡ old.log
-      → IsTurn old new (record { vars = vars; transaction = Some later }) kept (item_kept (call_of identity draw n) item mark (shared_of old) (record { vars = vars; transaction = Some open' }))
-  not_in_open item mark old new vars open' later kept is left lost cut same =
+      → IsTurn old new (record { vars = vars; format = format; transaction = Some later }) kept (item_kept (call_of identity draw n) item mark (shared_of old) (record { vars = vars; format = format; transaction = Some open' }))
+  not_in_open item mark old new vars format open' later kept is left lost cut same =
       let more : later ≡ open' = left ∙ ap (λ (b : Bool). one_more_if b item open') lost in
-      turn_is old new (record { vars = vars; transaction = Some later }) kept (kept_if false (call_of identity draw n) item mark (shared_of old) (record { vars = vars; transaction = Some open' })) _
-      (ap (λ (b : Bool). kept_if b (call_of identity draw n) item mark (shared_of old) (record { vars = vars; transaction = Some open' })) (sym lost)
-      ∙ item_is kept item mark (shared_of old) (record { vars = vars; transaction = Some open' }) is)
-      ((cut, ap (λ (o : Open Item). record { vars = vars; transaction = Some o }) more, (same, tt)), lost)
+      turn_is old new (record { vars = vars; format = format; transaction = Some later }) kept (kept_if false (call_of identity draw n) item mark (shared_of old) (record { vars = vars; format = format; transaction = Some open' })) _
+      (ap (λ (b : Bool). kept_if b (call_of identity draw n) item mark (shared_of old) (record { vars = vars; format = format; transaction = Some open' })) (sym lost)
+      ∙ item_is kept item mark (shared_of old) (record { vars = vars; format = format; transaction = Some open' }) is)
+      ((cut, ap (λ (o : Open Item). record { vars = vars; format = format; transaction = Some o }) more, (same, tt)), lost)
 
   -- ---- changes
 
@@ -190,7 +192,7 @@ module _ (identity : Identity) (draw : Draw) (n : ℕ) (text : List ℕ) where
   -- what is kept of a statement, from where its run left
   abbrev kept_of : Statement → Before → Option ℤ → ℕ → Shared → Context → Session Item → Turn Item (Result (Unit {0}) ℕ)
   kept_of s before first mark ran context session =
-      changes_kept (call_of identity draw n) (item_made text s before first ran.base.catalog context) (own_behind n mark ran) mark before.last_id ran (with_context context session)
+      changes_kept (call_of identity draw n) (item_made text s before first (is_by_rows session.format) ran.base.catalog context) (own_behind n mark ran) mark before.last_id ran (with_context context session)
 
   pub came_ok : (s : Statement) (told : Outcome) (old ran new : Desk) (session after : Session Item) (context : Context) (mark : ℕ) (before : Before) → Came n draw s told (place_at (shared_of old) session.vars.context) (place_at (shared_of ran) context)
       → mark ≡ changes_of_own n (shared_of old) → before ≡ numbers_of session.vars.context → ran.log ≡ old.log → ran.committed ≡ old.committed

@@ -17,7 +17,7 @@ use Rattle.sql_tree.specs.declared.statements.Stmt.{the_lemmas}
 use Rattle.session_model.specs.Answers.{refused}
 use Rattle.session_model.specs.Sessions.{Session, Shared}
 use Rattle.session_model.specs.Running.{Call, Given, Turn, expressions_run, full, lock_refusal}
-use Rattle.session_model.specs.Commands.{answered, assign_unless, code_answer, first_refused, is_too_long, set_by, set_expressions, set_turn, unless_refused}
+use Rattle.session_model.specs.Commands.{answered, assign_unless, code_answer, first_refused, is_open, is_too_long, set_by, set_expressions, set_turn, unless_refused}
 use Rattle.source_node.specs.Assigning.{assigned_answer, assigned_session, result_of, set_from, set_parts, set_to, target_of, value_of}
 use Rattle.source_node.specs.declared.desk.Desk.{Desk}
 use Rattle.source_node.specs.Turned.{IsTurn, Moves, giving}
@@ -42,7 +42,7 @@ assigned_is None as' t = refl
 set_by_is : (as' : List (Target × Tree)) (result : Result (List Value) ℕ) (t : Turn Item (Given (List Value)))
     → set_by as' result t ≡ set_to (map (λ (a : Target × Tree). a.0) as') result (giving result_of t)
 set_by_is as' (Err code) t = refl
-set_by_is as' (Ok vs) t = assigned_is (first_refused (zip (map (λ (a : Target × Tree). a.0) as') vs)) (zip (map (λ (a : Target × Tree). a.0) as') vs) t
+set_by_is as' (Ok vs) t = assigned_is (first_refused (is_open t.session) (zip (map (λ (a : Target × Tree). a.0) as') vs)) (zip (map (λ (a : Target × Tree). a.0) as') vs) t
 
 set_of : (call : Call Item) (as' : List (Target × Tree)) (shared : Shared) (session : Session Item)
     → set_turn call as' shared session
@@ -67,10 +67,11 @@ set_taken_apart call as' refusal names ts shared session checks targets values =
 
 -- values assigned, or none
 pub set_values : (names : List Target) (vs : List Value) (old new : Desk) (ran after : Session Item) (answer : Answer) (t : Turn Item (Result (List Value) ℕ)) → Moves old new ran t → t.given ≡ Ok vs
-    → answer ≡ assigned_answer (first_refused (zip names vs)) → after ≡ assigned_session (first_refused (zip names vs)) (zip names vs) ran → IsTurn old new after answer (set_from names t)
+    → answer ≡ assigned_answer (first_refused (is_open ran) (zip names vs)) → after ≡ assigned_session (first_refused (is_open ran) (zip names vs)) (zip names vs) ran → IsTurn old new after answer (set_from names t)
 set_values names vs old new ran after answer t moves gave said left =
     subst (λ (r : Result (List Value) ℕ). IsTurn old new after answer (set_to names r t)) (sym gave)
-    ((moves.0, left ∙ ap (assigned_session (first_refused (zip names vs)) (zip names vs)) moves.1, moves.2), said)
+    ((moves.0, left ∙ ap (λ (s : Session Item). assigned_session (first_refused (is_open s) (zip names vs)) (zip names vs) s) moves.1, moves.2),
+    said ∙ ap (λ (s : Session Item). assigned_answer (first_refused (is_open s) (zip names vs))) moves.1)
 
 pub set_failed : (names : List Target) (code : ℕ) (old new : Desk) (after : Session Item) (answer : Answer) (t : Turn Item (Result (List Value) ℕ)) → Moves old new after t → t.given ≡ Err code
     → answer ≡ refused code → IsTurn old new after answer (set_from names t)

@@ -22,7 +22,9 @@ use Rattle.sql_meaning.proofs.LedBodies.{statements_end, evaluations_end}
 use Rattle.prog_run.specs.declared.meter.Outcome.{Outcome}
 use Rattle.prog_run.specs.Runs.{outcome_of}
 use Rattle.logged_items.specs.Items.{numbers_of}
+use Rattle.session_model.specs.Formats.{is_by_rows}
 use Rattle.session_model.specs.Sessions.{Open, Session, Shared}
+use Rattle.session_model.specs.declared.format.Format.{Format}
 use Rattle.session_model.specs.Running.{Fuel, Given, Turn, ended, expressions_run, fuel_of, full, is_other, item_of, keep, made_behind, scene_for, setting_of, settle, statement_run, takes_too_much, undone, with_context, with_counters}
 use Rattle.session_model.specs.Commands.{changes_of_own}
 use Rattle.source_node.specs.Assigning.{result_of}
@@ -55,16 +57,16 @@ module _ (identity : Identity) (draw : Draw) (n : ℕ) where
   abbrev IsRefusal : {A : Type 0} → ℤ → Shared → Session Item → Turn Item (Given A) → Type 0
   IsRefusal last_id shared session refusal = giving result_of refusal ≡ record { shared = shared; session = with_last_id last_id session; committed = []; given = Err 1197 }
 
-  keeps_by : {A : Type 0} (a : A) (fuel : Fuel) (item : Item) (b : Bool) (mark : ℕ) (scene : Scene) (shared : Shared) (vars : SessionVars) (transaction : Option (Open Item)) (last_id : ℤ) (refusal : Turn Item (Given A))
-      → IsRefusal last_id (cut_to n mark (record shared { changes = scene.changes })) (record { vars = vars; transaction = transaction }) refusal
-      → giving result_of (if b then refusal else keep (call_of identity draw n) item scene shared (record { vars = vars; transaction = transaction }) (record { result = Ok a; fuel = fuel }))
+  keeps_by : {A : Type 0} (a : A) (fuel : Fuel) (item : Item) (b : Bool) (mark : ℕ) (scene : Scene) (shared : Shared) (vars : SessionVars) (format : Format) (transaction : Option (Open Item)) (last_id : ℤ) (refusal : Turn Item (Given A))
+      → IsRefusal last_id (cut_to n mark (record shared { changes = scene.changes })) (record { vars = vars; format = format; transaction = transaction }) refusal
+      → giving result_of (if b then refusal else keep (call_of identity draw n) item scene shared (record { vars = vars; format = format; transaction = transaction }) (record { result = Ok a; fuel = fuel }))
       ≡ giving (came_to a) (refused_unless
-      (if b then kept_if false (call_of identity draw n) item mark (record shared { changes = scene.changes }) (record { vars = vars; transaction = transaction }) else kept_if true (call_of identity draw n) item mark (record shared { changes = scene.changes }) (record { vars = vars; transaction = transaction })).given
+      (if b then kept_if false (call_of identity draw n) item mark (record shared { changes = scene.changes }) (record { vars = vars; format = format; transaction = transaction }) else kept_if true (call_of identity draw n) item mark (record shared { changes = scene.changes }) (record { vars = vars; format = format; transaction = transaction })).given
       last_id
-      (if b then kept_if false (call_of identity draw n) item mark (record shared { changes = scene.changes }) (record { vars = vars; transaction = transaction }) else kept_if true (call_of identity draw n) item mark (record shared { changes = scene.changes }) (record { vars = vars; transaction = transaction })))
-  keeps_by a fuel item true mark scene shared vars transaction last_id refusal e = e
-  keeps_by a fuel item false mark scene shared vars None last_id refusal e = refl
-  keeps_by a fuel item false mark scene shared vars (Some open') last_id refusal e = refl
+      (if b then kept_if false (call_of identity draw n) item mark (record shared { changes = scene.changes }) (record { vars = vars; format = format; transaction = transaction }) else kept_if true (call_of identity draw n) item mark (record shared { changes = scene.changes }) (record { vars = vars; format = format; transaction = transaction })))
+  keeps_by a fuel item true mark scene shared vars format transaction last_id refusal e = e
+  keeps_by a fuel item false mark scene shared vars format None last_id refusal e = refl
+  keeps_by a fuel item false mark scene shared vars format (Some open') last_id refusal e = refl
 
   -- beside no other session's open changes
   settles_own : {A : Type 0} (a : A) (fuel : Fuel) (item : List Change → Item) (more : List Change) (scene : Scene) (old : Shared) (session : Session Item) (mark : ℕ) (last_id : ℤ) (refusal : Turn Item (Given A))
@@ -78,7 +80,7 @@ module _ (identity : Identity) (draw : Draw) (n : ℕ) where
       ap (λ (k : ℕ). take k scene.changes) at ∙ ap (take (length old.changes)) added ∙ take_front old.changes (c ∷ cs) in
       let back : cut_to n mark (record (with_counters scene old) { changes = scene.changes }) ≡ with_counters scene old =
       rw own (ap (λ (ds : List Change). record (with_counters scene old) { changes = ds }) cut) in
-      keeps_by a fuel (item (c ∷ cs)) (takes_too_much (call_of identity draw n) session.transaction (item (c ∷ cs))) mark scene (with_counters scene old) session.vars session.transaction last_id refusal
+      keeps_by a fuel (item (c ∷ cs)) (takes_too_much (call_of identity draw n) session.transaction (item (c ∷ cs))) mark scene (with_counters scene old) session.vars session.format session.transaction last_id refusal
       (e ∙ ap (λ (s : Shared). record { shared = s; session = with_last_id last_id session; committed = []; given = Err 1197 }) (sym back))
 
   same_kept : (item item' : List Change → Item) (changes : List Change) (mark : ℕ) (last_id : ℤ) (shared : Shared) (session : Session Item) → item changes ≡ item' changes
@@ -121,11 +123,11 @@ module _ (identity : Identity) (draw : Draw) (n : ℕ) where
 
   -- ---- the item
 
-  same_item : (text : List ℕ) (s : Statement) (context : Context) (seeds : ℕ × ℕ) (first last_id : Option ℤ) (old : Shared) (catalog : List Object) (changes : List Change) → catalog ≡ old.base.catalog
-      → item_of (call_of identity draw n) full text s context old first changes ≡ item_made text s (numbers_of context) first catalog (context_after context s seeds last_id) changes
+  same_item : (format : Format) (text : List ℕ) (s : Statement) (context : Context) (seeds : ℕ × ℕ) (first last_id : Option ℤ) (old : Shared) (catalog : List Object) (changes : List Change) → catalog ≡ old.base.catalog
+      → item_of (call_of identity draw n) format full text s context old first changes ≡ item_made text s (numbers_of context) first (is_by_rows format) catalog (context_after context s seeds last_id) changes
   unfolding carried
-  same_item text s context seeds first last_id old catalog changes is =
-      ap (λ (objects : List Object). item_made text s (numbers_of context) first objects (context_after context s seeds last_id) changes) (sym is)
+  same_item format text s context seeds first last_id old catalog changes is =
+      ap (λ (objects : List Object). item_made text s (numbers_of context) first (is_by_rows format) objects (context_after context s seeds last_id) changes) (sym is)
 
   catalog_stays : (old ran : Shared) (scene : Scene) (b : Bool) → is_other n old.writer ≡ b → ran ≡ shared_behind n old scene → ran.base.catalog ≡ old.base.catalog
   catalog_stays old ran scene true is left =
@@ -143,21 +145,21 @@ module _ (identity : Identity) (draw : Draw) (n : ℕ) where
   pub came_kept : (text : List ℕ) (s : Statement) (told : Outcome) (old ran : Shared) (session : Session Item) (context : Context) (mark : ℕ)
       → (came : Came n draw s told (place_at old session.vars.context) (place_at ran context)) → mark ≡ changes_of_own n old
       → giving told_result (statement_run (call_of identity draw n) full text s old session)
-      ≡ giving (came_to told) (changes_kept (call_of identity draw n) (item_made text s (numbers_of session.vars.context) told.first ran.base.catalog context) (own_behind n mark ran) mark session.vars.context.last_id ran (with_context context session))
+      ≡ giving (came_to told) (changes_kept (call_of identity draw n) (item_made text s (numbers_of session.vars.context) told.first (is_by_rows session.format) ran.base.catalog context) (own_behind n mark ran) mark session.vars.context.last_id ran (with_context context session))
   came_kept text s told old ran session context mark came at =
       let before : Scene = scene_for n full session.vars.context old in
       let well = statements_end (setting_of old.base.catalog session.vars.context (number_of_bytes 0 draw.uuid)) most_nested [] s before in
       let led : Leads before came.scene = subst (λ e. EndsWell before e) came.ends well in
       let after : Context = context_after session.vars.context s came.scene.seeds came.did.last_id in
       let catalog : ran.base.catalog ≡ old.base.catalog = catalog_stays old ran came.scene (is_other n old.writer) refl came.leaves.shared in
-      let u : Turn Item (Result (Unit {0}) ℕ) = changes_kept (call_of identity draw n) (item_made text s (numbers_of session.vars.context) came.did.first ran.base.catalog after) (own_behind n mark ran) mark session.vars.context.last_id ran (with_context after session) in
+      let u : Turn Item (Result (Unit {0}) ℕ) = changes_kept (call_of identity draw n) (item_made text s (numbers_of session.vars.context) came.did.first (is_by_rows session.format) ran.base.catalog after) (own_behind n mark ran) mark session.vars.context.last_id ran (with_context after session) in
       ap (λ e. giving told_result (ended (call_of identity draw n) full text s old session (λ (did : Did). did.first) (λ (did : Did). did.last_id) before e)) came.ends
-      ∙ ap (giving told_of) (kept_so came.did (fuel_of came.scene) (item_of (call_of identity draw n) full text s session.vars.context old came.did.first) (item_made text s (numbers_of session.vars.context) came.did.first ran.base.catalog after)
-      (λ cs. same_item text s session.vars.context came.scene.seeds came.did.first came.did.last_id old ran.base.catalog cs catalog) session.vars.context came.scene old ran (with_context after session) mark session.vars.context.last_id
+      ∙ ap (giving told_of) (kept_so came.did (fuel_of came.scene) (item_of (call_of identity draw n) session.format full text s session.vars.context old came.did.first) (item_made text s (numbers_of session.vars.context) came.did.first (is_by_rows session.format) ran.base.catalog after)
+      (λ cs. same_item session.format text s session.vars.context came.scene.seeds came.did.first came.did.last_id old ran.base.catalog cs catalog) session.vars.context came.scene old ran (with_context after session) mark session.vars.context.last_id
       (undone 1197 s old session came.scene) led came.leaves.shared at refl)
       ∙ ap (λ (r : Result Outcome ℕ). record { shared = u.shared; session = u.session; committed = u.committed; given = r }) (told_so came.did told u.given came.outcome)
-      ∙ ap (λ (o : Outcome). giving (came_to told) (changes_kept (call_of identity draw n) (item_made text s (numbers_of session.vars.context) o.first ran.base.catalog after) (own_behind n mark ran) mark session.vars.context.last_id ran (with_context after session))) (sym came.outcome)
-      ∙ ap (λ (c : Context). giving (came_to told) (changes_kept (call_of identity draw n) (item_made text s (numbers_of session.vars.context) told.first ran.base.catalog c) (own_behind n mark ran) mark session.vars.context.last_id ran (with_context c session))) (sym came.leaves.context)
+      ∙ ap (λ (o : Outcome). giving (came_to told) (changes_kept (call_of identity draw n) (item_made text s (numbers_of session.vars.context) o.first (is_by_rows session.format) ran.base.catalog after) (own_behind n mark ran) mark session.vars.context.last_id ran (with_context after session))) (sym came.outcome)
+      ∙ ap (λ (c : Context). giving (came_to told) (changes_kept (call_of identity draw n) (item_made text s (numbers_of session.vars.context) told.first (is_by_rows session.format) ran.base.catalog c) (own_behind n mark ran) mark session.vars.context.last_id ran (with_context c session))) (sym came.leaves.context)
 
   -- one that failed
   pub failed_kept : (text : List ℕ) (s : Statement) (code : ℕ) (old ran : Shared) (session : Session Item) (context : Context)
@@ -172,7 +174,7 @@ module _ (identity : Identity) (draw : Draw) (n : ℕ) where
   pub gave_kept : (text : List ℕ) (ts : Trees) (vs : List Value) (old ran : Shared) (session : Session Item) (context : Context) (mark : ℕ)
       → (gave : Gave n draw ts vs (place_at old session.vars.context) (place_at ran context)) → mark ≡ changes_of_own n old
       → giving result_of (expressions_run (call_of identity draw n) full text ts old session)
-      ≡ giving (came_to vs) (changes_kept (call_of identity draw n) (item_made text (evaluate ts) (numbers_of session.vars.context) None ran.base.catalog context) (own_behind n mark ran) mark session.vars.context.last_id ran (with_context context session))
+      ≡ giving (came_to vs) (changes_kept (call_of identity draw n) (item_made text (evaluate ts) (numbers_of session.vars.context) None (is_by_rows session.format) ran.base.catalog context) (own_behind n mark ran) mark session.vars.context.last_id ran (with_context context session))
   gave_kept text ts vs old ran session context mark gave at =
       let before : Scene = scene_for n full session.vars.context old in
       let well = evaluations_end (setting_of old.base.catalog session.vars.context (number_of_bytes 0 draw.uuid)) most_nested [] ts before in
@@ -180,10 +182,10 @@ module _ (identity : Identity) (draw : Draw) (n : ℕ) where
       let after : Context = context_after session.vars.context (evaluate ts) gave.scene.seeds None in
       let catalog : ran.base.catalog ≡ old.base.catalog = catalog_stays old ran gave.scene (is_other n old.writer) refl gave.leaves.shared in
       ap (λ e. giving result_of (ended (call_of identity draw n) full text (evaluate ts) old session (λ (vs : List Value). None) (λ (vs : List Value). None) before e)) gave.ends
-      ∙ kept_so vs (fuel_of gave.scene) (item_of (call_of identity draw n) full text (evaluate ts) session.vars.context old None) (item_made text (evaluate ts) (numbers_of session.vars.context) None ran.base.catalog after)
-      (λ cs. same_item text (evaluate ts) session.vars.context gave.scene.seeds None None old ran.base.catalog cs catalog) session.vars.context gave.scene old ran (with_context after session) mark session.vars.context.last_id
+      ∙ kept_so vs (fuel_of gave.scene) (item_of (call_of identity draw n) session.format full text (evaluate ts) session.vars.context old None) (item_made text (evaluate ts) (numbers_of session.vars.context) None (is_by_rows session.format) ran.base.catalog after)
+      (λ cs. same_item session.format text (evaluate ts) session.vars.context gave.scene.seeds None None old ran.base.catalog cs catalog) session.vars.context gave.scene old ran (with_context after session) mark session.vars.context.last_id
       (undone 1197 (evaluate ts) old session gave.scene) led gave.leaves.shared at refl
-      ∙ ap (λ (c : Context). giving (came_to vs) (changes_kept (call_of identity draw n) (item_made text (evaluate ts) (numbers_of session.vars.context) None ran.base.catalog c) (own_behind n mark ran) mark session.vars.context.last_id ran (with_context c session))) (sym gave.leaves.context)
+      ∙ ap (λ (c : Context). giving (came_to vs) (changes_kept (call_of identity draw n) (item_made text (evaluate ts) (numbers_of session.vars.context) None (is_by_rows session.format) ran.base.catalog c) (own_behind n mark ran) mark session.vars.context.last_id ran (with_context c session))) (sym gave.leaves.context)
 
   pub not_given_kept : (text : List ℕ) (ts : Trees) (code : ℕ) (old ran : Shared) (session : Session Item) (context : Context)
       → (fails : Fails (evaluate ts) code (evaluation_for n draw ts (place_at old session.vars.context)) (place_at old session.vars.context) (place_at ran context))

@@ -12,7 +12,7 @@ use Rattle.sql_tree.specs.declared.statements.Target.{Target}
 use Rattle.session_model.specs.Answers.{ok, refused}
 use Rattle.session_model.specs.Sessions.{Session, Shared}
 use Rattle.session_model.specs.Running.{Call, Given, Turn, expressions_run, full, lock_refusal}
-use Rattle.session_model.specs.Commands.{all_assigned, answered, code_answer, first_refused, is_too_long, unless_refused, with_vars}
+use Rattle.session_model.specs.Commands.{all_assigned, answered, code_answer, first_refused, is_open, is_too_long, unless_refused}
 use Rattle.source_node.specs.Turned.{giving}
 
 abbrev pub target_of : Assignment → Target
@@ -31,7 +31,7 @@ assigned_answer None = ok 0
 -- the session: all is assigned where nothing is refused
 abbrev pub assigned_session : Option ℕ → List (Target × Value) → Session Item → Session Item
 assigned_session (Some code) as' session = session
-assigned_session None as' session = with_vars (all_assigned session.vars as') session
+assigned_session None as' session = all_assigned session as'
 
 -- what an evaluation gave, without what is left of turns
 abbrev pub result_of : {A : Type 0} → Given A → Result A ℕ
@@ -42,9 +42,9 @@ abbrev pub set_to : List Target → Result (List Value) ℕ → Turn Item (Resul
 set_to names (Err code) t = record { shared = t.shared; session = t.session; committed = t.committed; given = refused code }
 set_to names (Ok vs) t = record {
   shared = t.shared;
-  session = assigned_session (first_refused (zip names vs)) (zip names vs) t.session;
+  session = assigned_session (first_refused (is_open t.session) (zip names vs)) (zip names vs) t.session;
   committed = t.committed;
-  given = assigned_answer (first_refused (zip names vs));
+  given = assigned_answer (first_refused (is_open t.session) (zip names vs));
 }
 
 abbrev pub set_from : List Target → Turn Item (Result (List Value) ℕ) → Turn Item Answer

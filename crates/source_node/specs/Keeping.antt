@@ -7,7 +7,7 @@ use Rattle.sql_tree.specs.Statement.{Statement}
 use Rattle.sql_reach.specs.Carrying.{carried}
 use Rattle.catalog_rules.specs.Objects.{Object}
 use Rattle.logged_items.specs.declared.before.Before.{Before}
-use Rattle.logged_items.specs.Items.{as_before, item_by_rows}
+use Rattle.logged_items.specs.Items.{as_before, statement_item}
 use Rattle.session_model.specs.Sessions.{Open, Session, Shared}
 use Rattle.session_model.specs.Running.{Call, Turn, all_committed, kept_entries, kept_open, logged_by, takes_too_much, transaction_of}
 use Rattle.source_node.specs.Desk.{cut_to}
@@ -46,6 +46,6 @@ changes_kept call item [] mark last_id shared session = record { shared = shared
 changes_kept call item (c ∷ cs) mark last_id shared session =
     refused_unless (item_kept call (item (c ∷ cs)) mark shared session).given last_id (item_kept call (item (c ∷ cs)) mark shared session)
 
--- the item of a statement by the context behind it, with the numbers before it
-abbrev pub item_made : List ℕ → Statement → Before → Option ℤ → List Object → Context → List Change → Item
-item_made text s before first catalog context changes = item_by_rows text (carried catalog s (as_before before context) first) catalog changes
+-- the item of a statement by the context behind it, with the numbers before it, by its rows or by its text
+abbrev pub item_made : List ℕ → Statement → Before → Option ℤ → (rows : Bool) → List Object → Context → List Change → Item
+item_made text s before first rows catalog context changes = statement_item text (carried catalog s (as_before before context) first) rows catalog changes

@@ -3,6 +3,7 @@ ghost use Rattle.std.specs.Prelude.{◌≡◌, None, Some, pos, int_le, IsTrue, 
 ghost use Rattle.logged_items.specs.Items.{numbers_of};
 ghost use Rattle.sql_tree.specs.StatementView.{view};
 ghost use Rattle.session_model.specs.Commands.{changes_of_own};
+ghost use Rattle.session_model.specs.Formats.{is_by_rows};
 ghost use Rattle.source_node.specs.Calls.{called};
 ghost use Rattle.source_node.specs.Desk.{own_behind, shared_of};
 ghost use Rattle.source_node.specs.Keeping.{changes_kept, item_kept, item_made};
@@ -10,6 +11,7 @@ ghost use Rattle.source_node.specs.Turned.{EndsAs, IsTurn};
 
 use crate::call::Call;
 use crate::desk::Desk;
+use crate::formats::is_by_rows;
 use crate::session::{Open, Session};
 use log_entries::Item;
 use logged_items::{Before, Items, item_of};
@@ -105,8 +107,8 @@ fn keep_item(
     }
 }
 
-/// Keeps what a statement changed, where it changed something, or refuses it with 1197: then nothing of it is left but what
-/// it used.
+/// Keeps what a statement changed, where it changed something, as an item in the format of its session, or refuses it with
+/// 1197: then nothing of it is left but what it used.
 pub(crate) fn keep(
     alloc: Global,
     call: &Call<'_>,
@@ -119,7 +121,7 @@ pub(crate) fn keep(
 ) -> Result<(), SqlRefusal>
     requires { IsTrue (int_le (pos 0) start.before.last_id) }
     ensures { EndsAs result desk.old desk.new session.new (changes_kept (called call.now)
-        (item_made text.now (view statement.now) (start.before) first ((shared_of desk.old).base.catalog) (session.old.vars.context))
+        (item_made text.now (view statement.now) (start.before) first (is_by_rows (session.old.format)) ((shared_of desk.old).base.catalog) (session.old.vars.context))
         (own_behind (call.now.number) (start.mark) (shared_of desk.old)) (start.mark) (start.before.last_id) (shared_of desk.old) session.old) }
 {
     let changes = desk.changes_since(alloc, call.number, start.mark)?;
@@ -136,6 +138,7 @@ pub(crate) fn keep(
         context,
         start.before,
         first,
+        is_by_rows(session.format),
         changes,
     )?;
     if keep_item(alloc, call, desk, session, item, start.mark)? {

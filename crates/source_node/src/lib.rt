@@ -6,10 +6,11 @@
 //!
 //! - `source`: [`SourceNode`], with [`SourceNode::open`], [`SourceNode::exec`] and [`SourceNode::log_bytes`]
 //! - `command`: a command of a session; `call`: what it has round it; `working`: a session at its command
-//! - `session`, `saves`: what a session keeps: its variables, its open transaction with its items, savepoints
+//! - `session`, `saves`: what a session keeps: its variables, how its statements are logged, its open transaction with its
+//!   items, savepoints
 //! - `desk`: what all sessions share, with the log; `running`: statements run on it, on a copy beside another session's open
 //!   changes; `keeping`: what a statement changed, kept as its item
-//! - `statements`: which command a statement is; `transactions`, `savepoints`, `setting` with `assigning`,
+//! - `statements`: which command a statement is; `transactions`, `savepoints`, `setting` with `assigning` and `formats`,
 //!   `definitions`, `plain`: the commands, one function each
 //! - `writing`: what refuses statements before they run
 //!
@@ -35,6 +36,7 @@ mod call;
 mod command;
 mod definitions;
 mod desk;
+mod formats;
 mod keeping;
 mod plain;
 mod running;
@@ -48,8 +50,6 @@ mod transactions;
 mod working;
 mod writing;
 
-pub use call::Call;
-pub use keeping::Start;
 pub use saves::Save;
 pub use session::{Open, Session};
 pub use source::SourceNode;

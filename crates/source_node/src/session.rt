@@ -10,6 +10,7 @@ use crate::saves::{Save, marks_at, place_of, take_out};
 use log_entries::Item;
 use logged_items::Items;
 use session_ctx::SessionVars;
+use session_model::Format;
 use std::alloc::Global;
 use std::marker::Model;
 use val_types::{Bytes, Duplicate, NoMemory};
@@ -111,10 +112,11 @@ impl Open {
     }
 }
 
-/// A session that has had a command: its variables, and perhaps an open transaction.
+/// A session that has had a command: its variables, how its statements are logged, and perhaps an open transaction.
 #[derive(Drop)]
 pub struct Session {
     pub(crate) vars: SessionVars,
+    pub(crate) format: Format,
     pub(crate) transaction: Option<Open>,
 }
 
@@ -124,5 +126,5 @@ impl Model for Session {
 
     ghost Value = { OneSession LoggedItem };
 
-    ghost view = { λ s. record { vars = s.vars; transaction = s.transaction } };
+    ghost view = { λ s. record { vars = s.vars; format = s.format; transaction = s.transaction } };
 }

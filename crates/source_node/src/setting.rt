@@ -6,7 +6,7 @@ ghost use Rattle.sql_tree.specs.StatementView.{view, view_assignments};
 ghost use Rattle.sql_tree.specs.View.{view_trees};
 ghost use Rattle.catalog_rules.specs.Checks.{session_scope, statement_refusal};
 ghost use Rattle.session_model.specs.Running.{expressions_run, full};
-ghost use Rattle.session_model.specs.Commands.{call_turn, first_refused, is_too_long, set_turn};
+ghost use Rattle.session_model.specs.Commands.{call_turn, first_refused, is_open, is_too_long, set_turn};
 ghost use Rattle.source_node.specs.Assigning.{assigned_answer, assigned_session, result_of, set_from, set_parts};
 ghost use Rattle.source_node.specs.Calls.{called};
 ghost use Rattle.source_node.specs.Desk.{shared_of};
@@ -39,14 +39,15 @@ fn assign_unless_refused(
     targets: &List<Target>,
     values: &List<Value>,
 ) -> Result<Answer, NoMemory>
-    ensures answer { IfOk result (λ answer. answer ≡ assigned_answer (first_refused (zip targets.now values.now))) }
-    ensures session { OnOk result (session.new ≡ assigned_session (first_refused (zip targets.now values.now)) (zip targets.now values.now) session.old) }
+    ensures answer { IfOk result (λ answer. answer ≡ assigned_answer (first_refused (is_open session.old) (zip targets.now values.now))) }
+    ensures session { OnOk result (session.new ≡ assigned_session (first_refused (is_open session.old) (zip targets.now values.now)) (zip targets.now values.now) session.old) }
 {
     let (targets, values) = (targets.as_slice(), values.as_slice());
-    if let Some(code) = first_refused(targets, values) {
+    let is_open = session.transaction.is_some();
+    if let Some(code) = first_refused(is_open, targets, values) {
         return Ok(refused(alloc, code));
     }
-    assign_all(alloc, &mut session.vars, targets, values)?;
+    assign_all(alloc, session, targets, values)?;
     Ok(ok(alloc, 0))
 }
 

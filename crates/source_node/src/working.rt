@@ -8,6 +8,7 @@ use crate::session::Session;
 use answer_text::Answer;
 use node_answers::row_count_after;
 use session_ctx::SessionVars;
+use session_model::Format;
 use std::alloc::Global;
 use val_types::NoMemory;
 
@@ -22,6 +23,7 @@ pub(crate) fn at_work(
     match slot {
         None => Ok(Session {
             vars: SessionVars::new(alloc, call.identity, u32::from(call.number), call.draw)?,
+            format: Format::Statement,
             transaction: None,
         }),
         Some(mut session) => {

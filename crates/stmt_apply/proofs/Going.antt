@@ -1,14 +1,17 @@
 -- A transaction under way, step by step.
-use Rattle.std.proofs.Common.{◌≡◌, ℕ, ◌+◌, ◌<◌, List, [], ◌∷◌, ◌++◌, Bool, true, false, map, reverse, length, Option, Some, None, Result, Ok, Err, refl, sym, ap, subst, ◌∙◌, arith}
+use Rattle.std.proofs.Common.{◌≡◌, ℕ, ◌+◌, ◌<◌, List, [], ◌∷◌, ◌++◌, Bool, true, false, map, reverse, drop, length, Option, Some, None, Result, Ok, Err, refl, sym, ap, subst, ◌∙◌, arith}
 use Rattle.std.specs.Prelude.{if◌then◌else◌, unwrap_or}
 use Rattle.std.proofs.lemmas.List.{append_assoc, append-nil, map-append, reverse-append}
 use Rattle.val_types.specs.declared.change.Change.{Change}
 use Rattle.event_codec.specs.declared.event.MapView.{MapView}
-use Rattle.event_codec.specs.Event.{Map, Rows, map_of}
+use Rattle.event_codec.specs.Event.{Map, Query, Rows, map_of}
+use Rattle.log_entries.specs.declared.carried.Carried.{Carried}
 use Rattle.log_model.specs.Events.{Placed}
 use Rattle.log_model.specs.Groups.{find}
 use Rattle.log_model.specs.Images.{changes_of}
 use Rattle.log_groups.specs.Views.{walked}
+use Rattle.port_traits.specs.declared.identity.Identity.{Identity}
+use Rattle.port_traits.specs.declared.identity.Draw.{Draw}
 use Rattle.catalog_rules.specs.Objects.{Object as Tree}
 use Rattle.catalog_objects.specs.declared.object.Object.{Object}
 use Rattle.catalog_objects.specs.Keys.{objects_of}
@@ -16,12 +19,13 @@ use Rattle.applier_model.specs.Stops.{Differs, stop_at}
 use Rattle.applier_model.specs.Rows.{Store, carry_change}
 use Rattle.row_events.specs.Sizes.{bounded}
 use Rattle.transaction_sizes.specs.Sizes.{changes_size}
-use Rattle.applier_model.specs.Texts.{Applier, Needs, Progress, no_needs}
-use Rattle.applier_model.specs.Groups.{Applied, Going, and_then, applied_by, carry_changes, carry_rows, event_carried, first_place, going_from, is_too_large, item_ended, items_carried, rows_ended, store_of, with_bytes, with_needs, with_store}
+use Rattle.applier_model.specs.Texts.{Applier, Needs, Progress, carried_of, carry_text, no_needs, stops_at}
+use Rattle.applier_model.specs.Groups.{Applied, Going, and_then, applied_by, carry_changes, carry_rows, event_carried, first_place, going_from, is_too_large, item_ended, items_carried, rows_ended, store_of, text_ended, with_bytes, with_needs, with_store}
 use Rattle.prog_run.specs.Contents.{Contents, base_of}
 use Rattle.stmt_apply.specs.Changes.{change_carried}
-use Rattle.stmt_apply.specs.Ends.{Ends, progress_in, applied_in}
-use Rattle.stmt_apply.specs.UnderWay.{ComesTo, Goes, Stands, items_from, transaction_carried}
+use Rattle.stmt_apply.specs.Ends.{Adds, Ends, applied_in, applier_in, progress_in}
+use Rattle.stmt_apply.specs.Needing.{needs_of, no_text}
+use Rattle.stmt_apply.specs.UnderWay.{ComesTo, Goes, Stands, items_from, text_carried, transaction_carried}
 use Rattle.stmt_apply.specs.declared.stop.Stop.{Stop}
 use Rattle.stmt_apply.specs.declared.stop.Stop.TheVariants as stop
 use Rattle.stmt_apply.specs.declared.under_way.UnderWay.{UnderWay}
@@ -93,20 +97,20 @@ pub ended_too_large : (first : ℕ) (g : Going) → is_too_large g ≡ true → 
 ended_too_large first g e = ap (λ (b : Bool). if b then Err (stop_at first 1197) else Ok (record { progress = g.progress; bytes = g.bytes; needs = no_needs; maps = []; begun = None })) e
 
 pub ended_well : (first : ℕ) (work : Contents) (here : UnderWay) (g : Going) → Stands work here g → is_too_large g ≡ false
-    → Goes (Ok tt) work (record { bytes = here.bytes; changed = here.changed; maps = []; begun = None }) (item_ended first g)
+    → Goes (Ok tt) work (record { bytes = here.bytes; changed = here.changed; needs = no_text; maps = []; begun = None }) (item_ended first g)
 ended_well first work here g h e = (
   record { progress = g.progress; bytes = g.bytes; needs = no_needs; maps = []; begun = None },
   ap (λ (b : Bool). if b then Err (stop_at first 1197) else Ok (record { progress = g.progress; bytes = g.bytes; needs = no_needs; maps = []; begun = None })) e,
-  record { progress = h.progress; bytes = h.bytes; changed = h.changed; maps = refl; begun = refl },
+  record { progress = h.progress; bytes = h.bytes; changed = h.changed; needs = refl; maps = refl; begun = refl },
 )
 
 -- rows that do not end their item
 pub rows_go_on : (first : ℕ) (work : Contents) (here : UnderWay) (g : Going) → Stands work here g
-    → Goes (Ok tt) work (record { bytes = here.bytes; changed = here.changed; maps = here.maps; begun = Some first }) (rows_ended false first g)
+    → Goes (Ok tt) work (record { bytes = here.bytes; changed = here.changed; needs = here.needs; maps = here.maps; begun = Some first }) (rows_ended false first g)
 rows_go_on first work here g h = (
   record { progress = g.progress; bytes = g.bytes; needs = g.needs; maps = g.maps; begun = Some first },
   refl,
-  record { progress = h.progress; bytes = h.bytes; changed = h.changed; maps = h.maps; begun = refl },
+  record { progress = h.progress; bytes = h.bytes; changed = h.changed; needs = h.needs; maps = h.maps; begun = refl },
 )
 
 -- ---- the rows of an event
@@ -140,7 +144,7 @@ rows_stopped s pos r work after here g m h some e =
 -- where they stand when all were carried out
 pub rows_stand : (pos : ℕ) (cs : List Change) (old new : Contents) (here : UnderWay) (g : Going) (m : Map) (size changed : ℕ) → Stands old here g
     → carry_changes pos m cs (progress_in old) ≡ Ok (progress_in new) → size ≡ bounded (changes_size cs) → changed ≡ bounded (here.changed + size)
-    → Stands new (record { bytes = here.bytes; changed = changed; maps = here.maps; begun = here.begun }) (record g { progress = progress_in new })
+    → Stands new (record { bytes = here.bytes; changed = changed; needs = here.needs; maps = here.maps; begun = here.begun }) (record g { progress = progress_in new })
 rows_stand pos cs old new here g m size changed h e sized added = record {
   progress = refl;
   bytes = h.bytes;
@@ -148,6 +152,7 @@ rows_stand pos cs old new here g m size changed h e sized added = record {
       let sum : changes_size new.changes ≡ changes_size old.changes + changes_size cs = ap changes_size (changes_noted pos m cs (progress_in old) (progress_in new) e) ∙ sizes_both old.changes cs in
       let before : here.changed ≡ bounded (changes_size old.changes) = h.changed in
       omega arith;
+  needs = h.needs;
   maps = h.maps;
   begun = h.begun;
 }
@@ -176,13 +181,18 @@ rows_ended_so res pos first r old new here later g m h some e is goes =
 pub passes : (work : Contents) (here : UnderWay) (g : Going) → Stands work here g → Goes (Ok tt) work here (Ok g)
 passes work here g h = (g, refl, h)
 
-pub passes_needs : (work : Contents) (here : UnderWay) (g : Going) (needs : Needs) → Stands work here g → Goes (Ok tt) work here (Ok (with_needs needs g))
-passes_needs work here g needs h =
-    (with_needs needs g, refl, record { progress = h.progress; bytes = h.bytes; changed = h.changed; maps = h.maps; begun = h.begun })
+-- a variable of a text
+pub needed : (work : Contents) (here : UnderWay) (g : Going) (carried : Carried) (put : Needs → Needs) → Stands work here g → needs_of carried ≡ put (needs_of here.needs)
+    → Goes (Ok tt) work (record { bytes = here.bytes; changed = here.changed; needs = carried; maps = here.maps; begun = here.begun }) (Ok (with_needs (put g.needs) g))
+needed work here g carried put h is = (
+  with_needs (put g.needs) g,
+  refl,
+  record { progress = h.progress; bytes = h.bytes; changed = h.changed; needs = ap put h.needs ∙ sym is; maps = h.maps; begun = h.begun },
+)
 
 -- one more map
 pub mapped : (work : Contents) (here : UnderWay) (g : Going) (maps : List MapView) (m : MapView) → Stands work here g → maps ≡ here.maps ++ m ∷ []
-    → Goes (Ok tt) work (record { bytes = here.bytes; changed = here.changed; maps = maps; begun = here.begun }) (Ok (record g { maps = g.maps ++ map_of m ∷ [] }))
+    → Goes (Ok tt) work (record { bytes = here.bytes; changed = here.changed; needs = here.needs; maps = maps; begun = here.begun }) (Ok (record g { maps = g.maps ++ map_of m ∷ [] }))
 mapped work here g maps m h is = (
   record g { maps = g.maps ++ map_of m ∷ [] },
   refl,
@@ -190,6 +200,7 @@ mapped work here g maps m h is = (
     progress = h.progress;
     bytes = h.bytes;
     changed = h.changed;
+    needs = h.needs;
     maps = ap (λ (ms : List Map). ms ++ map_of m ∷ []) h.maps ∙ sym (map-append map_of here.maps (m ∷ [])) ∙ sym (ap (map map_of) is);
     begun = h.begun;
   },
@@ -197,14 +208,54 @@ mapped work here g maps m h is = (
 
 -- the bytes of an event are counted
 pub counted : (work : Contents) (here : UnderWay) (g : Going) (size bytes : ℕ) → Stands work here g → bytes ≡ bounded (here.bytes + size)
-    → Stands work (record { bytes = bytes; changed = here.changed; maps = here.maps; begun = here.begun }) (with_bytes size g)
+    → Stands work (record { bytes = bytes; changed = here.changed; needs = here.needs; maps = here.maps; begun = here.begun }) (with_bytes size g)
 counted work here g size bytes h is = record {
   progress = h.progress;
   bytes = let before : here.bytes ≡ bounded g.bytes = h.bytes in omega arith;
   changed = h.changed;
+  needs = h.needs;
   maps = h.maps;
   begun = h.begun;
 }
+
+-- ---- a text
+
+module _ (a : Applier) (pos stamp : ℕ) (q : Query) (old : Contents) (here : UnderWay) (g : Going) (h : Stands old here g) where
+  abbrev its_run : Result Progress ℕ
+  its_run = carry_text a q.text (carried_of stamp q (needs_of here.needs)) (progress_in old)
+
+  text_at : text_carried a pos stamp q g ≡ and_then (text_ended pos g) (stops_at pos its_run)
+  text_at =
+      ap (λ (n : Needs). and_then (text_ended pos g) (stops_at pos (carry_text a q.text (carried_of stamp q n) g.progress))) h.needs
+      ∙ ap (λ (p : Progress). and_then (text_ended pos g) (stops_at pos (carry_text a q.text (carried_of stamp q (needs_of here.needs)) p))) h.progress
+
+  -- it is refused
+  pub text_refused : (code : ℕ) → its_run ≡ Err code → text_carried a pos stamp q g ≡ Err (stop_at pos code)
+  text_refused code e = text_at ∙ ap (λ (r : Result Progress ℕ). and_then (text_ended pos g) (stops_at pos r)) e
+
+  module _ (new : Contents) (size changed : ℕ) (needs : Carried) where
+    -- it is run, and its item ends
+    pub text_run : (res : Result (Unit {0}) Stop) (later : UnderWay) → its_run ≡ Ok (progress_in new) → Goes res new later (item_ended pos (record g { progress = progress_in new }))
+        → Goes res new later (text_carried a pos stamp q g)
+    text_run res later e goes =
+        subst (λ (x : Result Going Differs). Goes res new later x)
+        (sym (text_at ∙ ap (λ (r : Result Progress ℕ). and_then (text_ended pos g) (stops_at pos r)) e)) goes
+
+    -- where they stand behind it
+    pub text_stands : Adds old new → size ≡ bounded (changes_size (drop (length old.changes) new.changes)) → changed ≡ bounded (here.changed + size) → needs_of needs ≡ needs_of here.needs
+        → Stands new (record { bytes = here.bytes; changed = changed; needs = needs; maps = here.maps; begun = here.begun }) (record g { progress = progress_in new })
+    text_stands adds sized added same = record {
+      progress = refl;
+      bytes = h.bytes;
+      changed =
+          let sum : changes_size new.changes ≡ changes_size old.changes + changes_size (drop (length old.changes) new.changes) =
+          ap changes_size adds ∙ sizes_both old.changes (drop (length old.changes) new.changes) in
+          let before : here.changed ≡ bounded (changes_size old.changes) = h.changed in
+          omega arith;
+      needs = h.needs ∙ sym same;
+      maps = h.maps;
+      begun = h.begun;
+    }
 
 -- ---- the events of a transaction
 
@@ -214,7 +265,7 @@ pub record Reached (a : Applier) (all : List Placed) (first : Contents) (left : 
   pub stands : Stands work here going
   pub same : items_carried a left going ≡ items_from a all first
 
-pub begins : (a : Applier) (all left : List Placed) (first : Contents) (here : UnderWay) → first.changes ≡ [] → left ≡ all → here ≡ record { bytes = 0; changed = 0; maps = []; begun = None }
+pub begins : (a : Applier) (all left : List Placed) (first : Contents) (here : UnderWay) → first.changes ≡ [] → left ≡ all → here ≡ record { bytes = 0; changed = 0; needs = no_text; maps = []; begun = None }
     → Reached a all first left first here
 begins a all left first here none is new = record {
   going = going_from (store_of (base_of first) first.counters);
@@ -222,11 +273,16 @@ begins a all left first here none is new = record {
     progress = λ i. record { store = record { tables = first.tables; counters = first.counters }; changes = sym none i };
     bytes = ap (λ (u : UnderWay). u.bytes) new;
     changed = ap (λ (u : UnderWay). u.changed) new ∙ sym (ap (λ (cs : List Change). bounded (changes_size cs)) none);
+    needs = sym (ap (λ (u : UnderWay). needs_of u.needs) new);
     maps = sym (ap (λ (u : UnderWay). map map_of u.maps) new);
     begun = sym (ap (λ (u : UnderWay). u.begun) new);
   };
   same = ap (λ (es : List Placed). items_carried a es (going_from (store_of (base_of first) first.counters))) is;
 }
+
+-- the catalog of who applies stays
+pub same_applier : (identity : Identity) (draw : Draw) (old new : Contents) → new.objects ≡ old.objects → applier_in identity draw new ≡ applier_in identity draw old
+same_applier identity draw old new same = ap (λ (os : List Object). record { identity = identity; draw = draw; catalog = objects_of os }) same
 
 walked_some : (xs ys : List Placed) (x : Placed) → (Some x, ys) ≡ walked xs → xs ≡ x ∷ ys
 walked_some [] ys x e = let f = ap (λ (r : Option Placed × List Placed). r.0) e in cc
@@ -250,12 +306,13 @@ event_first : (a : Applier) (left rest : List Placed) (e : Placed) (g : Going) �
 event_first a left rest e g is = ap (λ (es : List Placed). items_carried a es g) (walked_some left rest e is)
 
 -- one more event was carried out
-pub event_on : (a : Applier) (all left rest : List Placed) (e : Placed) (first work after : Contents) (here later : UnderWay) → (Some e, rest) ≡ walked left
-    → Reached a all first left work here
-    → ((g : Going) → Stands work here g → Goes (Ok tt) after later (event_carried a e (with_bytes e.event.size g) e.event.body))
+pub event_on : (a b : Applier) (all left rest : List Placed) (e : Placed) (first work after : Contents) (here later : UnderWay) → (Some e, rest) ≡ walked left
+    → b ≡ a → Reached a all first left work here
+    → ((g : Going) → Stands work here g → Goes (Ok tt) after later (event_carried b e (with_bytes e.event.size g) e.event.body))
     → Reached a all first rest after later
-event_on a all left rest e first work after here later is reached goes =
-    let went = goes reached.going reached.stands in
+event_on a b all left rest e first work after here later is same reached goes =
+    let went : Goes (Ok tt) after later (event_carried a e (with_bytes e.event.size reached.going) e.event.body) =
+    subst (λ (x : Applier). Goes (Ok tt) after later (event_carried x e (with_bytes e.event.size reached.going) e.event.body)) same (goes reached.going reached.stands) in
     record {
       going = went.0;
       stands = went.2;
@@ -268,13 +325,14 @@ comes_stopped (stop.Differs place code table key) work here carried more e = ap 
 comes_stopped stop.NoMemory work here carried more e = tt
 
 -- one stopped
-pub event_stopped : (s : Stop) (a : Applier) (all left rest : List Placed) (e : Placed) (first work after : Contents) (here later : UnderWay) → (Some e, rest) ≡ walked left
-    → Reached a all first left work here
-    → ((g : Going) → Stands work here g → Goes (Err s) after later (event_carried a e (with_bytes e.event.size g) e.event.body))
+pub event_stopped : (s : Stop) (a b : Applier) (all left rest : List Placed) (e : Placed) (first work after : Contents) (here later : UnderWay) → (Some e, rest) ≡ walked left
+    → b ≡ a → Reached a all first left work here
+    → ((g : Going) → Stands work here g → Goes (Err s) after later (event_carried b e (with_bytes e.event.size g) e.event.body))
     → ComesTo (Err s) after (items_from a all first)
-event_stopped s a all left rest e first work after here later is reached goes =
+event_stopped s a b all left rest e first work after here later is same reached goes =
     subst (λ (x : Result Going Differs). ComesTo (Err s) after x) (sym (event_first a left rest e reached.going is) ∙ reached.same)
-    (comes_stopped s after later (event_carried a e (with_bytes e.event.size reached.going) e.event.body) (items_carried a rest) (goes reached.going reached.stands))
+    (comes_stopped s after later (event_carried a e (with_bytes e.event.size reached.going) e.event.body) (items_carried a rest)
+    (subst (λ (x : Applier). Goes (Err s) after later (event_carried x e (with_bytes e.event.size reached.going) e.event.body)) same (goes reached.going reached.stands)))
 
 -- all were
 pub events_done : (a : Applier) (all left rest : List Placed) (first work : Contents) (here : UnderWay) → nothing_left rest ≡ walked left

@@ -1,12 +1,24 @@
 -- How carrying out a part of a group ends.
-use Rattle.std.specs.Prelude.{◌≡◌, Result, Ok, Err}
+use Rattle.std.specs.Prelude.{◌≡◌, ◌++◌, drop, length, Result, Ok, Err}
+use Rattle.port_traits.specs.declared.identity.Identity.{Identity}
+use Rattle.port_traits.specs.declared.identity.Draw.{Draw}
 use Rattle.auto_inc.specs.Counting.{tables_of}
+use Rattle.sql_meaning.specs.Running.{most_nested, most_turns}
 use Rattle.applier_model.specs.Stops.{Differs}
-use Rattle.applier_model.specs.Texts.{Progress}
-use Rattle.applier_model.specs.Groups.{Applied}
+use Rattle.applier_model.specs.Texts.{Applier, Progress}
+use Rattle.applier_model.specs.Groups.{Applied, applier_of}
+use Rattle.prog_run.specs.declared.meter.Meter.{Meter}
 use Rattle.prog_run.specs.Contents.{Contents, base_of, committed_tables}
 use Rattle.stmt_apply.specs.declared.stop.Stop.{Stop}
 use Rattle.stmt_apply.specs.declared.stop.Stop.TheVariants as stop
+
+-- who applies: a replica with a draw, and the catalog that is there
+abbrev pub applier_in : Identity → Draw → Contents → Applier
+applier_in identity draw c = applier_of identity draw (base_of c)
+
+-- what is left to a statement of a log
+abbrev pub full_meter : Meter
+full_meter = record { depth = most_nested; turns = most_turns; uuids = 0 }
 
 -- what a transaction under way has come to, all of whose changes stand open
 abbrev pub progress_in : Contents → Progress
@@ -27,3 +39,7 @@ pub record Stays (before after : Contents) : Type 0 where
   pub objects : after.objects ≡ before.objects
   pub committed : committed_tables after ≡ committed_tables before
   pub counted : tables_of after.counters ≡ tables_of before.counters
+
+-- changes were put behind those that stood
+abbrev pub Adds : (before after : Contents) → Type 0
+Adds before after = after.changes ≡ before.changes ++ drop (length before.changes) after.changes

@@ -1,4 +1,5 @@
 pub mod Changes
-pub mod Defining
+pub mod Ending
 pub mod Ends
+pub mod Needing
 pub mod UnderWay

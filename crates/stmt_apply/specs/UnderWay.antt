@@ -1,23 +1,25 @@
 -- A transaction under way, in the code and in the definition.
-use Rattle.std.specs.Prelude.{◌≡◌, List, map, Result, Ok, Err}
-use Rattle.event_codec.specs.Event.{map_of}
+use Rattle.std.specs.Prelude.{◌≡◌, ℕ, List, map, Result, Ok, Err}
+use Rattle.event_codec.specs.Event.{Query, map_of}
 use Rattle.log_model.specs.Events.{Placed}
 use Rattle.row_events.specs.Sizes.{bounded}
 use Rattle.transaction_sizes.specs.Sizes.{changes_size}
 use Rattle.applier_model.specs.Stops.{Differs}
-use Rattle.applier_model.specs.Texts.{Applier}
-use Rattle.applier_model.specs.Groups.{Going, Applied, and_then, applied_by, going_from, items_carried, store_of}
+use Rattle.applier_model.specs.Texts.{Applier, carried_of, carry_text, stops_at}
+use Rattle.applier_model.specs.Groups.{Going, Applied, and_then, applied_by, going_from, items_carried, store_of, text_ended}
 use Rattle.prog_run.specs.Contents.{Contents, base_of}
 use Rattle.stmt_apply.specs.Ends.{progress_in}
+use Rattle.stmt_apply.specs.Needing.{needs_of}
 use Rattle.stmt_apply.specs.declared.stop.Stop.{Stop}
 use Rattle.stmt_apply.specs.declared.stop.Stop.TheVariants as stop
 use Rattle.stmt_apply.specs.declared.under_way.UnderWay.{UnderWay}
 
--- the code is where the definition is; the variables of a text, of which nothing is made, are not kept
+-- the code is where the definition is
 pub record Stands (work : Contents) (here : UnderWay) (g : Going) : Type 0 where
   pub progress : g.progress ≡ progress_in work
   pub bytes : here.bytes ≡ bounded g.bytes
   pub changed : here.changed ≡ bounded (changes_size work.changes)
+  pub needs : g.needs ≡ needs_of here.needs
   pub maps : g.maps ≡ map map_of here.maps
   pub begun : g.begun ≡ here.begun
 
@@ -32,6 +34,10 @@ abbrev pub ComesTo : Result (Unit {0}) Stop → Contents → Result Going Differ
 ComesTo (Ok done) work carried = (g : Going) × (carried ≡ Ok g) × (g.progress ≡ progress_in work)
 ComesTo (Err (stop.Differs place code table key)) work carried = carried ≡ Err (record { place = place; code = code; table = table; key = key })
 ComesTo (Err stop.NoMemory) work carried = Unit {0}
+
+-- a text at a place and a moment, run with what stands before it
+abbrev pub text_carried : Applier → (place stamp : ℕ) → Query → Going → Result Going Differs
+text_carried a place stamp q g = and_then (text_ended place g) (stops_at place (carry_text a q.text (carried_of stamp q g.needs) g.progress))
 
 -- the items of a transaction, from where its base and counters are
 abbrev pub items_from : Applier → List Placed → Contents → Result Going Differs

@@ -31,6 +31,6 @@ pub fn apply_group(
         Form::Start => Ok(()),
         Form::Rotate { .. } => Ok(()),
         Form::Ddl(query) => apply_definition(alloc, work, group.begin, query, identity, draw),
-        Form::Txn { items, .. } => apply_transaction(alloc, work, *items),
+        Form::Txn { items, .. } => apply_transaction(alloc, work, *items, identity, draw),
     }
 }

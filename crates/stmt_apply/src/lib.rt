@@ -1,36 +1,42 @@
 //! What an applier does with a group of a log.
 //!
-//! [`apply_group`] carries out a group on the rows and the catalog of a [`Work`](prog_run::Work): a transaction's rows as they
-//! are, with no trigger, or a CREATE, DROP or TRUNCATE. It does all of it or nothing. A replica stands on it, which reads
-//! groups by `log_groups` and commits them; the definition is `applier_model`'s.
+//! [`apply_group`] carries out a group on the rows and the catalog of a [`Work`](prog_run::Work): a transaction, whose rows are
+//! put as they are, with no trigger, and whose texts are run with what they carry, or a CREATE, DROP or TRUNCATE. It does all of it
+//! or nothing. A replica stands on it, which reads groups by `log_groups` and commits them; the definition is `applier_model`'s.
 //!
 //! - `stop`: [`Stop`], why a group is not carried out
 //! - `group`: [`apply_group`]
 //! - `definition`: a CREATE, DROP or TRUNCATE
 //! - `transaction`: the events of a transaction; `under_way`: what is kept between them
+//! - `reading`: the statement that a text is; `needs`: what stands before a text for it; `text`: a text run, and [`checked`]
 //! - `changing`: one change of a row; `table`: what its table says of it; `columns`: whether the columns of a map and of a table
 //!   are the same
 //!
-//! The definitions in specs/ join the code to the definition: `Ends` and `Defining` (how parts of a group end), `Changes` (one
-//! change, by its steps), `UnderWay` (a transaction under way).
+//! The definitions in specs/ join the code to the definition: `Ends` and `Ending` (how parts of a group and statements end),
+//! `Changes` (one change, by its steps), `Needing` (what stands before a text), `UnderWay` (a transaction under way).
 //!
 //! # Proved
 //! - [`apply_group`] makes just the base and the counters that the definition of a group gives, or stops with just its place, its
 //!   error's number, its table and its key; or memory is short (`ends`)
 //! - where it stops, and where memory is short, rows, counters, catalog and changes are as before (`err`)
+//! - [`checked`] gives just the error of the first of the catalog's checks of a statement
 //!
 //! # Only tested
-//! Nothing here: that groups are carried out with ample memory is tested where a replica applies them.
+//! That groups are carried out with ample memory, in `apply_callers` and where a replica applies them.
 #![tactic(auto)]
 
 mod changing;
 mod columns;
 mod definition;
 mod group;
+mod needs;
+mod reading;
 mod stop;
 mod table;
+mod text;
 mod transaction;
 mod under_way;
 
 pub use group::apply_group;
 pub use stop::Stop;
+pub use text::checked;

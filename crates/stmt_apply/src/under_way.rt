@@ -5,8 +5,10 @@ ghost use Rattle.event_codec.specs.Event.{map_of};
 ghost use Rattle.log_model.specs.Groups.{find};
 ghost use Rattle.applier_model.specs.Groups.{Going, is_too_large, item_ended, rows_ended};
 ghost use Rattle.prog_run.specs.Contents.{Contents};
+ghost use Rattle.stmt_apply.specs.Needing.{no_text};
 ghost use Rattle.stmt_apply.specs.UnderWay.{Goes, Stands};
 
+use crate::needs::Needs;
 use crate::stop::{Stop, stop_at};
 use event_codec::MapView;
 use std::alloc::Global;
@@ -18,12 +20,13 @@ const TOO_LARGE: SqlError = 1197;
 /// How many bytes they may have: 64 MiB.
 const MOST_BYTES: u64 = 67_108_864;
 
-/// A transaction under way: the bytes of its events and of its changes, and of the item under way the maps and the place of
-/// its first rows.
+/// A transaction under way: the bytes of its events and of its changes, and of the item under way what its text carries, the
+/// maps and the place of its first rows.
 #[derive(Drop)]
 pub(crate) struct UnderWay<'a> {
     pub bytes: u64,
     pub changed: u64,
+    pub needs: Needs,
     pub maps: List<MapView<'a>>,
     pub begun: Option<u64>,
 }
@@ -43,11 +46,12 @@ pub(crate) fn find_map<'a>(maps: &[MapView<'a>], id: u64) -> Option<MapView<'a>>
 impl<'a> UnderWay<'a> {
     /// Behind BEGIN.
     pub fn new(alloc: Global) -> UnderWay<'a>
-        ensures { result ≡ record { bytes = 0; changed = 0; maps = []; begun = None } }
+        ensures { result ≡ record { bytes = 0; changed = 0; needs = no_text; maps = []; begun = None } }
     {
         UnderWay {
             bytes: 0,
             changed: 0,
+            needs: Needs::new(alloc),
             maps: List::new(alloc),
             begun: None,
         }
@@ -60,13 +64,14 @@ impl<'a> UnderWay<'a> {
         self.bytes > MOST_BYTES || self.changed > MOST_BYTES
     }
 
-    /// The end of an item, at the place of its first rows: 1197.
-    fn end_item(&mut self, alloc: Global, first: u64) -> Result<(), Stop>
+    /// The end of an item, at the place of its text or of its first rows: 1197. Nothing that it carried is left.
+    pub fn end_item(&mut self, alloc: Global, first: u64) -> Result<(), Stop>
         ensures { (work : Contents) → (g : Going) → Stands work self.old g → Goes result work self.new (item_ended first g) }
     {
         if self.is_too_large() {
             return Err(stop_at(alloc, first, TOO_LARGE));
         }
+        self.needs = Needs::new(alloc);
         self.maps.clear();
         self.begun = None;
         Ok(())

@@ -16,10 +16,34 @@ use Rattle.log_model.specs.Images.{row_at, changes_at}
 use Rattle.applier_model.specs.Groups.{group_carried}
 use Rattle.applier_model.proofs.worked.texts_refused.Goals as goal
 
-pub returns-clause-first : goal.returns-clause-first
+pub returns-clause-text : goal.returns-clause-text
 unfolding kind steps nested inner created_within tokens_from text_answer statement_refusal ddl_refusal effect evaluation level_of carried writes all_applied all_from number_at row_at changes_at group_carried
-returns-clause-first c = refl
+returns-clause-text c = refl
 
-pub returns-clause-behind : goal.returns-clause-behind
+pub returns-clause-deep : goal.returns-clause-deep
 unfolding kind steps nested inner created_within tokens_from text_answer statement_refusal ddl_refusal effect evaluation level_of carried writes all_applied all_from number_at row_at changes_at group_carried
-returns-clause-behind c = refl
+returns-clause-deep c = refl
+
+pub returns-clause-transaction : goal.returns-clause-transaction
+unfolding kind steps nested inner created_within tokens_from text_answer statement_refusal ddl_refusal effect evaluation level_of carried writes all_applied all_from number_at row_at changes_at group_carried
+returns-clause-transaction c = refl
+
+pub returns-clause-definition : goal.returns-clause-definition
+unfolding kind steps nested inner created_within tokens_from text_answer statement_refusal ddl_refusal effect evaluation level_of carried writes all_applied all_from number_at row_at changes_at group_carried
+returns-clause-definition c = refl
+
+pub returns-clause-assignment : goal.returns-clause-assignment
+unfolding kind steps nested inner created_within tokens_from text_answer statement_refusal ddl_refusal effect evaluation level_of carried writes all_applied all_from number_at row_at changes_at group_carried
+returns-clause-assignment c = refl
+
+pub returns-clause-check : goal.returns-clause-check
+unfolding kind steps nested inner created_within tokens_from text_answer statement_refusal ddl_refusal effect evaluation level_of carried writes all_applied all_from number_at row_at changes_at group_carried
+returns-clause-check c = refl
+
+pub returns-clause-null : goal.returns-clause-null
+unfolding kind steps nested inner created_within tokens_from text_answer statement_refusal ddl_refusal effect evaluation level_of carried writes all_applied all_from number_at row_at changes_at group_carried
+returns-clause-null c = refl
+
+pub returns-clause-taken : goal.returns-clause-taken
+unfolding kind steps nested inner created_within tokens_from text_answer statement_refusal ddl_refusal effect evaluation level_of carried writes all_applied all_from number_at row_at changes_at group_carried
+returns-clause-taken c = refl

@@ -16,6 +16,10 @@ use Rattle.log_model.specs.Images.{row_at, changes_at}
 use Rattle.applier_model.specs.Groups.{group_carried}
 use Rattle.applier_model.proofs.worked.texts_run.Goals as goal
 
-pub returns : goal.returns
+pub returns-clause-first : goal.returns-clause-first
 unfolding kind steps nested inner created_within tokens_from text_answer statement_refusal ddl_refusal effect evaluation level_of carried writes all_applied all_from number_at row_at changes_at group_carried
-returns c = refl
+returns-clause-first c = refl
+
+pub returns-clause-behind : goal.returns-clause-behind
+unfolding kind steps nested inner created_within tokens_from text_answer statement_refusal ddl_refusal effect evaluation level_of carried writes all_applied all_from number_at row_at changes_at group_carried
+returns-clause-behind c = refl

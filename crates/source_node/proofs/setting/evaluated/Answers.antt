@@ -14,7 +14,7 @@ use Rattle.source_node.proofs.setting.evaluated.Goals as goal
 
 pub returns-in-Err-keep : goal.returns-in-Err-keep
 returns-in-Err-keep c =
-    let session : Session Item = record { vars = c.session.inside.vars; transaction = c.session.inside.transaction } in
+    let session : Session Item = record { vars = c.session.inside.vars; format = c.session.inside.format; transaction = c.session.inside.transaction } in
     subst (λ (s : Session Item). EndsAs {A = List Value} (Err c.in-Err-keep.refusal) c.args.desk.now c.keep.new.desk c.keep.new.session (giving result_of (expressions_run (called c.args.call.now) full c.args.text.now (view_trees c.args.expressions.now) (shared_of c.args.desk.now) s))) c.session.view_is
     (subst (λ (t : List ℕ). EndsAs {A = List Value} (Err c.in-Err-keep.refusal) c.args.desk.now c.keep.new.desk c.keep.new.session (giving result_of (expressions_run (called c.args.call.now) full t (view_trees c.args.expressions.now) (shared_of c.args.desk.now) session))) c.as_slice.ensures
     (gave_err c.args.call.now.identity.now c.args.call.now.draw.now c.args.call.now.number c.as_slice.result.now (view c.args.statement.now) (view_trees c.args.expressions.now) c.in-Ok.values c.in-Err-keep.refusal c.args.desk.now c.evaluate.new.desk c.keep.new.desk session c.keep.new.session c.evaluate.new.context
@@ -22,7 +22,7 @@ returns-in-Err-keep c =
 
 pub returns-in-Ok-keep : goal.returns-in-Ok-keep
 returns-in-Ok-keep c =
-    let session : Session Item = record { vars = c.session.inside.vars; transaction = c.session.inside.transaction } in
+    let session : Session Item = record { vars = c.session.inside.vars; format = c.session.inside.format; transaction = c.session.inside.transaction } in
     subst (λ (s : Session Item). EndsAs (Ok c.in-Ok.values) c.args.desk.now c.keep.new.desk c.keep.new.session (giving result_of (expressions_run (called c.args.call.now) full c.args.text.now (view_trees c.args.expressions.now) (shared_of c.args.desk.now) s))) c.session.view_is
     (subst (λ (t : List ℕ). EndsAs (Ok c.in-Ok.values) c.args.desk.now c.keep.new.desk c.keep.new.session (giving result_of (expressions_run (called c.args.call.now) full t (view_trees c.args.expressions.now) (shared_of c.args.desk.now) session))) c.as_slice.ensures
     (gave_ok c.args.call.now.identity.now c.args.call.now.draw.now c.args.call.now.number c.as_slice.result.now (view c.args.statement.now) (view_trees c.args.expressions.now) c.in-Ok.values c.args.desk.now c.evaluate.new.desk c.keep.new.desk session c.keep.new.session c.evaluate.new.context

@@ -7,8 +7,8 @@ use Rattle.stmt_apply.proofs.Going.{counted}
 use Rattle.stmt_apply.proofs.transaction.apply_event.Goals as goal
 
 pub returns-clause-goes : goal.returns-clause-goes
-returns-clause-goes c = λ a g h.
+returns-clause-goes c = λ g h.
     let size = size_of c.args.part.now.event in
     let sum : c.saturating_add-under_way.result ≡ bounded (c.args.under_way.now.bytes + size) =
     c.saturating_add-under_way.ensures ∙ ap (λ (n : ℕ). bounded (c.args.under_way.now.bytes + n)) c.length.ensures in
-    c.apply_body.ensures.goes a (with_bytes size g) (counted c.args.work.now c.args.under_way.now g size c.saturating_add-under_way.result h sum)
+    c.apply_body.ensures.goes (with_bytes size g) (counted c.args.work.now c.args.under_way.now g size c.saturating_add-under_way.result h sum)

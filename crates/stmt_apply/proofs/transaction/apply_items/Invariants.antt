@@ -1,13 +1,12 @@
 use Rattle.std.proofs.Common.{length}
 use Rattle.log_groups.specs.Views.{parts}
-use Rattle.applier_model.specs.Texts.{Applier}
-use Rattle.stmt_apply.specs.Ends.{Stays}
+use Rattle.stmt_apply.specs.Ends.{Stays, applier_in}
 use Rattle.stmt_apply.proofs.Going.{Reached}
 use Rattle.stmt_apply.proofs.transaction.apply_items.Given as goal
 
 abbrev pub invariant-loop-part : goal.invariant-loop-part
 invariant-loop-part l = record {
-  reached : (a : Applier) → Reached a (parts l.items) l.fn.work (parts l.walk) l.work l.under_way;
+  reached : Reached (applier_in l.identity l.draw l.fn.work) (parts l.items) l.fn.work (parts l.walk) l.work l.under_way;
   stays : Stays l.fn.work l.work;
 }
 

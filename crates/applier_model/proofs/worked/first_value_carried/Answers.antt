@@ -14,20 +14,8 @@ use Rattle.byte_fields.specs.Unroll.{all_from}
 use Rattle.byte_fields.specs.Field.{number_at}
 use Rattle.log_model.specs.Images.{row_at, changes_at}
 use Rattle.applier_model.specs.Groups.{group_carried}
-use Rattle.applier_model.proofs.worked.texts_not_run.Goals as goal
+use Rattle.applier_model.proofs.worked.first_value_carried.Goals as goal
 
-pub returns-clause-text : goal.returns-clause-text
+pub returns : goal.returns
 unfolding kind steps nested inner created_within tokens_from text_answer statement_refusal ddl_refusal effect evaluation level_of carried writes all_applied all_from number_at row_at changes_at group_carried
-returns-clause-text c = refl
-
-pub returns-clause-place : goal.returns-clause-place
-unfolding kind steps nested inner created_within tokens_from text_answer statement_refusal ddl_refusal effect evaluation level_of carried writes all_applied all_from number_at row_at changes_at group_carried
-returns-clause-place c = refl
-
-pub returns-clause-check : goal.returns-clause-check
-unfolding kind steps nested inner created_within tokens_from text_answer statement_refusal ddl_refusal effect evaluation level_of carried writes all_applied all_from number_at row_at changes_at group_carried
-returns-clause-check c = refl
-
-pub returns-clause-run : goal.returns-clause-run
-unfolding kind steps nested inner created_within tokens_from text_answer statement_refusal ddl_refusal effect evaluation level_of carried writes all_applied all_from number_at row_at changes_at group_carried
-returns-clause-run c = refl
+returns c = refl

@@ -1,0 +1,21 @@
+use Rattle.std.proofs.Common.{refl}
+use Rattle.sql_grammar.specs.Reader.{steps}
+use Rattle.sql_syntax.specs.Tokens.{kind}
+use Rattle.sql_syntax.specs.Expressions.{nested}
+use Rattle.sql_syntax.specs.Programs.{inner, created_within}
+use Rattle.text_answers.specs.Answers.{tokens_from, text_answer}
+use Rattle.table_rules.specs.Stored.{all_applied}
+use Rattle.catalog_rules.specs.Checks.{statement_refusal}
+use Rattle.catalog_rules.specs.Creating.{ddl_refusal}
+use Rattle.sql_meaning.specs.Running.{effect, evaluation, level_of}
+use Rattle.sql_reach.specs.Carrying.{carried}
+use Rattle.sql_reach.specs.Reach.{writes}
+use Rattle.byte_fields.specs.Unroll.{all_from}
+use Rattle.byte_fields.specs.Field.{number_at}
+use Rattle.log_model.specs.Images.{row_at, changes_at}
+use Rattle.applier_model.specs.Groups.{group_carried}
+use Rattle.applier_model.proofs.worked.variables_of_one_item.Goals as goal
+
+pub returns : goal.returns
+unfolding kind steps nested inner created_within tokens_from text_answer statement_refusal ddl_refusal effect evaluation level_of carried writes all_applied all_from number_at row_at changes_at group_carried
+returns c = refl

@@ -1,0 +1,83 @@
+//! Logs made event by event, as another server might have written them.
+
+use std::alloc::Global;
+use std::test::Fail;
+use val_types::{Bytes, List};
+
+/// What a test puts into a log.
+#[derive(Clone, Copy)]
+pub enum Piece<'a> {
+    /// A text, of the seventh session.
+    Text(&'a str),
+    /// The text `BEGIN`.
+    Begin,
+    Xid(u8),
+    /// An event of a type with this body.
+    Event(u8, &'a [u8]),
+    /// Bytes as they are.
+    Raw(&'a [u8]),
+}
+
+/// The body of the event with which a log begins: version 4 with a server's name, the length of headers, a table of lengths, no
+/// checksums.
+pub const FIRST_BODY: &[u8] =
+    b"\x04\x005.7.44-log\x00\x00\x00\x00\x00\x00\x00\x00\x00\x00\x00\x00\x00\x00\x00\x00\x00\x00\x00\x00\x00\x00\x00\x00\x00\x00\x00\x00\x00\x00\x00\x00\x00\x00\x00\x00\x00\x00\x00\x00\x00\x00\x00\x00\x13\x38\x0d\x00\x08\x00\x12\x00\x04\x04\x04\x04\x12\x00\x00\x5f\x00\x04\x1a\x08\x00\x00\x00\x08\x08\x08\x02\x00\x00\x00\x0a\x0a\x0a\x2a\x2a\x00\x12\x34\x00\x00\x00\x00\x00\x00";
+
+/// What stands before the text of a statement: the session 7, no time, a schema of two letters, no error, no variables; the schema.
+const BEFORE_TEXT: &[u8] = b"\x07\x00\x00\x00\x00\x00\x00\x00\x02\x00\x00\x00\x00db\x00";
+
+/// Puts a number of four bytes, the least first.
+fn put_number(log: &mut Bytes, number: usize) -> Result<(), Fail> {
+    let [a, b, c, d, _, _, _, _] = number.to_le_bytes();
+    log.extend_from_slice(&[a, b, c, d])?;
+    Ok(())
+}
+
+/// Puts an event: a moment, its type, the server 9, its length, the next position, no flags; its body.
+fn put_event(log: &mut Bytes, kind: u8, body: &[u8]) -> Result<(), Fail> {
+    let length = body.len().saturating_add(19);
+    let next = log.len().saturating_add(length);
+    log.extend_from_slice(b"\x01\x00\x00\x00")?;
+    log.push(kind)?;
+    put_number(log, 9)?;
+    put_number(log, length)?;
+    put_number(log, next)?;
+    log.extend_from_slice(b"\x00\x00")?;
+    log.extend_from_slice(body)?;
+    Ok(())
+}
+
+/// Puts a statement's event.
+pub fn put_text(alloc: Global, log: &mut Bytes, text: &[u8]) -> Result<(), Fail> {
+    let mut body = List::from_slice(alloc, BEFORE_TEXT)?;
+    body.extend_from_slice(text)?;
+    put_event(log, 2, body.as_slice())
+}
+
+fn put_piece(alloc: Global, log: &mut Bytes, piece: Piece<'_>) -> Result<(), Fail> {
+    match piece {
+        Piece::Text(text) => put_text(alloc, log, text.as_bytes()),
+        Piece::Begin => put_text(alloc, log, b"BEGIN"),
+        Piece::Xid(number) => put_event(log, 16, &[number, 0, 0, 0, 0, 0, 0, 0]),
+        Piece::Event(kind, body) => put_event(log, kind, body),
+        Piece::Raw(bytes) => {
+            log.extend_from_slice(bytes)?;
+            Ok(())
+        }
+    }
+}
+
+/// A log that has begun: its magic and first event, 123 bytes.
+pub fn begun(alloc: Global) -> Result<Bytes, Fail> {
+    let mut log = List::from_slice(alloc, b"\xFEbin")?;
+    put_event(&mut log, 15, FIRST_BODY)?;
+    Ok(log)
+}
+
+/// Puts pieces, one after the other.
+pub fn put_all(alloc: Global, log: &mut Bytes, pieces: &[Piece<'_>]) -> Result<(), Fail> {
+    for piece in pieces {
+        put_piece(alloc, log, *piece)?;
+    }
+    Ok(())
+}

@@ -1,0 +1,120 @@
+//! The source's log behind a script: what `print` shows of it, which is all that each statement carries and where its events
+//! stand, and what `replay` makes of it.
+
+use crate::playing::{bytes, expect_played, log_of, over_log};
+use std::alloc::Global;
+use std::process::Abort;
+use std::test::Fail;
+
+/// The line of the event with which each log begins.
+const FIRST_LINE: &str = "4 FORMAT_DESCRIPTION 5.7.44-log\n";
+
+/// Scripts, the lines that show their logs behind the first, and that of their replay. Places are sums of the lengths of events: 35
+/// and the text for a statement, and 5 where increment and offset stand before it, 40 for BEGIN, 27 for XID, 28 for a number, 35 for
+/// seeds. Each moment is that of the third draw, but that of the first command.
+static LOGS: [(&str, &str, &str); 13] = [
+    // a table and a row
+    (
+        "s1: CREATE TABLE t (id INT, v INT, PRIMARY KEY (id)) //\ns1: INSERT INTO t VALUES (1, 10) //\n",
+        "123 QUERY thread=1 time=1700000001 CREATE TABLE t (id INT, v INT, PRIMARY KEY (id))\n206 QUERY thread=1 time=1700000002 BEGIN\n246 QUERY thread=1 time=1700000002 INSERT INTO t VALUES (1, 10)\n309 XID 2\n",
+        "applied 2 1:336\n",
+    ),
+    // a statement that failed used two values
+    (
+        "s1: CREATE TABLE a (id INT NOT NULL AUTO_INCREMENT, k INT NOT NULL, PRIMARY KEY (id), UNIQUE KEY uk (k)) //\ns1: INSERT INTO a (k) VALUES (1), (1), (2) //\ns1: INSERT INTO a (k) VALUES (5) //\n",
+        "123 QUERY thread=1 time=1700000001 CREATE TABLE a (id INT NOT NULL AUTO_INCREMENT, k INT NOT NULL, PRIMARY KEY (id), UNIQUE KEY uk (k))\n258 QUERY thread=1 time=1700000002 BEGIN\n298 INTVAR INSERT_ID 3\n326 QUERY thread=1 time=1700000002 INSERT INTO a (k) VALUES (5)\n389 XID 2\n",
+        "applied 2 1:416\n",
+    ),
+    // what is taken back to a savepoint is not in the log
+    (
+        "s1: CREATE TABLE t (id INT, v INT, PRIMARY KEY (id)) //\ns1: BEGIN //\ns1: INSERT INTO t VALUES (1, 10) //\ns1: SAVEPOINT x //\ns1: INSERT INTO t VALUES (2, 20) //\ns1: ROLLBACK TO x //\ns1: COMMIT //\n",
+        "123 QUERY thread=1 time=1700000001 CREATE TABLE t (id INT, v INT, PRIMARY KEY (id))\n206 QUERY thread=1 time=1700000002 BEGIN\n246 QUERY thread=1 time=1700000002 INSERT INTO t VALUES (1, 10)\n309 XID 2\n",
+        "applied 2 1:336\n",
+    ),
+    // a rollback gives no value back
+    (
+        "s1: CREATE TABLE a (id INT NOT NULL AUTO_INCREMENT, k INT NOT NULL, PRIMARY KEY (id), UNIQUE KEY uk (k)) //\ns1: BEGIN //\ns1: INSERT INTO a (k) VALUES (1) //\ns1: ROLLBACK //\ns1: INSERT INTO a (k) VALUES (1) //\n",
+        "123 QUERY thread=1 time=1700000001 CREATE TABLE a (id INT NOT NULL AUTO_INCREMENT, k INT NOT NULL, PRIMARY KEY (id), UNIQUE KEY uk (k))\n258 QUERY thread=1 time=1700000002 BEGIN\n298 INTVAR INSERT_ID 2\n326 QUERY thread=1 time=1700000002 INSERT INTO a (k) VALUES (1)\n389 XID 2\n",
+        "applied 2 1:416\n",
+    ),
+    // the first of the generated values is carried; a value that was given is not
+    (
+        "s1: CREATE TABLE a (id INT NOT NULL AUTO_INCREMENT, k INT NOT NULL, PRIMARY KEY (id), UNIQUE KEY uk (k)) //\ns1: INSERT INTO a VALUES (149, 1) //\ns1: INSERT INTO a VALUES (NULL, 2), (300, 3), (NULL, 4) //\n",
+        "123 QUERY thread=1 time=1700000001 CREATE TABLE a (id INT NOT NULL AUTO_INCREMENT, k INT NOT NULL, PRIMARY KEY (id), UNIQUE KEY uk (k))\n258 QUERY thread=1 time=1700000002 BEGIN\n298 QUERY thread=1 time=1700000002 INSERT INTO a VALUES (149, 1)\n362 XID 2\n389 QUERY thread=1 time=1700000002 BEGIN\n429 INTVAR INSERT_ID 150\n457 QUERY thread=1 time=1700000002 INSERT INTO a VALUES (NULL, 2), (300, 3), (NULL, 4)\n543 XID 3\n",
+        "applied 3 1:570\n",
+    ),
+    // increment and offset, where they are not both 1
+    (
+        "s1: CREATE TABLE a (id INT NOT NULL AUTO_INCREMENT, k INT NOT NULL, PRIMARY KEY (id), UNIQUE KEY uk (k)) //\ns1: INSERT INTO a VALUES (3, 1) //\ns1: SET auto_increment_increment = 10, auto_increment_offset = 3 //\ns1: INSERT INTO a (k) VALUES (2) //\ns1: SET auto_increment_offset = 20 //\ns1: INSERT INTO a (k) VALUES (3) //\n",
+        "123 QUERY thread=1 time=1700000001 CREATE TABLE a (id INT NOT NULL AUTO_INCREMENT, k INT NOT NULL, PRIMARY KEY (id), UNIQUE KEY uk (k))\n258 QUERY thread=1 time=1700000002 BEGIN\n298 QUERY thread=1 time=1700000002 INSERT INTO a VALUES (3, 1)\n360 XID 2\n387 QUERY thread=1 time=1700000002 BEGIN\n427 INTVAR INSERT_ID 13\n455 QUERY thread=1 time=1700000002 inc=10 off=3 INSERT INTO a (k) VALUES (2)\n523 XID 3\n550 QUERY thread=1 time=1700000002 BEGIN\n590 INTVAR INSERT_ID 20\n618 QUERY thread=1 time=1700000002 inc=10 off=20 INSERT INTO a (k) VALUES (3)\n686 XID 4\n",
+        "applied 4 1:713\n",
+    ),
+    // a user variable, also one that was never set and that a function reads
+    (
+        "s1: CREATE TABLE t (id INT, v INT, PRIMARY KEY (id)) //\ns1: CREATE FUNCTION g() RETURNS INT RETURN COALESCE(@x, 7) //\ns2: SET @x = 3 //\ns2: INSERT INTO t VALUES (1, @x) //\ns1: INSERT INTO t VALUES (2, g()) //\n",
+        "123 QUERY thread=1 time=1700000001 CREATE TABLE t (id INT, v INT, PRIMARY KEY (id))\n206 QUERY thread=1 time=1700000002 CREATE FUNCTION g() RETURNS INT RETURN COALESCE(@x, 7)\n295 QUERY thread=2 time=1700000002 BEGIN\n335 USER_VAR x 3\n378 QUERY thread=2 time=1700000002 INSERT INTO t VALUES (1, @x)\n441 XID 3\n468 QUERY thread=1 time=1700000002 BEGIN\n508 USER_VAR x NULL\n533 QUERY thread=1 time=1700000002 INSERT INTO t VALUES (2, g())\n597 XID 4\n",
+        "applied 4 1:624\n",
+    ),
+    // what changes no row is not in the log
+    (
+        "s1: CREATE TABLE t (id INT, v INT, PRIMARY KEY (id)) //\ns1: INSERT INTO t VALUES (1, 10) //\ns1: INSERT INTO t VALUES (1, 10) ON DUPLICATE KEY UPDATE v = 10 //\ns1: INSERT INTO t VALUES (1, 20) ON DUPLICATE KEY UPDATE v = VALUES(v) + 1 //\ns1: REPLACE INTO t VALUES (1, 5) //\n",
+        "123 QUERY thread=1 time=1700000001 CREATE TABLE t (id INT, v INT, PRIMARY KEY (id))\n206 QUERY thread=1 time=1700000002 BEGIN\n246 QUERY thread=1 time=1700000002 INSERT INTO t VALUES (1, 10)\n309 XID 2\n336 QUERY thread=1 time=1700000002 BEGIN\n376 QUERY thread=1 time=1700000002 INSERT INTO t VALUES (1, 20) ON DUPLICATE KEY UPDATE v = VALUES(v) + 1\n481 XID 3\n508 QUERY thread=1 time=1700000002 BEGIN\n548 QUERY thread=1 time=1700000002 REPLACE INTO t VALUES (1, 5)\n611 XID 4\n",
+        "applied 4 1:638\n",
+    ),
+    // reading that changes rows; a SET is logged as the DO of its expressions
+    (
+        "s1: CREATE TABLE t (id INT, v INT, PRIMARY KEY (id)) //\ns1: CREATE FUNCTION f(n INT) RETURNS INT BEGIN INSERT INTO t VALUES (n, 0); RETURN n + 1; END //\ns1: SELECT f(1) //\ns1: DO f(2) //\ns1: SET @a = f(3) //\ns1: SET @a = 1 + f(4), @b = 'x' //\n",
+        "123 QUERY thread=1 time=1700000001 CREATE TABLE t (id INT, v INT, PRIMARY KEY (id))\n206 QUERY thread=1 time=1700000002 CREATE FUNCTION f(n INT) RETURNS INT BEGIN INSERT INTO t VALUES (n, 0); RETURN n + 1; END\n330 QUERY thread=1 time=1700000002 BEGIN\n370 QUERY thread=1 time=1700000002 SELECT f(1)\n416 XID 3\n443 QUERY thread=1 time=1700000002 BEGIN\n483 QUERY thread=1 time=1700000002 DO f(2)\n525 XID 4\n552 QUERY thread=1 time=1700000002 BEGIN\n592 QUERY thread=1 time=1700000002 DO `f`(3)\n636 XID 5\n663 QUERY thread=1 time=1700000002 BEGIN\n703 QUERY thread=1 time=1700000002 DO (1 + `f`(4)), 'x'\n758 XID 6\n",
+        "applied 6 1:785\n",
+    ),
+    // the last generated value, as it was before the statement
+    (
+        "s1: CREATE TABLE a (id INT NOT NULL AUTO_INCREMENT, k INT NOT NULL, PRIMARY KEY (id), UNIQUE KEY uk (k)) //\ns1: INSERT INTO a (k) VALUES (1) //\ns1: INSERT INTO a (k) VALUES (LAST_INSERT_ID() + 1) //\ns1: INSERT INTO a (k) VALUES (9) //\n",
+        "123 QUERY thread=1 time=1700000001 CREATE TABLE a (id INT NOT NULL AUTO_INCREMENT, k INT NOT NULL, PRIMARY KEY (id), UNIQUE KEY uk (k))\n258 QUERY thread=1 time=1700000002 BEGIN\n298 INTVAR INSERT_ID 1\n326 QUERY thread=1 time=1700000002 INSERT INTO a (k) VALUES (1)\n389 XID 2\n416 QUERY thread=1 time=1700000002 BEGIN\n456 INTVAR LAST_INSERT_ID 1\n484 INTVAR INSERT_ID 2\n512 QUERY thread=1 time=1700000002 INSERT INTO a (k) VALUES (LAST_INSERT_ID() + 1)\n594 XID 3\n621 QUERY thread=1 time=1700000002 BEGIN\n661 INTVAR INSERT_ID 3\n689 QUERY thread=1 time=1700000002 INSERT INTO a (k) VALUES (9)\n752 XID 4\n",
+        "applied 4 1:779\n",
+    ),
+    // seeds, and a statement that carries nothing
+    (
+        "s1: CREATE TABLE t (id INT, v INT, PRIMARY KEY (id)) //\ns1: SET rand_seed1 = 1, rand_seed2 = 2 //\ns1: INSERT INTO t VALUES (1, FLOOR(RAND() * 1073741823)), (2, FLOOR(RAND() * 1073741823)) //\ns1: UPDATE t SET v = v + 1 //\n",
+        "123 QUERY thread=1 time=1700000001 CREATE TABLE t (id INT, v INT, PRIMARY KEY (id))\n206 QUERY thread=1 time=1700000002 BEGIN\n246 RAND 1 2\n281 QUERY thread=1 time=1700000002 INSERT INTO t VALUES (1, FLOOR(RAND() * 1073741823)), (2, FLOOR(RAND() * 1073741823))\n401 XID 2\n428 QUERY thread=1 time=1700000002 BEGIN\n468 QUERY thread=1 time=1700000002 UPDATE t SET v = v + 1\n525 XID 3\n",
+        "applied 3 1:552\n",
+    ),
+    // what a trigger reads, in the order of names; the second item carries nothing
+    (
+        "s1: CREATE TABLE t (id INT, v INT, PRIMARY KEY (id)) //\ns1: CREATE TRIGGER b BEFORE INSERT ON t FOR EACH ROW SET NEW.v = COALESCE(@x, 7) //\ns1: INSERT INTO t VALUES (1, 0) //\ns1: SET @x = 5, @name = 'ab' //\ns1: BEGIN //\ns1: INSERT INTO t VALUES (LENGTH(@name), 0) //\ns1: DELETE FROM t WHERE id = 1 //\ns1: COMMIT //\ns1: UPDATE t SET v = v + 1 //\n",
+        "123 QUERY thread=1 time=1700000001 CREATE TABLE t (id INT, v INT, PRIMARY KEY (id))\n206 QUERY thread=1 time=1700000002 CREATE TRIGGER b BEFORE INSERT ON t FOR EACH ROW SET NEW.v = COALESCE(@x, 7)\n317 QUERY thread=1 time=1700000002 BEGIN\n357 USER_VAR x NULL\n382 QUERY thread=1 time=1700000002 INSERT INTO t VALUES (1, 0)\n444 XID 3\n471 QUERY thread=1 time=1700000002 BEGIN\n511 USER_VAR name 'ab'\n551 USER_VAR x 5\n594 QUERY thread=1 time=1700000002 INSERT INTO t VALUES (LENGTH(@name), 0)\n668 QUERY thread=1 time=1700000002 DELETE FROM t WHERE id = 1\n729 XID 4\n756 QUERY thread=1 time=1700000002 BEGIN\n796 QUERY thread=1 time=1700000002 UPDATE t SET v = v + 1\n853 XID 5\n",
+        "applied 5 1:880\n",
+    ),
+    // one session by both formats
+    (
+        "s1: CREATE TABLE t (id INT, v INT, PRIMARY KEY (id)) //\ns1: INSERT INTO t VALUES (1, 10) //\ns1: SET binlog_format = ROW //\ns1: INSERT INTO t VALUES (2, 20) //\ns1: UPDATE t SET v = v + 1 //\ns1: DELETE FROM t WHERE v = 21 //\ns1: SET binlog_format = STATEMENT //\ns1: DELETE FROM t WHERE id = 1 //\n",
+        "123 QUERY thread=1 time=1700000001 CREATE TABLE t (id INT, v INT, PRIMARY KEY (id))\n206 QUERY thread=1 time=1700000002 BEGIN\n246 QUERY thread=1 time=1700000002 INSERT INTO t VALUES (1, 10)\n309 XID 2\n336 QUERY thread=1 time=1700000002 BEGIN\n376 TABLE_MAP 1 t\n415 WRITE_ROWS 1 end (2, 20)\n455 XID 3\n482 QUERY thread=1 time=1700000002 BEGIN\n522 TABLE_MAP 1 t\n561 UPDATE_ROWS 1 end (1, 10)->(1, 11) (2, 20)->(2, 21)\n629 XID 4\n656 QUERY thread=1 time=1700000002 BEGIN\n696 TABLE_MAP 1 t\n735 DELETE_ROWS 1 end (2, 21)\n775 XID 5\n802 QUERY thread=1 time=1700000002 BEGIN\n842 QUERY thread=1 time=1700000002 DELETE FROM t WHERE id = 1\n903 XID 6\n",
+        "applied 6 1:930\n",
+    ),
+];
+
+/// Expects of a script's log that `print` shows these lines behind the first and `replay` writes this one, both to its end.
+fn expect_log(
+    rt: &impl Abort,
+    alloc: Global,
+    script: &str,
+    lines: &str,
+    replayed: &str,
+) -> Result<(), Fail> {
+    let log = log_of(alloc, script)?;
+    let mut shown = bytes(alloc, FIRST_LINE)?;
+    shown.extend_from_slice(lines.as_bytes())?;
+    let played = over_log(alloc, "print", log.as_slice())?;
+    expect_played(rt, &played, shown.as_slice(), "", script);
+    let played = over_log(alloc, "replay", log.as_slice())?;
+    expect_played(rt, &played, replayed.as_bytes(), "", script);
+    Ok(())
+}
+
+#[test]
+fn logs_printed_and_replayed(rt: HostRuntime) -> Result<(), Fail> {
+    for (script, lines, replayed) in &LOGS {
+        expect_log(&rt, rt.alloc(), *script, *lines, *replayed)?;
+    }
+    Ok(())
+}

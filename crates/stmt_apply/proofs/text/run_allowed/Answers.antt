@@ -1,0 +1,14 @@
+use Rattle.std.proofs.Common.{sym}
+use Rattle.sql_tree.specs.StatementView.{view}
+use Rattle.catalog_objects.specs.Keys.{objects_of}
+use Rattle.catalog_rules.specs.Checks.{session_scope, statement_refusal}
+use Rattle.applier_model.specs.Texts.{may_stand}
+use Rattle.stmt_apply.specs.Ends.{applier_in, progress_in}
+use Rattle.stmt_apply.proofs.Ran.{runs_on}
+use Rattle.stmt_apply.proofs.text.run_allowed.Goals as goal
+
+pub returns-clause-ends : goal.returns-clause-ends
+returns-clause-ends c = λ who.
+    let s = view c.args.statement.now in
+    runs_on (applier_in who c.args.draw.now c.args.work.now) c.args.context.now s (progress_in c.args.work.now) (statement_refusal (objects_of c.args.work.now.objects) session_scope s) (may_stand s)
+    c.run.result (progress_in c.run.new.work) (sym c.if-not-may_stand.ensures) c.in_default.ensures (c.run.ensures.ends who)
