@@ -1,23 +1,28 @@
 -- What is written of a log while it is read.
-use Rattle.std.proofs.Common.{◌≡◌, ◌≤◌, ◌<◌, ℕ, ◌+◌, true, false, List, [], ◌∷◌, ◌++◌, length, map, Option, Some, None, IfSome, refl, sym, ap, ◌∙◌, subst, arith, append-nil}
+use Rattle.std.proofs.Common.{◌≡◌, ◌≤◌, ◌<◌, ℕ, true, false, List, [], ◌∷◌, ◌++◌, length, Option, Some, None, refl, sym, ap, ◌∙◌, subst, arith, append-nil, append_assoc}
 use Rattle.std.specs.Prelude.{flat_map}
 use Rattle.std.proofs.lemmas.Grind.{flat_map-append}
 use Rattle.answer_text.specs.declared.status.Status.{Status}
 use Rattle.answer_text.specs.declared.status.Status.TheVariants as status
-use Rattle.log_model.specs.Events.{events_from}
-use Rattle.log_model.specs.Groups.{Group, group, group_at}
+use Rattle.event_codec.specs.Event.{Map, Seen}
+use Rattle.event_codec.specs.declared.event.Event.{Event}
+use Rattle.event_codec.specs.declared.reading.Read.{Read}
+use Rattle.event_codec.specs.declared.reading.Read.TheVariants as read
+use Rattle.event_codec.specs.Reading.{event, none, Stop, short, reading, reading_of}
+use Rattle.event_codec.specs.Reading as stops
+use Rattle.log_model.specs.Events.{Place, Placed, past, events_from}
+use Rattle.log_model.proofs.Walking.{events_some, events_none}
+use Rattle.log_print.specs.Lines.{line_of}
 use Rattle.run_streams.specs.Stops.{StopsReading, StopsWriting}
 use Rattle.run_streams.specs.Wrote.{Wrote, WroteFront}
 use Rattle.run_streams.proofs.Writing.{wrote_nothing, wrote_more, broken_behind, front_of_more, whole_front}
-use Rattle.whole_groups.specs.Laws.{Lies}
 use Rattle.whole_groups.proofs.Lying.{group_lies}
 use Rattle.whole_logs.specs.Walk.{Ending, ended, damaged, foreign, Piece, Grouped, grouped}
-use Rattle.whole_logs.specs.Passing.{with_pieces, ending_with}
-use Rattle.whole_logs.specs.Printed.{lines_from, piece_lines, log_lines}
+use Rattle.whole_logs.specs.Printed.{map_for, maps_behind, lines_from, piece_lines, log_lines}
 use Rattle.log_reader.specs.declared.reader.Found.{Found}
 use Rattle.log_reader.specs.declared.reader.Found.TheVariants as found
 use Rattle.log_reader.specs.Reading.{Reader, next_pos, Reads, ReadsMagic}
-use Rattle.log_reader.specs.Behind.{Behind, IsLog, IsLogFront, piece_read, LeadsTo, fresh}
+use Rattle.log_reader.specs.Behind.{IsLog, IsLogFront, piece_read, LeadsTo, fresh}
 use Rattle.log_reader.proofs.Known.{magic_leads, calls_lead, fronts_are_known}
 use Rattle.print_log.specs.Ends.{Printed, PrintedFront, PrintEnds}
 use Rattle.print_log.specs.Printing.{IsShown}
@@ -31,6 +36,27 @@ lines_of bytes ps g is pieces = ap (λ (h : Grouped). flat_map piece_lines h.pie
 -- those of one group more
 more_lines : (ps : List Piece) (x : Piece) → flat_map piece_lines (ps ++ x ∷ []) ≡ flat_map piece_lines ps ++ piece_lines x
 more_lines ps x = flat_map-append piece_lines ps (x ∷ []) ∙ ap (λ (ls : List ℕ). flat_map piece_lines ps ++ ls) (append-nil (piece_lines x))
+
+-- ---- the lines of a group, event after event
+
+pub line_more : (ms then : List Map) (p q : Place) (e : Seen) (old new all : List ℕ) → event e ≡ reading p.bytes p.pos → new ≡ old ++ (line_of (map_for ms e.body) p.pos e ++ 0x0a ∷ [])
+    → then ≡ maps_behind ms e.body → q ≡ past e p → old ++ lines_from ms (events_from p) ≡ all → new ++ lines_from then (events_from q) ≡ all
+line_more ms then p q e old new all is put maps place so =
+    let here : List ℕ = line_of (map_for ms e.body) p.pos e ++ 0x0a ∷ [] in
+    let events : events_from p ≡ record { pos = p.pos; event = e } ∷ events_from (past e p) = events_some p e (sym is) in
+    rw (put, maps, place)
+    (append_assoc old here (lines_from (maps_behind ms e.body) (events_from (past e p)))
+    ∙ ap (λ (es : List Placed). old ++ lines_from ms es) (sym events) ∙ so)
+
+lines_end : (ms : List Map) (p : Place) (stop : Stop) (old all : List ℕ) → none stop ≡ reading p.bytes p.pos → old ++ lines_from ms (events_from p) ≡ all → old ≡ all
+lines_end ms p stop old all is so = sym (ap (λ (es : List Placed). old ++ lines_from ms es) (events_none p stop (sym is)) ∙ append-nil old) ∙ so
+
+pub lines_over : (ms : List Map) (p : Place) (old all : List ℕ) (r : Read) → ((e : Event) → r ≡ read.Event e → ⊥) → reading_of r ≡ reading p.bytes p.pos
+    → old ++ lines_from ms (events_from p) ≡ all → old ≡ all
+lines_over ms p old all (read.Event e) not is so = absurd (not e refl)
+lines_over ms p old all (read.Short need) not is so = lines_end ms p (short need) old all is so
+lines_over ms p old all (read.Damaged pos) not is so = lines_end ms p (stops.damaged pos) old all is so
+lines_over ms p old all (read.Foreign pos kind) not is so = lines_end ms p (stops.foreign pos kind) old all is so
 
 -- ---- a log that was read
 
@@ -125,3 +151,35 @@ module _ (start left before now : Option (List ℕ)) (old : Reader) (shown : IsS
         let lies = group_lies reads.taken new.begin is.one is.reads in
         let same = ap length is.bytes in
         (omega (arith, reads.begin, lies.header, is.whole, same), omega (arith, lies.ends, is.whole, same))
+
+-- ---- faults and want of memory
+
+pub read_stops : (s : Status) (first last : ℕ) (start left before now : Option (List ℕ)) → StopsReading s first last → PrintedFront start before now → PrintEnds s start left before now
+read_stops status.Done first last start left before now stops front = absurd stops
+read_stops status.BadWords first last start left before now stops front = absurd stops
+read_stops (status.BadScript at) first last start left before now stops front = absurd stops
+read_stops status.ReadFault first last start left before now stops front = front
+read_stops status.WriteFault first last start left before now stops front = absurd stops
+read_stops status.SourceDisk first last start left before now stops front = absurd stops
+read_stops status.ReplicaDisk first last start left before now stops front = absurd stops
+read_stops (status.SourceDamaged file at) first last start left before now stops front = absurd stops
+read_stops (status.ReplicaDamaged file at) first last start left before now stops front = absurd stops
+read_stops (status.LogDamaged pos) first last start left before now stops front = absurd stops
+read_stops (status.LogForeign pos kind) first last start left before now stops front = absurd stops
+read_stops (status.Differs pos code table key) first last start left before now stops front = absurd stops
+read_stops status.NoMemory first last start left before now stops front = front
+
+pub write_stops : (s : Status) (first last : ℕ) (start left before now : Option (List ℕ)) → StopsWriting s first last → PrintedFront start before now → PrintEnds s start left before now
+write_stops status.Done first last start left before now stops front = absurd stops
+write_stops status.BadWords first last start left before now stops front = absurd stops
+write_stops (status.BadScript at) first last start left before now stops front = absurd stops
+write_stops status.ReadFault first last start left before now stops front = absurd stops
+write_stops status.WriteFault first last start left before now stops front = front
+write_stops status.SourceDisk first last start left before now stops front = absurd stops
+write_stops status.ReplicaDisk first last start left before now stops front = absurd stops
+write_stops (status.SourceDamaged file at) first last start left before now stops front = absurd stops
+write_stops (status.ReplicaDamaged file at) first last start left before now stops front = absurd stops
+write_stops (status.LogDamaged pos) first last start left before now stops front = absurd stops
+write_stops (status.LogForeign pos kind) first last start left before now stops front = absurd stops
+write_stops (status.Differs pos code table key) first last start left before now stops front = absurd stops
+write_stops status.NoMemory first last start left before now stops front = front

@@ -1,9 +1,10 @@
 //! The lines of a group.
 ghost use Rattle.std.specs.Prelude.{◌≡◌, ◌++◌, ◌∷◌, [], map, OnOk};
+ghost use Rattle.std.specs.Option.{option_map};
 ghost use Rattle.event_codec.specs.Event.{body_of, map_of, seen};
 ghost use Rattle.log_model.specs.Events.{events_from};
 ghost use Rattle.log_model.specs.Groups.{find};
-ghost use Rattle.log_print.specs.Lines.{line_of, map_seen};
+ghost use Rattle.log_print.specs.Lines.{line_of};
 ghost use Rattle.whole_logs.specs.Printed.{lines_from, map_for, maps_behind};
 
 use event_codec::{Event, MapView, Read, read_event};
@@ -12,20 +13,20 @@ use std::alloc::Global;
 use val_types::{Bytes, List, NoMemory};
 
 /// The map with this id.
-fn find<'a, 'm>(maps: &'m [MapView<'a>], id: u64) -> Option<&'m MapView<'a>>
-    ensures { map_seen result ≡ find id (map map_of maps.now) }
+fn find<'a>(maps: &[MapView<'a>], id: u64) -> Option<MapView<'a>>
+    ensures { option_map map_of result ≡ find id (map map_of maps.now) }
 {
     for map in maps {
         if map.id == id {
-            return Some(map);
+            return Some(*map);
         }
     }
     None
 }
 
 /// The map that the rows of an event are of, among the maps of their item.
-fn map_for<'a, 'm>(maps: &'m [MapView<'a>], it: &Event) -> Option<&'m MapView<'a>>
-    ensures { map_seen result ≡ map_for (map map_of maps.now) (body_of it.now) }
+fn map_for<'a>(maps: &[MapView<'a>], it: &Event) -> Option<MapView<'a>>
+    ensures { option_map map_of result ≡ map_for (map map_of maps.now) (body_of it.now) }
 {
     match it {
         Event::Rows(rows) => find(maps, rows.id),
@@ -50,7 +51,8 @@ fn put_line(
 ) -> Result<(), NoMemory>
     ensures { OnOk result (lines.new ≡ lines.old ++ (line_of (map_for (map map_of maps.now) (body_of it.now)) pos (seen it.now) ++ 0x0a ∷ [])) }
 {
-    let text = line(alloc, it, map_for(maps, it), pos)?;
+    let map = map_for(maps, it);
+    let text = line(alloc, it, map.as_ref(), pos)?;
     lines.append(text)?;
     lines.push(b'\n')
 }

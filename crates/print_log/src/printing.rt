@@ -46,7 +46,7 @@ fn print_groups<S: Source, K: Sink>(
     ensures write_fault { result ≡ Err Status.WriteFault → Rose (K.faults out.old) (K.faults out.new) }
     ensures reads_once { S.ended input.old ≡ 0 → S.ended input.new ≤ 1 }
     ensures last_read { result ≡ Err Status.ReadFault → S.ended input.old ≡ 0 → S.ended input.new ≡ 1 }
-    ensures read_end { OnOk result (S.ended input.old ≡ 0 → S.ended input.new ≡ 1) }
+    ensures read_end { status_of result ≡ Status.Done → S.ended input.old ≡ 0 → S.ended input.new ≡ 1 }
     ensures last_write { K.ended out.old ≡ 0 → K.ended out.new ≡ failed_writes (status_of result) }
 {
     if !read_magic(alloc, input)? {
