@@ -50,8 +50,9 @@ module _ (draw : Draw) (old : code_replaying.Replaying) (reader : Reader) (next 
   few_told : told.count ≤ 1
   few_told = omega (arith, told_is.count, few old.node.identity draw (replica_of old.node) reader.bytes reader.begin next.group next.is next.ready.0)
 
-  pub room_to_count : old.count + told.count < 4294967296
-  room_to_count = let lies = group_lies reader.bytes reader.begin next.group next.is.reads in omega (arith, few_told, next.ready.1, lies.header, lies.ends)
+  -- at most one group more is counted, and there is room to count it
+  pub room_to_count : (told.count ≤ 1) × (old.count + 1 < 4294967296)
+  room_to_count = let lies = group_lies reader.bytes reader.begin next.group next.is.reads in (few_told, omega (arith, next.ready.1, lies.header, lies.ends))
 
   abbrev new : code_replaying.Replaying
   new = record { node = after; count = old.count + told.count; log = told.log; pos = told.pos }

@@ -7,11 +7,10 @@ fetch-requires c = room_for c.args.self.now c.args.reader.now c.in_ok-group.grou
 
 pub overflow_add-self : goal.overflow_add-self
 overflow_add-self c =
-    omega (
-      arith,
-      room_to_count c.args.draw.now c.args.self.now c.args.reader.now c.requires c.in_ok-group.group (c.in_ok-group.ensures ∙ c.bytes.ensures)
-          c.fetch.new.self c.apply.new.self c.in_ok-fetch.ensures.identity c.in_ok-fetch.ensures.ok c.in_ok-count.field-0 c.in_ok-count.ensures.replica c.in_ok-count.ensures.told,
-    )
+    let room =
+    room_to_count c.args.draw.now c.args.self.now c.args.reader.now c.requires c.in_ok-group.group (c.in_ok-group.ensures ∙ c.bytes.ensures) c.fetch.new.self c.apply.new.self c.in_ok-fetch.ensures.identity
+    c.in_ok-fetch.ensures.ok c.in_ok-count.field-0 c.in_ok-count.ensures.replica c.in_ok-count.ensures.told in
+    omega (arith, room.0, room.1)
 
 pub returns-clause-went_on : goal.returns-clause-went_on
 returns-clause-went_on c =
