@@ -86,6 +86,7 @@ needs_grow bytes more pos need e known is = by known.known
   where
     within : Within (bytes ++ more) pos (event e)
     within = subst (Within (bytes ++ more) pos) is (lies_within (bytes ++ more) pos)
+
     by : (need ≡ 19) ⊎ ((19 ≤ length bytes) × (need ≡ number_at 9 4 bytes) × (pos + need ≤ 1200000000)) → need ≤ e.size
     by (inl header) = omega (arith, header, within.0)
     by (inr whole) =
@@ -258,8 +259,10 @@ transaction_goes m n bytes pos e t at within is moved = record {
   where
     whole : List ℕ → Place
     whole more = record { bytes = bytes ++ more; pos = pos }
+
     read : (more : List ℕ) → reading (drop n (bytes ++ more)) (pos + n) ≡ event e
     read more = ap (λ (bs : List ℕ). reading bs (pos + n)) (drop-append-le n bytes more within) ∙ event_front (drop n bytes) more (pos + n) e is
+
     led : (more : List ℕ) → Leads (mark_behind m n e.body) (n + e.size) (record { bytes = bytes ++ more; pos = pos }) t
     led more = leads n (record { bytes = bytes ++ more; pos = pos }) e t (ap (λ (bs : List ℕ). reading bs (pos + n)) (drop-append-le n bytes more within) ∙ event_front (drop n bytes) more (pos + n) e is) m e.body refl (at.stands more)
         (ap (λ (s : Stage). move s e.body) (sym (at.stage_is more)) ∙ moved)
@@ -292,12 +295,15 @@ transaction_next m n bytes pos at =
   where
     here : Place
     here = record { bytes = bytes; pos = pos }
+
     read : reading bytes pos ≡ event at.opening
     read = subst (λ (bs : List ℕ). reading bs pos ≡ event at.opening) (append-nil bytes) (at.reads [])
+
     scans : scan first (events_from (past at.opening (record { bytes = bytes; pos = pos }))) (stop_from (past at.opening (record { bytes = bytes; pos = pos })))
         ≡ scan at.stage (events_from (after n (record { bytes = bytes; pos = pos }))) (stop_from (after n (record { bytes = bytes; pos = pos })))
     scans = subst (λ (bs : List ℕ). scan first (events_from (past at.opening (record { bytes = bs; pos = pos }))) (stop_from (past at.opening (record { bytes = bs; pos = pos })))
         ≡ scan at.stage (events_from (after n (record { bytes = bs; pos = pos }))) (stop_from (after n (record { bytes = bs; pos = pos })))) (append-nil bytes) (at.scans [])
+
     begun : begun_by (record { pos = pos; event = at.opening }) (events_from (past at.opening (record { bytes = bytes; pos = pos }))) (stop_from (past at.opening (record { bytes = bytes; pos = pos }))) at.opening.body
         ≡ txn_of (record { pos = pos; event = at.opening }) at.text (events_from (past at.opening (record { bytes = bytes; pos = pos })))
         (scan first (events_from (past at.opening (record { bytes = bytes; pos = pos }))) (stop_from (past at.opening (record { bytes = bytes; pos = pos }))))
@@ -338,11 +344,13 @@ module _ (bytes : List ℕ) (pos : ℕ) (p : Progress) (looked : IsLooked bytes 
     where
       known : Needs (drop p.looked bytes) (pos + p.looked) need
       known = needs (drop p.looked bytes) (pos + p.looked) need is
+
       fits : (need ≡ 19) ⊎ ((19 ≤ length (drop p.looked bytes)) × (need ≡ number_at 9 4 (drop p.looked bytes)) × (pos + p.looked + need ≤ 1200000000)) → (p.looked ≡ 0) ⊎ (pos + p.looked ≤ 1200000000)
           → p.looked + need ≤ 1200000019
       fits (inl n) (inl z) = omega (arith, n, z)
       fits (inl n) (inr few) = omega (arith, n, few)
       fits (inr w) any = omega (arith, w.2)
+
       cut : (p.looked ≡ 0) ⊎ InTransaction p.mark p.looked bytes pos → group_at (record { bytes = bytes; pos = pos }) ≡ not_whole
       cut (inl z) =
           let same : reading (drop p.looked bytes) (pos + p.looked) ≡ reading bytes pos = rw z (ap (λ (at : ℕ). reading bytes at) (omega arith)) in
@@ -359,6 +367,7 @@ module _ (bytes : List ℕ) (pos : ℕ) (p : Progress) (looked : IsLooked bytes 
       settled (short need) never = absurd (never need refl)
       settled (damaged q) never = tt
       settled (foreign q kind) never = tt
+
       by : (p.looked ≡ 0) ⊎ InTransaction p.mark p.looked bytes pos → IsSettled (pos + p.upto) (group_at (record { bytes = bytes; pos = pos }))
       by (inl z) =
           let same : reading (drop p.looked bytes) (pos + p.looked) ≡ reading bytes pos = rw z (ap (λ (at : ℕ). reading bytes at) (omega arith)) in
@@ -377,8 +386,7 @@ module _ (bytes : List ℕ) (pos : ℕ) (p : Progress) (looked : IsLooked bytes 
       let nothing : drop (p.looked + e.size) bytes ≡ [] = drop_all (p.looked + e.size) bytes (omega (arith, low, few)) in
       let there : Place = after (p.looked + e.size) (record { bytes = bytes; pos = pos }) in
       let lacks : reading (drop (p.looked + e.size) bytes) (pos + (p.looked + e.size)) ≡ none (short 19) = ap (λ (bs : List ℕ). reading bs (pos + (p.looked + e.size))) nothing ∙ nothing_read (pos + (p.looked + e.size)) in
-      let stop : scan at.stage (events_from there) (stop_from there) ≡ stopped (short 19) = rw (events_none there (short 19) lacks, stop_none there (short 19) lacks) refl in
-      (
+      let stop : scan at.stage (events_from there) (stop_from there) ≡ stopped (short 19) = rw (events_none there (short 19) lacks, stop_none there (short 19) lacks) refl in (
         record {
           within = omega (arith, size, looked.within, within.1);
           ends = inr (omega (arith, within.2));
@@ -393,6 +401,7 @@ module _ (bytes : List ℕ) (pos : ℕ) (p : Progress) (looked : IsLooked bytes 
     where
       within : Within (drop p.looked bytes) (pos + p.looked) (event e)
       within = subst (Within (drop p.looked bytes) (pos + p.looked)) is (lies_within (drop p.looked bytes) (pos + p.looked))
+
       header : (more : List ℕ) (x : Seen) → reading (drop (p.looked + e.size) (bytes ++ more)) (pos + (p.looked + e.size)) ≡ event x → p.looked + e.size + 19 ≤ p.looked + e.size + x.size
       header more x read =
           let inside : Within (drop (p.looked + e.size) (bytes ++ more)) (pos + (p.looked + e.size)) (event x) =

@@ -52,7 +52,7 @@ module _ (start before after : Option (List ℕ)) (ps : List Piece) (old new : R
       front = behind.front ++ taken;
       took = all_took;
       passed = rw (is.bytes, begin, is.closed) (group_is_passed behind.front taken ps (next_pos old) is.one (passed_open is.opened)
-      (ap (λ (at : ℕ). group_at (record { bytes = taken; pos = at })) (sym begin) ∙ is.reads) (is.whole ∙ ap (λ (at : ℕ). at + length taken) begin));
+          (ap (λ (at : ℕ). group_at (record { bytes = taken; pos = at })) (sym begin) ∙ is.reads) (is.whole ∙ ap (λ (at : ℕ). at + length taken) begin));
     },
   )
 

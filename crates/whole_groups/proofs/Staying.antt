@@ -151,10 +151,13 @@ halts_by p more again (event e) is within = by (again (past e p) (omega (arith, 
   where
     here : Placed
     here = record { pos = p.pos; event = e }
+
     behind : past e (longer p more) ≡ longer (past e p) more
     behind = ap (λ (bs : List ℕ). record { bytes = bs; pos = p.pos + e.size }) (drop-append-le e.size p.bytes more within.1)
+
     front : reading (p.bytes ++ more) p.pos ≡ event e
     front = event_front p.bytes more p.pos e is
+
     by : Halts (past e p) more → Halts p more
     by (inl missing) = inl (missing.0, stop_some p e is ∙ missing.1)
     by (inr same) = inr (
@@ -369,6 +372,7 @@ next_stays bytes more pos n stops is = by (halts (length bytes) p more (omega ar
   where
     p : Place
     p = record { bytes = bytes; pos = pos }
+
     by : Halts (record { bytes = bytes; pos = pos }) more → group_of (events_from (record { bytes = bytes ++ more; pos = pos })) (stop_from (record { bytes = bytes ++ more; pos = pos })) ≡ n
     by (inl missing) =
         let es = events_front (length bytes) (record { bytes = bytes; pos = pos }) more (omega arith) in

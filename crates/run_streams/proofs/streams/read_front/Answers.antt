@@ -10,7 +10,7 @@ returns-in_err-read_piece-clause-limit g c =
 pub returns-clause-limit : goal.returns-clause-limit
 returns-clause-limit g c =
     elim c.loop-script-test.branch [
-      else-loop-script-test w ↦ rw (w.input-is) (taken_all c.loop-script.script _ _ c.loop-script.invariant.0 c.loop-script.invariant.2)
-    | then-loop-script-test+in_ok-read_piece+then-branch-eq0 w ↦
-        rw (w.input-is) (taken_more c.loop-script.script _ _ _ w.read_piece.ensures.taken.0 c.loop-script.invariant.0 (omega (arith, w.read_piece.ensures.taken.1)) w.read_piece.ensures.taken.2)
+      | else-loop-script-test w ↦ rw (w.input-is) (taken_all c.loop-script.script _ _ c.loop-script.invariant.0 c.loop-script.invariant.2)
+      | then-loop-script-test+in_ok-read_piece+then-branch-eq0 w ↦
+          rw (w.input-is) (taken_more c.loop-script.script _ _ _ w.read_piece.ensures.taken.0 c.loop-script.invariant.0 (omega (arith, w.read_piece.ensures.taken.1)) w.read_piece.ensures.taken.2)
     ]
