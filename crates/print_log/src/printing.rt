@@ -36,11 +36,7 @@ fn print_group<K: Sink>(
 }
 
 /// Writes the lines of the log on the input, and says why no other group follows.
-fn print_groups<S: Source, K: Sink>(
-    alloc: Global,
-    input: &mut S,
-    out: &mut K,
-) -> Result<(), Status>
+fn print_groups<S: Source, K: Sink>(alloc: Global, input: &mut S, out: &mut K) -> Result<(), Status>
     ensures run { PrintEnds (status_of result) (S.left input.old) (S.left input.new) (K.written out.old) (K.written out.new) }
     ensures read_fault { result ≡ Err Status.ReadFault → Rose (S.faults input.old) (S.faults input.new) }
     ensures write_fault { result ≡ Err Status.WriteFault → Rose (K.faults out.old) (K.faults out.new) }

