@@ -46,7 +46,7 @@ fn plain(found: Found) -> Taken
 }
 
 /// What bytes are that are just a group, or where an event is damaged or not known.
-fn settled(bytes: &[u8], begin: u64) -> Taken
+fn whole_or_stopped(bytes: &[u8], begin: u64) -> Taken
     requires { IsSettled (begin + length bytes.now) (group_at (record { bytes = bytes.now; pos = begin })) }
     ensures { FindsSettled bytes.now begin result.closed result.found }
 {
@@ -103,7 +103,7 @@ fn read_group<S: Source>(
                 }
                 progress = next;
             }
-            Look::Settled => return Ok(settled(bytes.as_slice(), begin)),
+            Look::Settled => return Ok(whole_or_stopped(bytes.as_slice(), begin)),
         }
     }
 }

@@ -3,7 +3,7 @@ use Rattle.log_groups.specs.Growing.{IsSettled}
 use Rattle.log_groups.specs.Views.{group_seen}
 use Rattle.log_model.specs.Groups.{Next}
 use Rattle.whole_groups.proofs.Lying.{group_lies}
-use Rattle.log_reader.proofs.groups.settled.Goals as goal
+use Rattle.log_reader.proofs.groups.whole_or_stopped.Goals as goal
 
 pub returns-in-Group : goal.returns-in-Group
 returns-in-Group c =
