@@ -1,12 +1,11 @@
 -- The numbers of events that are read are such as a context may have.
-use Rattle.std.proofs.Common.{◌≡◌, ℕ, zero, suc, ◌≤◌, Bool, true, false, not, List, [], ◌∷◌, Option, Some, None, IfSome, Result, Ok, Err, refl, sym, ap, subst, ◌∙◌, arith}
+use Rattle.std.proofs.Common.{◌≡◌, ℕ, zero, suc, ◌≤◌, Bool, true, false, not, List, [], ◌∷◌, Option, Some, None, Result, Ok, Err, refl, ap, subst, ◌∙◌, arith}
 use Rattle.std.specs.Prelude.{if◌then◌else◌, ◌==◌, ◌&&◌, ◌%◌, nat_le, nat_lt, length, slice_index, slice_range}
 use Rattle.std.specs.Str.{bytes_eq}
 use Rattle.std.proofs.lemmas.Bool.Decides.{nat_tests}
 use Rattle.byte_fields.specs.Field.{number_at}
 use Rattle.event_codec.specs.declared.event.RowsKind.{RowsKind}
 use Rattle.event_codec.specs.declared.event.RowsKind.TheVariants.{Write, Update, Delete}
-use Rattle.event_codec.specs.declared.event.IntVarKind.{IntVarKind}
 use Rattle.event_codec.specs.declared.event.Step.{Step}
 use Rattle.event_codec.specs.declared.fault.Fault.{Fault}
 use Rattle.event_codec.specs.declared.fault.Fault.TheVariants.{Damaged, Foreign}

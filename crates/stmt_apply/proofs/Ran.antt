@@ -8,9 +8,7 @@ use Rattle.val_types.specs.declared.refusal.SqlRefusal.TheVariants.{Sql, NoMemor
 use Rattle.port_traits.specs.declared.identity.Identity.{Identity}
 use Rattle.port_traits.specs.declared.identity.Draw.{Draw}
 use Rattle.sql_tree.specs.Statement.{Statement, create_table, create_function, create_procedure, create_trigger, drop_table, drop_function, drop_procedure, drop_trigger, truncate, insert_into, replace_into, update_rows, delete_rows, select, evaluate, set_all, call_procedure, begin, commit, rollback, savepoint, rollback_to, release_savepoint, block, if_steps, while_steps, return_value}
-use Rattle.sql_meaning.specs.Changing.{Did}
 use Rattle.sql_meaning.specs.Frames.{Context}
-use Rattle.sql_meaning.specs.Scenes.{Ending}
 use Rattle.sql_meaning.specs.Leading.{EndsWell, Leads}
 use Rattle.sql_meaning.proofs.LedBodies.{statements_end}
 use Rattle.sql_reach.specs.Reach.{is_definition}
@@ -18,7 +16,7 @@ use Rattle.applier_model.specs.Texts.{Applier, Progress, allowed, checked, ended
 use Rattle.prog_run.specs.declared.meter.Meter.{Meter}
 use Rattle.prog_run.specs.declared.meter.Outcome.{Outcome}
 use Rattle.prog_run.specs.Contents.{Contents}
-use Rattle.prog_run.specs.Runs.{Runs, effect_at, moment, scene_at, setting_at}
+use Rattle.prog_run.specs.Runs.{Runs, moment, scene_at, setting_at}
 use Rattle.stmt_apply.specs.Ending.{EndsBy, IsRefusal}
 use Rattle.stmt_apply.specs.Ends.{Adds, applier_in, full_meter, progress_in}
 

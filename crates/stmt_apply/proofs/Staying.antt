@@ -22,7 +22,7 @@ use Rattle.prog_run.specs.declared.meter.Meter.{Meter}
 use Rattle.prog_run.specs.declared.meter.Outcome.{Outcome}
 use Rattle.prog_run.specs.Contents.{Contents, IsTogether, committed_tables, counted_names, without_changes}
 use Rattle.prog_run.specs.Carrying.{ChangesRows, given_up}
-use Rattle.prog_run.specs.Runs.{LeavesAll, Runs, effect_at, moment, scene_at, setting_at}
+use Rattle.prog_run.specs.Runs.{LeavesAll, Runs, moment, scene_at, setting_at}
 use Rattle.stmt_apply.specs.Ends.{Stays}
 
 pub stays_same : (c : Contents) → Stays c c

@@ -1,5 +1,5 @@
 -- What stands in the log before a text for it.
-use Rattle.std.specs.Prelude.{ℕ, ◌≤◌, [], Option, None, IfSome}
+use Rattle.std.specs.Prelude.{◌≤◌, [], Option, None, IfSome}
 use Rattle.event_codec.specs.declared.event.Step.{Step}
 use Rattle.event_codec.specs.Event.{Body, query, rotate, int_var, rand, user_var, format_description, xid, table_map, rows}
 use Rattle.log_entries.specs.declared.carried.Carried.{Carried}
