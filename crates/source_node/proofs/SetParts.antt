@@ -69,9 +69,10 @@ set_taken_apart call as' refusal names ts shared session checks targets values =
 pub set_values : (names : List Target) (vs : List Value) (old new : Desk) (ran after : Session Item) (answer : Answer) (t : Turn Item (Result (List Value) ℕ)) → Moves old new ran t → t.given ≡ Ok vs
     → answer ≡ assigned_answer (first_refused (is_open ran) (zip names vs)) → after ≡ assigned_session (first_refused (is_open ran) (zip names vs)) (zip names vs) ran → IsTurn old new after answer (set_from names t)
 set_values names vs old new ran after answer t moves gave said left =
-    subst (λ (r : Result (List Value) ℕ). IsTurn old new after answer (set_to names r t)) (sym gave)
-    ((moves.0, left ∙ ap (λ (s : Session Item). assigned_session (first_refused (is_open s) (zip names vs)) (zip names vs) s) moves.1, moves.2),
-    said ∙ ap (λ (s : Session Item). assigned_answer (first_refused (is_open s) (zip names vs))) moves.1)
+    subst (λ (r : Result (List Value) ℕ). IsTurn old new after answer (set_to names r t)) (sym gave) (
+      (moves.0, left ∙ ap (λ (s : Session Item). assigned_session (first_refused (is_open s) (zip names vs)) (zip names vs) s) moves.1, moves.2),
+      said ∙ ap (λ (s : Session Item). assigned_answer (first_refused (is_open s) (zip names vs))) moves.1,
+    )
 
 pub set_failed : (names : List Target) (code : ℕ) (old new : Desk) (after : Session Item) (answer : Answer) (t : Turn Item (Result (List Value) ℕ)) → Moves old new after t → t.given ≡ Err code
     → answer ≡ refused code → IsTurn old new after answer (set_from names t)

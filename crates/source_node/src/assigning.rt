@@ -36,11 +36,7 @@ fn refusal(is_open: bool, target: &Target, value: &Value) -> Option<SqlError>
 
 /// The refusal of the first assignment that is refused.
 #[tactic(auto, using(crate::proofs::Zipping::zipping))]
-pub(crate) fn first_refused(
-    is_open: bool,
-    targets: &[Target],
-    values: &[Value],
-) -> Option<SqlError>
+pub(crate) fn first_refused(is_open: bool, targets: &[Target], values: &[Value]) -> Option<SqlError>
     ensures { result ≡ first_refused is_open (zip targets.now values.now) }
 {
     let (mut targets, mut values) = (targets, values);

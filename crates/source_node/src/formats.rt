@@ -67,12 +67,6 @@ pub(crate) fn format_refusal(is_open: bool, value: &Value) -> Option<SqlError>
 {
     match format_for(value) {
         Err(code) => Some(code),
-        Ok(_) => {
-            if is_open {
-                Some(IN_TRANSACTION)
-            } else {
-                None
-            }
-        }
+        Ok(_) => { if is_open { Some(IN_TRANSACTION) } else { None } }
     }
 }
