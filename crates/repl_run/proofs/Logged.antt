@@ -85,6 +85,7 @@ logged_by seen xs report before after nodes log going is =
       draws = going.draws;
       count = going.count_is ∙ count;
       told = going.told;
+      sound = going.together.sound;
       log_is = is going.names (end_of going.names (first_both going.names going.src) (map seen xs) going.draws) going.together;
     }
 

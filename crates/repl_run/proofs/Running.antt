@@ -246,7 +246,7 @@ ends cs report before after nodes going = record {
   told = going.told;
   wrote = going.wrote;
   unstopped = going.unstopped;
-  replays = going.together.sound.replays;
+  sound = going.together.sound;
   follows = going.together.follows;
 }
 

@@ -7,10 +7,12 @@ use Rattle.answer_text.specs.declared.status.Status.TheVariants.{Done, BadScript
 use Rattle.session_model.specs.Machine.{log_of}
 use Rattle.run_model.specs.Asked.{Asked, asked_of}
 use Rattle.run_model.specs.Run.{Names, first_both, end_of}
+use Rattle.run_laws.specs.Laws.{IsSound}
 use Rattle.run_streams.specs.Wrote.{Wrote, WroteFront}
 use Rattle.repl_run.specs.Ran.{Reports, IsScript}
 
--- all commands were carried out, each at a draw that is told, and these are the bytes of the source's log behind them
+-- all commands were carried out, each at a draw that is told, and these are the bytes of the source's log behind them, from which
+-- what it committed can be read again
 pub record Logged (cs : List Asked) (report : Report) (log : List ℕ) : Type 0 where
   pub names : Names
   pub src : Draw
@@ -18,6 +20,7 @@ pub record Logged (cs : List Asked) (report : Report) (log : List ℕ) : Type 0 
   pub draws : List Draw
   pub count : length draws ≡ length cs
   pub told : Reports names src rep cs draws report
+  pub sound : IsSound (end_of names (first_both names src) cs draws).machine
   pub log_is : log ≡ log_of (end_of names (first_both names src) cs draws).machine
 
 -- the log of the commands of the script on the input, which was read whole, was written

@@ -4,12 +4,10 @@ use Rattle.port_traits.specs.declared.identity.Draw.{Draw}
 use Rattle.answer_text.specs.declared.report.Report.{Report}
 use Rattle.answer_text.specs.declared.status.Status.{Status}
 use Rattle.answer_text.specs.declared.status.Status.TheVariants.{Done, BadWords, BadScript, ReadFault, WriteFault, SourceDisk, ReplicaDisk, SourceDamaged, ReplicaDamaged, LogDamaged, LogForeign, Differs, NoMemory}
-use Rattle.session_model.specs.Holding.{with_nothing}
-use Rattle.session_replays.specs.Replaying.{Replays}
 use Rattle.run_model.specs.Asked.{Asked, asked_of}
 use Rattle.run_model.specs.Run.{Names, first_both, next, end_of, told_lines, lines_shown, of_source, of_replica, last_mark}
 use Rattle.run_model.specs.Following.{Follows}
-use Rattle.run_laws.specs.Laws.{NoneStops}
+use Rattle.run_laws.specs.Laws.{IsSound, NoneStops}
 use Rattle.run_streams.specs.Reports.{first_mark}
 use Rattle.run_streams.specs.Wrote.{Wrote, WroteFront}
 
@@ -36,7 +34,7 @@ pub record Ran (cs : List Asked) (report : Report) (before after : Option (List 
   pub told : Reports names src rep cs draws report
   pub wrote : Wrote before after (lines_shown names (first_both names src) 1 cs draws)
   pub unstopped : NoneStops names (first_both names src) cs draws
-  pub replays : Replays with_nothing (end_of names (first_both names src) cs draws).machine
+  pub sound : IsSound (end_of names (first_both names src) cs draws).machine
   pub follows : Follows (end_of names (first_both names src) cs draws)
 
 -- writing broke off in the lines of the last command: those before it are whole

@@ -27,11 +27,12 @@
 //!   (`read_end`), were carried out, each at a draw of its node's environment, FETCH at none; all lines that show what they were told
 //!   were written, and each is told what both nodes of the definition tell; the report tells who the nodes are and these draws.
 //!   What the statements of the committed entries give, run again one transaction after the other, are just the changes of the
-//!   entries, and these make the committed base of an empty one. The replica follows the source: it has carried out the first of
+//!   entries, and these make the committed base of an empty one; each entry can be read again from the log, so that the log is its
+//!   entries (`run_laws::log_is_its_entries`). The replica follows the source: it has carried out the first of
 //!   these entries, each once and in their order, however FETCH cut the log. Where these are logged by their rows, its base is what
 //!   they make of an empty one, and where they are all, it is the source's (`run_laws::all_carried_is_equal`). No APPLY stopped before
 //!   a transaction was logged by its text, and none at anything but an item that has no effect at the replica.
-//!   WriteFault: the same of the answers up to the command of the last draw, of whose lines a front was written. BadScript: the
+//!   WriteFault: the same of the commands before one of which a front of the lines was written. BadScript: the
 //!   byte is the first at which no command begins, or else the first of a command that no node carries out, and nothing was
 //!   written. ReadFault: nothing was written. NoMemory: nothing was written, or the lines of the first commands, whole, and the
 //!   report begins with their draws. No other status comes.
