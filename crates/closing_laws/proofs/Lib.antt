@@ -1,0 +1,4 @@
+mod Asking
+mod Values
+mod Changes
+mod Whole
