@@ -2,3 +2,4 @@ mod Asking
 mod Values
 mod Changes
 mod Whole
+mod Checks

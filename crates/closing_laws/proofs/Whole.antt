@@ -16,14 +16,14 @@ use Rattle.sql_meaning.specs.Values.{values}
 use Rattle.sql_meaning.specs.Running.{tables_named, level_of, forced_for, effect, evaluation, perform}
 use Rattle.sql_reach.specs.Closing.{statement_mapped, trees_mapped, const_if, closed_name, closed_count, closed}
 use Rattle.closing_laws.specs.Laws.{FittedIsShort, ClosedDoesTheSame, ClosedGivesTheSame}
-use Rattle.closing_laws.proofs.Asking.{Alike, as_it_is, trees_asked, statement_asked}
+use Rattle.closing_laws.proofs.Asking.{Alike, trees_asked, statement_asked}
 use Rattle.closing_laws.proofs.Values.{values_closed}
 use Rattle.closing_laws.proofs.Changes.{perform_closed}
 
 -- ---- the tables that are named
 
 -- what is there, as a list
-abbrev listed : {A : Type 0} → Option A → List A
+abbrev pub listed : {A : Type 0} → Option A → List A
 listed None = []
 listed (Some a) = a ∷ []
 
@@ -31,21 +31,21 @@ one_listed : {A B : Type 0} (f : A → Option B) (o : Option B) (rest rest' : Li
 one_listed f None rest rest' e = e
 one_listed f (Some b) rest rest' e = λ i. b ∷ e i
 
-all_listed : {A B : Type 0} (f : A → Option B) (as' : List A) → filter_map f as' ≡ flat_map (λ a. listed (f a)) as'
+pub all_listed : {A B : Type 0} (f : A → Option B) (as' : List A) → filter_map f as' ≡ flat_map (λ a. listed (f a)) as'
 all_listed f [] = refl
 all_listed f (a ∷ as') = one_listed f (f a) (filter_map f as') (flat_map (λ x. listed (f x)) as') (all_listed f as')
 
 abbrev table_asked : Node → List (List ℕ)
 table_asked node = listed (table_at node)
 
-const_names_none : (n : List ℕ) (sight : Sight) (o : Option Local) → Alike table_asked (nodes_of_tree (const_if n o) sight) (a_name sight n ∷ [])
-const_names_none n sight None = as_it_is table_asked
+const_names_none : (n : List ℕ) (sight : Sight) (o : Option Local) → Alike table_asked table_asked (nodes_of_tree (const_if n o) sight) (a_name sight n ∷ [])
+const_names_none n sight None = record { same = refl }
 const_names_none n sight (Some l) = record { same = refl }
 
-name_names_none : (locals : List Local) (n : List ℕ) (sight : Sight) → Alike table_asked (nodes_of_tree (closed_name locals n) sight) (a_name sight n ∷ [])
+name_names_none : (locals : List Local) (n : List ℕ) (sight : Sight) → Alike table_asked table_asked (nodes_of_tree (closed_name locals n) sight) (a_name sight n ∷ [])
 name_names_none locals n sight = const_names_none n sight (find_local locals n)
 
-same_tables : (a b : List Node) → Alike table_asked a b → tables_named a ≡ tables_named b
+same_tables : (a b : List Node) → Alike table_asked table_asked a b → tables_named a ≡ tables_named b
 same_tables a b h = all_listed table_at a ∙ h.same ∙ sym (all_listed table_at b)
 
 -- ---- what does not change with closing
@@ -118,7 +118,7 @@ pub does_the_same : ClosedDoesTheSame
 unfolding effect closed
 does_the_same setting nesting locals s scene short =
     let after = statement_mapped (closed_name locals) (closed_count locals) s in
-    let tables = same_tables (nodes_of after) (nodes_of s) (statement_asked table_asked (closed_name locals) (closed_count locals) (name_names_none locals) (λ c. refl) s (λ i. listed (table_asked_still (closed_name locals) (closed_count locals) s i))) in
+    let tables = same_tables (nodes_of after) (nodes_of s) (statement_asked table_asked table_asked (closed_name locals) (closed_count locals) (λ x e. refl) (name_names_none locals) (λ c. refl) s (λ i. listed (table_asked_still (closed_name locals) (closed_count locals) s i)) (λ e. record { same = refl })) in
     let forced = forced_still (closed_name locals) (closed_count locals) setting.context s in
     (λ i. undone (perform (in_session setting nesting (tables i)) (only_locals []) (forced i) after) scene)
     ∙ (λ i. undone (perform_closed locals short (in_session setting nesting (tables_named (nodes_of s))) (forced_for setting.context s) s i) scene)
@@ -127,7 +127,7 @@ pub gives_the_same : ClosedGivesTheSame
 unfolding evaluation
 gives_the_same setting nesting locals ts scene short =
     let after = trees_mapped (closed_name locals) (closed_count locals) ts in
-    let tables = same_tables (nodes_of_trees after no_sight) (nodes_of_trees ts no_sight) (trees_asked table_asked (closed_name locals) (closed_count locals) (name_names_none locals) (λ c. refl) ts no_sight) in
+    let tables = same_tables (nodes_of_trees after no_sight) (nodes_of_trees ts no_sight) (trees_asked table_asked table_asked (closed_name locals) (closed_count locals) (λ x e. refl) (name_names_none locals) (λ c. refl) ts no_sight) in
     (λ i. undone (values (in_session setting nesting (tables i)) (only_locals []) after) scene)
     ∙ (λ i. undone (values_closed locals short (in_session setting nesting (tables_named (nodes_of_trees ts no_sight))) (only_locals locals) ts i) scene)
 

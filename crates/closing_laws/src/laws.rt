@@ -1,5 +1,5 @@
 //! What holds of a statement with its locals closed in.
-ghost use Rattle.closing_laws.specs.Laws.{ClosedDoesTheSame, ClosedGivesTheSame, ClosedIsRead, FittedIsShort};
+ghost use Rattle.closing_laws.specs.Laws.{ClosedDoesTheSame, ClosedGivesTheSame, ClosedIsAllowed, ClosedIsRead, FittedIsShort};
 
 use sql_reach::closed_is_well;
 use sql_text::prints_are_read;
@@ -9,6 +9,12 @@ use sql_text::prints_are_read;
 pub fn closed_does_the_same()
     ensures statements { ClosedDoesTheSame }
     ensures expressions { ClosedGivesTheSame }
+{}
+
+/// A law: what refuses a statement with its locals in scope refuses it with them closed in, in a session,
+/// where each LIMIT is a number or a local that is a number from 0.
+pub fn closed_is_allowed()
+    ensures { ClosedIsAllowed }
 {}
 
 /// A law: what is put where a type is declared is no text of more than 65,535 bytes.

@@ -10,6 +10,8 @@
 //! - A change, a SELECT or a DO with locals closed in does without locals just what it does with them, on any scene, and ends with the
 //!   same error where it ends with one; and expressions have the same values ([`closed_does_the_same`]). Asked is that the texts of
 //!   the locals have at most 65,535 bytes, as those of each declared type have ([`fitted_values_are_short`]).
+//! - What refuses such a statement for what it names, with its locals in scope, refuses it with them closed in, in a session, where each
+//!   LIMIT is a number or a local that is one from 0 ([`closed_is_allowed`]).
 //! - Where the statement is one that the parser can give, and each local holds what a literal can say, the canonical text of the
 //!   closed statement is read as that statement ([`closed_is_read`]): it has at most as many levels as may be, and opens no more
 //!   constructs than may be open at once.
@@ -17,4 +19,4 @@
 
 mod laws;
 
-pub use laws::{closed_does_the_same, closed_is_read, fitted_values_are_short};
+pub use laws::{closed_does_the_same, closed_is_allowed, closed_is_read, fitted_values_are_short};
