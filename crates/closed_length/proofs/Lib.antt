@@ -1,0 +1,3 @@
+pub mod Aggregates
+pub mod Growing
+pub mod Structs

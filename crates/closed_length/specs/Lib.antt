@@ -1,0 +1,3 @@
+pub mod Closed
+pub mod Growing
+pub mod Items

@@ -1,0 +1,5 @@
+mod Asking
+mod Values
+mod Changes
+mod Whole
+mod Checks
