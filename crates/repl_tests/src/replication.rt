@@ -8,7 +8,7 @@ use val_types::Bytes;
 /// Scripts and what they write. A log begins with a magic of 4 bytes and an event of 119; the CREATE of `t` has 83 bytes. The
 /// transaction of one row has 130 bytes by its text: 40, 63 for a text of 28, 27; and 146 by its row: 40, 39 and 40 for the map and
 /// the row, 27.
-static SCRIPTS: [(&str, &str); 14] = [
+static SCRIPTS: [(&str, &str); 16] = [
     // a table and a row
     (
         "s1: CREATE TABLE t (id INT, v INT, PRIMARY KEY (id)) //\ns1: INSERT INTO t VALUES (1, 10) //\nreplica: FETCH 1000 //\nreplica: APPLY 10 //\nreplica: SELECT * FROM t //\n",
@@ -78,6 +78,16 @@ static SCRIPTS: [(&str, &str); 14] = [
     (
         "s1: CREATE TABLE t (id INT, v INT, PRIMARY KEY (id)) //\ns1: CREATE FUNCTION f(n INT) RETURNS INT BEGIN INSERT INTO t VALUES (n, 0); RETURN n + 1; END //\ns1: SELECT f(1) //\ns1: DO f(2) //\ns1: SET @a = f(3) //\ns1: SET @a = 1 + f(4), @b = 'x' //\ns1: SELECT @a, @b //\nreplica: FETCH 1000 //\nreplica: APPLY 10 //\nreplica: SELECT * FROM t //\n",
         "1 ok 0\n2 ok 0\n3 row 2\n3 rows 1\n4 ok 0\n5 ok 0\n6 ok 0\n7 row 6, 'x'\n7 rows 1\n8 fetched 781\n9 applied 6 1:785\n10 row 1, 0\n10 row 2, 0\n10 row 3, 0\n10 row 4, 0\n10 rows 4\n",
+    ),
+    // a text that has no effect on a replica that differs stops APPLY there, and again when more was fetched
+    (
+        "s1: CREATE TABLE t (id INT, v INT, PRIMARY KEY (id)) //\ns1: INSERT INTO t VALUES (LENGTH(USER()), 1) //\ns1: INSERT INTO t VALUES (13, 2) //\nreplica: FETCH 1000 //\nreplica: APPLY 10 //\ns1: INSERT INTO t VALUES (5, 5) //\nreplica: FETCH 1000 //\nreplica: APPLY 10 //\nreplica: SELECT * FROM t //\n",
+        "1 ok 0\n2 ok 1\n3 ok 1\n4 fetched 474\n5 applied 2 1:348 stopped differs 388 1062 - ()\n6 ok 1\n7 fetched 129\n8 applied 0 1:348 stopped differs 388 1062 - ()\n9 row 13, 1\n9 rows 1\n",
+    ),
+    // and so does a row that is not there; the event of an UPDATE has 50 bytes
+    (
+        "s1: CREATE TABLE t (id INT, v INT, PRIMARY KEY (id)) //\ns1: INSERT INTO t VALUES (LENGTH(USER()), 1) //\ns1: SET binlog_format = 'ROW' //\ns1: UPDATE t SET v = 2 //\nreplica: FETCH 1000 //\nreplica: APPLY 10 //\ns1: DELETE FROM t //\nreplica: FETCH 1000 //\nreplica: APPLY 10 //\nreplica: SELECT * FROM t //\n",
+        "1 ok 0\n2 ok 1\n3 ok 0\n4 ok 1\n5 fetched 500\n6 applied 2 1:348 stopped differs 427 1032 t (14)\n7 ok 1\n8 fetched 146\n9 applied 0 1:348 stopped differs 427 1032 t (14)\n10 row 13, 1\n10 rows 1\n",
     ),
 ];
 
