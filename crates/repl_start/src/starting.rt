@@ -8,8 +8,11 @@ use port_traits::{Env, StdSink, StdSource};
 use repl_run::{top, write_log};
 use run_streams::empty_report;
 use std::io;
-use std::io::Write;
+use std::io::{BufReader, Write};
 use std::process::ExitCode;
+
+/// How many bytes of standard input are asked for at once.
+const READ_AHEAD: usize = 65_536;
 
 /// Shows a page on standard output.
 fn show(rt: &HostRuntime, known: Known, page: Page) -> Status {
@@ -30,7 +33,11 @@ fn call<E: Env, F: Env>(
     src_env: &mut E,
     rep_env: &mut F,
 ) -> Status {
-    let mut input = StdSource::new(rt.reader());
+    // A log is read a header and a body at a time, of which the system gives many at once.
+    let Ok(reader) = BufReader::with_capacity(rt.alloc(), READ_AHEAD, rt.reader()) else {
+        return Status::NoMemory;
+    };
+    let mut input = StdSource::new(reader);
     let mut out = StdSink::new(io::writer(rt));
     let mut report = empty_report(rt.alloc());
     if matches!(known, Known::WithLog) && asks_log(words) {
