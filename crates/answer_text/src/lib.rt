@@ -13,7 +13,7 @@
 //! - the worked answers and statuses, but for the digits of numbers
 //!
 //! # Only tested
-//! Nothing yet: lines are shown with ample memory where they are written.
+//! That lines are shown with ample memory, in `repl_tests` and the stored runs of the programs.
 #![tactic(auto)]
 
 mod answer;

@@ -1,5 +1,5 @@
 -- The group of an entry, carried out on the base before it.
-use Rattle.std.proofs.Common.{◌≡◌, ℕ, ◌+◌, ◌≤◌, ◌^◌, Bool, true, false, cond, List, [], ◌∷◌, map, length, Option, Some, None, Result, Ok, Err, refl, sym, ap, ◌∙◌, arith}
+use Rattle.std.proofs.Common.{◌≡◌, ℕ, ◌+◌, ◌≤◌, ◌^◌, Bool, true, cond, List, [], ◌∷◌, map, length, Option, Some, None, Result, Ok, Err, refl, sym, ap, ◌∙◌, arith}
 use Rattle.std.specs.Prelude.{flat_map, nat_lt}
 use Rattle.std.specs.Option.{option_map}
 use Rattle.std.proofs.lemmas.Bool.{or_parts, ltb-false, le-ltb}
@@ -27,7 +27,7 @@ use Rattle.log_model.specs.Log.{begin_query}
 use Rattle.log_model.specs.Written.{placed}
 use Rattle.transaction_sizes.specs.Sizes.{all_sizes, all_changes_size, most_bytes}
 use Rattle.text_answers.specs.Answers.{a_statement, text_answer}
-use Rattle.sql_reach.specs.Defining.{counters_after, is_still_refused}
+use Rattle.sql_reach.specs.Defining.{counters_after}
 use Rattle.sql_reach.specs.Reach.{is_definition}
 use Rattle.session_model.specs.Running.{definitions_changed}
 use Rattle.session_model.specs.Machine.{Whole, kept_of}
@@ -113,18 +113,18 @@ module _ (identity : Identity) (draw : Draw) (base : Base) (counters : List Coun
   define_by s None next e = refl
   define_by s (Some code) next e = cc
 
-  defines : (s : Statement) (next : Base) → defined s base ≡ Some next → is_definition s ≡ true → is_still_refused s ≡ false
+  defines : (s : Statement) (next : Base) → defined s base ≡ Some next → is_definition s ≡ true
       → define_allowed base counters (Ok s) ≡ Ok (record { base = next; counters = counters_after s counters })
-  defines s next e is still =
+  defines s next e is =
       let free : ddl_refusal base.catalog s ≡ None = define_by s (ddl_refusal base.catalog s) next e in
-      rw (is, still) (ap (λ (o : Option ℕ). define_if base counters s o (defined s base)) free ∙ ap (define_if base counters s None) e)
+      rw is (ap (λ (o : Option ℕ). define_if base counters s o (defined s base)) free ∙ ap (define_if base counters s None) e)
 
   definition_carried : (i : Whole) (place : ℕ) (next : Base) → IsDefined i → define i base ≡ Some next
       → Leaves (stops_at place (define_allowed base counters (statement_in i.kept.text))) next
   definition_carried i place next is e = (
     counters_after i.began.tree counters,
     ap (λ (r : Result Statement ℕ). stops_at place (define_allowed base counters r)) (statement_is i.kept.text i.began.tree is.text is.short)
-        ∙ ap (stops_at place) (defines i.began.tree next e is.is is.allowed),
+        ∙ ap (stops_at place) (defines i.began.tree next e is.is),
   )
 
 -- ---- entries

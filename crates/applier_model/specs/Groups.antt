@@ -15,7 +15,7 @@ use Rattle.log_model.specs.Events.{Placed}
 use Rattle.log_model.specs.Groups.{Form, start, next_log, ddl, txn, Group, find}
 use Rattle.log_model.specs.Images.{changes_of}
 use Rattle.transaction_sizes.specs.Sizes.{changes_size, most_bytes}
-use Rattle.sql_reach.specs.Defining.{counters_after, is_still_refused}
+use Rattle.sql_reach.specs.Defining.{counters_after}
 use Rattle.sql_reach.specs.Reach.{is_definition}
 use Rattle.applier_model.specs.Stops.{Differs, stop_at}
 use Rattle.applier_model.specs.Rows.{Store, carry_change}
@@ -119,7 +119,7 @@ pub record Applied : Type 0 where
 abbrev pub applied_by : Base → Going → Applied
 applied_by base g = record { base = record base { tables = g.progress.store.tables }; counters = g.progress.store.counters }
 
--- a definition: 30005 for any other text and for programs that are not made yet, then the checks of definitions
+-- a definition: 30005 for any other text, then the checks of definitions
 abbrev pub define_if : Base → List Counter → Tree → Option ℕ → Option Base → Result Applied ℕ
 define_if base counters s (Some code) made = Err code
 define_if base counters s None None = Err 30005
@@ -128,8 +128,7 @@ define_if base counters s None (Some made) = Ok (record { base = made; counters 
 abbrev pub define_allowed : Base → List Counter → Result Tree ℕ → Result Applied ℕ
 define_allowed base counters (Err code) = Err code
 define_allowed base counters (Ok s) =
-    if is_definition s then (if is_still_refused s then Err 30005 else define_if base counters s (ddl_refusal base.catalog s) (defined s base))
-    else Err 30005
+    if is_definition s then define_if base counters s (ddl_refusal base.catalog s) (defined s base) else Err 30005
 
 abbrev pub applier_of : Identity → Draw → Base → Applier
 applier_of identity draw base = record { identity = identity; draw = draw; catalog = base.catalog }

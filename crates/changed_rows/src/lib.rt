@@ -32,7 +32,7 @@
 //! - a table stands where it stood whatever is done by these calls (`stands_on` of proofs/Places)
 //!
 //! # Only tested
-//! Nothing yet: statements are run in the crates above.
+//! That changes are made with ample memory, in `repl_tests` and the stored runs of the programs.
 #![tactic(auto)]
 
 mod columns;

@@ -4,8 +4,7 @@ use sql_lex::TokenKind::{self, *};
 use sql_lex::{Keyword, LexRefusal, Token, bytes_of, keyword_at, lex, lex_front, name_of, text_of};
 use std::alloc::Global;
 use std::process::Abort;
-use std::test::Fail;
-use val_types::Bytes;
+use val_types::{Bytes, List, NoMemory};
 
 type Place = (TokenKind, u32, u32);
 
@@ -207,69 +206,165 @@ static WORDS: [(&[u8], Option<Keyword>); 7] = [
     (b"'select'", None),
 ];
 
-fn read(rt: &impl Abort, alloc: Global, text: &[u8], places: &[Place]) -> Result<(), Fail> {
-    assert!(rt; text.len() < 1000);
-    let (tokens, stop) = lex_front(alloc, text)?;
-    assert_eq!(rt; stop, text.len());
-    assert_eq!(rt; tokens.len(), places.len());
+/// Whether tokens are these, at these places.
+fn are_tokens(tokens: &List<Token>, places: &[Place]) -> bool {
+    let mut same = tokens.len() == places.len();
     for (token, place) in tokens.as_slice().iter().zip(places) {
-        assert!(rt; (token.kind, token.at, token.end) == *place);
+        same = same && (token.kind, token.at, token.end) == *place;
     }
-    let Ok(whole) = lex(alloc, text) else {
-        return Err(Fail::from("the text was refused"));
-    };
-    assert!(rt; whole == tokens);
-    Ok(())
+    same
+}
+
+/// Where the tokens of a text end, where they are these.
+fn front_of(alloc: Global, text: &[u8], places: &[Place]) -> Option<usize> {
+    if text.len() >= 1000 {
+        return None;
+    }
+    match lex_front(alloc, text) {
+        Ok((tokens, stop)) => are_tokens(&tokens, places).then_some(stop),
+        Err(_) => None,
+    }
+}
+
+/// Whether a text has just these tokens.
+fn is_read(alloc: Global, text: &[u8], places: &[Place]) -> bool {
+    if front_of(alloc, text, places) != Some(text.len()) || text.len() >= 1000 {
+        return false;
+    }
+    match lex(alloc, text) {
+        Ok(tokens) => are_tokens(&tokens, places),
+        Err(_) => false,
+    }
+}
+
+/// How many texts are read so, from the first on.
+fn held_texts(alloc: Global) -> usize {
+    for (i, (text, places)) in TEXTS.iter().enumerate() {
+        if !is_read(alloc, *text, *places) {
+            return i;
+        }
+    }
+    TEXTS.len()
+}
+
+/// The first byte that begins no token.
+fn stop_of(alloc: Global, text: &[u8]) -> Option<usize> {
+    if text.len() >= 1000 {
+        return None;
+    }
+    match lex_front(alloc, text) {
+        Ok((_, stop)) => Some(stop),
+        Err(_) => None,
+    }
+}
+
+/// Whether a text is refused at a byte.
+fn is_refused(alloc: Global, text: &[u8], place: u32) -> bool {
+    if stop_of(alloc, text) != Some(place as usize) || text.len() >= 1000 {
+        return false;
+    }
+    match lex(alloc, text) {
+        Ok(_) => false,
+        Err(refusal) => refusal == LexRefusal::At(place),
+    }
+}
+
+/// How many texts are refused so, from the first on.
+fn held_refused(alloc: Global) -> usize {
+    for (i, (text, place)) in REFUSED.iter().enumerate() {
+        if !is_refused(alloc, *text, *place) {
+            return i;
+        }
+    }
+    REFUSED.len()
 }
 
 /// The first token of a text.
-fn first(rt: &impl Abort, alloc: Global, text: &[u8]) -> Result<Token, Fail> {
-    assert!(rt; text.len() < 1000);
-    let (tokens, _) = lex_front(alloc, text)?;
-    Ok(*tokens.get(0).ok_or("no token")?)
-}
-
-#[test]
-fn texts_are_read(rt: HostRuntime) -> Result<(), Fail> {
-    for (text, places) in TEXTS {
-        read(&rt, rt.alloc(), text, places)?;
+fn first(alloc: Global, text: &[u8]) -> Option<Token> {
+    if text.len() >= 1000 {
+        return None;
     }
-    Ok(())
+    match lex_front(alloc, text) {
+        Ok((tokens, _)) => tokens.get(0).copied(),
+        Err(_) => None,
+    }
 }
 
-#[test]
-fn texts_are_refused_at_their_place(rt: HostRuntime) -> Result<(), Fail> {
-    for (text, place) in REFUSED {
-        assert!(rt; text.len() < 1000);
-        match lex(rt.alloc(), text) {
-            Ok(_) => return Err(Fail::from("the text was read")),
-            Err(refusal) => assert!(rt; refusal == LexRefusal::At(place)),
+/// Whether bytes are made, and are these.
+fn are_bytes(found: Result<Bytes, NoMemory>, wanted: &[u8]) -> bool {
+    match found {
+        Ok(bytes) => bytes.as_slice() == wanted,
+        Err(_) => false,
+    }
+}
+
+/// Whether a literal stands for these bytes.
+fn stands_for(alloc: Global, text: &[u8], wanted: &[u8]) -> bool {
+    match first(alloc, text) {
+        Some(token) => are_bytes(text_of(alloc, text, token), wanted),
+        None => false,
+    }
+}
+
+/// How many literals do so, from the first on.
+fn held_literals(alloc: Global) -> usize {
+    for (i, (text, wanted)) in LITERALS.iter().enumerate() {
+        if !stands_for(alloc, *text, *wanted) {
+            return i;
         }
-        let (_, stop) = lex_front(rt.alloc(), text)?;
-        assert_eq!(rt; stop, place as usize);
     }
-    Ok(())
+    LITERALS.len()
+}
+
+/// Whether a name has this meaning.
+fn means(alloc: Global, text: &[u8], wanted: &[u8]) -> bool {
+    match first(alloc, text) {
+        Some(token) => are_bytes(name_of(alloc, text, token), wanted),
+        None => false,
+    }
+}
+
+/// How many names have their meaning, from the first on.
+fn held_names(alloc: Global) -> usize {
+    for (i, (text, wanted)) in NAMES.iter().enumerate() {
+        if !means(alloc, *text, *wanted) {
+            return i;
+        }
+    }
+    NAMES.len()
+}
+
+/// Whether a word is a keyword or none, and its bytes are the text.
+fn is_word(alloc: Global, text: &[u8], keyword: Option<Keyword>) -> bool {
+    match first(alloc, text) {
+        Some(token) => keyword_at(text, token) == keyword && bytes_of(text, token) == text,
+        None => false,
+    }
+}
+
+/// How many words are so, from the first on.
+fn held_words(alloc: Global) -> usize {
+    for (i, (text, keyword)) in WORDS.iter().enumerate() {
+        if !is_word(alloc, *text, *keyword) {
+            return i;
+        }
+    }
+    WORDS.len()
+}
+
+/// Expects of a table that all its cases hold.
+fn expect_all(rt: &impl Abort, of: &str, held: usize, cases: usize) {
+    assert_eq!(rt; held, cases, "{of}");
 }
 
 #[test]
-fn tokens_have_names_and_bytes(rt: HostRuntime) -> Result<(), Fail> {
-    for (text, bytes) in LITERALS {
-        let token = first(&rt, rt.alloc(), text)?;
-        let said: Bytes = text_of(rt.alloc(), text, token)?;
-        assert_eq!(rt; said.as_slice(), bytes);
-    }
-    for (text, bytes) in NAMES {
-        let token = first(&rt, rt.alloc(), text)?;
-        let name = name_of(rt.alloc(), text, token)?;
-        assert_eq!(rt; name.as_slice(), bytes);
-    }
-    for (text, keyword) in WORDS {
-        let token = first(&rt, rt.alloc(), text)?;
-        assert!(rt; keyword_at(text, token) == keyword);
-        assert_eq!(rt; bytes_of(text, token), text);
-    }
-    assert!(rt; Keyword::Select.is_reserved());
-    assert!(rt; !Keyword::Count.is_reserved());
-    assert_eq!(rt; Keyword::LastInsertId.word(), b"last_insert_id".as_slice());
-    Ok(())
+fn texts_and_tokens(rt: HostRuntime) {
+    let alloc = rt.alloc();
+    expect_all(&rt, "texts read", held_texts(alloc), 31);
+    expect_all(&rt, "texts refused at their place", held_refused(alloc), 34);
+    expect_all(&rt, "literals", held_literals(alloc), 8);
+    expect_all(&rt, "names", held_names(alloc), 5);
+    expect_all(&rt, "words", held_words(alloc), 7);
+    assert!(rt; Keyword::Select.is_reserved() && !Keyword::Count.is_reserved());
+    assert!(rt; Keyword::LastInsertId.word() == b"last_insert_id".as_slice());
 }

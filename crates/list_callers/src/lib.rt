@@ -1,17 +1,18 @@
-//! Callers of `val_types`, as a test of how little proof its lists ask of the crates above, and its
-//! tests.
+//! Callers of `val_types`, as a test of how little proof its lists ask of the crates above; the tests
+//! of that crate and of `port_traits`.
 //!
 //! Loops, chains, indexing, comparing, copying and moving to and from vectors, each in a small
 //! function with an exact contract. Two loops have an invariant of one line; nothing else has a
 //! proof file.
 //!
-//! - `tests`: calls of `val_types` with ample memory
+//! - `tests`: calls of `val_types` and `port_traits` with ample memory
 //!
 //! # Proved
 //! Each function by one equation, or want of memory.
 //!
 //! # Only tested
-//! Texts, orders, fitting, keys, inverses, copies and refusals of `val_types`, by hand.
+//! Texts, orders, fitting, keys, inverses, copies and refusals of `val_types`, by hand; streams and
+//! environments of `port_traits`, in memory and over the runtime.
 #![tactic(auto)]
 
 ghost use Rattle.std.specs.Prelude.{◌≡◌, ◌^◌, ◌<◌, ◌++◌, ◌∷◌, [], length, IfOk, sum_by, slice_get, slice_index_or, option_copied, IsTrue, IsPermutation, ◌↔◌, reverse};

@@ -1,7 +1,6 @@
 //! The groups of the small log: cut at every byte, and with every byte changed to every other value.
-use crate::tests::{BODIES, HEADER, LOG};
+use crate::tests::{BODIES, HEADER, LOG, bytes, expect_all};
 use log_groups::{Form, Next, next_group};
-use std::test::Fail;
 use val_types::Bytes;
 
 /// The groups of the small log: where each begins and ends, and a letter for its form.
@@ -39,19 +38,26 @@ fn letter_in(log: &[u8], pos: u64, end: u64) -> u8 {
     letter(&next_group(&log[pos as usize..], pos), pos, end)
 }
 
-#[test]
-fn groups_are_whole_from_their_last_byte_on(rt: HostRuntime) -> Result<(), Fail> {
-    for (begin, end, form) in &GROUPS {
-        for length in 0..LOG.len() + 1 {
-            let there = length as u64;
-            if there >= *begin {
-                let found = letter_in(&LOG[..length], *begin, *end);
-                let expected = if there < *end { b'n' } else { *form };
-                assert_eq!(rt; found, expected, "{begin} of {length} bytes");
-            }
+/// Whether a group is a front up to its last byte and whole from there on, however much of the log is there.
+fn is_whole(begin: u64, end: u64, form: u8) -> bool {
+    for length in 0..LOG.len() + 1 {
+        let there = length as u64;
+        let expected = if there < end { b'n' } else { form };
+        if there >= begin && letter_in(&LOG[..length], begin, end) != expected {
+            return false;
         }
     }
-    Ok(())
+    true
+}
+
+/// How many groups do so, from the first on.
+fn held_groups() -> usize {
+    for (i, (begin, end, form)) in GROUPS.iter().enumerate() {
+        if !is_whole(*begin, *end, *form) {
+            return i;
+        }
+    }
+    GROUPS.len()
 }
 
 /// Where a walk over the groups of a log ends, and a letter for what stands there: the end of the log, a
@@ -109,34 +115,68 @@ fn all_have_names(log: &mut Bytes, place: usize, begin: u64) -> bool {
     named
 }
 
-/// Timestamps, server ids and flags do not matter; an event's length and next position have to agree.
-#[test]
-fn headers_are_read_whatever_a_byte_says(rt: HostRuntime) -> Result<(), Fail> {
-    let mut log = Bytes::from_slice(rt.alloc(), &LOG)?;
-    for (pos, _) in &BODIES {
-        for (i, letter) in HEADER.iter().enumerate() {
-            let place = (*pos as usize).saturating_add(i);
-            if i != 4 {
-                assert!(rt;
-                    all_end_with(&mut log, place, *letter, *pos),
-                    "byte {place}"
-                );
-            }
+/// Whether the header at a place is read so whatever one byte of it says, but for the type.
+fn is_header_read(log: &mut Bytes, pos: u64) -> bool {
+    for (i, letter) in HEADER.iter().enumerate() {
+        let place = (pos as usize).saturating_add(i);
+        if i != 4 && !all_end_with(log, place, *letter, pos) {
+            return false;
         }
     }
-    Ok(())
+    true
 }
 
-/// No change of one byte makes a front of a group of the log, nor touches the groups before it.
-#[test]
-fn each_changed_byte_has_a_named_end(rt: HostRuntime) -> Result<(), Fail> {
-    let mut log = Bytes::from_slice(rt.alloc(), &LOG)?;
-    for (begin, end, _) in &GROUPS {
-        for place in 4..638 {
-            if place as u64 >= *begin && (place as u64) < *end {
-                assert!(rt; all_have_names(&mut log, place, *begin), "byte {place}");
-            }
+/// How many headers are, from the first on. Timestamps, server ids and flags do not matter; an event's length and next position have
+/// to agree.
+fn held_headers(log: &mut Bytes) -> usize {
+    for (i, (pos, _)) in BODIES.iter().enumerate() {
+        if !is_header_read(log, *pos) {
+            return i;
         }
     }
-    Ok(())
+    BODIES.len()
+}
+
+/// Whether each changed byte of a group has an end with a name.
+fn has_names(log: &mut Bytes, begin: u64, end: u64) -> bool {
+    for place in 4..638 {
+        let within = place as u64 >= begin && (place as u64) < end;
+        if within && !all_have_names(log, place, begin) {
+            return false;
+        }
+    }
+    true
+}
+
+/// In how many groups, from the first on, no change of one byte makes a front of a group of the log, nor touches the groups before it.
+fn held_names(log: &mut Bytes) -> usize {
+    for (i, (begin, end, _)) in GROUPS.iter().enumerate() {
+        if !has_names(log, *begin, *end) {
+            return i;
+        }
+    }
+    GROUPS.len()
+}
+
+#[test]
+fn groups_cut_and_changed(rt: HostRuntime) {
+    let mut log = bytes(rt.alloc(), &LOG);
+    expect_all(
+        &rt,
+        "groups whole from their last byte on",
+        held_groups(),
+        3,
+    );
+    expect_all(
+        &rt,
+        "headers whatever a byte says",
+        held_headers(&mut log),
+        15,
+    );
+    expect_all(
+        &rt,
+        "changed bytes with a named end",
+        held_names(&mut log),
+        3,
+    );
 }

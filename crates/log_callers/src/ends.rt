@@ -1,11 +1,10 @@
 //! Rows of events at the ends of what a row can be: 64 columns, numbers at both ends, texts where their length takes a
 //! byte more.
+use crate::tests::{bytes, expect_all, is_change};
 use event_codec::{MapView, RowsKind, RowsView};
 use row_image::{rows_fit, rows_of};
 use std::alloc::Global;
-use std::process::Abort;
-use std::test::Fail;
-use val_types::{Bytes, Change, List, NoMemory, Row, Value};
+use val_types::{Bytes, Change, List, Row, Value};
 
 /// A table `t` of columns of these kinds, each of which may be NULL.
 fn map<'a>(kinds: &'a [u8], metadata: &'a [u8], nulls: &'a [u8]) -> MapView<'a> {
@@ -32,69 +31,42 @@ fn write(columns: u64, rows: &[u8]) -> RowsView<'_> {
     }
 }
 
-/// That bytes are just one row of a table, and are none where their last byte is missing.
-fn expect_row(
-    rt: &impl Abort,
-    alloc: Global,
-    map: &MapView<'_>,
-    bytes: &[u8],
-    row: Row,
-) -> Result<(), Fail> {
+/// Whether bytes are just one row of a table, and are none where their last byte is missing.
+fn is_row(alloc: Global, map: &MapView<'_>, of: &[u8], row: Row) -> bool {
     let columns = map.kinds.len() as u64;
-    let short = bytes.split_at(bytes.len().saturating_sub(1)).0;
-    assert_eq!(rt; rows_fit(map, &write(columns, short)), false);
-    assert_eq!(rt; rows_fit(map, &write(columns, bytes)), true);
-    let changes = rows_of(alloc, map, &write(columns, bytes))?;
-    let table = List::from_slice(alloc, b"t")?;
-    let expected = Change::Insert { table, row };
-    assert_eq!(rt; changes.len(), 1);
-    assert_eq!(rt;
-        changes.get(0).is_some_and(|change| *change == expected),
-        true
-    );
-    Ok(())
-}
-
-/// The same byte so many times.
-fn repeated(alloc: Global, byte: u8, count: usize) -> Result<Bytes, NoMemory> {
-    let mut bytes = Bytes::new(alloc);
-    for _each in 0..count {
-        bytes.push(byte)?;
+    let short = of.split_at(of.len().saturating_sub(1)).0;
+    if rows_fit(map, &write(columns, short)) || !rows_fit(map, &write(columns, of)) {
+        return false;
     }
-    Ok(bytes)
+    let table = bytes(alloc, b"t");
+    is_change(
+        rows_of(alloc, map, &write(columns, of)),
+        &Change::Insert { table, row },
+    )
 }
 
 /// The codes of 64 columns of INT.
 static INTS: [u8; 64] = [3; 64];
 
-#[test]
-fn sixty_four_columns_are_null(rt: HostRuntime) -> Result<(), Fail> {
-    let alloc = rt.alloc();
-    let mut row = Row::new(alloc);
+/// Whether 64 columns may be NULL.
+fn are_null(alloc: Global) -> bool {
+    let mut row = List::new(alloc);
     for _column in 0..64u32 {
-        row.push(Value::Null)?;
+        let _ = row.push(Value::Null);
     }
-    expect_row(&rt, alloc, &map(&INTS, &[], &[0xff; 8]), &[0xff; 8], row)
+    is_row(alloc, &map(&INTS, &[], &[0xff; 8]), &[0xff; 8], row)
 }
 
-/// The least byte of each column is its number, but for the last, which is NULL.
-#[test]
-fn sixty_four_columns_have_values(rt: HostRuntime) -> Result<(), Fail> {
-    let alloc = rt.alloc();
-    let mut row = Row::new(alloc);
-    let mut bytes = Bytes::from_slice(alloc, &[0, 0, 0, 0, 0, 0, 0, 0x80])?;
+/// Whether the least byte of each of 64 columns is its number, but for the last, which is NULL.
+fn have_values(alloc: Global) -> bool {
+    let mut row = List::new(alloc);
+    let mut of = bytes(alloc, &[0, 0, 0, 0, 0, 0, 0, 0x80]);
     for column in 0..63u8 {
-        row.push(Value::Int(i64::from(column)))?;
-        bytes.extend_from_slice(&[column, 0, 0, 0])?;
+        let _ = row.push(Value::Int(i64::from(column)));
+        let _ = of.extend_from_slice(&[column, 0, 0, 0]);
     }
-    row.push(Value::Null)?;
-    expect_row(
-        &rt,
-        alloc,
-        &map(&INTS, &[], &[0xff; 8]),
-        bytes.as_slice(),
-        row,
-    )
+    let _ = row.push(Value::Null);
+    is_row(alloc, &map(&INTS, &[], &[0xff; 8]), of.as_slice(), row)
 }
 
 /// Rows of an INT and a BIGINT at their ends.
@@ -118,48 +90,66 @@ static NUMBERS: [(&[u8], i64, i64); 3] = [
     ),
 ];
 
-#[test]
-fn numbers_stand_at_their_ends(rt: HostRuntime) -> Result<(), Fail> {
-    for (bytes, int, big) in &NUMBERS {
-        let mut row = Row::new(rt.alloc());
-        row.push(Value::Int(*int))?;
-        row.push(Value::Int(*big))?;
-        expect_row(&rt, rt.alloc(), &map(&[3, 8], &[], &[3]), bytes, row)?;
+/// A row of two numbers.
+fn two(alloc: Global, int: i64, big: i64) -> Row {
+    let mut row = List::new(alloc);
+    let _ = row.push(Value::Int(int));
+    let _ = row.push(Value::Int(big));
+    row
+}
+
+/// How many are rows, from the first on.
+fn held_numbers(alloc: Global) -> usize {
+    for (i, (of, int, big)) in NUMBERS.iter().enumerate() {
+        let row = two(alloc, *int, *big);
+        if !is_row(alloc, &map(&[3, 8], &[], &[3]), *of, row) {
+            return i;
+        }
     }
-    Ok(())
+    NUMBERS.len()
 }
 
-/// A text of so many times `a` in a VARCHAR of a greatest length, with the bytes of its length.
-fn expect_text(
-    rt: &impl Abort,
-    alloc: Global,
-    metadata: &[u8],
-    length: &[u8],
-    count: usize,
-) -> Result<(), Fail> {
-    let text = repeated(alloc, 0x61, count)?;
-    let mut bytes = Bytes::from_slice(alloc, &[0])?;
-    bytes.extend_from_slice(length)?;
-    bytes.extend_from_slice(text.as_slice())?;
-    let mut row = Row::new(alloc);
-    row.push(Value::Text(text))?;
-    expect_row(
-        rt,
-        alloc,
-        &map(&[15], metadata, &[1]),
-        bytes.as_slice(),
-        row,
-    )
+/// The greatest length of a VARCHAR, a length with its bytes: one where the greatest is at most 255, else two.
+static TEXTS: [(&[u8], &[u8], usize); 5] = [
+    (&[0xff, 0], &[0xff], 255),
+    (&[0, 1], &[0xff, 0], 255),
+    (&[0, 1], &[0, 1], 256),
+    (&[0xff, 0xff], &[0xff, 0xff], 65535),
+    (&[0xff, 0xff], &[1, 0], 1),
+];
+
+/// So many times `a`, behind some bytes.
+fn letters(alloc: Global, front: &[u8], count: usize) -> Bytes {
+    let mut letters = bytes(alloc, front);
+    for _letter in 0..count {
+        let _ = letters.push(0x61);
+    }
+    letters
 }
 
-/// A length takes one byte where the greatest is at most 255, else two.
+/// Whether a text of so many letters is a row.
+fn is_text_row(alloc: Global, metadata: &[u8], length: &[u8], count: usize) -> bool {
+    let mut of = bytes(alloc, &[0]);
+    let _ = of.append(letters(alloc, length, count));
+    let mut row = List::new(alloc);
+    let _ = row.push(Value::Text(letters(alloc, &[], count)));
+    is_row(alloc, &map(&[15], metadata, &[1]), of.as_slice(), row)
+}
+
+/// How many texts are rows, from the first on.
+fn held_texts(alloc: Global) -> usize {
+    for (i, (metadata, length, count)) in TEXTS.iter().enumerate() {
+        if !is_text_row(alloc, *metadata, *length, *count) {
+            return i;
+        }
+    }
+    TEXTS.len()
+}
+
 #[test]
-fn texts_stand_at_their_ends(rt: HostRuntime) -> Result<(), Fail> {
+fn rows_at_their_ends(rt: HostRuntime) {
     let alloc = rt.alloc();
-    expect_text(&rt, alloc, &[0xff, 0], &[0xff], 255)?;
-    expect_text(&rt, alloc, &[0, 1], &[0xff, 0], 255)?;
-    expect_text(&rt, alloc, &[0, 1], &[0, 1], 256)?;
-    expect_text(&rt, alloc, &[0xff, 0xff], &[0xff, 0xff], 65535)?;
-    expect_text(&rt, alloc, &[0xff, 0xff], &[1, 0], 1)?;
-    Ok(())
+    assert!(rt; are_null(alloc) && have_values(alloc));
+    expect_all(&rt, "numbers at their ends", held_numbers(alloc), 3);
+    expect_all(&rt, "texts at their ends", held_texts(alloc), 5);
 }

@@ -1,11 +1,11 @@
 //! Lines of events, worked out by hand.
-use crate::tests::LOG;
+use crate::tests::{LOG, expect_all, is_text};
 use event_codec::{
     Event, IntVarKind, MapView, QueryView, Read, RowsKind, RowsView, Step, UserVarView, VarValue,
     read_event,
 };
 use log_print::line;
-use std::test::Fail;
+use std::alloc::Global;
 
 /// The place and the line of each event of the small log.
 static LINES: [(u64, &[u8]); 15] = [
@@ -30,28 +30,43 @@ static LINES: [(u64, &[u8]); 15] = [
 ];
 
 /// The event at a place of the small log.
-fn event_at(pos: u64) -> Result<Event<'static>, Fail> {
+fn event_at(pos: u64) -> Option<Event<'static>> {
     if pos > LOG.len() as u64 {
-        return Err(Fail::from("behind the log"));
+        return None;
     }
     match read_event(&LOG[pos as usize..], pos) {
-        Read::Event(event) => Ok(event),
-        _ => Err(Fail::from("no event")),
+        Read::Event(event) => Some(event),
+        _ => None,
     }
 }
 
-#[test]
-fn each_event_of_a_log_has_its_line(rt: HostRuntime) -> Result<(), Fail> {
-    let mut map: Option<MapView> = None;
-    for (pos, expected) in &LINES {
-        let event = event_at(*pos)?;
-        if let Event::TableMap(table) = event {
-            map = Some(table);
-        }
-        let text = line(rt.alloc(), &event, map.as_ref(), *pos)?;
-        assert_eq!(rt; text.as_slice(), *expected);
+/// The map at 402, by which the events from there on are shown.
+fn map_for(pos: u64) -> Option<MapView<'static>> {
+    if pos < 402 {
+        return None;
     }
-    Ok(())
+    match event_at(402) {
+        Some(Event::TableMap(map)) => Some(map),
+        _ => None,
+    }
+}
+
+/// Whether the event at a place has a line.
+fn has_line(alloc: Global, pos: u64, wanted: &[u8]) -> bool {
+    match event_at(pos) {
+        Some(event) => is_text(line(alloc, &event, map_for(pos).as_ref(), pos), wanted),
+        None => false,
+    }
+}
+
+/// How many events have their line, from the first on.
+fn held_lines(alloc: Global) -> usize {
+    for (i, (pos, wanted)) in LINES.iter().enumerate() {
+        if !has_line(alloc, *pos, *wanted) {
+            return i;
+        }
+    }
+    LINES.len()
 }
 
 /// A statement.
@@ -112,21 +127,26 @@ static STATEMENTS: [(u64, u32, u16, &[u8], &[u8]); 6] = [
     ),
 ];
 
-#[test]
-fn statements_show_their_session(rt: HostRuntime) -> Result<(), Fail> {
-    for (pos, stamp, offset, text, expected) in &STATEMENTS {
-        let step = if *offset == 0 {
-            None
-        } else {
-            Some(Step {
-                increment: 10,
-                offset: *offset,
-            })
-        };
-        let shown = line(rt.alloc(), &query(1, *stamp, step, text), None, *pos)?;
-        assert_eq!(rt; shown.as_slice(), *expected);
+/// An increment of 10 with an offset, none where that is 0.
+fn step_of(offset: u16) -> Option<Step> {
+    if offset == 0 {
+        return None;
     }
-    Ok(())
+    Some(Step {
+        increment: 10,
+        offset,
+    })
+}
+
+/// How many statements show their session, from the first on.
+fn held_statements(alloc: Global) -> usize {
+    for (i, (pos, stamp, offset, text, wanted)) in STATEMENTS.iter().enumerate() {
+        let event = query(1, *stamp, step_of(*offset), *text);
+        if !is_text(line(alloc, &event, None, *pos), *wanted) {
+            return i;
+        }
+    }
+    STATEMENTS.len()
 }
 
 /// Texts, and what shows of them: 20 to 7E but for the backslash as they are, the bytes beside these as
@@ -149,13 +169,15 @@ static TEXTS: [(&[u8], &[u8]); 6] = [
     (b"", b"9 QUERY thread=1 time=1700000001 "),
 ];
 
-#[test]
-fn bytes_that_are_not_plain_are_escaped(rt: HostRuntime) -> Result<(), Fail> {
-    for (bytes, expected) in &TEXTS {
-        let text = line(rt.alloc(), &query(1, 1_700_000_001, None, bytes), None, 9)?;
-        assert_eq!(rt; text.as_slice(), *expected);
+/// How many texts show so, from the first on.
+fn held_texts(alloc: Global) -> usize {
+    for (i, (text, wanted)) in TEXTS.iter().enumerate() {
+        let event = query(1, 1_700_000_001, None, *text);
+        if !is_text(line(alloc, &event, None, 9), *wanted) {
+            return i;
+        }
     }
-    Ok(())
+    TEXTS.len()
 }
 
 /// A table with a line feed in its name: INT, BIGINT and VARCHAR(300).
@@ -212,92 +234,125 @@ fn rows(kind: RowsKind, ends: bool, rows: &[u8]) -> Event<'_> {
     })
 }
 
-#[test]
-fn rows_show_their_values(rt: HostRuntime) -> Result<(), Fail> {
-    for (kind, ends, bytes, expected) in &ROWS {
-        let text = line(rt.alloc(), &rows(*kind, *ends, bytes), Some(&TABLE), 7)?;
-        assert_eq!(rt; text.as_slice(), *expected);
+/// How many rows show their values, from the first on; rows whose map is not there show none.
+fn held_rows(alloc: Global) -> usize {
+    for (i, (kind, ends, bytes, wanted)) in ROWS.iter().enumerate() {
+        if !is_text(
+            line(alloc, &rows(*kind, *ends, *bytes), Some(&TABLE), 7),
+            *wanted,
+        ) {
+            return i;
+        }
     }
-    let alone = line(rt.alloc(), &rows(RowsKind::Write, true, &[7]), None, 7)?;
-    assert_eq!(rt;
-        alone.as_slice(),
-        b"7 WRITE_ROWS 281474976710655 end".as_slice()
-    );
-    Ok(())
-}
-
-/// A user variable.
-fn variable<'a>(name: &'a [u8], value: VarValue<'a>) -> Event<'a> {
-    Event::UserVar(UserVarView {
-        stamp: 0,
-        length: 0,
-        name,
-        value,
-    })
+    let alone = line(alloc, &rows(RowsKind::Write, true, &[7]), None, 7);
+    if !is_text(alone, b"7 WRITE_ROWS 281474976710655 end") {
+        return 0;
+    }
+    ROWS.len()
 }
 
 /// The first and the last numbers of their types.
-#[test]
-fn numbers_show_whole(rt: HostRuntime) -> Result<(), Fail> {
-    let step = Some(Step {
-        increment: 65535,
-        offset: 1,
-    });
-    let cases: [(Event, &[u8]); 8] = [
-        (
-            query(4_294_967_295, 1_700_000_001, step, b"x"),
-            b"1200000000 QUERY thread=4294967295 time=1700000001 inc=65535 off=1 x",
-        ),
-        (
-            Event::IntVar {
-                stamp: 0,
-                length: 0,
-                kind: IntVarKind::LastInsertId,
-                value: 9_223_372_036_854_775_807,
-            },
-            b"1200000000 INTVAR LAST_INSERT_ID 9223372036854775807",
-        ),
-        (
-            Event::Rand {
-                stamp: 0,
-                length: 0,
-                first: 0,
-                second: 1_073_741_822,
-            },
-            b"1200000000 RAND 0 1073741822",
-        ),
-        (
-            variable(b"a\\", VarValue::Int(-9_223_372_036_854_775_808)),
-            b"1200000000 USER_VAR a\\x5c -9223372036854775808",
-        ),
-        (
-            variable(b"b", VarValue::Text(b"\\")),
-            b"1200000000 USER_VAR b X'5C'",
-        ),
-        (
-            Event::Xid {
-                stamp: 0,
-                length: 0,
-                number: 18_446_744_073_709_551_615,
-            },
-            b"1200000000 XID 18446744073709551615",
-        ),
-        (
-            Event::TableMap(TABLE),
-            b"1200000000 TABLE_MAP 281474976710655 t\\x0a",
-        ),
-        (
-            Event::Rotate {
-                stamp: 0,
-                length: 0,
-                next: 60000,
-            },
-            b"1200000000 ROTATE binlog.060000",
-        ),
-    ];
-    for (event, expected) in &cases {
-        let text = line(rt.alloc(), event, None, 1_200_000_000)?;
-        assert_eq!(rt; text.as_slice(), *expected);
+static NUMBERS: [(Event<'static>, &[u8]); 8] = [
+    (
+        Event::Query(QueryView {
+            stamp: 1_700_000_001,
+            length: 0,
+            thread: 4_294_967_295,
+            step: Some(Step {
+                increment: 65535,
+                offset: 1,
+            }),
+            text: b"x",
+        }),
+        b"1200000000 QUERY thread=4294967295 time=1700000001 inc=65535 off=1 x",
+    ),
+    (
+        Event::IntVar {
+            stamp: 0,
+            length: 0,
+            kind: IntVarKind::LastInsertId,
+            value: 9_223_372_036_854_775_807,
+        },
+        b"1200000000 INTVAR LAST_INSERT_ID 9223372036854775807",
+    ),
+    (
+        Event::Rand {
+            stamp: 0,
+            length: 0,
+            first: 0,
+            second: 1_073_741_822,
+        },
+        b"1200000000 RAND 0 1073741822",
+    ),
+    (
+        Event::UserVar(UserVarView {
+            stamp: 0,
+            length: 0,
+            name: b"a\\",
+            value: VarValue::Int(-9_223_372_036_854_775_808),
+        }),
+        b"1200000000 USER_VAR a\\x5c -9223372036854775808",
+    ),
+    (
+        Event::UserVar(UserVarView {
+            stamp: 0,
+            length: 0,
+            name: b"b",
+            value: VarValue::Text(b"\\"),
+        }),
+        b"1200000000 USER_VAR b X'5C'",
+    ),
+    (
+        Event::Xid {
+            stamp: 0,
+            length: 0,
+            number: 18_446_744_073_709_551_615,
+        },
+        b"1200000000 XID 18446744073709551615",
+    ),
+    (
+        Event::TableMap(MapView {
+            stamp: 0,
+            length: 0,
+            id: 281_474_976_710_655,
+            name: b"t\n",
+            kinds: &[3, 8, 15],
+            metadata: &[0x2c, 0x01],
+            nulls: &[7],
+        }),
+        b"1200000000 TABLE_MAP 281474976710655 t\\x0a",
+    ),
+    (
+        Event::Rotate {
+            stamp: 0,
+            length: 0,
+            next: 60000,
+        },
+        b"1200000000 ROTATE binlog.060000",
+    ),
+];
+
+/// How many show whole, from the first on.
+fn held_numbers(alloc: Global) -> usize {
+    for (i, (event, wanted)) in NUMBERS.iter().enumerate() {
+        if !is_text(line(alloc, event, None, 1_200_000_000), *wanted) {
+            return i;
+        }
     }
-    Ok(())
+    NUMBERS.len()
+}
+
+#[test]
+fn lines_of_events(rt: HostRuntime) {
+    let alloc = rt.alloc();
+    expect_all(&rt, "events of a log", held_lines(alloc), 15);
+    expect_all(
+        &rt,
+        "statements with their session",
+        held_statements(alloc),
+        6,
+    );
+    expect_all(&rt, "bytes that are escaped", held_texts(alloc), 6);
+    expect_all(&rt, "rows with their values", held_rows(alloc), 4);
+    expect_all(&rt, "numbers that show whole", held_numbers(alloc), 8);
 }

@@ -1,9 +1,9 @@
 //! Rows of events: whether they fit the map of their table, and the changes that they are.
+use crate::tests::{bytes, expect_all, is_change};
 use event_codec::{MapView, RowsKind, RowsView};
 use row_image::{rows_fit, rows_of};
 use std::alloc::Global;
-use std::test::Fail;
-use val_types::{Bytes, Change, NoMemory, Row, Value};
+use val_types::{Change, List, Row, Value};
 
 /// A table `t` of INT, BIGINT and VARCHAR(300).
 static MAP: MapView = MapView {
@@ -27,12 +27,6 @@ fn event(kind: RowsKind, columns: u64, rows: &[u8]) -> RowsView<'_> {
         rows,
     }
 }
-
-/// The row (-2, NULL, 'ab').
-static FIRST: [u8; 9] = [0x02, 0xfe, 0xff, 0xff, 0xff, 0x02, 0x00, 0x61, 0x62];
-
-/// The row (NULL, 1, NULL).
-static SECOND: [u8; 9] = [0x05, 0x01, 0, 0, 0, 0, 0, 0, 0];
 
 /// Which kinds, counts of columns and bytes are rows of the table.
 static CASES: [(RowsKind, u64, &[u8], bool); 10] = [
@@ -68,47 +62,43 @@ static CASES: [(RowsKind, u64, &[u8], bool); 10] = [
     (RowsKind::Write, 3, &[0x03, 0x01, 0x00], false),
 ];
 
-#[test]
-fn rows_fit_their_map(rt: HostRuntime) -> Result<(), Fail> {
-    for (kind, columns, rows, fits) in &CASES {
-        assert_eq!(rt; rows_fit(&MAP, &event(*kind, *columns, rows)), *fits);
+/// How many of them fit or do not, from the first on.
+fn held() -> usize {
+    for (i, (kind, columns, rows, fits)) in CASES.iter().enumerate() {
+        if rows_fit(&MAP, &event(*kind, *columns, *rows)) != *fits {
+            return i;
+        }
     }
-    Ok(())
+    CASES.len()
 }
 
-/// The values of the two rows.
-fn row(alloc: Global, second: bool) -> Result<Row, NoMemory> {
-    let mut row = Row::new(alloc);
-    if second {
-        row.push(Value::Null)?;
-        row.push(Value::Int(1))?;
-        row.push(Value::Null)?;
-    } else {
-        row.push(Value::Int(-2))?;
-        row.push(Value::Null)?;
-        row.push(Value::Text(Bytes::from_slice(alloc, b"ab")?))?;
+/// The rows (-2, NULL, 'ab') and (NULL, 1, NULL).
+static BOTH: [u8; 18] = [
+    0x02, 0xfe, 0xff, 0xff, 0xff, 0x02, 0x00, 0x61, 0x62, 0x05, 0x01, 0, 0, 0, 0, 0, 0, 0,
+];
+
+/// A row of three values.
+fn row(alloc: Global, first: Value, second: Value, third: Value) -> Row {
+    let mut row = List::new(alloc);
+    let _ = row.push(first);
+    let _ = row.push(second);
+    let _ = row.push(third);
+    row
+}
+
+/// The change of the first of both rows to the second.
+fn change(alloc: Global) -> Change {
+    let text = Value::Text(bytes(alloc, b"ab"));
+    Change::Update {
+        table: bytes(alloc, b"t"),
+        before: row(alloc, Value::Int(-2), Value::Null, text),
+        after: row(alloc, Value::Null, Value::Int(1), Value::Null),
     }
-    Ok(row)
 }
 
 #[test]
-fn rows_are_changes(rt: HostRuntime) -> Result<(), Fail> {
-    let mut bytes = Bytes::from_slice(rt.alloc(), &FIRST)?;
-    bytes.extend_from_slice(&SECOND)?;
-    let changes = rows_of(
-        rt.alloc(),
-        &MAP,
-        &event(RowsKind::Update, 3, bytes.as_slice()),
-    )?;
-    assert_eq!(rt; changes.len(), 1);
-    let expected = Change::Update {
-        table: Bytes::from_slice(rt.alloc(), b"t")?,
-        before: row(rt.alloc(), false)?,
-        after: row(rt.alloc(), true)?,
-    };
-    assert_eq!(rt;
-        changes.get(0).is_some_and(|change| *change == expected),
-        true
-    );
-    Ok(())
+fn rows_and_changes(rt: HostRuntime) {
+    expect_all(&rt, "rows that fit their map", held(), 10);
+    let found = rows_of(rt.alloc(), &MAP, &event(RowsKind::Update, 3, &BOTH));
+    assert!(rt; is_change(found, &change(rt.alloc())));
 }

@@ -7,8 +7,8 @@ use event_codec::{
     VarValue, read_event, write_event,
 };
 use std::alloc::Global;
-use std::test::Fail;
-use val_types::{Bytes, NoMemory};
+use std::process::Abort;
+use val_types::{Bytes, Change, List, NoMemory};
 
 pub(crate) static LOG: [u8; 638] = [
     0xfe, 0x62, 0x69, 0x6e,
@@ -227,20 +227,45 @@ fn put_end(out: &mut Bytes) -> Result<(), NoMemory> {
     write_event(&next, &header(1_700_000_003, 598), out)
 }
 
-#[test]
-fn writes_a_log_of_all_types(rt: HostRuntime) -> Result<(), Fail> {
-    let mut log = Bytes::from_slice(rt.alloc(), &LOG[..4])?;
-    put_head(&mut log)?;
-    put_numbers(&mut log)?;
-    put_variables(&mut log)?;
-    put_statement(&mut log)?;
-    put_map(&mut log)?;
-    put_rows(RowsKind::Write, false, &LOG[472..481], 441, &mut log)?;
-    put_rows(RowsKind::Update, false, &LOG[513..531], 481, &mut log)?;
-    put_rows(RowsKind::Delete, true, &LOG[562..571], 531, &mut log)?;
-    put_end(&mut log)?;
-    assert_eq!(rt; log.as_slice(), LOG.as_slice());
-    Ok(())
+/// Writes all of them.
+fn put_log(out: &mut Bytes) -> Result<(), NoMemory> {
+    put_head(out)?;
+    put_numbers(out)?;
+    put_variables(out)?;
+    put_statement(out)?;
+    put_map(out)?;
+    put_rows(RowsKind::Write, false, &LOG[472..481], 441, out)?;
+    put_rows(RowsKind::Update, false, &LOG[513..531], 481, out)?;
+    put_rows(RowsKind::Delete, true, &LOG[562..571], 531, out)?;
+    put_end(out)
+}
+
+/// Bytes with memory of their own.
+pub(crate) fn bytes(alloc: Global, of: &[u8]) -> Bytes {
+    let mut bytes = List::new(alloc);
+    let _ = bytes.extend_from_slice(of);
+    bytes
+}
+
+/// Whether a text is made, and is this one.
+pub(crate) fn is_text(found: Result<Bytes, NoMemory>, wanted: &[u8]) -> bool {
+    match found {
+        Ok(text) => text.as_slice() == wanted,
+        Err(_) => false,
+    }
+}
+
+/// Whether changes are made, and are just this one.
+pub(crate) fn is_change(found: Result<List<Change>, NoMemory>, wanted: &Change) -> bool {
+    match found {
+        Ok(changes) => matches!(changes.as_slice(), [change] if *change == *wanted),
+        Err(_) => false,
+    }
+}
+
+/// Expects of a table that all its cases hold.
+pub(crate) fn expect_all(rt: &impl Abort, of: &str, held: usize, cases: usize) {
+    assert_eq!(rt; held, cases, "{of}");
 }
 
 /// A letter for what stands there: an event, fewer bytes, damage, or what is not known.
@@ -286,50 +311,54 @@ pub(crate) static BODIES: [(u64, &[u8]); 15] = [
     (598, b"fffffffffffffffffffff"),
 ];
 
-/// The answers with one byte after the other from a place on set to ff, where an event begins at `pos`.
-fn answers(
-    alloc: Global,
-    log: &mut Bytes,
-    pos: u64,
-    from: usize,
-    count: usize,
-) -> Result<Bytes, NoMemory> {
-    let mut letters = Bytes::new(alloc);
-    for i in 0..count {
+/// Whether these are the answers with one byte after the other from a place on set to ff, where an event begins at `pos`.
+fn are_answers(log: &mut Bytes, pos: u64, from: usize, wanted: &[u8]) -> bool {
+    for (i, letter) in wanted.iter().enumerate() {
         let place = from.saturating_add(i);
-        if place < log.len() {
-            let old = log[place];
-            log.set(place, 0xff);
-            letters.push(letter_at(log.as_slice(), pos))?;
-            log.set(place, old);
+        if place >= log.len() {
+            return false;
+        }
+        let old = log[place];
+        log.set(place, 0xff);
+        let found = letter_at(log.as_slice(), pos);
+        log.set(place, old);
+        if found != *letter {
+            return false;
         }
     }
-    Ok(letters)
+    true
 }
 
-#[test]
-fn reads_each_event_with_each_byte_changed(rt: HostRuntime) -> Result<(), Fail> {
-    let mut log = Bytes::from_slice(rt.alloc(), &LOG)?;
-    for (pos, body) in &BODIES {
-        assert_eq!(rt; letter_at(log.as_slice(), *pos), b'e', "at {pos}");
+/// How many events are read so, from the first on, as they are and with each byte changed.
+fn held(log: &mut Bytes) -> usize {
+    for (i, (pos, body)) in BODIES.iter().enumerate() {
         let start = *pos as usize;
-        let head = answers(rt.alloc(), &mut log, *pos, start, 19)?;
-        assert_eq!(rt; head.as_slice(), HEADER.as_slice(), "header at {pos}");
-        let behind = start.saturating_add(19);
-        let rest = answers(rt.alloc(), &mut log, *pos, behind, body.len())?;
-        assert_eq!(rt; rest.as_slice(), *body, "body at {pos}");
+        if letter_at(log.as_slice(), *pos) != b'e'
+            || !are_answers(log, *pos, start, &HEADER)
+            || !are_answers(log, *pos, start.saturating_add(19), *body)
+        {
+            return i;
+        }
     }
-    Ok(())
+    BODIES.len()
+}
+
+/// How many bytes an event needs of which so many are there, None where it is not cut.
+fn need_of(length: usize) -> Option<u64> {
+    if length > 67 {
+        return None;
+    }
+    match read_event(&LOG[571..571 + length], 571) {
+        Read::Short { need } => Some(need),
+        _ => None,
+    }
 }
 
 #[test]
-fn reads_an_event_that_is_cut(rt: HostRuntime) -> Result<(), Fail> {
-    let cut = [(18, 19), (19, 27), (26, 27)];
-    for (length, expected) in cut {
-        let Read::Short { need } = read_event(&LOG[571..571 + length], 571) else {
-            return Err(Fail::from("not short"));
-        };
-        assert_eq!(rt; need, expected);
-    }
-    Ok(())
+fn events_written_and_read(rt: HostRuntime) {
+    let mut log = bytes(rt.alloc(), &LOG[..4]);
+    assert!(rt; put_log(&mut log).is_ok());
+    assert!(rt; log.as_slice() == LOG.as_slice());
+    expect_all(&rt, "events with each byte changed", held(&mut log), 15);
+    assert!(rt; need_of(18) == Some(19) && need_of(19) == Some(27) && need_of(26) == Some(27));
 }

@@ -16,7 +16,8 @@ use Rattle.sql_meaning.specs.Running.{is_ill_count, is_ill_limit}
 use Rattle.node_walk.specs.Asking.{asks_node}
 use Rattle.node_walk.specs.declared.asking.Ask.TheVariants.{IllLimit}
 use Rattle.closed_length.specs.Growing.{greatest}
-use Rattle.name_const.specs.Refusing.{is_nameless_count, is_nameless, limit_refusal, most_bytes, numbered}
+use Rattle.proc_model.specs.Closing.{is_nameless_count, is_nameless, limit_refusal, most_bytes}
+use Rattle.name_const.specs.Refusing.{numbered}
 
 either_numbered : (b : Bool) (l : Local) (found : Option Local) → cond b (Some (numbered l)) (option_map numbered found) ≡ option_map numbered (cond b (Some l) found)
 either_numbered true l found = refl

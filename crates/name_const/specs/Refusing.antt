@@ -1,50 +1,26 @@
--- What refuses to close a statement over locals.
-use Rattle.std.specs.Prelude.{◌≡◌, ℕ, Bool, false, nat_lt, if◌then◌else◌, List, length, Option, Some, None, is_none, Result, Ok, Err, pos}
-use Rattle.std.specs.List.{list_any}
+-- What a call that closes a statement over locals answers.
+use Rattle.std.specs.Prelude.{◌≡◌, List, Some, None, Result, Ok, Err, pos}
 use Rattle.val_types.specs.declared.value.Value.TheVariants.{Int}
 use Rattle.val_types.specs.declared.refusal.SqlRefusal.{SqlRefusal}
 use Rattle.val_types.specs.declared.refusal.SqlRefusal.TheVariants.{Sql, NoMemory}
 use Rattle.sql_tree.specs.Statement.{Statement}
 use Rattle.sql_tree.specs.StatementView.{view}
-use Rattle.sql_tree.specs.declared.expressions.Count.{Count}
-use Rattle.sql_tree.specs.declared.expressions.Count.TheVariants as counts
 use Rattle.sql_tree.specs.declared.statements.Stmt.{Stmt}
-use Rattle.sql_locals.specs.Locals.{find_local}
 use Rattle.sql_locals.specs.declared.locals.Local.{Local}
-use Rattle.sql_print.specs.StatementSpelling.{spelling}
-use Rattle.catalog_rules.specs.Nodes.{Node, a_limit, nodes_of}
-use Rattle.sql_meaning.specs.Running.{is_ill_limit}
 use Rattle.sql_reach.specs.Closing.{closed}
+use Rattle.proc_model.specs.Closing.{closing_refusal}
 
--- a text of a statement has at most so many bytes
-abbrev pub most_bytes : ℕ
-most_bytes = 1048576
-
--- a name in a LIMIT that is no local
-abbrev pub is_nameless_count : List Local → Count → Bool
-is_nameless_count locals (counts.Number n) = false
-is_nameless_count locals (counts.Name n) = is_none (find_local locals n)
-
-abbrev pub is_nameless : List Local → Node → Bool
-is_nameless locals (a_limit c) = is_nameless_count locals c
-is_nameless locals node = false
-
--- a LIMIT that cannot be closed: 1327 a name that is no local, else 30002 a local that is no number from 0
-abbrev pub limit_refusal : Statement → List Local → Option ℕ
-limit_refusal s locals =
-    if list_any (is_nameless locals) (nodes_of s) then Some 1327
-    else if list_any (is_ill_limit locals) (nodes_of s) then Some 30002
-    else None
-
--- what refuses to close a statement: 1153 its text would be too long, then its LIMITs
-unfoldable pub closing_refusal : Statement → List Local → Option ℕ
-closing_refusal s locals = if nat_lt most_bytes (length (spelling (closed s locals))) then Some 1153 else limit_refusal s locals
-
--- a call of closing gives the closed statement or what refuses it, or finds no memory
+-- the closed statement or what refuses it, or no memory
 abbrev pub Closes : Result Stmt SqlRefusal → Statement → List Local → Type 0
 Closes (Ok copy) s locals = (closing_refusal s locals ≡ None) × (view copy ≡ closed s locals)
 Closes (Err (Sql code)) s locals = closing_refusal s locals ≡ Some code
 Closes (Err NoMemory) s locals = Unit {0}
+
+-- nothing refuses it, or this does, or no memory
+abbrev pub CanClose : Result (Unit {0}) SqlRefusal → Statement → List Local → Type 0
+CanClose (Ok u) s locals = closing_refusal s locals ≡ None
+CanClose (Err (Sql code)) s locals = closing_refusal s locals ≡ Some code
+CanClose (Err NoMemory) s locals = Unit {0}
 
 -- a local of the same name that is a number
 abbrev pub numbered : Local → Local

@@ -4,7 +4,8 @@ ghost use Rattle.std.specs.List.{list_any};
 ghost use Rattle.sql_tree.specs.StatementView.{view};
 ghost use Rattle.catalog_rules.specs.Nodes.{nodes_of};
 ghost use Rattle.sql_meaning.specs.Running.{is_ill_limit};
-ghost use Rattle.name_const.specs.Refusing.{Closes, is_nameless, limit_refusal, numbered};
+ghost use Rattle.name_const.specs.Refusing.{CanClose, Closes, numbered};
+ghost use Rattle.proc_model.specs.Closing.{is_nameless, limit_refusal};
 
 use crate::statements::close_stmt;
 use closed_length::closed_length;
@@ -65,11 +66,11 @@ fn ill_limit(alloc: Global, s: &Stmt, locals: &Locals) -> Result<Option<SqlError
     }
 }
 
-/// A statement of a procedure with its locals closed in, as it is logged: NAME_CONST where a local hides a
-/// name, and the number itself in a LIMIT. 1153 where its canonical text is too long, else 1327 where a
-/// LIMIT is a name that is no local, else 30002 where a LIMIT is a local that is no number from 0.
-pub fn close_over(alloc: Global, s: &Stmt, locals: &Locals) -> Result<Stmt, SqlRefusal>
-    ensures { Closes result (view s.now) locals.now }
+/// What refuses to close a statement, without closing it: 1153 where the canonical text of the closed statement
+/// is too long, else 1327 where a LIMIT is a name that is no local, else 30002 where a LIMIT is a local that is no
+/// number from 0.
+pub fn check_closing(alloc: Global, s: &Stmt, locals: &Locals) -> Result<(), SqlRefusal>
+    ensures { CanClose result (view s.now) locals.now }
 {
     if closed_length(alloc, s, locals)? > MOST_BYTES {
         return Err(SqlRefusal::Sql(TEXT_TOO_LONG));
@@ -77,5 +78,14 @@ pub fn close_over(alloc: Global, s: &Stmt, locals: &Locals) -> Result<Stmt, SqlR
     if let Some(error) = ill_limit(alloc, s, locals)? {
         return Err(SqlRefusal::Sql(error));
     }
+    Ok(())
+}
+
+/// A statement of a procedure with its locals closed in, as it is logged: NAME_CONST where a local hides a
+/// name, and the number itself in a LIMIT. It is refused as [`check_closing`] says.
+pub fn close_over(alloc: Global, s: &Stmt, locals: &Locals) -> Result<Stmt, SqlRefusal>
+    ensures { Closes result (view s.now) locals.now }
+{
+    check_closing(alloc, s, locals)?;
     Ok(close_stmt(alloc, locals, s)?)
 }

@@ -2,14 +2,17 @@
 //!
 //! - `names`: names, and the numbers of LIMITs
 //! - `expressions`: expressions and SELECTs
-//! - `statements`: changes, and whole statements
-//! - `closing`: [`close_over`], and what refuses it
+//! - `statements`: changes, and whole statements: [`close_stmt`]
+//! - `closing`: [`close_over`], and what refuses it: [`check_closing`]
 //!
-//! In specs/ stands `Refusing`, what refuses to close a statement.
+//! In specs/ stands `Refusing`, what calls of these answer. What refuses to close a statement is a definition of `proc_model`.
 //!
 //! # Proved
-//! - [`close_over`] gives the statement with its locals closed in, or 1153, 1327 or 30002 in this order, each exactly where its
-//!   condition holds, or want of memory. It asks nothing of the statement, and closes it only where nothing refuses it.
+//! - [`check_closing`] lets a statement be closed, or refuses it with 1153, 1327 or 30002 in this order, each exactly where its
+//!   condition holds, or finds no memory. It closes nothing.
+//! - [`close_stmt`] gives the statement with its locals closed in, or finds no memory.
+//! - [`close_over`] refuses what [`check_closing`] refuses, else it gives the statement with its locals closed in, or finds no
+//!   memory. It asks nothing of the statement.
 //!
 //! That a closed statement does the same without locals, and that its text is read back, stands in `closing_laws`.
 #![tactic(auto)]
@@ -19,4 +22,5 @@ mod expressions;
 mod names;
 mod statements;
 
-pub use closing::close_over;
+pub use closing::{check_closing, close_over};
+pub use statements::close_stmt;

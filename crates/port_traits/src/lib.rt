@@ -28,8 +28,8 @@
 //! - Laws of counts, reads and draws: [`counts_rise`], [`reads_join`], [`draws_come_in_order`].
 //!
 //! # Only tested
-//! That calls succeed with ample memory; the edges over the system, once each. That a clock is right
-//! or random words are random is neither proved nor tested.
+//! In `list_callers`: that calls succeed with ample memory; the edges over the system, once each. That a
+//! clock is right or random words are random is neither proved nor tested.
 #![tactic(auto)]
 
 mod calls;
@@ -42,8 +42,6 @@ mod memory;
 mod sink;
 mod source;
 mod standard;
-#[cfg(test)]
-mod tests;
 
 pub use env::Env;
 pub use failed::Failed;

@@ -1,3 +1,4 @@
+pub mod Closing
 pub mod Talk
 pub mod Procedures
 pub mod Worked

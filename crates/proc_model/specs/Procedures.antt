@@ -22,7 +22,7 @@ use Rattle.sql_meaning.specs.Within.{values_assigned}
 use Rattle.sql_reach.specs.Closing.{closed}
 use Rattle.answer_text.specs.declared.answer.Answer.{Answer}
 use Rattle.answer_text.specs.declared.answer.End.TheVariants as ends_with
-use Rattle.name_const.specs.Refusing.{closing_refusal}
+use Rattle.proc_model.specs.Closing.{closing_refusal}
 use Rattle.proc_model.specs.Talk.{Left, Refusal, Effect, Told, Talk, ends, runs, evaluates, assigns, and_then, Rules, Led}
 
 -- ---- actions

@@ -3,7 +3,7 @@
 //! A CALL is a list of statements that a session runs, of expressions that it evaluates, and of user variables that it
 //! assigns. Who carries them out is the procedure's runner. The definitions stand in specs/: `Talk` (what a procedure asks of
 //! its runner and what becomes of what it is told; how that leads a runner from state to state), `Procedures` (the statements of
-//! procedures, CALL and its answer: `called`, `IsCall`). What refuses to close a statement over locals says `name_const`.
+//! procedures, CALL and its answer: `called`, `IsCall`), `Closing` (what refuses to close a statement over locals).
 //!
 //! - `laws`: what follows of talks
 //! - `worked`: procedures by hand, which the checker computes

@@ -1,5 +1,5 @@
 -- What a definition comes to.
-use Rattle.std.proofs.Common.{◌≡◌, ℕ, Bool, true, false, cond, List, [], ◌∷◌, ◌++◌, Option, Some, None, Err, refl, sym, ap, subst, ◌∙◌}
+use Rattle.std.proofs.Common.{◌≡◌, ℕ, List, [], ◌∷◌, ◌++◌, Option, Some, None, Err, refl, sym, ap, subst, ◌∙◌}
 use Rattle.val_types.specs.declared.definitions.TableDef.{TableDef}
 use Rattle.val_types.specs.declared.refusal.SqlRefusal.{SqlRefusal}
 use Rattle.val_types.specs.declared.refusal.SqlRefusal.TheVariants.{Sql, NoMemory}
@@ -19,7 +19,7 @@ use Rattle.catalog.specs.Answers.{Makes as Made}
 use Rattle.catalog_objects.specs.declared.object.Object.{Object}
 use Rattle.catalog_objects.specs.Keys.{objects_of}
 use Rattle.sql_stage.specs.declared.stage.Stage.{Stage}
-use Rattle.sql_reach.specs.Defining.{counters_after, counters_with, is_still_refused}
+use Rattle.sql_reach.specs.Defining.{counters_after, counters_with}
 use Rattle.prog_run.specs.Contents.{Contents}
 use Rattle.prog_run.specs.Runs.{Makes, definition_refusal, outcome_of_none, contents_of}
 use Rattle.prog_run.specs.Together.{AreTogether}
@@ -32,16 +32,12 @@ unless_refused : (o : Option ℕ) (base : Base) → o ≡ None → elim o as (λ
 unless_refused None base e = refl
 unless_refused (Some code) base e = cc
 
-allowed : (refused : Bool) (o : Option ℕ) → refused ≡ false → o ≡ None → cond refused (Some 30005) o ≡ None
-allowed true o e none = cc
-allowed false o e none = none
-
 -- a definition that nothing refuses
-pub makes_by : (s : Statement) (told : Outcome) (before after : Contents) → is_still_refused s ≡ false → ddl_refusal (objects_of before.objects) s ≡ None
+pub makes_by : (s : Statement) (told : Outcome) (before after : Contents) → ddl_refusal (objects_of before.objects) s ≡ None
     → objects_of after.objects ≡ catalog_after s (objects_of before.objects) → after.tables ≡ tables_after s before.tables
     → after.counters ≡ counters_after s before.counters → after.changes ≡ before.changes → told ≡ outcome_of_none → Makes s told before after
-makes_by s told before after still none objects tables counters changes nothing = record {
-  allowed = allowed (is_still_refused s) (ddl_refusal (objects_of before.objects) s) still none;
+makes_by s told before after none objects tables counters changes nothing = record {
+  allowed = none;
   base = unless_refused (ddl_refusal (objects_of before.objects) s) _ none
       ∙ (λ i. Some (record { catalog = sym objects i; tables = sym tables i }));
   counters = counters;
@@ -66,12 +62,9 @@ together_stays objects now a b os same h =
     subst (λ (s : Stage). AreTogether now s.tables s.undo s.counters) same (subst (λ (o : List Object). AreTogether o a.tables a.undo a.counters) (sym os) h)
 
 -- refused by the catalog
-pub refused_by : (s : Statement) (objects now : List Object) (a : Stage) (code : ℕ) → is_still_refused s ≡ false → ddl_refusal (objects_of objects) s ≡ Some code → now ≡ objects
+pub refused_by : (s : Statement) (objects now : List Object) (a : Stage) (code : ℕ) → ddl_refusal (objects_of objects) s ≡ Some code → now ≡ objects
     → (definition_refusal s (contents_of objects a) ≡ Some code) × (contents_of now a ≡ contents_of objects a)
-refused_by s objects now a code still refusal same = (
-  ap (λ (b : Bool). cond b (Some 30005) (ddl_refusal (objects_of objects) s)) still ∙ refusal,
-  ap (λ (o : List Object). contents_of o a) same,
-)
+refused_by s objects now a code refusal same = (refusal, ap (λ (o : List Object). contents_of o a) same)
 
 -- ---- what holds, where no change is open
 

@@ -1,5 +1,5 @@
 -- How a statement that a session or an applier runs ends.
-use Rattle.std.specs.Prelude.{◌≡◌, ◌≤◌, ℕ, if◌then◌else◌, List, [], Option, Some, None, Result, Ok, Err, ℤ}
+use Rattle.std.specs.Prelude.{◌≡◌, ◌≤◌, ℕ, List, [], Option, Some, None, Result, Ok, Err, ℤ}
 use Rattle.val_types.specs.declared.value.Value.{Value}
 use Rattle.val_types.specs.declared.refusal.SqlRefusal.{SqlRefusal}
 use Rattle.val_types.specs.declared.refusal.SqlRefusal.TheVariants.{Sql, NoMemory}
@@ -17,7 +17,7 @@ use Rattle.sql_meaning.specs.Changing.{Did}
 use Rattle.sql_meaning.specs.Running.{effect, evaluation, context_after}
 use Rattle.sql_stage.specs.declared.stage.Stage.{Stage}
 use Rattle.sql_stage.specs.Stage.{NoneLower, scene_of}
-use Rattle.sql_reach.specs.Defining.{counters_after, is_still_refused, number_of_bytes}
+use Rattle.sql_reach.specs.Defining.{counters_after, number_of_bytes}
 use Rattle.prog_run.specs.declared.meter.Meter.{Meter}
 use Rattle.prog_run.specs.declared.meter.Outcome.{Outcome}
 use Rattle.prog_run.specs.Contents.{Contents, base_of}
@@ -123,9 +123,9 @@ pub record Spends (before after : Meter) : Type 0 where
 
 -- ---- CREATE, DROP and TRUNCATE
 
--- what refuses a definition: programs are not allowed yet; else the catalog's checks
+-- what refuses a definition: the first of the catalog's checks that is not met
 abbrev pub definition_refusal : Statement → Contents → Option ℕ
-definition_refusal s c = if is_still_refused s then Some 30005 else ddl_refusal (objects_of c.objects) s
+definition_refusal s c = ddl_refusal (objects_of c.objects) s
 
 -- a definition made: the base behind it, and its counters
 pub record Makes (s : Statement) (told : Outcome) (before after : Contents) : Type 0 where

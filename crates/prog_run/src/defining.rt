@@ -3,7 +3,7 @@ ghost use Rattle.std.specs.Prelude.{◌≡◌, ◌++◌, ◌∷◌, [], true, No
 ghost use Rattle.val_types.specs.declared.definitions.TableDef.{TableDef as Definition};
 ghost use Rattle.auto_inc.specs.Counting.{value_for};
 ghost use Rattle.table_rules.specs.Stored.{table_named};
-ghost use Rattle.sql_tree.specs.Statement.{create_function, create_table, create_trigger, drop_table, truncate};
+ghost use Rattle.sql_tree.specs.Statement.{create_function, create_procedure, create_table, create_trigger, drop_table, truncate};
 ghost use Rattle.sql_tree.specs.StatementView.{view, view_program, view_trigger};
 ghost use Rattle.catalog_rules.specs.Objects.{table_in};
 ghost use Rattle.catalog_rules.specs.Bases.{table_without_rows};
@@ -21,10 +21,7 @@ use sql_stage::Stage;
 use sql_tree::{CreateTable, Routine, Stmt, TriggerDef};
 use std::alloc::Global;
 use tree_copies::{copy_routine, copy_trigger};
-use val_types::{Boxed, Bytes, NoMemory, SqlError, SqlRefusal, TableDef};
-
-/// CREATE PROCEDURE is not allowed yet.
-const NOT_ALLOWED: SqlError = 30005;
+use val_types::{Boxed, Bytes, NoMemory, SqlRefusal, TableDef};
 
 /// Whether a statement changes the catalog or empties a table.
 pub fn is_definition(statement: &Stmt) -> bool
@@ -209,6 +206,25 @@ fn create_function(
     }
 }
 
+/// CREATE PROCEDURE, likewise.
+fn create_procedure(
+    alloc: Global,
+    catalog: &mut Catalog,
+    stage: &Stage,
+    routine: &Routine,
+) -> Result<Outcome, SqlRefusal>
+    requires together { AreTogether catalog.old stage.now.tables stage.now.undo stage.now.counters }
+    ensures defines { Defines (create_procedure (view_program routine.now)) result (contents_of catalog.old stage.now) (contents_of catalog.new stage.now) }
+    ensures together { AreTogether catalog.new stage.now.tables stage.now.undo stage.now.counters }
+{
+    let routine = Boxed::new(alloc, copy_routine(alloc, routine)?)?;
+    match catalog.add_procedure(routine) {
+        Ok(()) => Ok(nothing_told()),
+        Err(SqlRefusal::Sql(code)) => Err(SqlRefusal::Sql(code)),
+        Err(SqlRefusal::NoMemory) => Err(SqlRefusal::NoMemory),
+    }
+}
+
 /// CREATE TRIGGER, likewise.
 fn create_trigger(
     alloc: Global,
@@ -263,7 +279,7 @@ fn define_in(
         Stmt::DropTable(name) => drop_named(catalog, stage, statement, name),
         Stmt::Truncate(name) => empty(catalog, stage, statement, name),
         Stmt::CreateFunction(routine) => create_function(alloc, catalog, stage, routine.get()),
-        Stmt::CreateProcedure(_) => Err(SqlRefusal::Sql(NOT_ALLOWED)),
+        Stmt::CreateProcedure(routine) => create_procedure(alloc, catalog, stage, routine.get()),
         Stmt::CreateTrigger(trigger) => create_trigger(alloc, catalog, stage, trigger.get()),
         Stmt::DropFunction(_) => drop_program(catalog, stage, statement),
         Stmt::DropProcedure(_) => drop_program(catalog, stage, statement),

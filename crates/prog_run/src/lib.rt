@@ -20,9 +20,9 @@
 //! - [`run_stmt`] with a change, a SELECT or a DO ends as its effect in the definitions does, with its value or its error's
 //!   number, and leaves just that scene; the context has its seeds, LAST_INSERT_ID() and no forced INSERT_ID that was
 //!   used; or memory is short (`runs`)
-//! - with CREATE, DROP or TRUNCATE it makes just the base and the counters of the definitions, or refuses with just the
-//!   error of the first check (30005 for CREATE PROCEDURE) and changes nothing, as where memory is short; context and meter stay
-//!   (`defines`)
+//! - with CREATE (of tables, functions, procedures and triggers), DROP or TRUNCATE it makes just the base and the counters of
+//!   the definitions, or refuses with just the error of the first check and changes nothing, as where memory is short; context
+//!   and meter stay (`defines`)
 //! - on every error, want of memory too, rows, changes and catalog are as before and no counter is lower (`err`); no turn
 //!   comes back (`spends`)
 //! - [`eval_list`] the same for expressions, as the DO over them
@@ -37,7 +37,7 @@
 //!   [`Work::give_up`] takes all changes back and puts counters back, without memory
 //!
 //! # Only tested
-//! Nothing yet: that statements succeed with ample memory is tested where a source runs them.
+//! That statements succeed with ample memory, where a source runs them.
 #![tactic(auto)]
 
 mod carrying;

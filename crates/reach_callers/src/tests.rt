@@ -8,10 +8,9 @@ use sql_parse::{ParseRefusal, parse};
 use sql_print::print;
 use sql_tree::{Routine, Stmt, TriggerDef};
 use std::alloc::Global;
-use std::test::Fail;
 use tree_copies::{copy_routine, copy_trigger};
 use unsafe_rules::{Reasons, carried, reasons, writes};
-use val_types::{Boxed, List, NoMemory, Value};
+use val_types::{Boxed, Bytes, List, NoMemory, Value};
 
 /// What is made, and the statement that makes it again.
 static OBJECTS: &[(&str, &str)] = &[
@@ -91,38 +90,43 @@ trait Asked {
     fn is_printed(&self, alloc: Global, text: &str) -> bool;
 }
 
-/// Whether a copy of a function is made.
-fn is_function_added(
-    alloc: Global,
-    catalog: &mut Catalog,
-    routine: &Routine,
-) -> Result<bool, NoMemory> {
-    let copy = copy_routine(alloc, routine)?;
-    let boxed = Boxed::new(alloc, copy)?;
-    Ok(catalog.add_function(boxed).is_ok())
+/// Whether a function in memory of its own is made.
+fn is_function_added(catalog: &mut Catalog, function: Result<Boxed<Routine>, NoMemory>) -> bool {
+    match function {
+        Ok(function) => catalog.add_function(function).is_ok(),
+        Err(_) => false,
+    }
+}
+
+/// Whether a copy of it is.
+fn is_function_copied(alloc: Global, catalog: &mut Catalog, routine: &Routine) -> bool {
+    match copy_routine(alloc, routine) {
+        Ok(copy) => is_function_added(catalog, Boxed::new(alloc, copy)),
+        Err(_) => false,
+    }
 }
 
 /// The same of a trigger.
-fn is_trigger_added(
-    alloc: Global,
-    catalog: &mut Catalog,
-    trigger: &TriggerDef,
-) -> Result<bool, NoMemory> {
-    let copy = copy_trigger(alloc, trigger)?;
-    let boxed = Boxed::new(alloc, copy)?;
-    Ok(catalog.add_trigger(boxed).is_ok())
+fn is_trigger_added(catalog: &mut Catalog, trigger: Result<Boxed<TriggerDef>, NoMemory>) -> bool {
+    match trigger {
+        Ok(trigger) => catalog.add_trigger(trigger).is_ok(),
+        Err(_) => false,
+    }
+}
+
+fn is_trigger_copied(alloc: Global, catalog: &mut Catalog, trigger: &TriggerDef) -> bool {
+    match copy_trigger(alloc, trigger) {
+        Ok(copy) => is_trigger_added(catalog, Boxed::new(alloc, copy)),
+        Err(_) => false,
+    }
 }
 
 impl Asked for Stmt {
     fn is_added(&self, alloc: Global, catalog: &mut Catalog) -> bool {
         match self {
             Stmt::CreateTable(t) => catalog.add_table(t).is_ok(),
-            Stmt::CreateFunction(routine) => {
-                matches!(is_function_added(alloc, catalog, routine.get()), Ok(true))
-            }
-            Stmt::CreateTrigger(trigger) => {
-                matches!(is_trigger_added(alloc, catalog, trigger.get()), Ok(true))
-            }
+            Stmt::CreateFunction(routine) => is_function_copied(alloc, catalog, routine.get()),
+            Stmt::CreateTrigger(trigger) => is_trigger_copied(alloc, catalog, trigger.get()),
             _ => false,
         }
     }
@@ -221,14 +225,6 @@ fn stated(alloc: Global, catalog: &Catalog) -> u32 {
     }
 }
 
-#[test]
-fn objects_have_their_statements(rt: HostRuntime) -> Result<(), Fail> {
-    let mut catalog = Catalog::new(rt.alloc());
-    assert!(rt; make(rt.alloc(), &mut catalog) == 5);
-    assert!(rt; stated(rt.alloc(), &catalog) == 5);
-    Ok(())
-}
-
 /// Whether a letter stands in a text.
 fn has(letters: &str, letter: u8) -> bool {
     letters.as_bytes().contains(&letter)
@@ -258,24 +254,6 @@ fn first_wrong(alloc: Global, catalog: &Catalog) -> &'static str {
     ""
 }
 
-#[test]
-fn statements_have_their_reasons(rt: HostRuntime) -> Result<(), Fail> {
-    let mut catalog = Catalog::new(rt.alloc());
-    let _ = make(rt.alloc(), &mut catalog);
-    assert!(rt; first_wrong(rt.alloc(), &catalog) == "");
-    Ok(())
-}
-
-/// The context of a session in which @a is 5.
-fn session(alloc: Global) -> Result<SessionVars, NoMemory> {
-    let user = List::from_slice(alloc, b"root@localhost")?;
-    let identity = Identity { server_id: 3, user };
-    let mut session = SessionVars::new(alloc, &identity, 9, &DRAW)?;
-    let name = List::from_slice(alloc, b"a")?;
-    session.context.set_user_variable(&name, Value::Int(5))?;
-    Ok(session)
-}
-
 /// Whether the variable at a place has a name and a number, NULL for none.
 fn is_variable(vars: &Vars, at: usize, name: &[u8], number: Option<i64>) -> bool {
     match (vars.at(at), number) {
@@ -302,20 +280,48 @@ fn are_parts(c: &Carried) -> bool {
         && is_variable(&c.vars, 2, b"c", None)
 }
 
-fn carries(alloc: Global, catalog: &Catalog) -> Result<bool, NoMemory> {
-    let session = session(alloc)?;
-    Ok(carried_by(
-        alloc,
-        catalog,
-        &session.context,
-        read(alloc, "SELECT f(@c) + @c"),
-    ))
+fn bytes(alloc: Global, of: &[u8]) -> Bytes {
+    let mut bytes = List::new(alloc);
+    let _ = bytes.extend_from_slice(of);
+    bytes
+}
+
+fn identity(alloc: Global) -> Identity {
+    Identity {
+        server_id: 3,
+        user: bytes(alloc, b"root@localhost"),
+    }
+}
+
+/// Whether an item carries so in a session in which @a is 5.
+fn carries_in(alloc: Global, catalog: &Catalog, session: &mut SessionVars) -> bool {
+    let name = bytes(alloc, b"a");
+    let is_set = session
+        .context
+        .set_user_variable(&name, Value::Int(5))
+        .is_ok();
+    is_set
+        && carried_by(
+            alloc,
+            catalog,
+            &session.context,
+            read(alloc, "SELECT f(@c) + @c"),
+        )
+}
+
+fn carries(alloc: Global, catalog: &Catalog) -> bool {
+    match SessionVars::new(alloc, &identity(alloc), 9, &DRAW) {
+        Ok(mut session) => carries_in(alloc, catalog, &mut session),
+        Err(_) => false,
+    }
 }
 
 #[test]
-fn an_item_carries_what_it_reaches(rt: HostRuntime) -> Result<(), Fail> {
-    let mut catalog = Catalog::new(rt.alloc());
-    let _ = make(rt.alloc(), &mut catalog);
-    assert!(rt; carries(rt.alloc(), &catalog)?);
-    Ok(())
+fn objects_and_statements(rt: HostRuntime) {
+    let alloc = rt.alloc();
+    let mut catalog = Catalog::new(alloc);
+    assert!(rt; make(alloc, &mut catalog) == 5);
+    assert!(rt; stated(alloc, &catalog) == 5);
+    assert!(rt; first_wrong(alloc, &catalog) == "");
+    assert!(rt; carries(alloc, &catalog));
 }

@@ -9,7 +9,7 @@
 //! - The source is `root@localhost`, the replica `rep@localhost` with the number 2.
 //!
 //! # Only tested
-//! By one stored run, and by reading these lines: that `REPL_SERVER_ID` is the text that is read.
+//! What `main` hands on, by one stored run. That `REPL_SERVER_ID` is the text that is read is seen in these lines alone.
 #![tactic(auto)]
 
 mod nodes;

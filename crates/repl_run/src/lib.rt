@@ -32,7 +32,8 @@
 //!   these entries, each once and in their order, however FETCH cut the log. Where these are logged by their rows, its base is what
 //!   they make of an empty one, and where they are all, it is the source's (`run_laws::all_carried_is_equal`). No APPLY stopped before
 //!   a transaction was logged by its text, and none at anything but an item that has no effect at the replica.
-//!   WriteFault: the same of the commands before one of which a front of the lines was written. BadScript: the
+//!   WriteFault: the first commands were carried out, each at a draw that the report tells; the lines of all but the last were
+//!   written, of the last's a front, and no APPLY stopped before a transaction was logged by its text. BadScript: the
 //!   byte is the first at which no command begins, or else the first of a command that no node carries out, and nothing was
 //!   written. ReadFault: nothing was written. NoMemory: nothing was written, or the lines of the first commands, whole, and the
 //!   report begins with their draws. No other status comes.

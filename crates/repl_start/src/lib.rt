@@ -12,9 +12,9 @@
 //! - Where [`tell`] ends well, it put exactly the line of the status at the end of a writer that tells its bytes, which is
 //!   nothing at Done.
 //!
-//! # Only tested
-//! The text of the pages; that just a program that has the word `log` takes it; that pages go to standard output, and the line of
-//! a status to standard error.
+//! # Only read
+//! The text of the pages; that only a program that has the word `log` takes it; that pages go to standard output, and the line of
+//! a status to standard error. What [`start`] hands to `top` is tested by the programs' stored runs.
 #![tactic(auto)]
 
 mod command_line;

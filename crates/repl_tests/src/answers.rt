@@ -1,23 +1,24 @@
 //! Scripts and what they write.
 
-use crate::playing::{bytes, expect_lines};
+use crate::playing::{Frame, expect_all, held, joined, put_times, runs};
 use std::alloc::Global;
-use std::test::Fail;
-use val_types::{Bytes, List};
+use val_types::Bytes;
 
-/// The table `t` of two numbers, whose key is `id`.
-const T: &str = "s1: CREATE TABLE t (id INT, v INT, PRIMARY KEY (id)) //\n";
+/// Behind the table `t` of two numbers, whose key is `id`.
+static T: Frame = Frame {
+    before: "s1: CREATE TABLE t (id INT, v INT, PRIMARY KEY (id)) //\n",
+    behind: "",
+    first: "1 ok 0\n",
+    last: "",
+};
 
-/// The table `a`, whose key is generated.
-const A: &str =
-    "s1: CREATE TABLE a (id INT NOT NULL AUTO_INCREMENT, k INT NOT NULL, PRIMARY KEY (id), UNIQUE KEY uk (k)) //\n";
-
-/// A script behind the one that makes its table.
-fn script_of(alloc: Global, made: &str, rest: &str) -> Result<Bytes, Fail> {
-    let mut script = bytes(alloc, made)?;
-    script.extend_from_slice(rest.as_bytes())?;
-    Ok(script)
-}
+/// Behind the table `a`, whose key is generated.
+static A: Frame = Frame {
+    before: "s1: CREATE TABLE a (id INT NOT NULL AUTO_INCREMENT, k INT NOT NULL, PRIMARY KEY (id), UNIQUE KEY uk (k)) //\n",
+    behind: "",
+    first: "",
+    last: "",
+};
 
 /// Scripts behind the table `t`, and the lines behind `1 ok 0`.
 static OF_T: [(&str, &str); 13] = [
@@ -88,23 +89,6 @@ static OF_T: [(&str, &str); 13] = [
     ),
 ];
 
-#[test]
-fn statements_of_sessions(rt: HostRuntime) -> Result<(), Fail> {
-    let alloc = rt.alloc();
-    for (script, lines) in &OF_T {
-        let mut all = bytes(alloc, "1 ok 0\n")?;
-        all.extend_from_slice(lines.as_bytes())?;
-        expect_lines(
-            &rt,
-            alloc,
-            script_of(alloc, T, *script)?,
-            all.as_slice(),
-            *script,
-        )?;
-    }
-    Ok(())
-}
-
 /// Scripts behind the table `a`, and what they write.
 static OF_A: [(&str, &str); 4] = [
     (
@@ -124,20 +108,6 @@ static OF_A: [(&str, &str); 4] = [
         "1 ok 0\n2 ok 1\n3 error 1467\n",
     ),
 ];
-
-#[test]
-fn generated_values(rt: HostRuntime) -> Result<(), Fail> {
-    for (script, lines) in &OF_A {
-        expect_lines(
-            &rt,
-            rt.alloc(),
-            script_of(rt.alloc(), A, *script)?,
-            lines.as_bytes(),
-            *script,
-        )?;
-    }
-    Ok(())
-}
 
 /// Statements with two causes to be refused, each with the number of the one that comes first: behind a table `t` and a table
 /// `n` with a column that takes no NULL and has no default, while the first session has changed a row in its transaction.
@@ -187,108 +157,118 @@ static TWO_CAUSES: [(&str, &str); 25] = [
     ("DROP TRIGGER nosuch", "1360"),
 ];
 
-/// What stands before each of them.
-const HELD: &str =
-    "s1: CREATE TABLE t (id INT, v INT, PRIMARY KEY (id)) //\ns1: CREATE TABLE n (id INT, w INT NOT NULL, PRIMARY KEY (id)) //\ns1: BEGIN //\ns1: INSERT INTO t VALUES (1, 1) //\ns2: ";
+/// What stands around each of them.
+static HELD: Frame = Frame {
+    before: "s1: CREATE TABLE t (id INT, v INT, PRIMARY KEY (id)) //\ns1: CREATE TABLE n (id INT, w INT NOT NULL, PRIMARY KEY (id)) //\ns1: BEGIN //\ns1: INSERT INTO t VALUES (1, 1) //\ns2: ",
+    behind: " //",
+    first: "1 ok 0\n2 ok 0\n3 ok 0\n4 ok 1\n5 error ",
+    last: "\n",
+};
 
-#[test]
-fn causes_in_their_order(rt: HostRuntime) -> Result<(), Fail> {
-    let alloc = rt.alloc();
-    for (text, refused) in &TWO_CAUSES {
-        let mut script = script_of(alloc, HELD, *text)?;
-        script.extend_from_slice(b" //")?;
-        let mut lines = bytes(alloc, "1 ok 0\n2 ok 0\n3 ok 0\n4 ok 1\n5 error ")?;
-        lines.extend_from_slice(refused.as_bytes())?;
-        lines.push(b'\n')?;
-        expect_lines(&rt, alloc, script, lines.as_slice(), *text)?;
+/// A front, a piece so many times, a middle, another piece as often, an end; and what that writes.
+struct Long {
+    front: &'static str,
+    piece: &'static str,
+    times: u32,
+    middle: &'static str,
+    other: &'static str,
+    end: &'static str,
+    lines: &'static [u8],
+}
+
+/// A sum of so many terms besides the first, so many parentheses around a number, so many names besides the first: a SET with these
+/// prints longer than it is written, at 200,000 names a million bytes and at 220,000 more than 2^20.
+static LONG: [Long; 6] = [
+    Long {
+        front: "s1: SELECT 1",
+        piece: " + 1",
+        times: 198,
+        middle: "",
+        other: "",
+        end: " //",
+        lines: b"1 row 199\n1 rows 1\n",
+    },
+    Long {
+        front: "s1: SELECT 1",
+        piece: " + 1",
+        times: 199,
+        middle: "",
+        other: "",
+        end: " //",
+        lines: b"1 error 30007\n",
+    },
+    Long {
+        front: "s1: SELECT ",
+        piece: "(",
+        times: 400,
+        middle: "1",
+        other: ")",
+        end: " //",
+        lines: b"1 row 1\n1 rows 1\n",
+    },
+    Long {
+        front: "s1: SELECT ",
+        piece: "(",
+        times: 401,
+        middle: "1",
+        other: ")",
+        end: " //",
+        lines: b"1 error 30007\n",
+    },
+    Long {
+        front: "s1: SET @a = CONCAT(a",
+        piece: ",a",
+        times: 199_999,
+        middle: "",
+        other: "",
+        end: ") //",
+        lines: b"1 error 1054\n",
+    },
+    Long {
+        front: "s1: SET @a = CONCAT(a",
+        piece: ",a",
+        times: 219_999,
+        middle: "",
+        other: "",
+        end: ") //",
+        lines: b"1 error 1153\n",
+    },
+];
+
+fn script_of(alloc: Global, long: &Long) -> Bytes {
+    let mut script = joined(alloc, &[long.front]);
+    put_times(&mut script, long.piece, long.times);
+    put_times(&mut script, long.middle, 1);
+    put_times(&mut script, long.other, long.times);
+    put_times(&mut script, long.end, 1);
+    script
+}
+
+fn runs_long(alloc: Global, long: &Long) -> bool {
+    let script = script_of(alloc, long);
+    runs(alloc, script.as_slice(), long.lines)
+}
+
+/// How many long scripts write their lines, from the first on.
+fn held_long(alloc: Global) -> usize {
+    for (i, long) in LONG.iter().enumerate() {
+        if !runs_long(alloc, long) {
+            return i;
+        }
     }
-    Ok(())
-}
-
-/// A text so many times.
-fn repeated(text: &mut Bytes, piece: &str, times: u32) -> Result<(), Fail> {
-    for _ in 0..times {
-        text.extend_from_slice(piece.as_bytes())?;
-    }
-    Ok(())
-}
-
-/// `SELECT 1 + .. + 1` with so many terms.
-fn sum_of(alloc: Global, terms: u32) -> Result<Bytes, Fail> {
-    let mut script = bytes(alloc, "s1: SELECT 1")?;
-    repeated(&mut script, " + 1", terms.saturating_sub(1))?;
-    script.extend_from_slice(b" //")?;
-    Ok(script)
-}
-
-/// `SELECT 1` with so many parentheses around.
-fn wrapped(alloc: Global, pairs: u32) -> Result<Bytes, Fail> {
-    let mut script = bytes(alloc, "s1: SELECT ")?;
-    repeated(&mut script, "(", pairs)?;
-    script.push(b'1')?;
-    repeated(&mut script, ")", pairs)?;
-    script.extend_from_slice(b" //")?;
-    Ok(script)
+    LONG.len()
 }
 
 #[test]
-fn limits_of_trees(rt: HostRuntime) -> Result<(), Fail> {
+fn statements_of_sessions(rt: HostRuntime) {
     let alloc = rt.alloc();
-    expect_lines(
+    expect_all(&rt, "scripts behind t", held(alloc, &T, &OF_T), OF_T.len());
+    expect_all(&rt, "scripts behind a", held(alloc, &A, &OF_A), OF_A.len());
+    expect_all(
         &rt,
-        alloc,
-        sum_of(alloc, 199)?,
-        b"1 row 199\n1 rows 1\n",
-        "199 terms",
-    )?;
-    expect_lines(
-        &rt,
-        alloc,
-        sum_of(alloc, 200)?,
-        b"1 error 30007\n",
-        "200 terms",
-    )?;
-    expect_lines(
-        &rt,
-        alloc,
-        wrapped(alloc, 400)?,
-        b"1 row 1\n1 rows 1\n",
-        "400 pairs",
-    )?;
-    expect_lines(
-        &rt,
-        alloc,
-        wrapped(alloc, 401)?,
-        b"1 error 30007\n",
-        "401 pairs",
-    )?;
-    Ok(())
-}
-
-/// A SET whose expressions name so many columns, which print longer than they are written.
-fn long_set(alloc: Global, names: u32) -> Result<Bytes, Fail> {
-    let mut script = bytes(alloc, "s1: SET @a = CONCAT(a")?;
-    repeated(&mut script, ",a", names.saturating_sub(1))?;
-    script.extend_from_slice(b") //")?;
-    Ok(script)
-}
-
-#[test]
-fn printed_length_before_names(rt: HostRuntime) -> Result<(), Fail> {
-    let alloc = rt.alloc();
-    expect_lines(
-        &rt,
-        alloc,
-        long_set(alloc, 200_000)?,
-        b"1 error 1054\n",
-        "a million bytes",
-    )?;
-    expect_lines(
-        &rt,
-        alloc,
-        long_set(alloc, 220_000)?,
-        b"1 error 1153\n",
-        "and more than 2^20",
-    )?;
-    Ok(())
+        "causes in their order",
+        held(alloc, &HELD, &TWO_CAUSES),
+        TWO_CAUSES.len(),
+    );
+    expect_all(&rt, "long scripts", held_long(alloc), LONG.len());
 }

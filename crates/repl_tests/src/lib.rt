@@ -7,7 +7,7 @@
 //! - `programs`: stored functions and triggers
 //! - `replication`: logs fetched in pieces and carried out in groups
 //! - `logs`: the source's log in place of the answers
-//! - `texts`: that log printed and replayed: what each statement carries, by its text and by its rows
+//! - `texts`: that log printed and replayed: what each statement carries, by its text and by its rows, and what a procedure leaves
 //! - `made`, `replays`: logs of another server, made event by event: where tables differ, what is damaged or not known, logs that are
 //!   cut, streams that fail
 //! - `statuses`: words, scripts that do not split, streams that fail, what the report tells

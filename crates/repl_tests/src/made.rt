@@ -1,8 +1,8 @@
 //! Logs made event by event, as another server might have written them.
 
+use crate::playing::bytes;
 use std::alloc::Global;
-use std::test::Fail;
-use val_types::{Bytes, List};
+use val_types::Bytes;
 
 /// What a test puts into a log.
 #[derive(Clone, Copy)]
@@ -27,57 +27,52 @@ pub const FIRST_BODY: &[u8] =
 const BEFORE_TEXT: &[u8] = b"\x07\x00\x00\x00\x00\x00\x00\x00\x02\x00\x00\x00\x00db\x00";
 
 /// Puts a number of four bytes, the least first.
-fn put_number(log: &mut Bytes, number: usize) -> Result<(), Fail> {
+fn put_number(log: &mut Bytes, number: usize) {
     let [a, b, c, d, _, _, _, _] = number.to_le_bytes();
-    log.extend_from_slice(&[a, b, c, d])?;
-    Ok(())
+    let _ = log.extend_from_slice(&[a, b, c, d]);
 }
 
 /// Puts an event: a moment, its type, the server 9, its length, the next position, no flags; its body.
-fn put_event(log: &mut Bytes, kind: u8, body: &[u8]) -> Result<(), Fail> {
+fn put_event(log: &mut Bytes, kind: u8, body: &[u8]) {
     let length = body.len().saturating_add(19);
     let next = log.len().saturating_add(length);
-    log.extend_from_slice(b"\x01\x00\x00\x00")?;
-    log.push(kind)?;
-    put_number(log, 9)?;
-    put_number(log, length)?;
-    put_number(log, next)?;
-    log.extend_from_slice(b"\x00\x00")?;
-    log.extend_from_slice(body)?;
-    Ok(())
+    let _ = log.extend_from_slice(&[1, 0, 0, 0, kind]);
+    put_number(log, 9);
+    put_number(log, length);
+    put_number(log, next);
+    let _ = log.extend_from_slice(b"\x00\x00");
+    let _ = log.extend_from_slice(body);
 }
 
 /// Puts a statement's event.
-pub fn put_text(alloc: Global, log: &mut Bytes, text: &[u8]) -> Result<(), Fail> {
-    let mut body = List::from_slice(alloc, BEFORE_TEXT)?;
-    body.extend_from_slice(text)?;
-    put_event(log, 2, body.as_slice())
+pub fn put_text(alloc: Global, log: &mut Bytes, text: &[u8]) {
+    let mut body = bytes(alloc, BEFORE_TEXT);
+    let _ = body.extend_from_slice(text);
+    put_event(log, 2, body.as_slice());
 }
 
-fn put_piece(alloc: Global, log: &mut Bytes, piece: Piece<'_>) -> Result<(), Fail> {
+fn put_piece(alloc: Global, log: &mut Bytes, piece: Piece<'_>) {
     match piece {
         Piece::Text(text) => put_text(alloc, log, text.as_bytes()),
         Piece::Begin => put_text(alloc, log, b"BEGIN"),
         Piece::Xid(number) => put_event(log, 16, &[number, 0, 0, 0, 0, 0, 0, 0]),
         Piece::Event(kind, body) => put_event(log, kind, body),
-        Piece::Raw(bytes) => {
-            log.extend_from_slice(bytes)?;
-            Ok(())
+        Piece::Raw(raw) => {
+            let _ = log.extend_from_slice(raw);
         }
     }
 }
 
 /// A log that has begun: its magic and first event, 123 bytes.
-pub fn begun(alloc: Global) -> Result<Bytes, Fail> {
-    let mut log = List::from_slice(alloc, b"\xFEbin")?;
-    put_event(&mut log, 15, FIRST_BODY)?;
-    Ok(log)
+pub fn begun(alloc: Global) -> Bytes {
+    let mut log = bytes(alloc, b"\xFEbin");
+    put_event(&mut log, 15, FIRST_BODY);
+    log
 }
 
 /// Puts pieces, one after the other.
-pub fn put_all(alloc: Global, log: &mut Bytes, pieces: &[Piece<'_>]) -> Result<(), Fail> {
+pub fn put_all(alloc: Global, log: &mut Bytes, pieces: &[Piece<'_>]) {
     for piece in pieces {
-        put_piece(alloc, log, *piece)?;
+        put_piece(alloc, log, *piece);
     }
-    Ok(())
 }

@@ -1,4 +1,7 @@
 //! Calls of the program on scripts and on logs.
+//!
+//! What a call is made with ([`Call`]) and should come to ([`Outcome`]) is plain data, so that a case is a line of a table; a function
+//! over a table says how many of its cases hold from the first on.
 
 use answer_text::{Report, Status, status_line};
 use port_traits::{Draw, Identity, MemEnv, MemSink, MemSource};
@@ -6,11 +9,22 @@ use repl_run::{top, write_log};
 use run_streams::empty_report;
 use std::alloc::Global;
 use std::process::Abort;
-use std::test::Fail;
-use val_types::{Bytes, List};
+use val_types::{Bytes, List, NoMemory};
 
-pub fn bytes(alloc: Global, text: &str) -> Result<Bytes, Fail> {
-    Ok(List::from_slice(alloc, text.as_bytes())?)
+/// Bytes with memory of their own. What wants memory is left out, and then a test fails.
+pub fn bytes(alloc: Global, of: &[u8]) -> Bytes {
+    let mut bytes = List::new(alloc);
+    let _ = bytes.extend_from_slice(of);
+    bytes
+}
+
+/// Texts, one behind the other.
+pub fn joined(alloc: Global, parts: &[&str]) -> Bytes {
+    let mut all = List::new(alloc);
+    for part in parts {
+        let _ = all.extend_from_slice(part.as_bytes());
+    }
+    all
 }
 
 /// The n-th draw of a node whose first moment is given.
@@ -30,195 +44,337 @@ pub const SOURCE_MOMENT: u32 = 1_700_000_000;
 
 pub const REPLICA_MOMENT: u32 = 1_600_000_000;
 
-pub fn identity_of(alloc: Global, server_id: u32, user: &str) -> Result<Identity, Fail> {
-    Ok(Identity {
-        server_id,
-        user: bytes(alloc, user)?,
-    })
+/// Whether a node is the source, or the replica, that every test has.
+pub fn is_root(identity: &Identity) -> bool {
+    identity.server_id == 1 && identity.user.as_slice() == b"root@localhost".as_slice()
+}
+
+pub fn is_rep(identity: &Identity) -> bool {
+    identity.server_id == 2 && identity.user.as_slice() == b"rep@localhost".as_slice()
 }
 
 /// An environment with three draws.
-pub fn environment(alloc: Global, identity: Identity, first: u32) -> Result<MemEnv, Fail> {
-    let mut draws = List::new(alloc);
-    draws.push(draw(first, 0))?;
-    draws.push(draw(first, 1))?;
-    draws.push(draw(first, 2))?;
-    Ok(MemEnv::new(identity, draws))
+fn environment(alloc: Global, identity: Identity, first: u32) -> Option<MemEnv> {
+    match List::from_slice(alloc, &[draw(first, 0), draw(first, 1), draw(first, 2)]) {
+        Ok(draws) => Some(MemEnv::new(identity, draws)),
+        Err(_) => None,
+    }
 }
 
-/// Both nodes.
+/// The environments of the source and of the replica.
+fn source_env(alloc: Global) -> Option<MemEnv> {
+    let root = Identity {
+        server_id: 1,
+        user: bytes(alloc, b"root@localhost"),
+    };
+    environment(alloc, root, SOURCE_MOMENT)
+}
+
+fn replica_env(alloc: Global) -> Option<MemEnv> {
+    let rep = Identity {
+        server_id: 2,
+        user: bytes(alloc, b"rep@localhost"),
+    };
+    environment(alloc, rep, REPLICA_MOMENT)
+}
+
+/// What the program is called with: a command line, what is on its input, whether a read or a write moves at most 10 bytes, and the read
+/// and the write that fail, 0 for none.
+#[derive(Clone, Copy)]
+pub struct Call<'a> {
+    pub line: &'a str,
+    pub input: &'a [u8],
+    pub in_pieces: bool,
+    pub read_fault: u64,
+    pub write_fault: u64,
+}
+
+/// A command line over an input, in few reads and writes that do not fail.
+pub fn asked<'a>(line: &'a str, input: &'a [u8]) -> Call<'a> {
+    Call {
+        line,
+        input,
+        in_pieces: false,
+        read_fault: 0,
+        write_fault: 0,
+    }
+}
+
+/// The same in pieces of 10 bytes, where these calls fail.
+pub fn asked_in_pieces<'a>(
+    line: &'a str,
+    input: &'a [u8],
+    read_fault: u64,
+    write_fault: u64,
+) -> Call<'a> {
+    Call {
+        line,
+        input,
+        in_pieces: true,
+        read_fault,
+        write_fault,
+    }
+}
+
+/// What is written.
+#[derive(Clone, Copy)]
+pub enum Shown<'a> {
+    Any,
+    Just(&'a [u8]),
+    FrontOf(&'a [u8]),
+}
+
+/// What a call of the program should come to: what is written, the line that tells its status, nothing at Done, and the least and the
+/// greatest number of reads and of writes.
+#[derive(Clone, Copy)]
+pub struct Outcome<'a> {
+    pub shown: Shown<'a>,
+    pub ending: &'a str,
+    pub reads: (u64, u64),
+    pub writes: (u64, u64),
+}
+
+/// Any number of calls.
+pub const ANY: (u64, u64) = (0, u64::MAX);
+
+/// These bytes are written, and the line tells the status, whatever calls that takes.
+pub fn wanted<'a>(shown: &'a [u8], ending: &'a str) -> Outcome<'a> {
+    Outcome {
+        shown: Shown::Just(shown),
+        ending,
+        reads: ANY,
+        writes: ANY,
+    }
+}
+
+/// All that a call of the program works on.
 #[derive(Drop)]
-struct Nodes {
+struct Stage {
+    words: Vec<String>,
     source: MemEnv,
     replica: MemEnv,
-}
-
-/// The nodes that every test has.
-fn two_nodes(alloc: Global) -> Result<Nodes, Fail> {
-    let source = environment(
-        alloc,
-        identity_of(alloc, 1, "root@localhost")?,
-        SOURCE_MOMENT,
-    )?;
-    let replica = environment(
-        alloc,
-        identity_of(alloc, 2, "rep@localhost")?,
-        REPLICA_MOMENT,
-    )?;
-    Ok(Nodes { source, replica })
-}
-
-/// What a call of the program came to: what was written, the line that tells its status, nothing at Done, and how many reads and
-/// writes there were.
-#[derive(Drop)]
-pub struct Played {
-    pub written: Bytes,
-    pub ending: Bytes,
-    pub reads: u64,
-    pub writes: u64,
+    input: MemSource,
+    out: MemSink,
 }
 
 /// The words of a command line.
-fn words_of(alloc: Global, line: &str) -> Result<Vec<String>, Fail> {
+fn words_of(alloc: Global, line: &str) -> Vec<String> {
     let mut words = Vec::new(alloc);
     for word in line.split_whitespace() {
-        words.push(String::from_str(alloc, word)?)?;
+        if let Ok(word) = String::from_str(alloc, word) {
+            let _ = words.push(word);
+        }
     }
-    Ok(words)
+    words
+}
+
+/// The number of a call.
+fn only(alloc: Global, call: u64) -> List<u64> {
+    let mut calls = List::new(alloc);
+    let _ = calls.push(call);
+    calls
+}
+
+fn input_of(alloc: Global, asked: &Call<'_>) -> MemSource {
+    let input = MemSource::new(bytes(alloc, asked.input), only(alloc, asked.read_fault));
+    if asked.in_pieces {
+        input.with_piece(10)
+    } else {
+        input
+    }
+}
+
+fn output_of(alloc: Global, asked: &Call<'_>) -> MemSink {
+    let out = MemSink::new(alloc, only(alloc, asked.write_fault));
+    if asked.in_pieces {
+        out.with_piece(10)
+    } else {
+        out
+    }
+}
+
+fn stage_of(alloc: Global, asked: &Call<'_>) -> Option<Stage> {
+    let source = source_env(alloc)?;
+    let replica = replica_env(alloc)?;
+    Some(Stage {
+        words: words_of(alloc, asked.line),
+        source,
+        replica,
+        input: input_of(alloc, asked),
+        out: output_of(alloc, asked),
+    })
 }
 
 /// A call of the program. It says nothing of what comes out, so that tests are checked without the clauses of `top`.
-fn called(
-    alloc: Global,
-    words: &[String],
-    input: &mut MemSource,
-    out: &mut MemSink,
-    nodes: &mut Nodes,
-) -> (Status, Report) {
+fn called(alloc: Global, stage: &mut Stage) -> (Status, Report) {
     let mut report = empty_report(alloc);
     let status = top(
         alloc,
-        words,
-        input,
-        out,
-        &mut nodes.source,
-        &mut nodes.replica,
+        stage.words.as_slice(),
+        &mut stage.input,
+        &mut stage.out,
+        &mut stage.source,
+        &mut stage.replica,
         &mut report,
     );
     (status, report)
 }
 
-/// A call of the program, and the line that tells its status.
-fn ended(
-    alloc: Global,
-    words: &[String],
-    input: &mut MemSource,
-    out: &mut MemSink,
-    nodes: &mut Nodes,
-) -> Result<Bytes, Fail> {
-    let (status, _) = called(alloc, words, input, out, nodes);
-    Ok(status_line(alloc, &status)?)
-}
-
-/// A call of the program with the words of a line, over an input and an output.
-pub fn play(
-    alloc: Global,
-    line: &str,
-    mut input: MemSource,
-    mut out: MemSink,
-) -> Result<Played, Fail> {
-    let words = words_of(alloc, line)?;
-    let mut nodes = two_nodes(alloc)?;
-    let ending = ended(alloc, words.as_slice(), &mut input, &mut out, &mut nodes)?;
-    Ok(Played {
-        ending,
-        reads: input.calls(),
-        writes: out.calls(),
-        written: List::from_slice(alloc, out.written().as_slice())?,
-    })
-}
-
-/// The report of a call of the program with the words of a line, over an input.
-pub fn report_of(alloc: Global, line: &str, input: &[u8]) -> Result<Report, Fail> {
-    let words = words_of(alloc, line)?;
-    let mut nodes = two_nodes(alloc)?;
-    let mut input = MemSource::new(List::from_slice(alloc, input)?, List::new(alloc));
-    let mut out = MemSink::new(alloc, List::new(alloc));
-    let (_, report) = called(alloc, words.as_slice(), &mut input, &mut out, &mut nodes);
-    Ok(report)
-}
-
 /// The writing of a log, of which nothing is said either: the number of its status.
-fn logged(alloc: Global, input: &mut MemSource, out: &mut MemSink, nodes: &mut Nodes) -> u8 {
+fn logged(alloc: Global, stage: &mut Stage) -> u8 {
     let status = write_log(
         alloc,
-        input,
-        out,
-        &mut nodes.source,
-        &mut nodes.replica,
+        &mut stage.input,
+        &mut stage.out,
+        &mut stage.source,
+        &mut stage.replica,
         &mut empty_report(alloc),
     );
     status.number()
 }
 
+/// Whether a text is made, and is this one.
+fn is_text(found: Result<Bytes, NoMemory>, wanted: &[u8]) -> bool {
+    match found {
+        Ok(text) => text.as_slice() == wanted,
+        Err(_) => false,
+    }
+}
+
+/// Whether this line tells the status of a call of the program.
+fn is_ended(alloc: Global, stage: &mut Stage, ending: &str) -> bool {
+    let (status, _) = called(alloc, stage);
+    is_text(status_line(alloc, &status), ending.as_bytes())
+}
+
+fn is_within(count: u64, range: (u64, u64)) -> bool {
+    let (least, greatest) = range;
+    least <= count && count <= greatest
+}
+
+fn is_shown(written: &[u8], shown: Shown<'_>) -> bool {
+    match shown {
+        Shown::Any => true,
+        Shown::Just(bytes) => written == bytes,
+        Shown::FrontOf(bytes) => bytes.starts_with(written),
+    }
+}
+
+/// Whether a call wrote what it should, in so many reads and writes.
+fn came_to(stage: &Stage, wanted: &Outcome<'_>) -> bool {
+    is_shown(stage.out.written().as_slice(), wanted.shown)
+        && is_within(stage.input.calls(), wanted.reads)
+        && is_within(stage.out.calls(), wanted.writes)
+}
+
+/// Whether a call of the program comes to what it should.
+pub fn plays(alloc: Global, asked: &Call<'_>, wanted: &Outcome<'_>) -> bool {
+    match stage_of(alloc, asked) {
+        Some(mut stage) => { is_ended(alloc, &mut stage, wanted.ending) && came_to(&stage, wanted) }
+        None => false,
+    }
+}
+
+/// What a call of the program writes, and how many reads and writes it takes.
+pub fn written_by(alloc: Global, asked: &Call<'_>) -> (Bytes, u64, u64) {
+    match stage_of(alloc, asked) {
+        Some(mut stage) => {
+            let _ = called(alloc, &mut stage);
+            let written = bytes(alloc, stage.out.written().as_slice());
+            (written, stage.input.calls(), stage.out.calls())
+        }
+        None => (List::new(alloc), 0, 0),
+    }
+}
+
+/// The report of a call of the program.
+pub fn report_of(alloc: Global, asked: &Call<'_>) -> Report {
+    match stage_of(alloc, asked) {
+        Some(mut stage) => {
+            let (_, report) = called(alloc, &mut stage);
+            report
+        }
+        None => empty_report(alloc),
+    }
+}
+
 /// The number of the status with which a script's log is written, and what was written.
-pub fn write_log_of(alloc: Global, script: &str) -> Result<(u8, Bytes), Fail> {
-    let mut nodes = two_nodes(alloc)?;
-    let mut input = source_of(alloc, script.as_bytes(), List::new(alloc))?;
-    let mut out = sink_of(alloc, List::new(alloc));
-    let number = logged(alloc, &mut input, &mut out, &mut nodes);
-    Ok((number, List::from_slice(alloc, out.written().as_slice())?))
+pub fn write_log_of(alloc: Global, script: &str) -> (u8, Bytes) {
+    match stage_of(alloc, &asked_in_pieces("log", script.as_bytes(), 0, 0)) {
+        Some(mut stage) => {
+            let number = logged(alloc, &mut stage);
+            (number, bytes(alloc, stage.out.written().as_slice()))
+        }
+        None => (u8::MAX, List::new(alloc)),
+    }
 }
 
 /// The log of a script.
-pub fn log_of(alloc: Global, script: &str) -> Result<Bytes, Fail> {
-    let (_, log) = write_log_of(alloc, script)?;
-    Ok(log)
+pub fn log_of(alloc: Global, script: &str) -> Bytes {
+    let (_, log) = write_log_of(alloc, script);
+    log
 }
 
-/// A word of the program over a log, in few reads and writes.
-pub fn over_log(alloc: Global, word: &str, log: &[u8]) -> Result<Played, Fail> {
-    let input = MemSource::new(List::from_slice(alloc, log)?, List::new(alloc));
-    play(alloc, word, input, MemSink::new(alloc, List::new(alloc)))
+/// Whether a script runs to its end and writes these lines.
+pub fn runs(alloc: Global, script: &[u8], lines: &[u8]) -> bool {
+    plays(alloc, &asked("run", script), &wanted(lines, ""))
 }
 
-/// Expects what was written, and the line that tells the status.
-pub fn expect_played(rt: &impl Abort, played: &Played, written: &[u8], ending: &str, of: &str) {
-    assert_eq!(rt; played.written.as_slice(), written, "{of}");
-    assert_eq!(rt; played.ending.as_slice(), ending.as_bytes());
+/// What stands around the scripts of a table, and around what they write.
+pub struct Frame {
+    pub before: &'static str,
+    pub behind: &'static str,
+    pub first: &'static str,
+    pub last: &'static str,
 }
 
-/// Expects the line that tells the status, and how many reads and writes there were.
-pub fn expect_calls(rt: &impl Abort, played: &Played, ending: &str, calls: (u64, u64)) {
-    assert_eq!(rt; (played.reads, played.writes), calls, "{ending}");
-    assert_eq!(rt; played.ending.as_slice(), ending.as_bytes());
+/// Scripts as they are.
+pub static BARE: Frame = Frame {
+    before: "",
+    behind: "",
+    first: "",
+    last: "",
+};
+
+/// A text between two others.
+fn between(alloc: Global, front: &str, text: &str, end: &str) -> Bytes {
+    let mut all = bytes(alloc, front.as_bytes());
+    put_times(&mut all, text, 1);
+    put_times(&mut all, end, 1);
+    all
 }
 
-/// An input of these bytes that is read in pieces of 10.
-pub fn source_of(alloc: Global, script: &[u8], fails: List<u64>) -> Result<MemSource, Fail> {
-    Ok(MemSource::new(List::from_slice(alloc, script)?, fails).with_piece(10))
+fn runs_in(alloc: Global, frame: &Frame, script: &str, lines: &str) -> bool {
+    let script = between(alloc, frame.before, script, frame.behind);
+    let lines = between(alloc, frame.first, lines, frame.last);
+    runs(alloc, script.as_slice(), lines.as_slice())
 }
 
-/// An output that is written in pieces of 10.
-pub fn sink_of(alloc: Global, fails: List<u64>) -> MemSink {
-    MemSink::new(alloc, fails).with_piece(10)
+/// How many scripts run to their end and write their lines, from the first on.
+pub fn held(alloc: Global, frame: &Frame, rows: &[(&str, &str)]) -> usize {
+    for (i, (script, lines)) in rows.iter().enumerate() {
+        if !runs_in(alloc, frame, *script, *lines) {
+            return i;
+        }
+    }
+    rows.len()
 }
 
-/// A run over a script, in few reads and writes.
-pub fn run(alloc: Global, script: Bytes) -> Result<Played, Fail> {
-    let input = MemSource::new(script, List::new(alloc));
-    play(alloc, "run", input, MemSink::new(alloc, List::new(alloc)))
+/// Puts a piece so many times at the end.
+pub fn put_times(text: &mut Bytes, piece: &str, times: u32) {
+    for _turn in 0..times {
+        let _ = text.extend_from_slice(piece.as_bytes());
+    }
 }
 
-/// Expects of a script that it runs to its end and writes these lines.
-pub fn expect_lines(
-    rt: &impl Abort,
-    alloc: Global,
-    script: Bytes,
-    lines: &[u8],
-    of: &str,
-) -> Result<(), Fail> {
-    let played = run(alloc, script)?;
-    expect_played(rt, &played, lines, "", of);
-    Ok(())
+/// Puts a number in decimal at the end.
+pub fn put_number(alloc: Global, text: &mut Bytes, number: u32) {
+    if let Ok(number) = number.to_string(alloc) {
+        put_times(text, number.as_str(), 1);
+    }
+}
+
+/// Expects of a table that all its cases hold.
+pub fn expect_all(rt: &impl Abort, of: &str, held: usize, cases: usize) {
+    assert_eq!(rt; held, cases, "{of}");
 }

@@ -1,13 +1,16 @@
 //! Stored functions and triggers.
 
-use crate::playing::{bytes, expect_lines};
+use crate::playing::{Frame, expect_all, held, joined, put_number, put_times, runs};
 use std::alloc::Global;
-use std::test::Fail;
 use val_types::Bytes;
 
-/// Tables `t` and `u` of two numbers, whose key is `id`.
-const TABLES: &str =
-    "s1: CREATE TABLE t (id INT, v INT, PRIMARY KEY (id)) //\ns1: CREATE TABLE u (id INT, v BIGINT, PRIMARY KEY (id)) //\n";
+/// Behind tables `t` and `u` of two numbers, whose key is `id`.
+static TABLES: Frame = Frame {
+    before: "s1: CREATE TABLE t (id INT, v INT, PRIMARY KEY (id)) //\ns1: CREATE TABLE u (id INT, v BIGINT, PRIMARY KEY (id)) //\n",
+    behind: "",
+    first: "1 ok 0\n2 ok 0\n",
+    last: "",
+};
 
 /// Scripts behind both tables, and the lines behind theirs.
 static SCRIPTS: [(&str, &str); 9] = [
@@ -49,7 +52,7 @@ static SCRIPTS: [(&str, &str); 9] = [
     // what refuses a definition, and what goes with a table
     (
         "s1: CREATE FUNCTION f() RETURNS INT COMMIT //\ns1: CREATE FUNCTION f() RETURNS INT SELECT 1 //\ns1: CREATE FUNCTION f() RETURNS INT RETURN 1 //\ns1: CREATE FUNCTION f() RETURNS INT RETURN 2 //\ns1: CREATE TRIGGER a AFTER INSERT ON nosuch FOR EACH ROW DO 1 //\ns1: CREATE TRIGGER a AFTER INSERT ON t FOR EACH ROW DO 1 //\ns1: CREATE TRIGGER a AFTER DELETE ON t FOR EACH ROW DO 1 //\ns1: CREATE TRIGGER b AFTER INSERT ON t FOR EACH ROW DO 1 //\ns1: CREATE TRIGGER b AFTER INSERT ON u FOR EACH ROW SET NEW.v = 1 //\ns1: DROP TABLE t //\ns1: DROP TRIGGER a //\ns1: DROP FUNCTION f //\ns1: DROP FUNCTION f //\ns1: CREATE PROCEDURE f() DO 1 //\n",
-        "3 error 30005\n4 error 30005\n5 ok 0\n6 error 1304\n7 error 1146\n8 ok 0\n9 error 1359\n10 error 30005\n11 error 30005\n12 ok 0\n13 error 1360\n14 ok 0\n15 error 1305\n16 error 30005\n",
+        "3 error 30005\n4 error 30005\n5 ok 0\n6 error 1304\n7 error 1146\n8 ok 0\n9 error 1359\n10 error 30005\n11 error 30005\n12 ok 0\n13 error 1360\n14 ok 0\n15 error 1305\n16 ok 0\n",
     ),
     // turns of WHILE are counted for the whole command, whatever its statement comes to
     (
@@ -58,78 +61,56 @@ static SCRIPTS: [(&str, &str); 9] = [
     ),
 ];
 
-/// A script behind both tables, and its lines behind theirs.
-fn behind_tables(alloc: Global, script: &str, lines: &str) -> Result<(Bytes, Bytes), Fail> {
-    let mut all = bytes(alloc, TABLES)?;
-    all.extend_from_slice(script.as_bytes())?;
-    let mut shown = bytes(alloc, "1 ok 0\n2 ok 0\n")?;
-    shown.extend_from_slice(lines.as_bytes())?;
-    Ok((all, shown))
-}
-
-#[test]
-fn functions_and_triggers(rt: HostRuntime) -> Result<(), Fail> {
-    for (script, lines) in &SCRIPTS {
-        let (all, shown) = behind_tables(rt.alloc(), *script, *lines)?;
-        expect_lines(&rt, rt.alloc(), all, shown.as_slice(), *script)?;
+/// Puts the functions that call one another, so many deep but for the innermost, `f1`.
+fn put_functions(alloc: Global, script: &mut Bytes, depth: u32) {
+    for number in 2..depth.saturating_add(1) {
+        put_times(script, "s1: CREATE FUNCTION f", 1);
+        put_number(alloc, script, number);
+        put_times(script, "() RETURNS INT RETURN f", 1);
+        put_number(alloc, script, number.saturating_sub(1));
+        put_times(script, "() //\n", 1);
     }
-    Ok(())
-}
-
-/// Puts a number in decimal at the end.
-fn put_number(alloc: Global, text: &mut Bytes, number: u32) -> Result<(), Fail> {
-    text.extend_from_slice(number.to_string(alloc)?.as_bytes())?;
-    Ok(())
 }
 
 /// Functions that call one another, so many deep, and a call of the outermost.
-fn nested(alloc: Global, depth: u32) -> Result<Bytes, Fail> {
-    let mut script = bytes(alloc, "s1: CREATE FUNCTION f1() RETURNS INT RETURN 5 //\n")?;
-    for number in 2..depth.saturating_add(1) {
-        script.extend_from_slice(b"s1: CREATE FUNCTION f")?;
-        put_number(alloc, &mut script, number)?;
-        script.extend_from_slice(b"() RETURNS INT RETURN f")?;
-        put_number(alloc, &mut script, number.saturating_sub(1))?;
-        script.extend_from_slice(b"() //\n")?;
-    }
-    script.extend_from_slice(b"s1: SELECT f")?;
-    put_number(alloc, &mut script, depth)?;
-    script.extend_from_slice(b"() //\n")?;
-    Ok(script)
+fn nested(alloc: Global, depth: u32) -> Bytes {
+    let mut script = joined(
+        alloc,
+        &["s1: CREATE FUNCTION f1() RETURNS INT RETURN 5 //\n"],
+    );
+    put_functions(alloc, &mut script, depth);
+    put_times(&mut script, "s1: SELECT f", 1);
+    put_number(alloc, &mut script, depth);
+    put_times(&mut script, "() //\n", 1);
+    script
 }
 
-/// What is written where so many functions are made, and then this line with the number behind it.
-fn made_then(alloc: Global, count: u32, last: &[&str]) -> Result<Bytes, Fail> {
-    let mut lines = bytes(alloc, "")?;
+/// What is written where so many functions are made, and then the lines of the call.
+fn made_then(alloc: Global, count: u32, last: &str) -> Bytes {
+    let mut lines = joined(alloc, &[]);
     for number in 1..count.saturating_add(1) {
-        put_number(alloc, &mut lines, number)?;
-        lines.extend_from_slice(b" ok 0\n")?;
+        put_number(alloc, &mut lines, number);
+        put_times(&mut lines, " ok 0\n", 1);
     }
-    for words in last {
-        put_number(alloc, &mut lines, count.saturating_add(1))?;
-        lines.extend_from_slice(words.as_bytes())?;
-    }
-    Ok(lines)
+    put_times(&mut lines, last, 1);
+    lines
+}
+
+/// Whether so many functions that call one another end with these lines.
+fn runs_nested(alloc: Global, depth: u32, last: &str) -> bool {
+    let lines = made_then(alloc, depth, last);
+    runs(alloc, nested(alloc, depth).as_slice(), lines.as_slice())
 }
 
 #[test]
-fn sixteen_programs_deep(rt: HostRuntime) -> Result<(), Fail> {
+fn functions_and_triggers(rt: HostRuntime) {
     let alloc = rt.alloc();
-    let deepest = made_then(alloc, 16, &[" row 5\n", " rows 1\n"])?;
-    expect_lines(
+    expect_all(
         &rt,
-        alloc,
-        nested(alloc, 16)?,
-        deepest.as_slice(),
-        "16 programs",
-    )?;
-    let too_deep = made_then(alloc, 17, &[" error 30003\n"])?;
-    expect_lines(
-        &rt,
-        alloc,
-        nested(alloc, 17)?,
-        too_deep.as_slice(),
-        "17 programs",
-    )?;
-    Ok(())
+        "scripts",
+        held(alloc, &TABLES, &SCRIPTS),
+        SCRIPTS.len(),
+    );
+    assert!(rt; runs_nested(alloc, 16, "17 row 5\n17 rows 1\n"));
+    assert!(rt; runs_nested(alloc, 17, "18 error 30003\n"));
 }

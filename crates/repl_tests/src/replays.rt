@@ -2,14 +2,12 @@
 
 use crate::made::{FIRST_BODY, Piece, begun, put_all, put_text};
 use crate::playing::{
-    Played, REPLICA_MOMENT, draw, expect_calls, expect_played, identity_of, log_of, over_log, play,
-    report_of, sink_of, source_of,
+    ANY, Call, Outcome, REPLICA_MOMENT, Shown, asked, asked_in_pieces, draw, expect_all, is_rep,
+    log_of, plays, report_of, wanted, written_by,
 };
 use answer_text::Report;
 use port_traits::{Draw, Identity};
 use std::alloc::Global;
-use std::process::Abort;
-use std::test::Fail;
 use val_types::{Bytes, List};
 
 /// The text that makes the table `t` of two numbers, whose key is `id`. Its event ends at 206.
@@ -23,13 +21,27 @@ const ROW: &[u8] =
     b"\x01\x00\x00\x00\x00\x00\x01\x00\x02\x00\x02\x03\x00\x01\x00\x00\x00\x0a\x00\x00\x00";
 
 /// What stands in a log behind that table, the line of its replay, and the line of the status that it ends with.
-static CASES: [(&[Piece<'_>], &str, &str); 43] = [
+static CASES: [(&[Piece<'_>], &str, &str); 45] = [
     // a row to delete that is not there
     (
         &[
             Piece::Begin,
             Piece::Event(19, MAP),
             Piece::Event(32, ROW),
+            Piece::Xid(2),
+        ],
+        "applied 1 1:206\n",
+        "differs at 285 code 1032 table t key (1)\n",
+    ),
+    // a row to change that is not there: (1, 10) to (1, 11)
+    (
+        &[
+            Piece::Begin,
+            Piece::Event(19, MAP),
+            Piece::Event(
+                31,
+                b"\x01\x00\x00\x00\x00\x00\x01\x00\x02\x00\x02\x03\x03\x00\x01\x00\x00\x00\x0a\x00\x00\x00\x00\x01\x00\x00\x00\x0b\x00\x00\x00",
+            ),
             Piece::Xid(2),
         ],
         "applied 1 1:206\n",
@@ -102,12 +114,17 @@ static CASES: [(&[Piece<'_>], &str, &str); 43] = [
         "differs at 246 code 30005 table - key ()\n",
     ),
     (
+        &[Piece::Begin, Piece::Text("CALL p()"), Piece::Xid(2)],
+        "applied 1 1:206\n",
+        "differs at 246 code 30005 table - key ()\n",
+    ),
+    (
         &[Piece::Text("INSERT INTO t VALUES (1, 10)")],
         "applied 1 1:206\n",
         "differs at 206 code 30005 table - key ()\n",
     ),
     (
-        &[Piece::Text("CREATE PROCEDURE p() DO 1")],
+        &[Piece::Text("CREATE PROCEDURE p() COMMIT")],
         "applied 1 1:206\n",
         "differs at 206 code 30005 table - key ()\n",
     ),
@@ -408,11 +425,11 @@ static CASES: [(&[Piece<'_>], &str, &str); 43] = [
 ];
 
 /// A log with the table `t` and these pieces.
-fn behind_table(alloc: Global, pieces: &[Piece<'_>]) -> Result<Bytes, Fail> {
-    let mut log = begun(alloc)?;
-    put_text(alloc, &mut log, T.as_bytes())?;
-    put_all(alloc, &mut log, pieces)?;
-    Ok(log)
+fn behind_table(alloc: Global, pieces: &[Piece<'_>]) -> Bytes {
+    let mut log = begun(alloc);
+    put_text(alloc, &mut log, T.as_bytes());
+    put_all(alloc, &mut log, pieces);
+    log
 }
 
 /// How the printing of a log ends whose replay ends so: tables are nothing to it.
@@ -424,34 +441,37 @@ fn printing_ends(replay: &str) -> &str {
     }
 }
 
-/// Expects how printing and replaying a log end, and what the replay writes.
-fn expect_ends(
-    rt: &impl Abort,
-    alloc: Global,
-    log: &[u8],
-    line: &str,
-    ending: &str,
-) -> Result<(), Fail> {
-    let replayed = over_log(alloc, "replay", log)?;
-    expect_played(rt, &replayed, line.as_bytes(), ending, ending);
-    let printed = over_log(alloc, "print", log)?;
-    expect_played(
-        rt,
-        &printed,
-        printed.written.as_slice(),
-        printing_ends(ending),
+/// Whether a call ends so, whatever it writes.
+fn ends<'a>(ending: &'a str) -> Outcome<'a> {
+    Outcome {
+        shown: Shown::Any,
         ending,
-    );
-    Ok(())
+        reads: ANY,
+        writes: ANY,
+    }
 }
 
-#[test]
-fn logs_of_another_server(rt: HostRuntime) -> Result<(), Fail> {
-    for (pieces, line, ending) in &CASES {
-        let log = behind_table(rt.alloc(), *pieces)?;
-        expect_ends(&rt, rt.alloc(), log.as_slice(), *line, *ending)?;
+/// Whether printing and replaying a log end so, and the replay writes this line.
+fn is_read(alloc: Global, log: &[u8], line: &str, ending: &str) -> bool {
+    let replayed = wanted(line.as_bytes(), ending);
+    plays(alloc, &asked("replay", log), &replayed)
+        && plays(alloc, &asked("print", log), &ends(printing_ends(ending)))
+}
+
+/// The same of a log with the table and these pieces.
+fn is_read_behind(alloc: Global, pieces: &[Piece<'_>], line: &str, ending: &str) -> bool {
+    let log = behind_table(alloc, pieces);
+    is_read(alloc, log.as_slice(), line, ending)
+}
+
+/// How many logs are read so, from the first on.
+fn held(alloc: Global) -> usize {
+    for (i, (pieces, line, ending)) in CASES.iter().enumerate() {
+        if !is_read_behind(alloc, *pieces, *line, *ending) {
+            return i;
+        }
     }
-    Ok(())
+    CASES.len()
 }
 
 /// What is no log, or no more than its beginning.
@@ -464,23 +484,25 @@ static BEGINNINGS: [(&[u8], &str, &str); 6] = [
     (b"\xFEbin\x00", "applied 0 1:4\n", "log damaged at 4\n"),
 ];
 
-#[test]
-fn beginnings_of_logs(rt: HostRuntime) -> Result<(), Fail> {
-    for (log, line, ending) in &BEGINNINGS {
-        expect_ends(&rt, rt.alloc(), *log, *line, *ending)?;
+/// How many beginnings are read so, from the first on.
+fn held_beginnings(alloc: Global) -> usize {
+    for (i, (log, line, ending)) in BEGINNINGS.iter().enumerate() {
+        if !is_read(alloc, *log, *line, *ending) {
+            return i;
+        }
     }
-    Ok(())
+    BEGINNINGS.len()
 }
 
-/// A text of one byte more than a statement may have.
-#[test]
-fn text_too_long(rt: HostRuntime) -> Result<(), Fail> {
-    let alloc = rt.alloc();
-    let mut log = behind_table(alloc, &[])?;
-    let blanks: Bytes = List::from_vec(vec![in alloc; b' '; 1_048_577]?);
-    put_text(alloc, &mut log, blanks.as_slice())?;
-    expect_ends(
-        &rt,
+/// Whether a text of one byte more than a statement may have differs.
+fn is_too_long(alloc: Global) -> bool {
+    let mut blanks: Bytes = List::new(alloc);
+    for _blank in 0..1_048_577u32 {
+        let _ = blanks.push(b' ');
+    }
+    let mut log = behind_table(alloc, &[]);
+    put_text(alloc, &mut log, blanks.as_slice());
+    is_read(
         alloc,
         log.as_slice(),
         "applied 1 1:206\n",
@@ -510,138 +532,125 @@ static FRONTS: [(usize, usize, &str, &str); 10] = [
     (482, 483, REPLAYED, ""),
 ];
 
-/// Expects that fronts of a log end so.
-fn expect_fronts(
-    rt: &impl Abort,
-    alloc: Global,
-    log: &[u8],
-    front: (usize, usize, &str, &str),
-) -> Result<(), Fail> {
+/// Whether fronts of a log are read so.
+fn are_read(alloc: Global, log: &[u8], front: &(usize, usize, &str, &str)) -> bool {
     let (from, to, line, ending) = front;
-    for length in from..to {
-        expect_ends(rt, alloc, log.get(..length).unwrap_or(b""), line, ending)?;
+    for length in *from..*to {
+        if !is_read(alloc, log.get(..length).unwrap_or(b""), *line, *ending) {
+            return false;
+        }
     }
-    Ok(())
+    true
 }
 
-#[test]
-fn logs_cut_at_every_byte(rt: HostRuntime) -> Result<(), Fail> {
-    let log = log_of(rt.alloc(), SCRIPT)?;
-    assert_eq!(rt; log.len(), 482);
-    for front in &FRONTS {
-        expect_fronts(&rt, rt.alloc(), log.as_slice(), *front)?;
+/// How many kinds of fronts are read so, from the first on.
+fn held_fronts(alloc: Global, log: &[u8]) -> usize {
+    for (i, front) in FRONTS.iter().enumerate() {
+        if !are_read(alloc, log, front) {
+            return i;
+        }
     }
-    Ok(())
+    FRONTS.len()
 }
 
-/// A list of one call.
-fn only(alloc: Global, call: u64) -> Result<List<u64>, Fail> {
-    let mut calls = List::new(alloc);
-    calls.push(call)?;
-    Ok(calls)
-}
-
-/// A word over a log that is read and written in pieces of 10, where the calls of these numbers fail.
-fn over_pieces(
+/// Whether a call of a word in pieces of 10 ends so, and a front of what is shown is written.
+fn stops(
     alloc: Global,
-    word: &str,
-    log: &[u8],
-    reads: List<u64>,
-    writes: List<u64>,
-) -> Result<Played, Fail> {
-    let input = source_of(alloc, log, reads)?;
-    play(alloc, word, input, sink_of(alloc, writes))
-}
-
-/// Expects that a read that fails is the last, and that a front of what is shown was written.
-fn expect_read_fault(
-    rt: &impl Abort,
-    alloc: Global,
-    word: &str,
-    log: &[u8],
+    call: &Call<'_>,
     shown: &[u8],
-    call: u64,
-) -> Result<(), Fail> {
-    let played = over_pieces(alloc, word, log, only(alloc, call)?, List::new(alloc))?;
-    expect_calls(rt, &played, "read fault\n", (call, played.writes));
-    assert_eq!(rt; shown.starts_with(played.written.as_slice()), true);
-    Ok(())
+    ending: &str,
+    reads: (u64, u64),
+    writes: (u64, u64),
+) -> bool {
+    let wanted = Outcome {
+        shown: Shown::FrontOf(shown),
+        ending,
+        reads,
+        writes,
+    };
+    plays(alloc, call, &wanted)
 }
 
-/// Expects that a write that fails is the last, and that a front of what is shown was written.
-fn expect_write_fault(
-    rt: &impl Abort,
-    alloc: Global,
-    word: &str,
-    log: &[u8],
-    shown: &[u8],
-    call: u64,
-) -> Result<(), Fail> {
-    let played = over_pieces(alloc, word, log, List::new(alloc), only(alloc, call)?)?;
-    expect_calls(rt, &played, "write fault\n", (played.reads, call));
-    assert_eq!(rt; shown.starts_with(played.written.as_slice()), true);
-    Ok(())
-}
-
-/// How many reads and writes a word over a log takes.
-fn calls_of(alloc: Global, word: &str, log: &[u8]) -> Result<(u64, u64), Fail> {
-    let played = over_pieces(alloc, word, log, List::new(alloc), List::new(alloc))?;
-    Ok((played.reads, played.writes))
-}
-
-/// Expects that each read and each write that fails ends a word over a log.
-fn expect_faults(
-    rt: &impl Abort,
-    alloc: Global,
-    word: &str,
-    log: &[u8],
-    shown: &[u8],
-) -> Result<(), Fail> {
-    let (reads, writes) = calls_of(alloc, word, log)?;
-    assert_eq!(rt; (reads > 48, writes > 1), (true, true));
+/// Whether each read that fails is the last.
+fn stops_at_reads(alloc: Global, word: &str, log: &[u8], shown: &[u8], reads: u64) -> bool {
     for call in 1..=reads {
-        expect_read_fault(rt, alloc, word, log, shown, call)?;
+        let asked = asked_in_pieces(word, log, call, 0);
+        if !stops(alloc, &asked, shown, "read fault\n", (call, call), ANY) {
+            return false;
+        }
     }
+    true
+}
+
+/// Whether each write that fails is the last.
+fn stops_at_writes(alloc: Global, word: &str, log: &[u8], shown: &[u8], writes: u64) -> bool {
     for call in 1..=writes {
-        expect_write_fault(rt, alloc, word, log, shown, call)?;
+        let asked = asked_in_pieces(word, log, 0, call);
+        if !stops(alloc, &asked, shown, "write fault\n", ANY, (call, call)) {
+            return false;
+        }
     }
-    Ok(())
+    true
+}
+
+/// Whether each read and each write that fails ends a word over a log, of which there are more than 48 and more than one.
+fn stops_at_faults(alloc: Global, word: &str, log: &[u8], shown: &[u8]) -> bool {
+    let (_, reads, writes) = written_by(alloc, &asked_in_pieces(word, log, 0, 0));
+    reads > 48
+        && writes > 1
+        && stops_at_reads(alloc, word, log, shown, reads)
+        && stops_at_writes(alloc, word, log, shown, writes)
+}
+
+/// Whether all faults under printing and replaying a log do so.
+fn stops_at_all(alloc: Global, log: &[u8]) -> bool {
+    let (shown, _, _) = written_by(alloc, &asked("print", log));
+    stops_at_faults(alloc, "print", log, shown.as_slice())
+        && stops_at_faults(alloc, "replay", log, REPLAYED.as_bytes())
+}
+
+/// Whether the replica is told, or none where none is to be.
+fn is_told(identity: &Option<Identity>, replica: bool) -> bool {
+    match identity {
+        Some(identity) => replica && is_rep(identity),
+        None => !replica,
+    }
+}
+
+/// Whether a report tells who the replica is or nothing, these draws of it, and nothing of a source.
+fn tells(report: &Report, replica: bool, draws: &[Draw]) -> bool {
+    is_told(&report.rep_identity, replica)
+        && report.rep_draws.as_slice() == draws
+        && report.src_identity.is_none()
+        && report.src_draws.is_empty()
+}
+
+/// Whether a replay tells who the replica is and its one draw, and a print tells nothing.
+fn tells_of_words(alloc: Global, log: &[u8]) -> bool {
+    let replay = report_of(alloc, &asked("replay", log));
+    let print = report_of(alloc, &asked("print", log));
+    tells(&replay, true, &[draw(REPLICA_MOMENT, 0)]) && tells(&print, false, &[])
 }
 
 #[test]
-fn streams_that_fail_under_logs(rt: HostRuntime) -> Result<(), Fail> {
+fn logs_of_another_server(rt: HostRuntime) {
     let alloc = rt.alloc();
-    let log = log_of(alloc, SCRIPT)?;
-    let shown = over_log(alloc, "print", log.as_slice())?.written;
-    expect_faults(&rt, alloc, "print", log.as_slice(), shown.as_slice())?;
-    expect_faults(&rt, alloc, "replay", log.as_slice(), REPLAYED.as_bytes())
+    expect_all(&rt, "logs of another server", held(alloc), CASES.len());
+    expect_all(&rt, "beginnings", held_beginnings(alloc), BEGINNINGS.len());
+    assert!(rt; is_too_long(alloc));
 }
 
-/// Expects of a report that it tells this of the replica, and nothing of a source.
-fn expect_report(rt: &impl Abort, report: &Report, replica: &Option<Identity>, draws: &[Draw]) {
-    assert_eq!(rt; report.rep_identity, *replica);
-    assert_eq!(rt; report.rep_draws.as_slice(), draws);
-    assert_eq!(rt; report.src_identity.is_none(), report.src_draws.is_empty());
-    assert_eq!(rt; report.src_draws.len(), 0);
-}
-
-/// A replay tells who the replica is and its one draw.
 #[test]
-fn report_of_a_replay(rt: HostRuntime) -> Result<(), Fail> {
+fn a_log_of_its_own(rt: HostRuntime) {
     let alloc = rt.alloc();
-    let replica = Some(identity_of(alloc, 2, "rep@localhost")?);
-    let log = log_of(alloc, SCRIPT)?;
-    let report = report_of(alloc, "replay", log.as_slice())?;
-    expect_report(&rt, &report, &replica, &[draw(REPLICA_MOMENT, 0)]);
-    Ok(())
-}
-
-/// Printing a log tells nothing.
-#[test]
-fn report_of_a_print(rt: HostRuntime) -> Result<(), Fail> {
-    let alloc = rt.alloc();
-    let log = log_of(alloc, SCRIPT)?;
-    let report = report_of(alloc, "print", log.as_slice())?;
-    expect_report(&rt, &report, &None, &[]);
-    Ok(())
+    let log = log_of(alloc, SCRIPT);
+    assert!(rt; log.len() == 482);
+    expect_all(
+        &rt,
+        "fronts",
+        held_fronts(alloc, log.as_slice()),
+        FRONTS.len(),
+    );
+    assert!(rt; stops_at_all(alloc, log.as_slice()));
+    assert!(rt; tells_of_words(alloc, log.as_slice()));
 }

@@ -1,8 +1,7 @@
 //! What the replica has of the source: fetched in pieces, carried out in groups.
 
-use crate::playing::{bytes, expect_lines};
+use crate::playing::{BARE, expect_all, held, joined, put_number, put_times, runs};
 use std::alloc::Global;
-use std::test::Fail;
 use val_types::Bytes;
 
 /// Scripts and what they write. A log begins with a magic of 4 bytes and an event of 119; the CREATE of `t` has 83 bytes. The
@@ -91,20 +90,6 @@ static SCRIPTS: [(&str, &str); 16] = [
     ),
 ];
 
-#[test]
-fn fetched_and_applied(rt: HostRuntime) -> Result<(), Fail> {
-    for (script, lines) in &SCRIPTS {
-        expect_lines(
-            &rt,
-            rt.alloc(),
-            bytes(rt.alloc(), *script)?,
-            lines.as_bytes(),
-            *script,
-        )?;
-    }
-    Ok(())
-}
-
 /// How many bytes a table and a row have in the log behind its magic.
 const BYTES: u32 = 332;
 
@@ -112,63 +97,64 @@ const BYTES: u32 = 332;
 const ENDS: [u32; 2] = [202, BYTES];
 
 /// A table and a row, fetched byte by byte with an APPLY behind each.
-fn byte_by_byte(alloc: Global) -> Result<Bytes, Fail> {
-    let mut script = bytes(
-        alloc,
-        "s1: CREATE TABLE t (id INT, v INT, PRIMARY KEY (id)) //\ns1: INSERT INTO t VALUES (1, 10) //\n",
-    )?;
-    for _ in 0..BYTES {
-        script.extend_from_slice(b"replica: FETCH 1 //\nreplica: APPLY 1 //\n")?;
-    }
-    script.extend_from_slice(b"replica: FETCH 1 //\nreplica: SELECT * FROM t //\n")?;
-    Ok(script)
+fn byte_by_byte(alloc: Global) -> Bytes {
+    let made =
+        "s1: CREATE TABLE t (id INT, v INT, PRIMARY KEY (id)) //\ns1: INSERT INTO t VALUES (1, 10) //\n";
+    let mut script = joined(alloc, &[made]);
+    put_times(
+        &mut script,
+        "replica: FETCH 1 //\nreplica: APPLY 1 //\n",
+        BYTES,
+    );
+    put_times(
+        &mut script,
+        "replica: FETCH 1 //\nreplica: SELECT * FROM t //\n",
+        1,
+    );
+    script
 }
 
-/// Puts a line: the command's number, then words, a number and more words.
-fn put_line(alloc: Global, lines: &mut Bytes, number: u32, words: &str) -> Result<(), Fail> {
-    lines.extend_from_slice(number.to_string(alloc)?.as_bytes())?;
-    lines.push(b' ')?;
-    lines.extend_from_slice(words.as_bytes())?;
-    lines.push(b'\n')?;
-    Ok(())
+/// Puts a line: the command's number, and words.
+fn put_line(alloc: Global, lines: &mut Bytes, number: u32, words: &str) {
+    put_number(alloc, lines, number);
+    put_times(lines, words, 1);
 }
 
 /// What an APPLY says behind so many bytes.
 fn applied_behind(fetched: u32) -> &'static str {
     let [table, row] = ENDS;
     if fetched < table {
-        "applied 0 1:4"
+        " applied 0 1:4\n"
     } else if fetched == table {
-        "applied 1 1:206"
+        " applied 1 1:206\n"
     } else if fetched < row {
-        "applied 0 1:206"
+        " applied 0 1:206\n"
     } else {
-        "applied 1 1:336"
+        " applied 1 1:336\n"
     }
 }
 
-/// What that script writes.
-fn lines_byte_by_byte(alloc: Global) -> Result<Bytes, Fail> {
-    let mut lines = bytes(alloc, "1 ok 0\n2 ok 1\n")?;
+/// Puts what the script writes behind its first two lines.
+fn put_lines(alloc: Global, lines: &mut Bytes) {
     let mut number: u32 = 2;
     for fetched in 1..BYTES + 1 {
-        put_line(alloc, &mut lines, number.saturating_add(1), "fetched 1")?;
+        put_line(alloc, lines, number.saturating_add(1), " fetched 1\n");
         number = number.saturating_add(2);
-        put_line(alloc, &mut lines, number, applied_behind(fetched))?;
+        put_line(alloc, lines, number, applied_behind(fetched));
     }
-    lines.extend_from_slice(b"667 fetched 0\n668 row 1, 10\n668 rows 1\n")?;
-    Ok(lines)
+    put_times(lines, "667 fetched 0\n668 row 1, 10\n668 rows 1\n", 1);
 }
 
-/// However the log is cut, the end is the same: 330 of the APPLYs carry out nothing.
+/// Whether the end is the same however the log is cut: 330 of the APPLYs carry out nothing.
+fn runs_byte_by_byte(alloc: Global) -> bool {
+    let mut lines = joined(alloc, &["1 ok 0\n2 ok 1\n"]);
+    put_lines(alloc, &mut lines);
+    runs(alloc, byte_by_byte(alloc).as_slice(), lines.as_slice())
+}
+
 #[test]
-fn log_cut_into_bytes(rt: HostRuntime) -> Result<(), Fail> {
+fn fetched_and_applied(rt: HostRuntime) {
     let alloc = rt.alloc();
-    expect_lines(
-        &rt,
-        alloc,
-        byte_by_byte(alloc)?,
-        lines_byte_by_byte(alloc)?.as_slice(),
-        "byte by byte",
-    )
+    expect_all(&rt, "scripts", held(alloc, &BARE, &SCRIPTS), SCRIPTS.len());
+    assert!(rt; runs_byte_by_byte(alloc));
 }

@@ -1,14 +1,12 @@
 //! How a run ends, and what it tells.
 
 use crate::playing::{
-    REPLICA_MOMENT, SOURCE_MOMENT, bytes, draw, expect_calls, expect_played, identity_of, play,
-    report_of, run, sink_of, source_of,
+    ANY, Outcome, REPLICA_MOMENT, SOURCE_MOMENT, Shown, asked, asked_in_pieces, draw, expect_all,
+    is_rep, is_root, joined, plays, report_of, wanted,
 };
 use answer_text::{Report, Status};
 use repl_start::tell;
 use std::alloc::Global;
-use std::process::Abort;
-use std::test::Fail;
 use val_types::{Bytes, List};
 
 /// Scripts that do not split or that ask what no node does yet, and the line that tells the first bad byte.
@@ -38,53 +36,72 @@ static BAD_SCRIPTS: [(&str, &str); 13] = [
     ("source: RESTART //\nx", "bad script at 19\n"),
 ];
 
-fn expect_bad(rt: &impl Abort, alloc: Global, script: &str, ending: &str) -> Result<(), Fail> {
-    let input = source_of(alloc, script.as_bytes(), List::new(alloc))?;
-    let played = play(alloc, "run", input, sink_of(alloc, List::new(alloc)))?;
-    expect_calls(rt, &played, ending, (played.reads, 0));
-    Ok(())
+/// Whether a script ends so, with no write.
+fn is_bad(alloc: Global, script: &str, ending: &str) -> bool {
+    let wanted = Outcome {
+        shown: Shown::Just(b""),
+        ending,
+        reads: ANY,
+        writes: (0, 0),
+    };
+    plays(
+        alloc,
+        &asked_in_pieces("run", script.as_bytes(), 0, 0),
+        &wanted,
+    )
 }
 
-#[test]
-fn bad_scripts_at_their_places(rt: HostRuntime) -> Result<(), Fail> {
-    for (script, at) in &BAD_SCRIPTS {
-        expect_bad(&rt, rt.alloc(), *script, *at)?;
+/// How many scripts end so, from the first on.
+fn held_scripts(alloc: Global) -> usize {
+    for (i, (script, ending)) in BAD_SCRIPTS.iter().enumerate() {
+        if !is_bad(alloc, *script, *ending) {
+            return i;
+        }
     }
-    Ok(())
+    BAD_SCRIPTS.len()
 }
 
-/// A line's end, and a command with so many letters.
-fn long_command(alloc: Global, letters: usize) -> Result<Bytes, Fail> {
-    let mut script = bytes(alloc, "\ns1:")?;
-    script.append(List::from_vec(vec![in alloc; b'x'; letters]?))?;
-    script.extend_from_slice(b"//")?;
-    Ok(script)
+/// A front, a letter so many times, an end; what is written, and the line that tells the status: a command and a script at their limits.
+static LIMITS: [(&str, u8, usize, &str, &[u8], &str); 5] = [
+    ("\ns1:", b'x', 1_048_571, "//", b"1 error 1064 at 0\n", ""),
+    ("\ns1:", b'x', 1_048_572, "//", b"", "bad script at 1\n"),
+    ("", b' ', 67_108_864, "", b"", ""),
+    ("", b' ', 67_108_865, "", b"", "bad script at 67108864\n"),
+    ("", b' ', 67_108_900, "", b"", "bad script at 67108864\n"),
+];
+
+fn filled(alloc: Global, letter: u8, count: usize) -> Bytes {
+    match vec![in alloc; letter; count] {
+        Ok(letters) => List::from_vec(letters),
+        Err(_) => List::new(alloc),
+    }
 }
 
-#[test]
-fn limit_of_a_command(rt: HostRuntime) -> Result<(), Fail> {
-    let alloc = rt.alloc();
-    let longest = run(alloc, long_command(alloc, 1_048_571)?)?;
-    expect_played(&rt, &longest, b"1 error 1064 at 0\n", "", "longest");
-    let longer = run(alloc, long_command(alloc, 1_048_572)?)?;
-    expect_played(&rt, &longer, b"", "bad script at 1\n", "longer");
-    Ok(())
+fn long_script(alloc: Global, front: &str, letter: u8, count: usize, end: &str) -> Bytes {
+    let mut script = joined(alloc, &[front]);
+    let _ = script.append(filled(alloc, letter, count));
+    let _ = script.extend_from_slice(end.as_bytes());
+    script
 }
 
-/// Expects of so many blanks that they end a run so.
-fn expect_blanks(rt: &impl Abort, alloc: Global, count: usize, ending: &str) -> Result<(), Fail> {
-    let script = List::from_vec(vec![in alloc; b' '; count]?);
-    let played = run(alloc, script)?;
-    expect_played(rt, &played, b"", ending, "blanks");
-    Ok(())
+fn has_limit(alloc: Global, limit: &(&str, u8, usize, &str, &[u8], &str)) -> bool {
+    let (front, letter, count, end, shown, ending) = limit;
+    let script = long_script(alloc, *front, *letter, *count, *end);
+    plays(
+        alloc,
+        &asked("run", script.as_slice()),
+        &wanted(*shown, *ending),
+    )
 }
 
-#[test]
-fn limit_of_a_script(rt: HostRuntime) -> Result<(), Fail> {
-    let too_long = "bad script at 67108864\n";
-    expect_blanks(&rt, rt.alloc(), 67_108_864, "")?;
-    expect_blanks(&rt, rt.alloc(), 67_108_865, too_long)?;
-    expect_blanks(&rt, rt.alloc(), 67_108_900, too_long)
+/// How many limits are so, from the first on.
+fn held_limits(alloc: Global) -> usize {
+    for (i, limit) in LIMITS.iter().enumerate() {
+        if !has_limit(alloc, limit) {
+            return i;
+        }
+    }
+    LIMITS.len()
 }
 
 /// Lines of words, and whether they ask for a run.
@@ -104,21 +121,25 @@ static WORDS: [(&str, bool); 13] = [
     ("dump source", false),
 ];
 
-fn expect_words(rt: &impl Abort, alloc: Global, line: &str, asks: bool) -> Result<(), Fail> {
-    let input = source_of(alloc, b"s1: x //", List::new(alloc))?;
-    let played = play(alloc, line, input, sink_of(alloc, List::new(alloc)))?;
-    let ending = if asks { "" } else { "bad words\n" };
-    expect_played(rt, &played, played.written.as_slice(), ending, line);
-    assert_eq!(rt; played.reads == 0, !asks);
-    Ok(())
+/// Whether words ask for a run, and where they do not nothing is read.
+fn is_asked(alloc: Global, line: &str, asks: bool) -> bool {
+    let wanted = Outcome {
+        shown: Shown::Any,
+        ending: if asks { "" } else { "bad words\n" },
+        reads: if asks { (1, u64::MAX) } else { (0, 0) },
+        writes: ANY,
+    };
+    plays(alloc, &asked_in_pieces(line, b"s1: x //", 0, 0), &wanted)
 }
 
-#[test]
-fn words_of_the_command_line(rt: HostRuntime) -> Result<(), Fail> {
-    for (line, asks) in &WORDS {
-        expect_words(&rt, rt.alloc(), *line, *asks)?;
+/// How many words are so, from the first on.
+fn held_words(alloc: Global) -> usize {
+    for (i, (line, asks)) in WORDS.iter().enumerate() {
+        if !is_asked(alloc, *line, *asks) {
+            return i;
+        }
     }
-    Ok(())
+    WORDS.len()
 }
 
 /// A script of 185 bytes: 19 reads of 10 bytes at the most, and the 20th finds the end.
@@ -143,99 +164,109 @@ static WRITES: [(u64, usize); 10] = [
     (10, 69),
 ];
 
-/// A list of one call.
-fn only(alloc: Global, call: u64) -> Result<List<u64>, Fail> {
-    let mut calls = List::new(alloc);
-    calls.push(call)?;
-    Ok(calls)
-}
-
-fn expect_read_fault(rt: &impl Abort, alloc: Global, call: u64) -> Result<(), Fail> {
-    let input = source_of(alloc, SCRIPT.as_bytes(), only(alloc, call)?)?;
-    let played = play(alloc, "run", input, sink_of(alloc, List::new(alloc)))?;
-    expect_calls(rt, &played, "read fault\n", (call, 0));
-    Ok(())
-}
-
-fn expect_write_fault(
-    rt: &impl Abort,
+/// Whether the script in pieces of 10 bytes, with these faults, writes so much of what it shows, and ends so.
+fn is_played(
     alloc: Global,
-    call: u64,
+    faults: (u64, u64),
     written: usize,
-) -> Result<(), Fail> {
-    let input = source_of(alloc, SCRIPT.as_bytes(), List::new(alloc))?;
-    let played = play(alloc, "run", input, sink_of(alloc, only(alloc, call)?))?;
-    expect_calls(rt, &played, "write fault\n", (20, call));
-    let front = SHOWN.as_bytes().get(..written).unwrap_or(b"");
-    expect_played(rt, &played, front, "write fault\n", "write fault");
-    Ok(())
+    ending: &str,
+    reads: u64,
+    writes: u64,
+) -> bool {
+    let (read, write) = faults;
+    let wanted = Outcome {
+        shown: Shown::Just(SHOWN.as_bytes().get(..written).unwrap_or(b"?")),
+        ending,
+        reads: (reads, reads),
+        writes: (writes, writes),
+    };
+    plays(
+        alloc,
+        &asked_in_pieces("run", SCRIPT.as_bytes(), read, write),
+        &wanted,
+    )
 }
 
-#[test]
-fn streams_that_do_not_fail(rt: HostRuntime) -> Result<(), Fail> {
-    let alloc = rt.alloc();
-    let input = source_of(alloc, SCRIPT.as_bytes(), List::new(alloc))?;
-    let played = play(alloc, "run", input, sink_of(alloc, List::new(alloc)))?;
-    expect_calls(&rt, &played, "", (20, 10));
-    expect_played(&rt, &played, SHOWN.as_bytes(), "", "no fault");
-    Ok(())
-}
-
-#[test]
-fn streams_that_fail(rt: HostRuntime) -> Result<(), Fail> {
+/// The first read that fails and does not end the run so, 0 for none.
+fn held_reads(alloc: Global) -> u64 {
     for call in 1..=20u64 {
-        expect_read_fault(&rt, rt.alloc(), call)?;
+        if !is_played(alloc, (call, 0), 0, "read fault\n", call, 0) {
+            return call;
+        }
     }
-    for (call, written) in &WRITES {
-        expect_write_fault(&rt, rt.alloc(), *call, *written)?;
-    }
-    Ok(())
+    0
 }
 
-/// Expects of a report who the nodes are.
-fn expect_identities(rt: &impl Abort, alloc: Global, report: &Report) -> Result<(), Fail> {
-    let source = Some(identity_of(alloc, 1, "root@localhost")?);
-    let replica = Some(identity_of(alloc, 2, "rep@localhost")?);
-    assert_eq!(rt; report.src_identity, source);
-    assert_eq!(rt; report.rep_identity, replica);
-    Ok(())
+/// How many writes that fail end the run so, from the first on.
+fn held_writes(alloc: Global) -> usize {
+    for (i, (call, written)) in WRITES.iter().enumerate() {
+        if !is_played(alloc, (0, *call), *written, "write fault\n", 20, *call) {
+            return i;
+        }
+    }
+    WRITES.len()
 }
 
-/// Expects what both nodes drew: each node's opening has its first draw; the third is the source's last, and so the fourth is the
-/// same; FETCH takes none.
-fn expect_draws(rt: &impl Abort, report: &Report) {
+/// Whether a report tells what both nodes drew: each node's opening has its first draw; the third is the source's last, and so the
+/// fourth is the same; FETCH takes none.
+fn tells_draws(report: &Report) -> bool {
+    let first = draw(SOURCE_MOMENT, 0);
     let last = draw(SOURCE_MOMENT, 2);
-    assert_eq!(rt;
-        report.src_draws.as_slice(),
-        [draw(SOURCE_MOMENT, 0), draw(SOURCE_MOMENT, 1), last, last].as_slice()
-    );
-    let last = draw(REPLICA_MOMENT, 2);
-    assert_eq!(rt;
-        report.rep_draws.as_slice(),
-        [draw(REPLICA_MOMENT, 0), draw(REPLICA_MOMENT, 1), last].as_slice()
-    );
+    let opening = draw(REPLICA_MOMENT, 0);
+    report.src_draws.as_slice() == [first, draw(SOURCE_MOMENT, 1), last, last].as_slice()
+        && report.rep_draws.as_slice()
+            == [opening, draw(REPLICA_MOMENT, 1), draw(REPLICA_MOMENT, 2)].as_slice()
+}
+
+/// Whether it tells who both nodes are, that the last command was the sixth, and that the table and its row were committed and carried
+/// out before.
+fn tells_rest(report: &Report) -> bool {
+    report
+        .src_identity
+        .as_ref()
+        .is_some_and(|identity| is_root(identity))
+        && report
+            .rep_identity
+            .as_ref()
+            .is_some_and(|identity| is_rep(identity))
+        && report.now.command == 6
+        && report.now.committed == 2
+        && report.now.applied == 2
+        && report.marks.len() == 0
+}
+
+fn tells_run(alloc: Global) -> bool {
+    let report = report_of(alloc, &asked("run", SCRIPT.as_bytes()));
+    tells_draws(&report) && tells_rest(&report)
+}
+
+/// Whether a status is told.
+fn told(alloc: Global, out: &mut Vec<u8>, status: &Status) -> bool {
+    tell(alloc, out, status).is_ok()
+}
+
+/// Whether three statuses are told by these lines.
+fn are_told(alloc: Global) -> bool {
+    let mut out = Vec::new(alloc);
+    told(alloc, &mut out, &Status::Done)
+        && told(alloc, &mut out, &Status::BadScript { at: 17 })
+        && told(alloc, &mut out, &Status::NoMemory)
+        && out.as_slice() == b"bad script at 17\nout of memory\n".as_slice()
 }
 
 #[test]
-fn report_of_a_run(rt: HostRuntime) -> Result<(), Fail> {
-    let report = report_of(rt.alloc(), "run", SCRIPT.as_bytes())?;
-    expect_draws(&rt, &report);
-    // the last command was the sixth, and the table and its row were committed and carried out before
-    let now = (report.now.command, report.now.committed, report.now.applied);
-    assert_eq!(rt; now, (6, 2, 2));
-    assert_eq!(rt; report.marks.len(), 0);
-    expect_identities(&rt, rt.alloc(), &report)
+fn scripts_and_words(rt: HostRuntime) {
+    let alloc = rt.alloc();
+    expect_all(&rt, "bad scripts", held_scripts(alloc), BAD_SCRIPTS.len());
+    expect_all(&rt, "limits", held_limits(alloc), LIMITS.len());
+    expect_all(&rt, "words", held_words(alloc), WORDS.len());
 }
 
 #[test]
-fn statuses_told(rt: HostRuntime) -> Result<(), Fail> {
-    let mut told = Vec::new(rt.alloc());
-    tell(rt.alloc(), &mut told, &Status::Done)?;
-    tell(rt.alloc(), &mut told, &Status::BadScript { at: 17 })?;
-    tell(rt.alloc(), &mut told, &Status::NoMemory)?;
-    assert_eq!(rt;
-        told.as_slice(),
-        b"bad script at 17\nout of memory\n".as_slice()
-    );
-    Ok(())
+fn faults_and_reports(rt: HostRuntime) {
+    let alloc = rt.alloc();
+    assert!(rt; is_played(alloc, (0, 0), SHOWN.len(), "", 20, 10));
+    assert!(rt; held_reads(alloc) == 0);
+    expect_all(&rt, "writes that fail", held_writes(alloc), WRITES.len());
+    assert!(rt; tells_run(alloc) && are_told(alloc));
 }

@@ -1,10 +1,8 @@
 //! The source's log behind a script: what `print` shows of it, which is all that each statement carries and where its events
 //! stand, and what `replay` makes of it.
 
-use crate::playing::{bytes, expect_played, log_of, over_log};
+use crate::playing::{asked, expect_all, joined, log_of, plays, wanted};
 use std::alloc::Global;
-use std::process::Abort;
-use std::test::Fail;
 
 /// The line of the event with which each log begins.
 const FIRST_LINE: &str = "4 FORMAT_DESCRIPTION 5.7.44-log\n";
@@ -12,7 +10,7 @@ const FIRST_LINE: &str = "4 FORMAT_DESCRIPTION 5.7.44-log\n";
 /// Scripts, the lines that show their logs behind the first, and that of their replay. Places are sums of the lengths of events: 35
 /// and the text for a statement, and 5 where increment and offset stand before it, 40 for BEGIN, 27 for XID, 28 for a number, 35 for
 /// seeds. Each moment is that of the third draw, but that of the first command.
-static LOGS: [(&str, &str, &str); 13] = [
+static LOGS: [(&str, &str, &str); 16] = [
     // a table and a row
     (
         "s1: CREATE TABLE t (id INT, v INT, PRIMARY KEY (id)) //\ns1: INSERT INTO t VALUES (1, 10) //\n",
@@ -91,30 +89,50 @@ static LOGS: [(&str, &str, &str); 13] = [
         "123 QUERY thread=1 time=1700000001 CREATE TABLE t (id INT, v INT, PRIMARY KEY (id))\n206 QUERY thread=1 time=1700000002 BEGIN\n246 QUERY thread=1 time=1700000002 INSERT INTO t VALUES (1, 10)\n309 XID 2\n336 QUERY thread=1 time=1700000002 BEGIN\n376 TABLE_MAP 1 t\n415 WRITE_ROWS 1 end (2, 20)\n455 XID 3\n482 QUERY thread=1 time=1700000002 BEGIN\n522 TABLE_MAP 1 t\n561 UPDATE_ROWS 1 end (1, 10)->(1, 11) (2, 20)->(2, 21)\n629 XID 4\n656 QUERY thread=1 time=1700000002 BEGIN\n696 TABLE_MAP 1 t\n735 DELETE_ROWS 1 end (2, 21)\n775 XID 5\n802 QUERY thread=1 time=1700000002 BEGIN\n842 QUERY thread=1 time=1700000002 DELETE FROM t WHERE id = 1\n903 XID 6\n",
         "applied 6 1:930\n",
     ),
+    // a statement of a procedure with its locals closed in, a transaction each
+    (
+        "s1: CREATE TABLE n (id INT, v INT, w VARCHAR(10), PRIMARY KEY (id)) //\ns1: CREATE PROCEDURE p(v INT, b VARCHAR(10)) BEGIN INSERT INTO n VALUES (1, 7, b); UPDATE n SET v = v + 1 WHERE id = 1; END //\ns1: CALL p(-5, X'0027') //\n",
+        "123 QUERY thread=1 time=1700000001 CREATE TABLE n (id INT, v INT, w VARCHAR(10), PRIMARY KEY (id))\n221 QUERY thread=1 time=1700000002 CREATE PROCEDURE p(v INT, b VARCHAR(10)) BEGIN INSERT INTO n VALUES (1, 7, b); UPDATE n SET v = v + 1 WHERE id = 1; END\n375 QUERY thread=1 time=1700000002 BEGIN\n415 QUERY thread=1 time=1700000002 INSERT INTO `n` VALUES (1, 7, NAME_CONST('b', X'0027'))\n505 XID 3\n532 QUERY thread=1 time=1700000002 BEGIN\n572 QUERY thread=1 time=1700000002 UPDATE `n` SET `v` = (NAME_CONST('v', -5) + 1) WHERE (`id` = 1)\n670 XID 4\n",
+        "applied 4 1:697\n",
+    ),
+    // arguments, a DEFAULT, conditions and a SET that change rows
+    (
+        "s1: CREATE TABLE t (id INT, v INT, PRIMARY KEY (id)) //\ns1: CREATE FUNCTION f(n INT) RETURNS INT BEGIN INSERT INTO t VALUES (n, 0); RETURN n; END //\ns1: CREATE PROCEDURE p(a INT) BEGIN DECLARE b INT DEFAULT f(a + 1); IF f(3) = b THEN DO 1; ELSEIF f(4) THEN SET b = f(5), @y = 'x'; END IF; SELECT f(b + 1), @y; END //\ns1: CALL p(f(1)) //\ns1: CALL p(f(7) DIV 0) //\n",
+        "123 QUERY thread=1 time=1700000001 CREATE TABLE t (id INT, v INT, PRIMARY KEY (id))\n206 QUERY thread=1 time=1700000002 CREATE FUNCTION f(n INT) RETURNS INT BEGIN INSERT INTO t VALUES (n, 0); RETURN n; END\n326 QUERY thread=1 time=1700000002 CREATE PROCEDURE p(a INT) BEGIN DECLARE b INT DEFAULT f(a + 1); IF f(3) = b THEN DO 1; ELSEIF f(4) THEN SET b = f(5), @y = 'x'; END IF; SELECT f(b + 1), @y; END\n521 QUERY thread=1 time=1700000002 BEGIN\n561 QUERY thread=1 time=1700000002 DO `f`(1)\n605 XID 4\n632 QUERY thread=1 time=1700000002 BEGIN\n672 QUERY thread=1 time=1700000002 DO `f`((NAME_CONST('a', 1) + 1))\n739 XID 5\n766 QUERY thread=1 time=1700000002 BEGIN\n806 QUERY thread=1 time=1700000002 DO (`f`(3) = NAME_CONST('b', 2))\n873 XID 6\n900 QUERY thread=1 time=1700000002 BEGIN\n940 QUERY thread=1 time=1700000002 DO `f`(4)\n984 XID 7\n1011 QUERY thread=1 time=1700000002 BEGIN\n1051 QUERY thread=1 time=1700000002 DO `f`(5), 'x'\n1100 XID 8\n1127 QUERY thread=1 time=1700000002 BEGIN\n1167 USER_VAR y 'x'\n1203 QUERY thread=1 time=1700000002 SELECT `f`((NAME_CONST('b', 5) + 1)), @`y`\n1280 XID 9\n",
+        "applied 9 1:1307\n",
+    ),
+    // in a transaction, with a LIMIT, and behind an error
+    (
+        "s1: CREATE TABLE a (id INT NOT NULL AUTO_INCREMENT, k INT, PRIMARY KEY (id)) //\ns1: CREATE PROCEDURE p(n INT) BEGIN INSERT INTO a (k) VALUES (LAST_INSERT_ID()), (n); SET @x = n; UPDATE a SET k = @x ORDER BY id LIMIT n; INSERT INTO a VALUES (1, n); END //\ns1: BEGIN //\ns1: CALL p(1) //\ns1: SAVEPOINT s //\ns1: CALL p(2) //\ns1: ROLLBACK TO s //\ns1: CALL p(NULL) //\ns1: COMMIT //\n",
+        "123 QUERY thread=1 time=1700000001 CREATE TABLE a (id INT NOT NULL AUTO_INCREMENT, k INT, PRIMARY KEY (id))\n230 QUERY thread=1 time=1700000002 CREATE PROCEDURE p(n INT) BEGIN INSERT INTO a (k) VALUES (LAST_INSERT_ID()), (n); SET @x = n; UPDATE a SET k = @x ORDER BY id LIMIT n; INSERT INTO a VALUES (1, n); END\n432 QUERY thread=1 time=1700000002 BEGIN\n472 INTVAR LAST_INSERT_ID 0\n500 INTVAR INSERT_ID 1\n528 QUERY thread=1 time=1700000002 INSERT INTO `a` (`k`) VALUES (LAST_INSERT_ID()), (NAME_CONST('n', 1))\n632 USER_VAR x 1\n675 QUERY thread=1 time=1700000002 UPDATE `a` SET `k` = @`x` ORDER BY `id` LIMIT 1\n757 INTVAR LAST_INSERT_ID 3\n785 INTVAR INSERT_ID 5\n813 QUERY thread=1 time=1700000002 INSERT INTO `a` (`k`) VALUES (LAST_INSERT_ID()), (NAME_CONST('n', NULL))\n920 XID 3\n",
+        "applied 3 1:947\n",
+    ),
 ];
 
-/// Expects of a script's log that `print` shows these lines behind the first and `replay` writes this one, both to its end.
-fn expect_log(
-    rt: &impl Abort,
-    alloc: Global,
-    script: &str,
-    lines: &str,
-    replayed: &str,
-) -> Result<(), Fail> {
-    let log = log_of(alloc, script)?;
-    let mut shown = bytes(alloc, FIRST_LINE)?;
-    shown.extend_from_slice(lines.as_bytes())?;
-    let played = over_log(alloc, "print", log.as_slice())?;
-    expect_played(rt, &played, shown.as_slice(), "", script);
-    let played = over_log(alloc, "replay", log.as_slice())?;
-    expect_played(rt, &played, replayed.as_bytes(), "", script);
-    Ok(())
+/// Whether a word over a log writes this, to its end.
+fn shows(alloc: Global, word: &str, log: &[u8], shown: &[u8]) -> bool {
+    plays(alloc, &asked(word, log), &wanted(shown, ""))
+}
+
+/// Whether `print` shows of a script's log these lines behind the first, and `replay` writes this one.
+fn has_log(alloc: Global, script: &str, lines: &str, replayed: &str) -> bool {
+    let log = log_of(alloc, script);
+    let lines = joined(alloc, &[FIRST_LINE, lines]);
+    shows(alloc, "print", log.as_slice(), lines.as_slice())
+        && shows(alloc, "replay", log.as_slice(), replayed.as_bytes())
+}
+
+/// How many logs are so, from the first on.
+fn held(alloc: Global) -> usize {
+    for (i, (script, lines, replayed)) in LOGS.iter().enumerate() {
+        if !has_log(alloc, *script, *lines, *replayed) {
+            return i;
+        }
+    }
+    LOGS.len()
 }
 
 #[test]
-fn logs_printed_and_replayed(rt: HostRuntime) -> Result<(), Fail> {
-    for (script, lines, replayed) in &LOGS {
-        expect_log(&rt, rt.alloc(), *script, *lines, *replayed)?;
-    }
-    Ok(())
+fn logs_printed_and_replayed(rt: HostRuntime) {
+    expect_all(&rt, "logs of scripts", held(rt.alloc()), LOGS.len());
 }

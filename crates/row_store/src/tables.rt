@@ -194,7 +194,7 @@ impl Tables {
     }
 
     /// Lets the keys go that are kept for changes to be taken back, and keeps those of rows. It is called
-    /// where a transaction ends.
+    /// where changes are there to stay.
     pub fn tidy(&mut self)
         ensures tables { self.new.tables ≡ self.old.tables }
         ensures whole { IsWhole self.new }

@@ -6,7 +6,8 @@ use Rattle.val_types.specs.declared.change.Change.{Change}
 use Rattle.val_types.specs.declared.value.Value.{Value}
 use Rattle.port_traits.specs.declared.identity.Identity.{Identity}
 use Rattle.port_traits.specs.declared.identity.Draw.{Draw}
-use Rattle.sql_tree.specs.Tree.{Tree, Trees}
+use Rattle.sql_tree.specs.Tree.{Tree, Trees, no_tree, tree}
+use Rattle.sql_locals.specs.declared.locals.Local.{Local}
 use Rattle.sql_tree.specs.Statement.{Statement, evaluate, set_all, call_procedure, begin, commit, rollback, savepoint, rollback_to, release_savepoint}
 use Rattle.sql_tree.specs.declared.statements.Target.{Target}
 use Rattle.catalog_rules.specs.Bases.{Base, defined}
@@ -18,15 +19,20 @@ use Rattle.answer_text.specs.declared.answer.Answer.{Answer}
 use Rattle.sql_meaning.specs.Frames.{Context}
 use Rattle.sql_meaning.specs.Scenes.{Scene, Ending, done, failed}
 use Rattle.sql_meaning.specs.Changing.{Did}
-use Rattle.sql_meaning.specs.Running.{most_nested, effect, evaluation, context_after}
-use Rattle.sql_reach.specs.Defining.{number_of_bytes, is_still_refused}
+use Rattle.sql_meaning.specs.Running.{effect, evaluation, context_after}
+use Rattle.sql_reach.specs.Closing.{closed}
+use Rattle.sql_reach.specs.Defining.{number_of_bytes}
 use Rattle.sql_reach.specs.Reach.{is_definition}
 use Rattle.sql_print.specs.StatementSpelling.{spelling}
+use Rattle.proc_model.specs.Talk.{Left, Refusal, Told}
+use Rattle.proc_model.specs.Procedures.{scope_of, called}
+use Rattle.proc_model.proofs.Leading.{talk_keeps}
 use Rattle.text_answers.specs.Answers.{TextAnswer, a_statement, a_syntax_error, too_deep, text_answer}
 use Rattle.session_model.specs.Answers.{ok, refused}
 use Rattle.session_model.specs.Sessions.{Save, Open, Session, Shared, State}
-use Rattle.session_model.specs.Running.{Call, Fuel, full, Turn, Given, is_other, items_of, commit_open, commit_entries, kept_entries, keep, settle, ended, takes_too_much, undone, setting_of, scene_for, made_behind, item_of, with_counters, with_context, fuel_of, statement_run, expressions_run, writing_refusal, lock_refusal}
-use Rattle.session_model.specs.Commands.{is_too_long, definition_turn, define_turn, made_turn, unless_answered, unless_refused, code_answer, assign_unless, first_refused, is_open, set_by, set_given, set_turn, set_expressions, call_turn, plain_turn, given_turn, answered, back_in, back_to_save, release_in, definition_entry, is_save_of, saves_but, with_answer}
+use Rattle.session_model.specs.Running.{Call, full, Turn, Given, is_other, items_of, commit_open, commit_entries, kept_entries, keep, settle, ended, takes_too_much, undone, setting_of, scene_for, made_behind, item_of, with_counters, with_context, fuel_of, statement_run, values_run, expressions_run, writing_refusal, lock_refusal}
+use Rattle.session_model.specs.Commands.{is_too_long, definition_turn, define_turn, made_turn, unless_answered, unless_refused, code_answer, assign_unless, first_refused, is_open, set_by, set_given, set_turn, set_expressions, plain_turn, given_turn, answered, back_in, back_to_save, release_in, definition_entry, is_save_of, saves_but}
+use Rattle.session_model.specs.Calling.{Reached, reached_by, step_check, unless_checked, with_counted, steps_of, left_with, arguments_run, called_by, called_with, call_turn}
 use Rattle.session_model.specs.Machine.{Whole, whole, step, text_turn, statement_turn, at_work}
 use Rattle.run_model.specs.Following.{AreCommitted}
 
@@ -86,9 +92,7 @@ define_puts call text s t p =
 
 definition_puts : (call : Call Whole) (text : List ℕ) (s : Statement) (shared : Shared) (session : Session Whole) → Puts (definition_turn call text s shared session)
 definition_puts call text s shared session =
-    let t : Turn Whole (Unit {0}) = commit_open call shared session in
-    by_test (is_still_refused s) (with_answer (refused 30005) t) (define_turn call text s t) (opened_puts call shared session)
-    (define_puts call text s t (opened_puts call shared session))
+    define_puts call text s (commit_open call shared session) (opened_puts call shared session)
 
 -- ---- statements that run
 
@@ -103,23 +107,54 @@ settle_puts call item (c ∷ cs) scene shared session given refusal p =
     by_test (takes_too_much call session.transaction (item (c ∷ cs))) refusal (keep call (item (c ∷ cs)) scene shared session given) p
     (kept_puts call session.vars.context (item (c ∷ cs)) session.transaction)
 
-ended_puts : {A : Type 0} (call : Call Whole) (fuel : Fuel) (text : List ℕ) (tree : Statement) (shared : Shared) (session : Session Whole) (first last_id : A → Option ℤ) (before : Scene) (ending : Ending A)
-    → Puts (ended call fuel text tree shared session first last_id before ending)
-ended_puts call fuel text tree shared session first last_id before (done a scene) =
-    settle_puts call (item_of call session.format fuel text tree session.vars.context shared (first a)) (made_behind (is_other call.number shared.writer) before scene) scene (with_counters scene shared)
-    (with_context (context_after session.vars.context tree scene.seeds (last_id a)) session) (record { result = Ok a; fuel = fuel_of scene })
-    (undone 1197 tree shared session scene) tt
-ended_puts call fuel text tree shared session first last_id before (failed code scene) = tt
+ended_puts : {A : Type 0} (call : Call Whole) (left : Left) (text : List ℕ) (made_of : Statement) (shared : Shared) (session : Session Whole) (first last_id : A → Option ℤ) (before : Scene) (ending : Ending A)
+    → Puts (ended call left text made_of shared session first last_id before ending)
+ended_puts call left text made_of shared session first last_id before (done a scene) =
+    settle_puts call (item_of call session.format left text made_of session.vars.context shared (first a)) (made_behind (is_other call.number shared.writer) before scene) scene (with_counters scene shared)
+    (with_context (context_after session.vars.context made_of scene.seeds (last_id a)) session) (record { result = Ok a; fuel = fuel_of scene })
+    (undone 1197 made_of shared session scene) tt
+ended_puts call left text made_of shared session first last_id before (failed code scene) = tt
 
-statement_puts : (call : Call Whole) (fuel : Fuel) (text : List ℕ) (s : Statement) (shared : Shared) (session : Session Whole) → Puts (statement_run call fuel text s shared session)
-statement_puts call fuel text s shared session =
-    ended_puts call fuel text s shared session (λ (did : Did). did.first) (λ (did : Did). did.last_id) (scene_for call.number fuel session.vars.context shared)
-    (effect (setting_of shared.base.catalog session.vars.context (number_of_bytes 0 call.draw.uuid)) most_nested [] s (scene_for call.number fuel session.vars.context shared))
+statement_puts : (call : Call Whole) (left : Left) (text : List ℕ) (s : Statement) (shared : Shared) (session : Session Whole) → Puts (statement_run call left text s shared session)
+statement_puts call left text s shared session =
+    ended_puts call left text s shared session (λ (did : Did). did.first) (λ (did : Did). did.last_id) (scene_for call.number left session.vars.context shared)
+    (effect (setting_of shared.base.catalog session.vars.context (number_of_bytes 0 call.draw.uuid)) left.nesting [] s (scene_for call.number left session.vars.context shared))
 
-expressions_put : (call : Call Whole) (fuel : Fuel) (text : List ℕ) (ts : Trees) (shared : Shared) (session : Session Whole) → Puts (expressions_run call fuel text ts shared session)
-expressions_put call fuel text ts shared session =
-    ended_puts call fuel text (evaluate ts) shared session (λ _. None) (λ _. None) (scene_for call.number fuel session.vars.context shared)
-    (evaluation (setting_of shared.base.catalog session.vars.context (number_of_bytes 0 call.draw.uuid)) most_nested [] ts (scene_for call.number fuel session.vars.context shared))
+values_put : (call : Call Whole) (left : Left) (text : List ℕ) (made_of : Statement) (locals : List Local) (ts : Trees) (shared : Shared) (session : Session Whole)
+    → Puts (values_run call left text made_of locals ts shared session)
+values_put call left text made_of locals ts shared session =
+    ended_puts call left text made_of shared session (λ _. None) (λ _. None) (scene_for call.number left session.vars.context shared)
+    (evaluation (setting_of shared.base.catalog session.vars.context (number_of_bytes 0 call.draw.uuid)) left.nesting locals ts (scene_for call.number left session.vars.context shared))
+
+-- ---- CALL
+
+reached_puts : {A : Type 0} (at : Reached Whole) (t : Turn Whole A) → Puts at → Puts t → Puts (reached_by at t)
+reached_puts at t p q = committed_behind at.committed t.committed p q
+
+checked_puts : {A : Type 0} (refusal : Option Refusal) (left : Left) (at : Reached Whole) (next : Told A × Reached Whole) → Puts at → Puts next.1 → Puts (unless_checked refusal left at next).1
+checked_puts None left at next p q = q
+checked_puts (Some refusal) left at next p q = p
+
+called_puts : (call : Call Whole) (name : List ℕ) (r : Result (List Value) ℕ) (t : Turn Whole (Given (List Value))) → Puts t → Puts (called_by call name r t)
+called_puts call name (Err code) t p = p
+called_puts call name (Ok vs) t p =
+    talk_keeps (steps_of call) (λ (at : Reached Whole). Puts at) ran gave (λ n v at h. h) (called t.shared.base.catalog (left_with t.given.fuel) name vs)
+    (record { shared = t.shared; session = t.session; committed = t.committed; given = tt }) p
+  where
+    ran : (left : Left) (s : Statement) (at : Reached Whole) → Puts at → Puts ((steps_of call).run left s at).1
+    ran left s at h =
+        checked_puts (step_check call.number session_scope s at.shared) left at _ h
+        (reached_puts at (with_counted (statement_run call left (spelling s) s at.shared at.session)) h (statement_puts call left (spelling s) s at.shared at.session))
+
+    gave : (left : Left) (locals : List Local) (ts : Trees) (at : Reached Whole) → Puts at → Puts ((steps_of call).evaluate left locals ts at).1
+    gave left locals ts at h =
+        let item : Statement = closed (evaluate ts) locals in
+        checked_puts (step_check call.number (scope_of locals) (evaluate ts) at.shared) left at _ h
+        (reached_puts at (values_run call left (spelling item) item locals ts at.shared at.session) h (values_put call left (spelling item) item locals ts at.shared at.session))
+
+arguments_put : (call : Call Whole) (text : List ℕ) (ts : Trees) (shared : Shared) (session : Session Whole) → Puts (arguments_run call text ts shared session)
+arguments_put call text no_tree shared session = tt
+arguments_put call text (tree t ts) shared session = values_put call full text (evaluate (tree t ts)) [] (tree t ts) shared session
 
 -- ---- commands
 
@@ -147,13 +182,18 @@ set_puts call as' shared session =
     let checked : Turn Whole Answer = unless_refused (code_answer (statement_refusal shared.base.catalog session_scope (set_all as'))) shared session locked in
     by_test (is_too_long text) (answered (refused 1153) shared session) checked tt
     (refused_puts (code_answer (statement_refusal shared.base.catalog session_scope (set_all as'))) shared session locked
-    (refused_puts (lock_refusal call.number shared (evaluate ts)) shared session given (set_by_puts as' t.given.result t (expressions_put call full text ts shared session))))
+    (refused_puts (lock_refusal call.number shared (evaluate ts)) shared session given (set_by_puts as' t.given.result t (values_put call full text (evaluate ts) [] ts shared session))))
 
 call_puts : (call : Call Whole) (name : List ℕ) (ts : Trees) (shared : Shared) (session : Session Whole) → Puts (call_turn call name ts shared session)
 call_puts call name ts shared session =
-    let none : Turn Whole Answer = answered (refused 1305) shared session in
+    let text : List ℕ = spelling (evaluate ts) in
+    let t : Turn Whole (Given (List Value)) = arguments_run call text ts shared session in
+    let made : Turn Whole Answer = called_with call name t in
+    let locked : Turn Whole Answer = unless_refused (lock_refusal call.number shared (evaluate ts)) shared session made in
     let refusal : Option Answer = code_answer (statement_refusal shared.base.catalog session_scope (call_procedure name ts)) in
-    by_test (is_too_long (spelling (evaluate ts))) (answered (refused 1153) shared session) (unless_refused refusal shared session none) tt (refused_puts refusal shared session none tt)
+    by_test (is_too_long text) (answered (refused 1153) shared session) (unless_refused refusal shared session locked) tt
+    (refused_puts refusal shared session locked
+    (refused_puts (lock_refusal call.number shared (evaluate ts)) shared session made (called_puts call name t.given.result t (arguments_put call text ts shared session))))
 
 plain_puts : (call : Call Whole) (text : List ℕ) (s : Statement) (shared : Shared) (session : Session Whole) → Puts (plain_turn call text s shared session)
 plain_puts call text s shared session =

@@ -1,8 +1,7 @@
 -- What holds of every run stays so: one lemma a command.
-use Rattle.std.proofs.Common.{◌≡◌, ◌≢◌, ◌<◌, ℕ, zero, suc, inl, inr, Bool, true, false, ◌==◌, List, [], ◌∷◌, ◌++◌, map, length, take, find, zip, Option, Some, None, Result, Ok, Err, ℤ, refl, sym, ◌∙◌, ap, subst, arith, cond, ◌≤◌, ◌^◌}
+use Rattle.std.proofs.Common.{◌≡◌, ◌≢◌, ◌<◌, ℕ, zero, suc, inl, inr, Bool, true, false, ◌==◌, List, [], ◌∷◌, ◌++◌, map, length, take, find, zip, Option, Some, None, Result, Ok, Err, refl, sym, ◌∙◌, ap, subst, arith, cond, ◌≤◌, ◌^◌}
 use Rattle.std.proofs.lemmas.List.{get_or-set_same, get_or-set_other}
 use Rattle.std.proofs.lemmas.Bool.{eqb-true, eqb-false}
-use Rattle.std.proofs.lemmas.Grind.{flat_map-append}
 use Rattle.std.specs.Prelude.{is_some, slice_index_or, slice_set, replicate}
 use Rattle.std.specs.Option.{option_map, option_and_then}
 use Rattle.val_types.specs.declared.change.Change.{Change}
@@ -20,26 +19,24 @@ use Rattle.catalog_rules.specs.Creating.{ddl_refusal}
 use Rattle.catalog_rules.specs.Checks.{session_scope, statement_refusal}
 use Rattle.answer_text.specs.declared.answer.Answer.{Answer}
 use Rattle.text_answers.specs.Answers.{TextAnswer, a_statement, a_syntax_error, too_deep, text_answer}
-use Rattle.session_ctx.specs.declared.session.SessionVars.{SessionVars}
-use Rattle.sql_meaning.specs.Scenes.{Scene, Ending, done, failed}
 use Rattle.sql_meaning.specs.Frames.{Context}
-use Rattle.sql_meaning.specs.Changing.{Did}
-use Rattle.sql_meaning.specs.Running.{context_after, most_nested}
-use Rattle.sql_meaning.specs.Leading.{EndsWell, StatementsEndWell, EvaluationsEndWell}
-use Rattle.sql_reach.specs.Defining.{is_still_refused, number_of_bytes}
+use Rattle.sql_meaning.specs.Leading.{StatementsEndWell, EvaluationsEndWell}
 use Rattle.sql_reach.specs.Reach.{is_definition}
 use Rattle.session_model.specs.Answers.{ok, refused, refused_at}
 use Rattle.session_model.specs.Sessions.{Save, Open, just_opened, Session, Shared}
-use Rattle.session_model.specs.Running.{Call, Fuel, Turn, Given, is_other, released, items_of, commit_shared, commit_entries, commit_open, keep, made_behind, with_counters, scene_for, settle, ended, item_of, fuel_of, with_context, full, statement_run, expressions_run, setting_of, lock_refusal, writing_refusal, kept_entries, kept_shared, takes_too_much, undone}
-use Rattle.session_model.specs.Commands.{answered, unless_refused, begin_turn, commit_turn, rollback_turn, is_save_of, saves_but, changes_of_own, saved, save_turn, cut_back, back_to_save, back_in, back_turn, release_in, with_answer, defined_turn, made_turn, unless_answered, define_turn, definition_turn, assign_unless, first_refused, is_open, set_by, set_expressions, set_turn, code_answer, is_too_long, call_turn, plain_turn, definition_entry}
-use Rattle.session_model.specs.Formats.{first_format, is_by_rows}
+use Rattle.session_model.specs.Running.{Call, Turn, Given, is_other, released, items_of, commit_shared, commit_entries, commit_open, full, expressions_run, lock_refusal, writing_refusal}
+use Rattle.session_model.specs.Commands.{answered, unless_refused, begin_turn, commit_turn, rollback_turn, is_save_of, saves_but, changes_of_own, saved, save_turn, cut_back, back_to_save, back_in, back_turn, release_in, defined_turn, made_turn, unless_answered, define_turn, definition_turn, assign_unless, first_refused, is_open, set_by, set_expressions, set_turn, code_answer, is_too_long, plain_turn, definition_entry}
+use Rattle.session_model.specs.Calling.{arguments_run, call_turn}
+use Rattle.session_model.specs.Formats.{first_format}
 use Rattle.session_model.specs.declared.format.Format.{Format}
 use Rattle.session_model.specs.Machine.{Whole, whole, Machine, statement_turn, text_turn, at_work, with_count, session_slots, step}
-use Rattle.session_model.specs.Holding.{changes_of, define, changes_in, holds_lock, SavesFrom, Owns, SharedHolds, format_of, transaction_of, session_at, Beginning, Holds, RunsBegin, RunsGoOn, FormatsDecide, AreIn, AreOne, EntriesIn, IsMade, RunsOpen}
-use Rattle.session_model.proofs.Saving.{none_made, front_made, cut_changes, saves_more, saves_set, saves_without, saves_cut, found_holds}
+use Rattle.session_model.specs.Holding.{changes_of, define, changes_in, holds_lock, SavesFrom, Owns, SharedHolds, format_of, transaction_of, session_at, Beginning, Holds, RunsBegin, RunsGoOn, FormatsDecide, AreIn, AreOne, EntriesIn, RunsOpen}
+use Rattle.session_model.proofs.Saving.{none_made, front_made, cut_changes, saves_set, saves_without, saves_cut, found_holds}
 use Rattle.session_model.proofs.Assigning.{all_owned}
-use Rattle.session_model.proofs.Logging.{Logged, logged_on, no_entry, none_one, front_one, more_one, in_behind, front_in, more_in}
-use Rattle.session_model.proofs.Owning.{same_number, held_not_other, other_not_held, not_both, none_taken, Frame, Left, nothing_done, no_changes, own_changes, closed_owns, entry_made, released_left, must_own, not_other_own, one_item, made_kept, counters_hold, counters_owned, from_counters, free_to_write}
+use Rattle.session_model.proofs.Logging.{Logged, logged_on, no_entry, none_one, front_one, in_behind, front_in}
+use Rattle.session_model.proofs.Owning.{held_not_other, other_not_held, not_both, none_taken, Frame, StillHolds, nothing_done, no_changes, own_changes, closed_owns, entry_made, released_left, must_own, free_to_write}
+use Rattle.session_model.proofs.Keeping.{TurnLeft, statement_left, values_left}
+use Rattle.session_model.proofs.Calling.{called_left, arguments_left, arguments_format}
 use Rattle.port_traits.specs.declared.identity.Identity.{Identity}
 use Rattle.port_traits.specs.declared.identity.Draw.{Draw}
 
@@ -51,12 +48,12 @@ module _ (P : Type 0) (identity : Identity) (draw : Draw) (number : ℕ) where
 
   -- the transaction of some items is committed
   committed_left : (context : Context) (shared : Shared) (format : Format) (t : Option (Open Whole)) (i : Whole) (is : List Whole) → SharedHolds shared → Owns number shared format t → items_of t ≡ i ∷ is
-      → Left P number shared (released number (commit_shared call context (i ∷ is) shared)) format format None (commit_entries call context (i ∷ is))
+      → StillHolds P number shared (released number (commit_shared call context (i ∷ is) shared)) format format None (commit_entries call context (i ∷ is))
   committed_left context shared format t i is h o e =
       let l = must_own number shared format i is t o e in
       let q = held_not_other number shared.writer l in
       let new : Shared = commit_shared call context (i ∷ is) shared in
-      subst (λ (b : Bool). Left P number shared (cond b new (record new { writer = None })) format format None (commit_entries call context (i ∷ is))) (sym q)
+      subst (λ (b : Bool). StillHolds P number shared (cond b new (record new { writer = None })) format format None (commit_entries call context (i ∷ is))) (sym q)
       (record {
         holds = record { free = λ _. refl; makes = none_made _ };
         own = closed_owns number (record new { writer = None }) format refl;
@@ -67,139 +64,40 @@ module _ (P : Type 0) (identity : Identity) (draw : Draw) (number : ℕ) where
       })
 
   commit_in : (context : Context) (shared : Shared) (format : Format) (t : Option (Open Whole)) (is : List Whole) → SharedHolds shared → Owns number shared format t → items_of t ≡ is
-      → Left P number shared (released number (commit_shared call context is shared)) format format None (commit_entries call context is)
+      → StillHolds P number shared (released number (commit_shared call context is shared)) format format None (commit_entries call context is)
   commit_in context shared format t [] h o e = released_left P number shared format t h o e (is_other number shared.writer) refl
   commit_in context shared format t (i ∷ is) h o e = committed_left context shared format t i is h o e
 
   commit_left : (shared : Shared) (session : Session Whole) → SharedHolds shared → Owns number shared session.format session.transaction
-      → Left P number shared (commit_open call shared session).shared session.format session.format None (commit_open call shared session).committed
+      → StillHolds P number shared (commit_open call shared session).shared session.format session.format None (commit_open call shared session).committed
   commit_left shared session h o = commit_in session.vars.context shared session.format session.transaction (items_of session.transaction) h o refl
-
-  -- ---- a statement's changes kept
-
-  kept_alone : (format : Format) (context : Context) (item : Whole) (scene : Scene) (shared : Shared) (cs : List Change) → SharedHolds shared → shared.changes ≡ [] → is_other number shared.writer ≡ false
-      → changes_of item ≡ cs → scene.changes ≡ cs → is_some (all_applied cs shared.base.tables) ≡ true → AreOne (item ∷ []) → AreIn format (item ∷ [])
-      → Left P number shared (kept_shared call context item None scene shared) format format None (kept_entries call context item None)
-  kept_alone format context item scene shared cs h none q e f m one is_in = record {
-    holds = record { free = λ _. refl; makes = none_made _ };
-    own = closed_owns number (kept_shared call context item None scene shared) format refl;
-    entries = entry_made context.stamp identity.server_id (item ∷ []) shared.base scene.changes (f ∙ sym (one_item item cs e)) (ap (λ (ds : List Change). is_some (all_applied ds shared.base.tables)) f ∙ m);
-    log = record { count = refl; place = refl; made = λ _. ((omega arith, one), tt) };
-    formats = (is_in, tt);
-    frame = inr (q, q);
-  }
-
-  kept_behind : (format : Format) (item : Whole) (scene : Scene) (shared : Shared) (open' : Open Whole) (cs : List Change) → SharedHolds shared → Owns number shared format (Some open')
-      → is_other number shared.writer ≡ false → changes_of item ≡ cs → scene.changes ≡ shared.changes ++ cs → is_some (all_applied (shared.changes ++ cs) shared.base.tables) ≡ true → AreOne (open'.items ++ item ∷ []) → AreIn format (open'.items ++ item ∷ [])
-      → Left P number shared (record shared { changes = scene.changes; writer = Some number }) format format (Some (record { items = open'.items ++ item ∷ []; saves = open'.saves; changed = true })) []
-  kept_behind format item scene shared open' cs h o q e f m one is_in =
-      let own = own_changes number shared format (Some open') h o q in
-      let all : scene.changes ≡ changes_in (open'.items ++ item ∷ []) =
-      f ∙ (ap (λ (ds : List Change). ds ++ cs) own ∙ (ap (λ (ds : List Change). changes_in open'.items ++ ds) (sym (one_item item cs e)) ∙ sym (flat_map-append changes_of open'.items (item ∷ [])))) in
-      record {
-        holds = record { free = λ none. absurd (not_free none); makes = ap (λ (ds : List Change). is_some (all_applied ds shared.base.tables)) f ∙ m };
-        own = record { own = λ _. all; none = λ l. absurd (not_lost l); saves = saves_more open'.items (item ∷ []) 0 open'.saves o.saves; one = one; formats = is_in };
-        entries = refl;
-        log = no_entry shared.committed shared.place;
-        formats = tt;
-        frame = inr (q, not_other_own number);
-      }
-    where
-      not_free : Some number ≡ None → ⊥
-      not_free p = cc
-
-      differ : {b : Bool} → b ≡ true → b ≡ false → ⊥
-      differ p r = cc
-
-      not_lost : holds_lock number (Some number) ≡ false → ⊥
-      not_lost l = differ (same_number number) l
-
-  keep_left : {A : Type 0} (item : Whole) (scene : Scene) (shared : Shared) (vars : SessionVars) (format : Format) (t : Option (Open Whole)) (a : A) (cs : List Change) → SharedHolds shared
-      → Owns number shared format t → is_other number shared.writer ≡ false → changes_of item ≡ cs → scene.changes ≡ shared.changes ++ cs → is_some (all_applied (shared.changes ++ cs) shared.base.tables) ≡ true
-      → AreOne (items_of t ++ item ∷ []) → AreIn format (items_of t ++ item ∷ [])
-      → let turn : Turn Whole A = keep call item scene shared (record { vars = vars; format = format; transaction = t }) a in Left P number shared turn.shared format turn.session.format turn.session.transaction turn.committed
-  keep_left item scene shared vars format None a cs h o q e f m one is_in =
-      let none = no_changes number shared format None h o q refl in
-      let only : shared.changes ++ cs ≡ cs = ap (λ (ds : List Change). ds ++ cs) none in
-      kept_alone format vars.context item scene shared cs h none q e (f ∙ only) (ap (λ (ds : List Change). is_some (all_applied ds shared.base.tables)) (sym only) ∙ m) one is_in
-  keep_left item scene shared vars format (Some open') a cs h o q e f m one is_in = kept_behind format item scene shared open' cs h o q e f m one is_in
-
-  -- ---- a statement's end
-
-  -- the item of some changes has these, a statement made it, and it is logged in a format
-  abbrev MakesItems : Format → (List Change → Whole) → Type 0
-  MakesItems format item = (c : Change) (cs : List Change) → (changes_of (item (c ∷ cs)) ≡ c ∷ cs) × IsMade (item (c ∷ cs)) × ((item (c ∷ cs)).kept.rows ≡ is_by_rows format)
-
-  settle_left : {A : Type 0} (item : List Change → Whole) (made : List Change) (scene : Scene) (shared : Shared) (session : Session Whole) (given : Given A) (refusal : Turn Whole (Given A))
-      → MakesItems session.format item → SharedHolds shared → Owns number shared session.format session.transaction → Left P number shared refusal.shared session.format refusal.session.format refusal.session.transaction refusal.committed
-      → ((c : Change) (cs : List Change) → made ≡ c ∷ cs
-      → (is_other number shared.writer ≡ false) × (scene.changes ≡ shared.changes ++ made) × (is_some (all_applied (shared.changes ++ made) shared.base.tables) ≡ true))
-      → let turn : Turn Whole (Given A) = settle call item made scene shared session given refusal in Left P number shared turn.shared session.format turn.session.format turn.session.transaction turn.committed
-  settle_left item [] scene shared session given refusal makes h o taken some = nothing_done P number shared session.format session.format session.transaction h o
-  settle_left {A = A} item (c ∷ cs) scene shared session given refusal makes h o taken some = by (takes_too_much call session.transaction (item (c ∷ cs))) refl
-    where
-      by : (b : Bool) → takes_too_much call session.transaction (item (c ∷ cs)) ≡ b
-          → let turn : Turn Whole (Given A) = cond b refusal (keep call (item (c ∷ cs)) scene shared session given) in Left P number shared turn.shared session.format turn.session.format turn.session.transaction turn.committed
-      by true q = taken
-      by false q =
-          let k = some c cs refl in
-          let m = makes c cs in
-          keep_left (item (c ∷ cs)) scene shared session.vars session.format session.transaction given (c ∷ cs) h o k.0 m.0 k.1 k.2
-          (more_one (items_of session.transaction) (item (c ∷ cs)) o.one m.1 q) (more_in session.format (items_of session.transaction) (item (c ∷ cs)) o.formats m.2)
-
-  ended_left : {A : Type 0} (fuel : Fuel) (text : List ℕ) (tree : Statement) (shared : Shared) (session : Session Whole) (first last_id : A → Option ℤ) (e : Ending A)
-      → SharedHolds shared → Owns number shared session.format session.transaction → EndsWell (scene_for number fuel session.vars.context shared) e
-      → let turn : Turn Whole (Given A) = ended call fuel text tree shared session first last_id (scene_for number fuel session.vars.context shared) e in
-      Left P number shared turn.shared session.format turn.session.format turn.session.transaction turn.committed
-  ended_left {A = A} fuel text tree shared session first last_id e h o ends = by e ends
-    where
-      -- nothing but counters
-      taken_back : (scene : Scene) → Left P number (with_counters scene shared) (with_counters scene shared) session.format session.format session.transaction []
-      taken_back scene =
-          nothing_done P number (with_counters scene shared) session.format session.format session.transaction (counters_hold scene shared h)
-          (counters_owned number scene shared session.format session.transaction o)
-
-      by : (e : Ending A) → EndsWell (scene_for number fuel session.vars.context shared) e
-          → let turn : Turn Whole (Given A) = ended call fuel text tree shared session first last_id (scene_for number fuel session.vars.context shared) e in
-          Left P number shared turn.shared session.format turn.session.format turn.session.transaction turn.committed
-      by (done a scene) ends =
-          from_counters P number scene shared _ _ _ _ _
-          (settle_left (item_of call session.format fuel text tree session.vars.context shared (first a)) (made_behind (is_other number shared.writer) (scene_for number fuel session.vars.context shared) scene)
-          scene (with_counters scene shared) (with_context (context_after session.vars.context tree scene.seeds (last_id a)) session) (record { result = Ok a; fuel = fuel_of scene })
-          (undone 1197 tree shared session scene) (λ c cs. (refl, record { defs = refl; some = omega arith }, refl))
-          (counters_hold scene shared h) (counters_owned number scene shared session.format session.transaction o) (taken_back scene)
-          (λ c cs q. let k = made_kept number fuel session.vars.context shared scene h (is_other number shared.writer) refl ends c cs q in k))
-      by (failed code scene) ends = from_counters P number scene shared _ _ _ _ _ (taken_back scene)
 
   -- ---- one command
 
-  abbrev TurnLeft : {A : Type 0} → ℕ → Shared → Format → Turn Whole A → Type 0
-  TurnLeft n shared format t = Left P n shared t.shared format t.session.format t.session.transaction t.committed
-
   module _ (shared : Shared) (session : Session Whole) (h : SharedHolds shared) (o : Owns number shared session.format session.transaction) where
-    same_left : (answer : Answer) → TurnLeft number shared session.format (answered answer shared session)
+    same_left : (answer : Answer) → TurnLeft P number shared session.format (answered answer shared session)
     same_left answer = nothing_done P number shared session.format session.format session.transaction h o
 
-    unless_left : (refusal : Option Answer) (t : Turn Whole Answer) → TurnLeft number shared session.format t → TurnLeft number shared session.format (unless_refused refusal shared session t)
+    unless_left : (refusal : Option Answer) (t : Turn Whole Answer) → TurnLeft P number shared session.format t → TurnLeft P number shared session.format (unless_refused refusal shared session t)
     unless_left None t l = l
     unless_left (Some answer) t l = same_left answer
 
-    long_left : (b : Bool) (answer : Answer) (t : Turn Whole Answer) → TurnLeft number shared session.format t → TurnLeft number shared session.format (cond b (answered answer shared session) t)
+    long_left : (b : Bool) (answer : Answer) (t : Turn Whole Answer) → TurnLeft P number shared session.format t → TurnLeft P number shared session.format (cond b (answered answer shared session) t)
     long_left true answer t l = same_left answer
     long_left false answer t l = l
 
     -- a transaction that is opened has no item
-    opened_left : (new : Shared) (format : Format) (es : List (Entry Whole)) → Left P number shared new format format None es → Left P number shared new format format (Some just_opened) es
+    opened_left : (new : Shared) (format : Format) (es : List (Entry Whole)) → StillHolds P number shared new format format None es → StillHolds P number shared new format format (Some just_opened) es
     opened_left new format es l =
         record { holds = l.holds; own = record { own = l.own.own; none = l.own.none; saves = omega arith; one = none_one; formats = tt }; entries = l.entries; log = l.log; formats = l.formats; frame = l.frame }
 
-    begin_left : TurnLeft number shared session.format (begin_turn call shared session)
+    begin_left : TurnLeft P number shared session.format (begin_turn call shared session)
     begin_left = opened_left _ _ _ (commit_left shared session h o)
 
-    commit_turn_left : TurnLeft number shared session.format (commit_turn call shared session)
+    commit_turn_left : TurnLeft P number shared session.format (commit_turn call shared session)
     commit_turn_left = commit_left shared session h o
 
-    dropped_by : (b : Bool) → is_other number shared.writer ≡ b → Left P number shared (cond b shared (record shared { changes = []; writer = None })) session.format session.format None []
+    dropped_by : (b : Bool) → is_other number shared.writer ≡ b → StillHolds P number shared (cond b shared (record shared { changes = []; writer = None })) session.format session.format None []
     dropped_by true q = record {
       holds = h;
       own = record { own = λ l. absurd (differ (other_not_held number shared.writer q) l); none = λ _. refl; saves = omega arith; one = none_one; formats = tt };
@@ -220,7 +118,7 @@ module _ (P : Type 0) (identity : Identity) (draw : Draw) (number : ℕ) where
       frame = inr (q, refl);
     }
 
-    rollback_left : TurnLeft number shared session.format (rollback_turn call shared session)
+    rollback_left : TurnLeft P number shared session.format (rollback_turn call shared session)
     rollback_left = dropped_by (is_other number shared.writer) refl
 
     -- ---- savepoints
@@ -238,13 +136,13 @@ module _ (P : Type 0) (identity : Identity) (draw : Draw) (number : ℕ) where
         with_saves open' (saves_but name open'.saves ++ record { name = name; items = length open'.items; changes = changes_of_own number shared } ∷ []) p
         (saves_set open'.items 0 (saves_but name open'.saves) name (changes_of_own number shared) e (saves_without open'.items 0 open'.saves name p.saves))
 
-    save_left : (name : List ℕ) → TurnLeft number shared session.format (save_turn call name shared session)
+    save_left : (name : List ℕ) → TurnLeft P number shared session.format (save_turn call name shared session)
     save_left name =
         nothing_done P number shared session.format session.format (option_map (saved name (changes_of_own number shared)) session.transaction) h
         (save_by name session.transaction o (own_count (is_other number shared.writer) refl))
 
     cut_by : (name : List ℕ) (open' : Open Whole) (save : Save) → Owns number shared session.format (Some open') → find (is_save_of name) open'.saves ≡ Some save → (b : Bool) → is_other number shared.writer ≡ b
-        → Left P number shared (cond b shared (record shared { changes = take save.changes shared.changes })) session.format session.format (Some (cut_back name save open')) []
+        → StillHolds P number shared (cond b shared (record shared { changes = take save.changes shared.changes })) session.format session.format (Some (cut_back name save open')) []
     cut_by name open' save p e true q =
         let empty = p.none (other_not_held number shared.writer q) in
         nothing_done P number shared session.format session.format (Some (cut_back name save open')) h
@@ -279,24 +177,24 @@ module _ (P : Type 0) (identity : Identity) (draw : Draw) (number : ℕ) where
         }
 
     found_by : (name : List ℕ) (open' : Open Whole) (found : Option Save) → Owns number shared session.format (Some open') → session.transaction ≡ Some open' → find (is_save_of name) open'.saves ≡ found
-        → TurnLeft number shared session.format (back_to_save call name open' found shared session)
+        → TurnLeft P number shared session.format (back_to_save call name open' found shared session)
     found_by name open' None p e q = same_left (refused 1305)
     found_by name open' (Some save) p e q = cut_by name open' save p q (is_other number shared.writer) refl
 
-    back_by : (name : List ℕ) (t : Option (Open Whole)) → Owns number shared session.format t → session.transaction ≡ t → TurnLeft number shared session.format (back_in call name t shared session)
+    back_by : (name : List ℕ) (t : Option (Open Whole)) → Owns number shared session.format t → session.transaction ≡ t → TurnLeft P number shared session.format (back_in call name t shared session)
     back_by name None p e = same_left (refused 1305)
     back_by name (Some open') p e = found_by name open' (find (is_save_of name) open'.saves) p e refl
 
-    back_left : (name : List ℕ) → TurnLeft number shared session.format (back_turn call name shared session)
+    back_left : (name : List ℕ) → TurnLeft P number shared session.format (back_turn call name shared session)
     back_left name = back_by name session.transaction o refl
 
     released_by : (name : List ℕ) (open' : Open Whole) (b : Bool) → Owns number shared session.format (Some open')
-        → TurnLeft number shared session.format (cond b (answered (ok 0) shared (record session { transaction = Some (record open' { saves = saves_but name open'.saves }) })) (answered (refused 1305) shared session))
+        → TurnLeft P number shared session.format (cond b (answered (ok 0) shared (record session { transaction = Some (record open' { saves = saves_but name open'.saves }) })) (answered (refused 1305) shared session))
     released_by name open' true p =
         nothing_done P number shared session.format session.format (Some (record open' { saves = saves_but name open'.saves })) h (with_saves open' (saves_but name open'.saves) p (saves_without open'.items 0 open'.saves name p.saves))
     released_by name open' false p = same_left (refused 1305)
 
-    release_left : (name : List ℕ) (t : Option (Open Whole)) → Owns number shared session.format t → TurnLeft number shared session.format (release_in name t shared session)
+    release_left : (name : List ℕ) (t : Option (Open Whole)) → Owns number shared session.format t → TurnLeft P number shared session.format (release_in name t shared session)
     release_left name None p = same_left (refused 1305)
     release_left name (Some open') p = released_by name open' (is_some (find (is_save_of name) open'.saves)) p
 
@@ -304,13 +202,13 @@ module _ (P : Type 0) (identity : Identity) (draw : Draw) (number : ℕ) where
 
     -- where the open transaction is closed and what that left is there
     abbrev EndLeft : Turn Whole (Unit {0}) → Type 0
-    EndLeft t = (t.session.transaction ≡ None) × Left P number shared t.shared session.format t.session.format None t.committed
+    EndLeft t = (t.session.transaction ≡ None) × StillHolds P number shared t.shared session.format t.session.format None t.committed
 
-    end_left : (t : Turn Whole (Unit {0})) → EndLeft t → TurnLeft number shared session.format t
-    end_left t l = subst (λ (u : Option (Open Whole)). Left P number shared t.shared session.format t.session.format u t.committed) (sym l.0) l.1
+    end_left : (t : Turn Whole (Unit {0})) → EndLeft t → TurnLeft P number shared session.format t
+    end_left t l = subst (λ (u : Option (Open Whole)). StillHolds P number shared t.shared session.format t.session.format u t.committed) (sym l.0) l.1
 
-    answered_left : (refusal : Option Answer) (t : Turn Whole (Unit {0})) (next : Turn Whole Answer) → TurnLeft number shared session.format t → (refusal ≡ None → TurnLeft number shared session.format next)
-        → TurnLeft number shared session.format (unless_answered refusal t next)
+    answered_left : (refusal : Option Answer) (t : Turn Whole (Unit {0})) (next : Turn Whole Answer) → TurnLeft P number shared session.format t → (refusal ≡ None → TurnLeft P number shared session.format next)
+        → TurnLeft P number shared session.format (unless_answered refusal t next)
     answered_left None t next l more = more refl
     answered_left (Some answer) t next l more = l
 
@@ -325,9 +223,9 @@ module _ (P : Type 0) (identity : Identity) (draw : Draw) (number : ℕ) where
           unit (Some b) = refl
 
       -- a base that it made, behind the end of the open transaction
-      defined_left : (base : Base) (t : Turn Whole (Unit {0})) → EndLeft t → is_other number t.shared.writer ≡ false → is_still_refused s ≡ false → defined s t.shared.base ≡ Some base
-          → TurnLeft number shared session.format (defined_turn call text s base t)
-      defined_left base t l q allowed e =
+      defined_left : (base : Base) (t : Turn Whole (Unit {0})) → EndLeft t → is_other number t.shared.writer ≡ false → defined s t.shared.base ≡ Some base
+          → TurnLeft P number shared session.format (defined_turn call text s base t)
+      defined_left base t l q e =
           let none = no_changes number t.shared t.session.format None l.1.holds l.1.own q refl in
           let turn : Turn Whole Answer = defined_turn call text s base t in
           let entry : Entry Whole = definition_entry call text s t.session.vars.context t.shared in
@@ -337,53 +235,42 @@ module _ (P : Type 0) (identity : Identity) (draw : Draw) (number : ℕ) where
             entries = go_on changes_of define t.committed (entry ∷ []) shared.base
                 ∙ (ap (λ (made : Option Base). option_and_then (after changes_of define (entry ∷ [])) made) l.1.entries ∙ (define_entry t.session.vars.context t.shared t.shared.base ∙ e));
             log = logged_on t.committed (entry ∷ []) shared.committed t.shared.committed turn.shared.committed shared.place t.shared.place turn.shared.place l.1.log
-                (record { count = refl; place = refl; made = λ holds. (record { text = is; short = short holds; is = defines; allowed = allowed }, tt) });
+                (record { count = refl; place = refl; made = λ holds. (record { text = is; short = short holds; is = defines }, tt) });
             formats = in_behind session.format t.committed (entry ∷ []) l.1.formats tt;
             frame = l.1.frame;
           }
 
-      made_left : (made : Option Base) (t : Turn Whole (Unit {0})) → EndLeft t → is_other number t.shared.writer ≡ false → is_still_refused s ≡ false → defined s t.shared.base ≡ made
-          → TurnLeft number shared session.format (made_turn call text s made t)
-      made_left None t l q allowed e = end_left t l
-      made_left (Some base) t l q allowed e = defined_left base t l q allowed e
+      made_left : (made : Option Base) (t : Turn Whole (Unit {0})) → EndLeft t → is_other number t.shared.writer ≡ false → defined s t.shared.base ≡ made
+          → TurnLeft P number shared session.format (made_turn call text s made t)
+      made_left None t l q e = end_left t l
+      made_left (Some base) t l q e = defined_left base t l q e
 
-      define_left : (t : Turn Whole (Unit {0})) → EndLeft t → is_still_refused s ≡ false → TurnLeft number shared session.format (define_turn call text s t)
-      define_left t l allowed =
+      define_left : (t : Turn Whole (Unit {0})) → EndLeft t → TurnLeft P number shared session.format (define_turn call text s t)
+      define_left t l =
           answered_left (option_map refused (ddl_refusal t.shared.base.catalog s)) t _ (end_left t l) (λ _.
-          answered_left (writing_refusal number t.shared) t _ (end_left t l) (λ free. made_left (defined s t.shared.base) t l (free_to_write number t.shared free) allowed refl))
+          answered_left (writing_refusal number t.shared) t _ (end_left t l) (λ free. made_left (defined s t.shared.base) t l (free_to_write number t.shared free) refl))
 
-      still_left : (b : Bool) (t : Turn Whole (Unit {0})) → EndLeft t → is_still_refused s ≡ b → TurnLeft number shared session.format (cond b (with_answer (refused 30005) t) (define_turn call text s t))
-      still_left true t l e = end_left t l
-      still_left false t l e = define_left t l e
-
-      definition_left : TurnLeft number shared session.format (definition_turn call text s shared session)
-      definition_left = still_left (is_still_refused s) (commit_open call shared session) (refl, commit_left shared session h o) refl
+      definition_left : TurnLeft P number shared session.format (definition_turn call text s shared session)
+      definition_left = define_left (commit_open call shared session) (refl, commit_left shared session h o)
 
     -- ---- statements that are run
     module _ (statements : StatementsEndWell) (evaluations : EvaluationsEndWell) where
-      statement_left : (text : List ℕ) (s : Statement) → TurnLeft number shared session.format (statement_run call full text s shared session)
-      statement_left text s =
-          ended_left full text s shared session (λ (did : Did). did.first) (λ (did : Did). did.last_id) _ h o
-          (statements (setting_of shared.base.catalog session.vars.context (number_of_bytes 0 draw.uuid)) most_nested [] s (scene_for number full session.vars.context shared))
-
-      expressions_left : (text : List ℕ) (ts : Trees) → TurnLeft number shared session.format (expressions_run call full text ts shared session)
-      expressions_left text ts =
-          ended_left full text (evaluate ts) shared session (λ _. None) (λ _. None) _ h o
-          (evaluations (setting_of shared.base.catalog session.vars.context (number_of_bytes 0 draw.uuid)) most_nested [] ts (scene_for number full session.vars.context shared))
+      expressions_left : (text : List ℕ) (ts : Trees) → TurnLeft P number shared session.format (expressions_run call full text ts shared session)
+      expressions_left text ts = values_left P identity draw number shared session h o evaluations full text (evaluate ts) [] ts
 
       assigned_left : (refusal : Option ℕ) (assignments : List (Target × Value)) (t : Turn Whole (Given (List Value))) → first_refused (is_open t.session) assignments ≡ refusal
-          → TurnLeft number shared session.format t → TurnLeft number shared session.format (assign_unless refusal assignments t)
+          → TurnLeft P number shared session.format t → TurnLeft P number shared session.format (assign_unless refusal assignments t)
       assigned_left None assignments t e l =
           record { holds = l.holds; own = all_owned number t.shared assignments t.session e l.own; entries = l.entries; log = l.log; formats = l.formats; frame = l.frame }
       assigned_left (Some code) assignments t e l = l
 
-      set_given_left : (as' : List (Target × Tree)) (r : Result (List Value) ℕ) (t : Turn Whole (Given (List Value))) → TurnLeft number shared session.format t → TurnLeft number shared session.format (set_by as' r t)
+      set_given_left : (as' : List (Target × Tree)) (r : Result (List Value) ℕ) (t : Turn Whole (Given (List Value))) → TurnLeft P number shared session.format t → TurnLeft P number shared session.format (set_by as' r t)
       set_given_left as' (Err code) t l = l
       set_given_left as' (Ok vs) t l =
           let assignments = zip (map (λ (a : Target × Tree). a.0) as') vs in
           assigned_left (first_refused (is_open t.session) assignments) assignments t refl l
 
-      set_left : (as' : List (Target × Tree)) → TurnLeft number shared session.format (set_turn call as' shared session)
+      set_left : (as' : List (Target × Tree)) → TurnLeft P number shared session.format (set_turn call as' shared session)
       set_left as' =
           let ts = set_expressions as' in
           let text = spelling (evaluate ts) in
@@ -393,17 +280,22 @@ module _ (P : Type 0) (identity : Identity) (draw : Draw) (number : ℕ) where
           (unless_left (lock_refusal number shared (evaluate ts)) _
           (set_given_left as' run.given.result run (expressions_left text ts))))
 
-      call_left : (name : List ℕ) (ts : Trees) → TurnLeft number shared session.format (call_turn call name ts shared session)
+      call_left : (name : List ℕ) (ts : Trees) → TurnLeft P number shared session.format (call_turn call name ts shared session)
       call_left name ts =
-          long_left (is_too_long (spelling (evaluate ts))) (refused 1153) _
-          (unless_left (code_answer (statement_refusal shared.base.catalog session_scope (call_procedure name ts))) _ (same_left (refused 1305)))
+          let text = spelling (evaluate ts) in
+          let run = arguments_run call text ts shared session in
+          long_left (is_too_long text) (refused 1153) _
+          (unless_left (code_answer (statement_refusal shared.base.catalog session_scope (call_procedure name ts))) _
+          (unless_left (lock_refusal number shared (evaluate ts)) _
+          (called_left P identity draw number shared session.format statements evaluations name run.given.result run
+          (arguments_format P identity draw number shared session h o evaluations text ts) (arguments_left P identity draw number shared session h o evaluations text ts))))
 
-      plain_left : (text : List ℕ) (s : Statement) → TurnLeft number shared session.format (plain_turn call text s shared session)
+      plain_left : (text : List ℕ) (s : Statement) → TurnLeft P number shared session.format (plain_turn call text s shared session)
       plain_left text s =
-          unless_left (code_answer (statement_refusal shared.base.catalog session_scope s)) _ (unless_left (lock_refusal number shared s) _ (statement_left text s))
+          unless_left (code_answer (statement_refusal shared.base.catalog session_scope s)) _ (unless_left (lock_refusal number shared s) _ (statement_left P identity draw number shared session h o statements full text s))
 
       -- ---- one command
-      any_left : (text : List ℕ) (s : Statement) → text_answer text ≡ a_statement s → (P → length text ≤ 2 ^ 20) → TurnLeft number shared session.format (statement_turn call text s shared session)
+      any_left : (text : List ℕ) (s : Statement) → text_answer text ≡ a_statement s → (P → length text ≤ 2 ^ 20) → TurnLeft P number shared session.format (statement_turn call text s shared session)
       any_left text begin is short = begin_left
       any_left text commit is short = commit_turn_left
       any_left text rollback is short = rollback_left
@@ -432,12 +324,12 @@ module _ (P : Type 0) (identity : Identity) (draw : Draw) (number : ℕ) where
       any_left text (while_steps c ss) is short = plain_left text (while_steps c ss)
       any_left text (return_value e) is short = plain_left text (return_value e)
 
-      text_left : (text : List ℕ) (a : TextAnswer) → text_answer text ≡ a → (P → length text ≤ 2 ^ 20) → TurnLeft number shared session.format (text_turn call text a shared session)
+      text_left : (text : List ℕ) (a : TextAnswer) → text_answer text ≡ a → (P → length text ≤ 2 ^ 20) → TurnLeft P number shared session.format (text_turn call text a shared session)
       text_left text (a_statement s) is short = any_left text s is short
       text_left text (a_syntax_error place) is short = same_left (refused_at place)
       text_left text too_deep is short = same_left (refused 30007)
 
-      command_left : (text : List ℕ) → (P → length text ≤ 2 ^ 20) → TurnLeft number shared session.format (with_count (text_turn call text (text_answer text) shared session))
+      command_left : (text : List ℕ) → (P → length text ≤ 2 ^ 20) → TurnLeft P number shared session.format (with_count (text_turn call text (text_answer text) shared session))
       command_left text short = text_left text (text_answer text) refl short
 
 -- ---- a step
@@ -504,7 +396,7 @@ module _ (statements : StatementsEndWell) (evaluations : EvaluationsEndWell) (fr
   turn_now = with_count (text_turn at_call text (text_answer text) m.state.shared session_now)
 
   -- what the step leaves, where its text is no longer than a command's
-  step_left : Left (length text ≤ 2 ^ 20) n m.state.shared turn_now.shared session_now.format turn_now.session.format turn_now.session.transaction turn_now.committed
+  step_left : StillHolds (length text ≤ 2 ^ 20) n m.state.shared turn_now.shared session_now.format turn_now.session.format turn_now.session.transaction turn_now.committed
   step_left =
       command_left (length text ≤ 2 ^ 20) identity draw n m.state.shared session_now holds.shared (work_owns at_call n m.state.shared (session_at n m) (holds.each n)) statements evaluations text (λ short. short)
 

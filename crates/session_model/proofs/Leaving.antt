@@ -109,4 +109,4 @@ errors_leave_all call text (while_steps c ss) shared session l e = plain_left ca
 errors_leave_all call text (return_value v) shared session l e = plain_left call shared session text (return_value v) e
 
 pub readers_see_committed : ReadersSeeCommitted
-readers_see_committed n fuel context shared other = ap (λ (b : Bool). cond b shared.base.tables (tables_with shared.changes shared.base.tables)) other
+readers_see_committed n left context shared other = ap (λ (b : Bool). cond b shared.base.tables (tables_with shared.changes shared.base.tables)) other

@@ -5,3 +5,5 @@ mod Logging
 pub mod Natural
 pub mod Owning
 mod Saving
+pub mod Keeping
+pub mod Calling

@@ -9,7 +9,8 @@ use Rattle.std.specs.Option.{option_map}
 use Rattle.val_types.specs.declared.value.Value.{Value}
 use Rattle.val_types.specs.declared.change.Change.{Change}
 use Rattle.sql_tree.specs.Statement.{Statement, create_table, create_function, create_procedure, create_trigger, drop_table, drop_function, drop_procedure, drop_trigger, truncate, insert_into, replace_into, update_rows, delete_rows, select, evaluate, set_all, call_procedure, begin, commit, rollback, savepoint, rollback_to, release_savepoint, block, if_steps, while_steps, return_value}
-use Rattle.sql_tree.specs.Tree.{Tree, Trees}
+use Rattle.sql_tree.specs.Tree.{Tree, Trees, no_tree, tree}
+use Rattle.sql_locals.specs.declared.locals.Local.{Local}
 use Rattle.sql_tree.specs.declared.statements.Target.{Target}
 use Rattle.catalog_rules.specs.Bases.{Base, defined}
 use Rattle.catalog_rules.specs.Checks.{session_scope, statement_refusal}
@@ -26,13 +27,18 @@ use Rattle.session_ctx.specs.declared.session.SessionVars.{SessionVars}
 use Rattle.sql_meaning.specs.Scenes.{Scene, Ending, done, failed}
 use Rattle.sql_meaning.specs.Frames.{Context}
 use Rattle.sql_meaning.specs.Changing.{Did}
-use Rattle.sql_meaning.specs.Running.{context_after, effect, evaluation, most_nested}
-use Rattle.sql_reach.specs.Defining.{counters_after, is_still_refused, number_of_bytes}
+use Rattle.sql_meaning.specs.Running.{context_after, effect, evaluation}
+use Rattle.sql_reach.specs.Defining.{counters_after, number_of_bytes}
+use Rattle.sql_reach.specs.Closing.{closed}
+use Rattle.proc_model.specs.Talk.{Left, Refusal, Told}
+use Rattle.proc_model.specs.Procedures.{Came, scope_of, called}
+use Rattle.proc_model.proofs.Leading.{talk_seen}
 use Rattle.text_answers.specs.Answers.{TextAnswer, a_statement, a_syntax_error, too_deep, text_answer}
 use Rattle.session_model.specs.Answers.{ok, refused}
 use Rattle.session_model.specs.Sessions.{Save, Open, Session, Shared, State}
-use Rattle.session_model.specs.Running.{Call, Fuel, full, Turn, Given, is_other, released, all_committed, counted_in, commit_shared, commit_open, keep, takes_too_much, undone, settle, ended, statement_run, expressions_run, writing_refusal, lock_refusal, item_of, made_behind, with_counters, with_context, fuel_of, scene_for, setting_of}
-use Rattle.session_model.specs.Commands.{answered, with_answer, definition_entry, begin_turn, commit_turn, save_turn, is_save_of, saves_but, changes_of_own, saves_up_to, changes_cut, back_to_save, back_in, release_in, defined_turn, made_turn, unless_answered, define_turn, definition_turn, assign_unless, first_refused, is_open, set_by, set_given, set_expressions, code_answer, is_too_long, given_turn, unless_refused, set_turn, call_turn, plain_turn}
+use Rattle.session_model.specs.Running.{Call, full, Turn, Given, is_other, released, all_committed, counted_in, commit_shared, commit_open, keep, takes_too_much, undone, settle, ended, statement_run, values_run, expressions_run, writing_refusal, lock_refusal, item_of, made_behind, with_counters, with_context, fuel_of, scene_for, setting_of}
+use Rattle.session_model.specs.Commands.{answered, with_answer, definition_entry, begin_turn, commit_turn, save_turn, is_save_of, saves_but, changes_of_own, saves_up_to, changes_cut, back_to_save, back_in, release_in, defined_turn, made_turn, unless_answered, define_turn, definition_turn, assign_unless, first_refused, is_open, set_by, set_given, set_expressions, code_answer, is_too_long, given_turn, unless_refused, set_turn, plain_turn}
+use Rattle.session_model.specs.Calling.{Reached, reached_by, step_check, told_of, unless_checked, counted_by, with_counted, effect_of, same, run_step, evaluate_step, assign_step, steps_of, left_with, arguments_run, came_to, called_by, called_with, call_turn}
 use Rattle.session_model.specs.declared.format.Format.{Format}
 use Rattle.session_model.proofs.Assigning.{open_same, all_assigned_by}
 use Rattle.session_model.specs.Machine.{statement_turn, text_turn, at_work, with_count, command, stepped, step, open_by, session_by, step_by, Whole, kept_of, whole, kept, kept_state, kept_entry, StepsAreKept}
@@ -170,26 +176,30 @@ module _ (identity : Identity) (draw : Draw) (number : ℕ) where
       ∙ refused_or (takes_too_much whole_call session.transaction (item (c ∷ cs))) refusal (keep whole_call (item (c ∷ cs)) scene shared session given) kept_by
       (keep_by (item (c ∷ cs)) scene shared session.vars session.format session.transaction given)
 
-  ended_by : {A : Type 0} (fuel : Fuel) (text : List ℕ) (tree : Statement) (shared : Shared) (session : Session Whole) (first last_id : A → Option ℤ) (before : Scene) (e : Ending A)
-      → ended item_call fuel text tree shared (session_by kept_of session) first last_id before e ≡ item_turn (ended whole_call fuel text tree shared session first last_id before e)
-  ended_by fuel text tree shared session first last_id before (done a scene) =
-      settle_by (item_of whole_call session.format fuel text tree session.vars.context shared (first a)) (made_behind (is_other number shared.writer) before scene) scene (with_counters scene shared)
-      (with_context (context_after session.vars.context tree scene.seeds (last_id a)) session) (record { result = Ok a; fuel = fuel_of scene }) (undone 1197 tree shared session scene)
-  ended_by fuel text tree shared session first last_id before (failed code scene) = refl
+  ended_by : {A : Type 0} (left : Left) (text : List ℕ) (made_of : Statement) (shared : Shared) (session : Session Whole) (first last_id : A → Option ℤ) (before : Scene) (e : Ending A)
+      → ended item_call left text made_of shared (session_by kept_of session) first last_id before e ≡ item_turn (ended whole_call left text made_of shared session first last_id before e)
+  ended_by left text made_of shared session first last_id before (done a scene) =
+      settle_by (item_of whole_call session.format left text made_of session.vars.context shared (first a)) (made_behind (is_other number shared.writer) before scene) scene (with_counters scene shared)
+      (with_context (context_after session.vars.context made_of scene.seeds (last_id a)) session) (record { result = Ok a; fuel = fuel_of scene }) (undone 1197 made_of shared session scene)
+  ended_by left text made_of shared session first last_id before (failed code scene) = refl
 
-  statement_by : (fuel : Fuel) (text : List ℕ) (s : Statement) (shared : Shared) (session : Session Whole)
-      → statement_run item_call fuel text s shared (session_by kept_of session) ≡ item_turn (statement_run whole_call fuel text s shared session)
-  statement_by fuel text s shared session =
-      let before = scene_for number fuel session.vars.context shared in
-      ended_by fuel text s shared session (λ (did : Did). did.first) (λ (did : Did). did.last_id) before
-      (effect (setting_of shared.base.catalog session.vars.context (number_of_bytes 0 draw.uuid)) most_nested [] s before)
+  statement_by : (left : Left) (text : List ℕ) (s : Statement) (shared : Shared) (session : Session Whole)
+      → statement_run item_call left text s shared (session_by kept_of session) ≡ item_turn (statement_run whole_call left text s shared session)
+  statement_by left text s shared session =
+      let before = scene_for number left session.vars.context shared in
+      ended_by left text s shared session (λ (did : Did). did.first) (λ (did : Did). did.last_id) before
+      (effect (setting_of shared.base.catalog session.vars.context (number_of_bytes 0 draw.uuid)) left.nesting [] s before)
 
-  expressions_by : (fuel : Fuel) (text : List ℕ) (ts : Trees) (shared : Shared) (session : Session Whole)
-      → expressions_run item_call fuel text ts shared (session_by kept_of session) ≡ item_turn (expressions_run whole_call fuel text ts shared session)
-  expressions_by fuel text ts shared session =
-      let before = scene_for number fuel session.vars.context shared in
-      ended_by fuel text (evaluate ts) shared session (λ _. None) (λ _. None) before
-      (evaluation (setting_of shared.base.catalog session.vars.context (number_of_bytes 0 draw.uuid)) most_nested [] ts before)
+  values_by : (left : Left) (text : List ℕ) (made_of : Statement) (locals : List Local) (ts : Trees) (shared : Shared) (session : Session Whole)
+      → values_run item_call left text made_of locals ts shared (session_by kept_of session) ≡ item_turn (values_run whole_call left text made_of locals ts shared session)
+  values_by left text made_of locals ts shared session =
+      let before = scene_for number left session.vars.context shared in
+      ended_by left text made_of shared session (λ _. None) (λ _. None) before
+      (evaluation (setting_of shared.base.catalog session.vars.context (number_of_bytes 0 draw.uuid)) left.nesting locals ts before)
+
+  expressions_by : (left : Left) (text : List ℕ) (ts : Trees) (shared : Shared) (session : Session Whole)
+      → expressions_run item_call left text ts shared (session_by kept_of session) ≡ item_turn (expressions_run whole_call left text ts shared session)
+  expressions_by left text ts shared session = values_by left text (evaluate ts) [] ts shared session
 
   -- ---- definitions
   defined_by : (text : List ℕ) (s : Statement) (base : Base) (t : Turn Whole (Unit {0}))
@@ -221,18 +231,12 @@ module _ (identity : Identity) (draw : Draw) (number : ℕ) where
       (answered_by (writing_refusal number t.shared) t (made_turn item_call text s (defined s t.shared.base) (item_turn t)) (made_turn whole_call text s (defined s t.shared.base) t)
       (made_by text s (defined s t.shared.base) t))
 
-  still_by : (text : List ℕ) (s : Statement) (b : Bool) (t : Turn Whole (Unit {0}))
-      → cond b (with_answer (refused 30005) (item_turn t)) (define_turn item_call text s (item_turn t)) ≡ item_turn (cond b (with_answer (refused 30005) t) (define_turn whole_call text s t))
-  still_by text s true t = refl
-  still_by text s false t = define_by text s t
-
   definition_by : (text : List ℕ) (s : Statement) (shared : Shared) (session : Session Whole)
       → definition_turn item_call text s shared (session_by kept_of session) ≡ item_turn (definition_turn whole_call text s shared session)
   definition_by text s shared session =
-      ap (λ (t : Turn Item (Unit {0})). cond (is_still_refused s) (with_answer (refused 30005) t) (define_turn item_call text s t)) (commit_natural shared session)
-      ∙ still_by text s (is_still_refused s) (commit_open whole_call shared session)
+      ap (λ (t : Turn Item (Unit {0})). define_turn item_call text s t) (commit_natural shared session) ∙ define_by text s (commit_open whole_call shared session)
 
-  -- ---- SET, CALL, and statements that are run
+  -- ---- SET, and statements that are run
   assign_by : (o : Option ℕ) (assignments : List (Target × Value)) (t : Turn Whole (Given (List Value))) → assign_unless o assignments (item_turn t) ≡ item_turn (assign_unless o assignments t)
   assign_by None assignments t =
       ap (λ (session : Session Item). record { shared = t.shared; session = session; committed = map kept_entry t.committed; given = ok 0 }) (all_assigned_by assignments t.session)
@@ -262,18 +266,74 @@ module _ (identity : Identity) (draw : Draw) (number : ℕ) where
       (unless_natural (code_answer (statement_refusal shared.base.catalog session_scope (set_all as'))) shared session _ _
       (unless_natural (lock_refusal number shared (evaluate ts)) shared session _ _ run))
 
-  call_natural : (name : List ℕ) (ts : Trees) (shared : Shared) (session : Session Whole)
-      → call_turn item_call name ts shared (session_by kept_of session) ≡ item_turn (call_turn whole_call name ts shared session)
-  call_natural name ts shared session =
-      long_by (is_too_long (spelling (evaluate ts))) (refused 1153) shared session _ _
-      (unless_natural (code_answer (statement_refusal shared.base.catalog session_scope (call_procedure name ts))) shared session _ _ refl)
-
   plain_by : (text : List ℕ) (s : Statement) (shared : Shared) (session : Session Whole)
       → plain_turn item_call text s shared (session_by kept_of session) ≡ item_turn (plain_turn whole_call text s shared session)
   plain_by text s shared session =
       unless_natural (code_answer (statement_refusal shared.base.catalog session_scope s)) shared session _ _
       (unless_natural (lock_refusal number shared s) shared session _ _
       (ap (λ (t : Turn Item (Given Did)). given_turn t) (statement_by full text s shared session)))
+
+  -- ---- CALL
+
+  reached_natural : {A : Type 0} (at : Reached Whole) (t : Turn Whole A) → reached_by (item_turn at) (item_turn t) ≡ item_turn (reached_by at t)
+  reached_natural at t =
+      ap (λ (es : List (Entry Item)). record { shared = t.shared; session = session_by kept_of t.session; committed = es; given = tt }) (sym (map-append kept_entry at.committed t.committed))
+
+  -- what is told, and where the CALL stands then
+  abbrev seen : {B : Type 0} → Told B × Reached Whole → Told B × Reached Item
+  seen b = (b.0, item_turn b.1)
+
+  checked_by : {A B : Type 0} (view : A → B) (refusal : Option Refusal) (left : Left) (at : Reached Whole) (t : Turn Item (Given A)) (u : Turn Whole (Given A)) → t ≡ item_turn u
+      → unless_checked refusal left (item_turn at) (told_of view t.given, reached_by (item_turn at) t) ≡ seen (unless_checked refusal left at (told_of view u.given, reached_by at u))
+  checked_by {A = A} {B = B} view None left at t u e =
+      ap (λ (turn : Turn Item (Given A)). (told_of view turn.given, reached_by (item_turn at) turn)) e ∙ ap (λ (next : Reached Item). (told_of view u.given, next)) (reached_natural at u)
+  checked_by view (Some refusal) left at t u e = refl
+
+  session_counted : (r : Result Did ℕ) (session : Session Whole) → counted_by r (session_by kept_of session) ≡ session_by kept_of (counted_by r session)
+  session_counted (Ok did) session = refl
+  session_counted (Err code) session = refl
+
+  counted_natural : (t : Turn Whole (Given Did)) → with_counted (item_turn t) ≡ item_turn (with_counted t)
+  counted_natural t =
+      ap (λ (session : Session Item). record { shared = t.shared; session = session; committed = map kept_entry t.committed; given = t.given }) (session_counted t.given.result t.session)
+
+  run_natural : (left : Left) (s : Statement) (at : Reached Whole) → run_step item_call left s (item_turn at) ≡ seen (run_step whole_call left s at)
+  run_natural left s at =
+      checked_by effect_of (step_check number session_scope s at.shared) left at (with_counted (statement_run item_call left (spelling s) s at.shared (session_by kept_of at.session)))
+      (with_counted (statement_run whole_call left (spelling s) s at.shared at.session))
+      (ap (λ (t : Turn Item (Given Did)). with_counted t) (statement_by left (spelling s) s at.shared at.session) ∙ counted_natural (statement_run whole_call left (spelling s) s at.shared at.session))
+
+  evaluate_natural : (left : Left) (locals : List Local) (ts : Trees) (at : Reached Whole) → evaluate_step item_call left locals ts (item_turn at) ≡ seen (evaluate_step whole_call left locals ts at)
+  evaluate_natural left locals ts at =
+      let item : Statement = closed (evaluate ts) locals in
+      checked_by {A = List Value} {B = List Value} same (step_check number (scope_of locals) (evaluate ts) at.shared) left at (values_run item_call left (spelling item) item locals ts at.shared (session_by kept_of at.session))
+      (values_run whole_call left (spelling item) item locals ts at.shared at.session) (values_by left (spelling item) item locals ts at.shared at.session)
+
+  assign_natural : (n : List ℕ) (v : Value) (at : Reached Whole) → assign_step n v (item_turn at) ≡ item_turn (assign_step n v at)
+  assign_natural n v at = refl
+
+  called_natural : (name : List ℕ) (r : Result (List Value) ℕ) (t : Turn Whole (Given (List Value))) → called_by item_call name r (item_turn t) ≡ item_turn (called_by whole_call name r t)
+  called_natural name (Err code) t = refl
+  called_natural name (Ok vs) t =
+      ap (λ (b : Came × Reached Item). came_to b)
+      (talk_seen (steps_of whole_call) (steps_of item_call) (λ (at : Reached Whole). item_turn at) run_natural evaluate_natural assign_natural (called t.shared.base.catalog (left_with t.given.fuel) name vs)
+      (record { shared = t.shared; session = t.session; committed = t.committed; given = tt }))
+
+  arguments_natural : (text : List ℕ) (ts : Trees) (shared : Shared) (session : Session Whole)
+      → arguments_run item_call text ts shared (session_by kept_of session) ≡ item_turn (arguments_run whole_call text ts shared session)
+  arguments_natural text no_tree shared session = refl
+  arguments_natural text (tree t ts) shared session = expressions_by full text (tree t ts) shared session
+
+  call_natural : (name : List ℕ) (ts : Trees) (shared : Shared) (session : Session Whole)
+      → call_turn item_call name ts shared (session_by kept_of session) ≡ item_turn (call_turn whole_call name ts shared session)
+  call_natural name ts shared session =
+      let text = spelling (evaluate ts) in
+      let run : called_with item_call name (arguments_run item_call text ts shared (session_by kept_of session)) ≡ item_turn (called_with whole_call name (arguments_run whole_call text ts shared session)) =
+      ap (λ (t : Turn Item (Given (List Value))). called_with item_call name t) (arguments_natural text ts shared session)
+      ∙ called_natural name (arguments_run whole_call text ts shared session).given.result (arguments_run whole_call text ts shared session) in
+      long_by (is_too_long text) (refused 1153) shared session _ _
+      (unless_natural (code_answer (statement_refusal shared.base.catalog session_scope (call_procedure name ts))) shared session _ _
+      (unless_natural (lock_refusal number shared (evaluate ts)) shared session _ _ run))
 
   -- ---- one command
   statement_natural : (text : List ℕ) (s : Statement) (shared : Shared) (session : Session Whole)

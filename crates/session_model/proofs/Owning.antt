@@ -1,5 +1,5 @@
 -- What a command leaves of what holds: the lock, the open changes, and where the log ends.
-use Rattle.std.proofs.Common.{◌≡◌, ◌≢◌, ℕ, zero, suc, ◌⊎◌, inl, inr, Bool, true, false, not, ◌==◌, List, [], ◌∷◌, ◌++◌, length, take, drop, Option, Some, None, refl, sym, ◌∙◌, ap, arith, cond}
+use Rattle.std.proofs.Common.{◌≡◌, ◌≢◌, ℕ, zero, suc, ◌⊎◌, inl, inr, Bool, true, false, not, ◌==◌, List, [], ◌∷◌, ◌++◌, length, take, drop, Option, Some, None, refl, sym, ◌∙◌, ap, subst, arith, cond}
 use Rattle.std.proofs.lemmas.List.{append-nil}
 use Rattle.std.proofs.lemmas.Bool.{eqb-true, eq-eqb}
 use Rattle.std.proofs.Math.Seq.{drop-append_seam}
@@ -13,16 +13,19 @@ use Rattle.catalog_rules.specs.Bases.{Base}
 use Rattle.log_entries.specs.declared.entries.Entry.{Entry}
 use Rattle.log_entries.specs.declared.entries.Entry.TheVariants.{Transaction}
 use Rattle.log_entries.specs.Entries.{after, with_tables}
+use Rattle.log_entries.proofs.Following.{go_on}
 use Rattle.sql_meaning.specs.Scenes.{Scene}
 use Rattle.sql_meaning.specs.Frames.{Context}
 use Rattle.sql_meaning.specs.Leading.{Leads}
-use Rattle.session_model.specs.Answers.{refused, refused_by}
+use Rattle.proc_model.specs.Procedures.{plain_refusal}
+use Rattle.proc_model.specs.Talk.{Left, Refusal}
+use Rattle.session_model.specs.Answers.{refused_as}
 use Rattle.session_model.specs.Sessions.{Open, Shared, tables_with}
-use Rattle.session_model.specs.Running.{Fuel, is_other, items_of, made_behind, with_counters, scene_for, writing_refusal, held_by, most_committed, is_full}
+use Rattle.session_model.specs.Running.{is_other, items_of, made_behind, with_counters, scene_for, writing_check, writing_refusal, held_by, most_committed, is_full}
 use Rattle.session_model.specs.Machine.{Whole}
 use Rattle.session_model.specs.Holding.{changes_of, define, changes_in, holds_lock, EntriesIn, Owns, SharedHolds}
 use Rattle.session_model.specs.declared.format.Format.{Format}
-use Rattle.session_model.proofs.Logging.{Logged, no_entry, none_one}
+use Rattle.session_model.proofs.Logging.{Logged, logged_on, in_behind, no_entry, none_one}
 
 -- ---- the lock
 
@@ -73,7 +76,7 @@ Frame n old new = ((new.writer ≡ old.writer) × (new.changes ≡ old.changes))
 
 -- What is left holds; the entries that were put out make the new base, lead to the new end of the log, and are logged in the format
 -- that the session had at first. A premise is that of their texts.
-pub record Left (P : Type 0) (n : ℕ) (old new : Shared) (first last : Format) (t : Option (Open Whole)) (es : List (Entry Whole)) : Type 0 where
+pub record StillHolds (P : Type 0) (n : ℕ) (old new : Shared) (first last : Format) (t : Option (Open Whole)) (es : List (Entry Whole)) : Type 0 where
   pub holds : SharedHolds new
   pub own : Owns n new last t
   pub entries : after changes_of define es old.base ≡ Some new.base
@@ -82,8 +85,27 @@ pub record Left (P : Type 0) (n : ℕ) (old new : Shared) (first last : Format) 
   pub frame : Frame n old new
 
 -- nothing is done
-pub nothing_done : (P : Type 0) (n : ℕ) (shared : Shared) (first last : Format) (t : Option (Open Whole)) → SharedHolds shared → Owns n shared last t → Left P n shared shared first last t []
+pub nothing_done : (P : Type 0) (n : ℕ) (shared : Shared) (first last : Format) (t : Option (Open Whole)) → SharedHolds shared → Owns n shared last t → StillHolds P n shared shared first last t []
 nothing_done P n shared first last t h o = record { holds = h; own = o; entries = refl; log = no_entry shared.committed shared.place; formats = tt; frame = inl (refl, refl) }
+
+-- for the other sessions, one thing behind the other
+frame_on : (n : ℕ) (a b c : Shared) → Frame n a b → Frame n b c → Frame n a c
+frame_on n a b c (inl (w, d)) (inl (x, e)) = inl (x ∙ w, e ∙ d)
+frame_on n a b c (inl (w, d)) (inr (p, q)) = inr (ap (is_other n) (sym w) ∙ p, q)
+frame_on n a b c (inr (p, q)) (inl (x, e)) = inr (p, ap (is_other n) x ∙ q)
+frame_on n a b c (inr (p, q)) (inr (r, s)) = inr (p, s)
+
+-- what is left behind what was left, where the format is still the first
+pub holds_on : (P : Type 0) (n : ℕ) (a b c : Shared) (first mid last : Format) (t u : Option (Open Whole)) (front back : List (Entry Whole)) → mid ≡ first
+    → StillHolds P n a b first mid t front → StillHolds P n b c mid last u back → StillHolds P n a c first last u (front ++ back)
+holds_on P n a b c first mid last t u front back same f k = record {
+  holds = k.holds;
+  own = k.own;
+  entries = go_on changes_of define front back a.base ∙ (ap (λ (made : Option Base). option_and_then (after changes_of define back) made) f.entries ∙ k.entries);
+  log = logged_on front back a.committed b.committed c.committed a.place b.place c.place f.log k.log;
+  formats = in_behind first front back f.formats (subst (λ (format : Format). EntriesIn format back) same k.formats);
+  frame = frame_on n a b c f.frame k.frame;
+}
 
 -- without items of its own a session beside no other has no changes
 pub no_changes : (n : ℕ) (shared : Shared) (format : Format) (t : Option (Open Whole)) → SharedHolds shared → Owns n shared format t → is_other n shared.writer ≡ false → items_of t ≡ [] → shared.changes ≡ []
@@ -126,7 +148,7 @@ entry_made stamp server is base cs e h =
     ap (λ (o : Option (List Table)). option_and_then (after changes_of define []) (option_map (with_tables base) o)) made
 
 pub released_left : (P : Type 0) (n : ℕ) (shared : Shared) (format : Format) (t : Option (Open Whole)) → SharedHolds shared → Owns n shared format t → items_of t ≡ [] → (b : Bool) → is_other n shared.writer ≡ b
-    → Left P n shared (cond b shared (record shared { writer = None })) format format None []
+    → StillHolds P n shared (cond b shared (record shared { writer = None })) format format None []
 released_left P n shared format t h o e true q = record {
   holds = h;
   own = record { own = λ l. absurd (by (other_not_held n shared.writer q) l); none = λ _. refl; saves = omega arith; one = none_one; formats = tt };
@@ -175,16 +197,16 @@ some_there : {A : Type 0} (o : Option A) (a : A) → o ≡ Some a → is_some o 
 some_there o a e = ap is_some e
 
 -- beside another session's open changes none are kept; else they stand behind those before
-pub made_kept : (n : ℕ) (fuel : Fuel) (context : Context) (shared : Shared) (scene : Scene) → SharedHolds shared → (b : Bool) → is_other n shared.writer ≡ b
-    → Leads (scene_for n fuel context shared) scene → (c : Change) (cs : List Change) → made_behind b (scene_for n fuel context shared) scene ≡ c ∷ cs
-    → (b ≡ false) × (scene.changes ≡ shared.changes ++ made_behind b (scene_for n fuel context shared) scene)
-    × (is_some (all_applied (shared.changes ++ made_behind b (scene_for n fuel context shared) scene) shared.base.tables) ≡ true)
-made_kept n fuel context shared scene h true q leads c cs e = cc
-made_kept n fuel context shared scene h false q leads c cs e =
-    let old : (scene_for n fuel context shared).changes ≡ shared.changes = ap (λ (b : Bool). cond b [] shared.changes) q in
-    let seen : (scene_for n fuel context shared).tables ≡ tables_with shared.changes shared.base.tables = ap (λ (b : Bool). cond b shared.base.tables (tables_with shared.changes shared.base.tables)) q in
+pub made_kept : (n : ℕ) (left : Left) (context : Context) (shared : Shared) (scene : Scene) → SharedHolds shared → (b : Bool) → is_other n shared.writer ≡ b
+    → Leads (scene_for n left context shared) scene → (c : Change) (cs : List Change) → made_behind b (scene_for n left context shared) scene ≡ c ∷ cs
+    → (b ≡ false) × (scene.changes ≡ shared.changes ++ made_behind b (scene_for n left context shared) scene)
+    × (is_some (all_applied (shared.changes ++ made_behind b (scene_for n left context shared) scene) shared.base.tables) ≡ true)
+made_kept n left context shared scene h true q leads c cs e = cc
+made_kept n left context shared scene h false q leads c cs e =
+    let old : (scene_for n left context shared).changes ≡ shared.changes = ap (λ (b : Bool). cond b [] shared.changes) q in
+    let seen : (scene_for n left context shared).tables ≡ tables_with shared.changes shared.base.tables = ap (λ (b : Bool). cond b shared.base.tables (tables_with shared.changes shared.base.tables)) q in
     let added : scene.changes ≡ shared.changes ++ leads.more = leads.added ∙ ap (λ (ds : List Change). ds ++ leads.more) old in
-    let made : drop (length (scene_for n fuel context shared).changes) scene.changes ≡ leads.more =
+    let made : drop (length (scene_for n left context shared).changes) scene.changes ≡ leads.more =
     ap (λ (ds : List Change). drop (length ds) scene.changes) old ∙ (ap (λ (ds : List Change). drop (length shared.changes) ds) added ∙ drop-append_seam shared.changes leads.more) in
     let applied' : all_applied leads.more (tables_with shared.changes shared.base.tables) ≡ Some scene.tables = ap (λ (ts : List Table). all_applied leads.more ts) (sym seen) ∙ leads.made in (
       refl,
@@ -202,16 +224,20 @@ pub counters_owned : (n : ℕ) (scene : Scene) (shared : Shared) (format : Forma
 counters_owned n scene shared format t o = record { own = o.own; none = o.none; saves = o.saves; one = o.one; formats = o.formats }
 
 -- what is left from a base with other counters, is left from the base
-pub from_counters : (P : Type 0) (n : ℕ) (scene : Scene) (shared new : Shared) (first last : Format) (t : Option (Open Whole)) (es : List (Entry Whole)) → Left P n (with_counters scene shared) new first last t es → Left P n shared new first last t es
+pub from_counters : (P : Type 0) (n : ℕ) (scene : Scene) (shared new : Shared) (first last : Format) (t : Option (Open Whole)) (es : List (Entry Whole)) → StillHolds P n (with_counters scene shared) new first last t es → StillHolds P n shared new first last t es
 from_counters P n scene shared new first last t es l = record { holds = l.holds; own = l.own; entries = l.entries; log = l.log; formats = l.formats; frame = l.frame }
 
 -- ---- statements that write
 
 -- where nothing refuses a session that writes, it has the lock or none has
 pub free_to_write : (n : ℕ) (shared : Shared) → writing_refusal n shared ≡ None → is_other n shared.writer ≡ false
-free_to_write n shared e = limits (nat_le most_committed shared.committed || is_full shared.place) e
+free_to_write n shared e = limits (nat_le most_committed shared.committed || is_full shared.place) (unanswered (writing_check n shared) e)
   where
-    by : (b : Bool) (w : ℕ) → cond b None (Some (refused_by w)) ≡ None → not b ≡ false
+    unanswered : (o : Option Refusal) → option_map refused_as o ≡ None → o ≡ None
+    unanswered None q = refl
+    unanswered (Some refusal) q = cc
+
+    by : (b : Bool) (w : ℕ) → cond {A = Option Refusal} b None (Some (record { code = 1205; holder = Some w })) ≡ None → not b ≡ false
     by true w q = refl
     by false w q = cc
 
@@ -219,6 +245,6 @@ free_to_write n shared e = limits (nat_le most_committed shared.committed || is_
     held None q = refl
     held (Some w) q = by (w == n) w q
 
-    limits : (b : Bool) → cond b (Some (refused 30008)) (held_by n shared.writer) ≡ None → is_other n shared.writer ≡ false
+    limits : (b : Bool) → cond {A = Option Refusal} b (Some (plain_refusal 30008)) (held_by n shared.writer) ≡ None → is_other n shared.writer ≡ false
     limits true q = cc
     limits false q = held shared.writer q

@@ -5,6 +5,7 @@ use Rattle.answer_text.specs.declared.answer.Answer.{Answer}
 use Rattle.answer_text.specs.declared.answer.End.{End}
 use Rattle.answer_text.specs.declared.answer.End.TheVariants as ends
 use Rattle.std.specs.Prelude.{ℤ, pos, neg_ℤ, ◌^◌, ◌-◌}
+use Rattle.proc_model.specs.Talk.{Refusal}
 
 -- rows affected, 0 for what affects none
 abbrev pub ok : ℕ → Answer
@@ -25,6 +26,10 @@ refused_at place = record { sets = []; end = ends.Refused 1064 (Some place) None
 -- 1205: another session has the writer's lock
 abbrev pub refused_by : ℕ → Answer
 refused_by holder = record { sets = []; end = ends.Refused 1205 None (Some holder) }
+
+-- why a statement is refused, as an answer
+abbrev pub refused_as : Refusal → Answer
+refused_as refusal = record { sets = []; end = ends.Refused refusal.code None refusal.holder }
 
 -- ROW_COUNT() behind a command: the affected rows, the greatest number at the most; -1 behind rows shown and errors
 abbrev pub row_count_after : End → ℤ

@@ -3,7 +3,7 @@ use Rattle.std.specs.Prelude.{ℕ, ◌^◌, Bool, false, not, nat_lt, if◌then�
 use Rattle.std.specs.Option.{option_map}
 use Rattle.val_types.specs.declared.value.Value.{Value}
 use Rattle.sql_print.specs.StatementSpelling.{spelling}
-use Rattle.sql_tree.specs.Statement.{Statement, set_all, call_procedure, evaluate}
+use Rattle.sql_tree.specs.Statement.{Statement, set_all, evaluate}
 use Rattle.sql_tree.specs.Tree.{Tree, Trees, no_tree, tree}
 use Rattle.sql_tree.specs.declared.statements.Target.{Target}
 use Rattle.catalog_rules.specs.Names.{same_name, first_made}
@@ -18,7 +18,7 @@ use Rattle.answer_text.specs.declared.answer.Answer.{Answer}
 use Rattle.sql_meaning.specs.Frames.{Context}
 use Rattle.sql_meaning.specs.Changing.{Did}
 use Rattle.sql_meaning.specs.Running.{most_nested}
-use Rattle.sql_reach.specs.Defining.{counters_after, is_still_refused}
+use Rattle.sql_reach.specs.Defining.{counters_after}
 use Rattle.session_model.specs.Answers.{ok, refused}
 use Rattle.session_model.specs.Formats.{format_for, format_refusal}
 use Rattle.session_model.specs.declared.format.Format.{Format}
@@ -172,8 +172,7 @@ define_turn call text s t =
 -- the open transaction is committed first, whatever comes of the definition
 abbrev pub definition_turn : {I : Type 0} → Call I → List ℕ → Statement → Shared → Session I → Turn I Answer
 definition_turn call text s shared session =
-    let t = commit_open call shared session in
-    if is_still_refused s then with_answer (refused 30005) t else define_turn call text s t
+    define_turn call text s (commit_open call shared session)
 
 -- ---- SET
 
@@ -274,16 +273,6 @@ set_turn call as' shared session =
     unless_refused (code_answer (statement_refusal shared.base.catalog session_scope (set_all as'))) shared session
     (unless_refused (lock_refusal call.number shared (evaluate ts)) shared session
     (set_given as' (expressions_run call full text ts shared session)))
-
--- ---- CALL
-
--- until procedures come, none is there: 1153, then the catalog's checks, which refuse it
-abbrev pub call_turn : {I : Type 0} → Call I → List ℕ → Trees → Shared → Session I → Turn I Answer
-call_turn call name ts shared session =
-    if is_too_long (spelling (evaluate ts)) then answered (refused 1153) shared session
-    else
-    unless_refused (code_answer (statement_refusal shared.base.catalog session_scope (call_procedure name ts))) shared session
-    (answered (refused 1305) shared session)
 
 -- ---- changes, SELECT and DO
 

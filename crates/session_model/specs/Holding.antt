@@ -13,6 +13,7 @@ use Rattle.log_entries.specs.declared.entries.Entry.TheVariants.{Transaction, De
 use Rattle.log_entries.specs.Entries.{after}
 use Rattle.log_model.specs.Log.{LogPlace, counted_all, written_to}
 use Rattle.transaction_sizes.specs.Sizes.{are_too_large}
+use Rattle.proc_model.specs.Talk.{Left}
 use Rattle.session_model.specs.Formats.{first_format, is_by_rows}
 use Rattle.session_model.specs.Sessions.{Save, Open, Session, Shared}
 use Rattle.session_model.specs.declared.format.Format.{Format}
@@ -20,11 +21,10 @@ use Rattle.answer_text.specs.declared.answer.Answer.{Answer}
 use Rattle.answer_text.specs.declared.answer.End.{End}
 use Rattle.answer_text.specs.declared.answer.End.TheVariants as ends
 use Rattle.sql_meaning.specs.Frames.{Context}
-use Rattle.sql_reach.specs.Defining.{is_still_refused}
 use Rattle.sql_reach.specs.Reach.{is_definition}
 use Rattle.sql_tree.specs.Statement.{Statement, begin, set_all, call_procedure}
 use Rattle.text_answers.specs.Answers.{a_statement, text_answer}
-use Rattle.session_model.specs.Running.{Call, Fuel, Turn, definitions_changed, items_of, is_other, scene_for}
+use Rattle.session_model.specs.Running.{Call, Turn, definitions_changed, items_of, is_other, scene_for}
 use Rattle.session_model.specs.Machine.{Whole, whole, kept_of, kept_entry, Machine, machine_after, first_state, nowhere, opened, step, statement_turn}
 
 -- ---- entries of whole items
@@ -72,7 +72,6 @@ pub record IsDefined (i : Whole) : Type 0 where
   pub text : text_answer i.kept.text ≡ a_statement i.began.tree
   pub short : length i.kept.text ≤ 2 ^ 20
   pub is : is_definition i.began.tree ≡ true
-  pub allowed : is_still_refused i.began.tree ≡ false
 
 abbrev pub EntryMade : Entry Whole → Type 0
 EntryMade (Transaction stamp server items) = (1 ≤ length items) × AreOne items
@@ -197,4 +196,4 @@ ErrorsLeaveAll =
 -- a session beside another one's open changes reads the committed rows; the one that has the lock, or any where none has, its own
 abbrev pub ReadersSeeCommitted : Type 0
 ReadersSeeCommitted =
-    (n : ℕ) (fuel : Fuel) (context : Context) (shared : Shared) → is_other n shared.writer ≡ true → (scene_for n fuel context shared).tables ≡ shared.base.tables
+    (n : ℕ) (left : Left) (context : Context) (shared : Shared) → is_other n shared.writer ≡ true → (scene_for n left context shared).tables ≡ shared.base.tables

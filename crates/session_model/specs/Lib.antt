@@ -2,7 +2,9 @@ pub mod Formats
 pub mod Sessions
 pub mod Answers
 pub mod Running
+pub mod Counting
 pub mod Commands
+pub mod Calling
 pub mod Machine
 pub mod Holding
 pub mod Worked

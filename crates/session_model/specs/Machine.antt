@@ -15,11 +15,13 @@ use Rattle.session_ctx.specs.Contexts.{new_context, at_command}
 use Rattle.session_ctx.specs.declared.session.SessionVars.{SessionVars}
 use Rattle.sql_reach.specs.Reach.{is_definition}
 use Rattle.text_answers.specs.Answers.{TextAnswer, a_statement, a_syntax_error, too_deep, text_answer}
-use Rattle.session_model.specs.Answers.{refused, refused_at, row_count_after}
+use Rattle.session_model.specs.Answers.{refused, refused_at}
 use Rattle.session_model.specs.Formats.{first_format}
 use Rattle.session_model.specs.Sessions.{Open, Session, Shared, State}
 use Rattle.session_model.specs.Running.{Began, Call, Known, Turn, entry_by}
-use Rattle.session_model.specs.Commands.{answered, begin_turn, commit_turn, rollback_turn, save_turn, back_turn, release_in, definition_turn, set_turn, call_turn, plain_turn}
+use Rattle.session_model.specs.Commands.{answered, begin_turn, commit_turn, rollback_turn, save_turn, back_turn, release_in, definition_turn, set_turn, plain_turn}
+use Rattle.session_model.specs.Counting.{counted}
+use Rattle.session_model.specs.Calling.{call_turn}
 
 -- ---- one command
 
@@ -55,12 +57,6 @@ at_work call None = record {
 at_work call (Some session) = record session { vars = vars_at_work call session.vars }
 
 -- ROW_COUNT() behind the command
-abbrev pub counted_vars : Answer → SessionVars → SessionVars
-counted_vars answer vars = record vars { context = record (vars.context) { row_count = row_count_after answer.end } }
-
-abbrev pub counted : {I : Type 0} → Answer → Session I → Session I
-counted answer session = record session { vars = counted_vars answer session.vars }
-
 abbrev pub with_count : {I : Type 0} → Turn I Answer → Turn I Answer
 with_count t = record t { session = counted t.given t.session }
 

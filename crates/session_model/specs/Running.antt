@@ -1,6 +1,6 @@
 -- What one statement of a session does to what is shared and to its session, and which entries it puts out.
 use Rattle.std.specs.Prelude.{ℕ, ◌+◌, ◌^◌, ◌-◌, ◌==◌, ◌||◌, Bool, true, false, not, nat_le, if◌then◌else◌, List, [], ◌∷◌, ◌++◌, length, drop, filter, map, Option, Some, None, Result, Ok, Err, ℤ}
-use Rattle.std.specs.Option.{option_map_or}
+use Rattle.std.specs.Option.{option_map, option_map_or}
 use Rattle.val_types.specs.declared.change.Change.{Change}
 use Rattle.val_types.specs.declared.definitions.TableDef.{TableDef}
 use Rattle.val_types.specs.declared.value.Value.{Value}
@@ -19,6 +19,9 @@ use Rattle.log_entries.specs.declared.entries.Entry.TheVariants.{Transaction, De
 use Rattle.log_model.specs.Log.{LogPlace, behind}
 use Rattle.transaction_sizes.specs.Sizes.{are_too_large}
 use Rattle.answer_text.specs.declared.answer.Answer.{Answer}
+use Rattle.proc_model.specs.Talk.{Left, Refusal}
+use Rattle.proc_model.specs.Procedures.{plain_refusal}
+use Rattle.sql_locals.specs.declared.locals.Local.{Local}
 use Rattle.sql_meaning.specs.Scenes.{Scene, Ending, done, failed}
 use Rattle.sql_meaning.specs.Frames.{Context, Setting}
 use Rattle.sql_meaning.specs.Changing.{Did}
@@ -26,7 +29,7 @@ use Rattle.sql_meaning.specs.Running.{most_nested, most_turns, effect, evaluatio
 use Rattle.sql_reach.specs.Carrying.{carried}
 use Rattle.sql_reach.specs.Reach.{writes}
 use Rattle.sql_reach.specs.Defining.{number_of_bytes}
-use Rattle.session_model.specs.Answers.{ok, showing, refused, refused_by}
+use Rattle.session_model.specs.Answers.{ok, showing, refused, refused_as}
 use Rattle.session_model.specs.Formats.{is_by_rows}
 use Rattle.session_model.specs.declared.format.Format.{Format}
 use Rattle.session_model.specs.Sessions.{Open, Session, Shared, tables_with}
@@ -63,13 +66,14 @@ entry_by f (Transaction stamp server items) = Transaction stamp server (map f it
 entry_by f (Definition stamp server item) = Definition stamp server (f item)
 entry_by f (LogStart stamp server) = LogStart stamp server
 
--- What is left to a command: turns of WHILE, and how many UUIDs it made.
+-- what is left to a command at its beginning
+abbrev pub full : Left
+full = record { nesting = most_nested; turns = most_turns; uuids = 0 }
+
+-- What is left to it behind a statement: turns of WHILE, and how many UUIDs it made.
 pub record Fuel : Type 0 where
   pub turns : ℕ
   pub uuids : ℕ
-
-abbrev pub full : Fuel
-full = record { turns = most_turns; uuids = 0 }
 
 -- What a command does: what is shared after it, its session after it, and the entries that it puts out, with a result.
 pub record Turn (I : Type 0) (A : Type 0) : Type 0 where
@@ -97,16 +101,23 @@ abbrev pub is_full : LogPlace → Bool
 is_full place = place.log == 60000 || nat_le (2 ^ 30) place.pos
 
 -- what refuses a statement that writes: 30008 too many transactions or too long a log, 1205 another session writes
-abbrev pub held_by : ℕ → Option ℕ → Option Answer
+abbrev pub held_by : ℕ → Option ℕ → Option Refusal
 held_by n None = None
-held_by n (Some w) = if w == n then None else Some (refused_by w)
+held_by n (Some w) = if w == n then None else Some (record { code = 1205; holder = Some w })
 
+abbrev pub writing_check : ℕ → Shared → Option Refusal
+writing_check n shared =
+    if nat_le most_committed shared.committed || is_full shared.place then Some (plain_refusal 30008) else held_by n shared.writer
+
+abbrev pub lock_check : ℕ → Shared → Statement → Option Refusal
+lock_check n shared s = if writes shared.base.catalog s then writing_check n shared else None
+
+-- as it is answered
 abbrev pub writing_refusal : ℕ → Shared → Option Answer
-writing_refusal n shared =
-    if nat_le most_committed shared.committed || is_full shared.place then Some (refused 30008) else held_by n shared.writer
+writing_refusal n shared = option_map refused_as (writing_check n shared)
 
 abbrev pub lock_refusal : ℕ → Shared → Statement → Option Answer
-lock_refusal n shared s = if writes shared.base.catalog s then writing_refusal n shared else None
+lock_refusal n shared s = option_map refused_as (lock_check n shared s)
 
 -- ---- transactions
 
@@ -159,8 +170,8 @@ abbrev pub definitions_changed : List Object → List Change → List TableDef
 definitions_changed catalog changes = filter (λ (d : TableDef). is_among (map table_of changes) d.name) (definitions_in catalog)
 
 -- a statement's item, in the format of its session
-abbrev pub item_of : {I : Type 0} → Call I → Format → Fuel → List ℕ → Statement → Context → Shared → Option ℤ → List Change → I
-item_of call format fuel text tree context shared first changes =
+abbrev pub item_of : {I : Type 0} → Call I → Format → Left → List ℕ → Statement → Context → Shared → Option ℤ → List Change → I
+item_of call format left text tree context shared first changes =
     call.known.note
     (record {
       text = text;
@@ -175,9 +186,9 @@ item_of call format fuel text tree context shared first changes =
       catalog = shared.base.catalog;
       context = context;
       draw = call.draw;
-      nesting = most_nested;
-      turns = fuel.turns;
-      uuids = fuel.uuids;
+      nesting = left.nesting;
+      turns = left.turns;
+      uuids = left.uuids;
     })
 
 -- outside a transaction an item is one by itself; in an open one it goes last, and the session keeps the lock
@@ -208,14 +219,14 @@ abbrev pub setting_of : List Object → Context → ℕ → Setting
 setting_of catalog context uuid = record { catalog = catalog; context = context; uuid = uuid }
 
 -- the rows that a session's statement reads: the holder of the lock its own changes, too, every other one the committed rows
-abbrev pub scene_for : ℕ → Fuel → Context → Shared → Scene
-scene_for n fuel context shared = record {
+abbrev pub scene_for : ℕ → Left → Context → Shared → Scene
+scene_for n left context shared = record {
   tables = if is_other n shared.writer then shared.base.tables else tables_with shared.changes shared.base.tables;
   changes = if is_other n shared.writer then [] else shared.changes;
   counters = shared.counters;
   seeds = context.seeds;
-  turns = fuel.turns;
-  uuids = fuel.uuids;
+  turns = left.turns;
+  uuids = left.uuids;
 }
 
 -- the changes that a statement made behind those before it; one that reads beside another session's open changes makes none
@@ -258,26 +269,30 @@ settle call item (c ∷ cs) scene shared session given refusal =
     if takes_too_much call session.transaction (item (c ∷ cs)) then refusal else keep call (item (c ∷ cs)) scene shared session given
 
 -- how a statement that began on a scene ended: its text and its tree make the item
-abbrev pub ended : {I : Type 0} {A : Type 0} → Call I → Fuel → List ℕ → Statement → Shared → Session I → (A → Option ℤ) → (A → Option ℤ) → Scene → Ending A → Turn I (Given A)
-ended call fuel text tree shared session first last_id before (done a scene) =
-    settle call (item_of call session.format fuel text tree session.vars.context shared (first a)) (made_behind (is_other call.number shared.writer) before scene) scene (with_counters scene shared)
+abbrev pub ended : {I : Type 0} {A : Type 0} → Call I → Left → List ℕ → Statement → Shared → Session I → (A → Option ℤ) → (A → Option ℤ) → Scene → Ending A → Turn I (Given A)
+ended call left text tree shared session first last_id before (done a scene) =
+    settle call (item_of call session.format left text tree session.vars.context shared (first a)) (made_behind (is_other call.number shared.writer) before scene) scene (with_counters scene shared)
     (with_context (context_after session.vars.context tree scene.seeds (last_id a)) session) (record { result = Ok a; fuel = fuel_of scene })
     (undone 1197 tree shared session scene)
-ended call fuel text tree shared session first last_id before (failed code scene) = undone code tree shared session scene
+ended call left text tree shared session first last_id before (failed code scene) = undone code tree shared session scene
 
 -- a change, a SELECT or a DO
-abbrev pub statement_run : {I : Type 0} → Call I → Fuel → List ℕ → Statement → Shared → Session I → Turn I (Given Did)
-statement_run call fuel text s shared session =
-    let before = scene_for call.number fuel session.vars.context shared in
-    ended call fuel text s shared session (λ (did : Did). did.first) (λ (did : Did). did.last_id) before
-    (effect (setting_of shared.base.catalog session.vars.context (number_of_bytes 0 call.draw.uuid)) most_nested [] s before)
+abbrev pub statement_run : {I : Type 0} → Call I → Left → List ℕ → Statement → Shared → Session I → Turn I (Given Did)
+statement_run call left text s shared session =
+    let before = scene_for call.number left session.vars.context shared in
+    ended call left text s shared session (λ (did : Did). did.first) (λ (did : Did). did.last_id) before
+    (effect (setting_of shared.base.catalog session.vars.context (number_of_bytes 0 call.draw.uuid)) left.nesting [] s before)
+
+-- the values of expressions where locals are in scope; its text and its tree make the item
+abbrev pub values_run : {I : Type 0} → Call I → Left → List ℕ → Statement → List Local → Trees → Shared → Session I → Turn I (Given (List Value))
+values_run call left text tree locals ts shared session =
+    let before = scene_for call.number left session.vars.context shared in
+    ended call left text tree shared session (λ _. None) (λ _. None) before
+    (evaluation (setting_of shared.base.catalog session.vars.context (number_of_bytes 0 call.draw.uuid)) left.nesting locals ts before)
 
 -- the values of expressions that a session evaluates, as the DO over them
-abbrev pub expressions_run : {I : Type 0} → Call I → Fuel → List ℕ → Trees → Shared → Session I → Turn I (Given (List Value))
-expressions_run call fuel text ts shared session =
-    let before = scene_for call.number fuel session.vars.context shared in
-    ended call fuel text (evaluate ts) shared session (λ _. None) (λ _. None) before
-    (evaluation (setting_of shared.base.catalog session.vars.context (number_of_bytes 0 call.draw.uuid)) most_nested [] ts before)
+abbrev pub expressions_run : {I : Type 0} → Call I → Left → List ℕ → Trees → Shared → Session I → Turn I (Given (List Value))
+expressions_run call left text ts shared session = values_run call left text (evaluate ts) [] ts shared session
 
 -- the answer of a statement
 abbrev pub did_answer : Did → Answer

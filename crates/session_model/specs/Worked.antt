@@ -1,13 +1,15 @@
 -- A small script run by the machine, of which worked examples are made.
-use Rattle.std.specs.Prelude.{ℕ, ◌+◌, List, [], ◌∷◌, ◌++◌, codes, replicate, pos}
+use Rattle.std.specs.Prelude.{ℕ, ◌+◌, List, [], ◌∷◌, ◌++◌, codes, false, map, replicate, pos}
 use Rattle.val_types.specs.declared.value.Value.{Value}
 use Rattle.val_types.specs.declared.value.Value.TheVariants.{Int}
 use Rattle.port_traits.specs.declared.identity.Identity.{Identity}
 use Rattle.port_traits.specs.declared.identity.Draw.{Draw}
 use Rattle.log_entries.specs.declared.entries.Item.{Item}
 use Rattle.log_entries.specs.declared.entries.Entry.{Entry}
+use Rattle.log_entries.specs.declared.entries.Entry.TheVariants.{Transaction, Definition, LogStart}
 use Rattle.log_model.specs.Log.{LogPlace}
 use Rattle.answer_text.specs.declared.answer.Answer.{Answer}
+use Rattle.answer_text.specs.declared.answer.End.TheVariants as ends
 use Rattle.catalog_rules.specs.Bases.{empty_base}
 use Rattle.session_model.specs.Sessions.{State}
 use Rattle.session_model.specs.Machine.{first_place, first_state, step, Step, kept}
@@ -46,6 +48,17 @@ entries_from i (c ∷ cs) state = entries_behind (entries_from (i + 1) cs) (step
 abbrev pub entries_of : List Spoken → List (Entry Item)
 entries_of commands = entries_from 0 commands (first_state empty_base [] 0 first_place)
 
+-- the texts of each transaction among some entries
+abbrev pub texts_in : List (Entry Item) → List (List (List ℕ))
+texts_in [] = []
+texts_in (Transaction stamp server items ∷ es) = map (λ (i : Item). i.text) items ∷ texts_in es
+texts_in (Definition stamp server item ∷ es) = texts_in es
+texts_in (LogStart stamp server ∷ es) = texts_in es
+
+-- the texts of the transactions that a script's commands put out
+abbrev pub texts_of : List Spoken → List (List (List ℕ))
+texts_of commands = texts_in (entries_of commands)
+
 abbrev pub places_behind : (State Item → List LogPlace) → Step Item → List LogPlace
 places_behind more s = s.state.shared.place ∷ more s.state
 
@@ -75,3 +88,24 @@ made_t = s1 (codes "CREATE TABLE t (id INT, v INT, PRIMARY KEY (id))")
 -- a row of two numbers
 abbrev pub pair : ℕ → ℕ → List Value
 pair a b = Int (pos a) ∷ Int (pos b) ∷ []
+
+-- the answer of a CALL that showed one set of rows, and affected so many
+abbrev pub called_with_rows : List (List Value) → ℕ → Answer
+called_with_rows rows affected = record { sets = rows ∷ []; end = ends.Ok affected false }
+
+-- ---- procedures
+
+-- a function that changes a row, and a procedure whose condition calls it
+abbrev pub adds_nine : Spoken
+adds_nine = s1 (codes "CREATE FUNCTION f() RETURNS INT BEGIN INSERT INTO t VALUES (9, 9); RETURN 1; END")
+
+abbrev pub asks_f : Spoken
+asks_f = s1 (codes "CREATE PROCEDURE i() BEGIN IF f() THEN SET @y = 1; END IF; END")
+
+-- a procedure whose third statement finds the key of its first
+abbrev pub inserts_twice : Spoken
+inserts_twice = s1 (codes "CREATE PROCEDURE q() BEGIN INSERT INTO t VALUES (1, 1); INSERT INTO t VALUES (2, 2); INSERT INTO t VALUES (1, 3); END")
+
+-- a procedure whose parameter hides a column
+abbrev pub hides_v : Spoken
+hides_v = s1 (codes "CREATE PROCEDURE p(v INT) BEGIN UPDATE t SET v = v + 1 WHERE id = 1; END")

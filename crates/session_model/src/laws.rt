@@ -28,7 +28,7 @@ pub fn formats_decide()
     statements_end_well();
 }
 
-/// A law: a change, a SELECT, a DO or a statement on savepoints that is refused leaves all tables, the
+/// A law: a change, a SELECT, a DO, a ROLLBACK TO or a RELEASE that is refused leaves all tables, the
 /// open transaction and what was committed as they were.
 pub fn errors_leave_all()
     ensures { ErrorsLeaveAll }

@@ -5,8 +5,8 @@
 //! (all that an item began with) are the same machine; one law joins them.
 //!
 //! The definitions stand in specs/: `Formats` (how statements are logged), `Sessions` (what is kept), `Answers`, `Running` (the writer's lock, transactions and one
-//! statement's run), `Commands` (one definition a command), `Machine` (a step, and the whole run), `Holding` (what holds of
-//! every run).
+//! statement's run), `Counting` (ROW_COUNT), `Commands` (one definition a command), `Calling` (CALL: what a procedure asks, as steps of its
+//! session), `Machine` (a step, and the whole run), `Holding` (what holds of every run).
 //!
 //! - `format`: how statements are logged
 //! - `laws`: what follows from the definitions
@@ -19,12 +19,16 @@
 //!   has an item; a savepoint stands at the changes of its items, so that ROLLBACK TO cuts rows and items at one place; an item
 //!   changed something and has the definitions of the tables that it changed, and no transaction has more bytes than one may
 //!   have ([`runs_hold`]).
+//! - This holds behind a CALL, too, whatever its procedure does and wherever an error ends it: each change, SELECT, DO and evaluation of a
+//!   procedure is one statement of its session, which the catalog's checks and the lock let through or refuse, and is logged by
+//!   itself, with its locals closed in; outside a transaction it is committed by itself, and stays where the CALL ends with an error
+//!   ([`runs_hold`], [`calls_committed`]).
 //! - What a step commits is logged in the format of its session: each item by its text under STATEMENT, and by its rows under ROW
 //!   ([`formats_decide`]).
 //! - A change, a SELECT, a DO or a statement on savepoints that is refused leaves all tables, the open transaction and what was
 //!   committed ([`errors_leave_all`]).
 //! - A session beside another one's open changes reads the rows that were last committed ([`readers_see_committed`]).
-//! - The worked scripts: a writer and a reader, savepoints, variables, formats; where the log ends behind a text and behind a row.
+//! - The worked scripts: a writer and a reader, savepoints, variables, formats, procedures; where the log ends behind a text and behind a row.
 #![tactic(auto)]
 
 mod format;
@@ -36,6 +40,6 @@ pub use laws::{
     errors_leave_all, formats_decide, readers_see_committed, runs_hold, steps_are_kept,
 };
 pub use worked::{
-    first_refusal_counts, formats_set, log_grows, logs_full, savepoints_kept, variables_set,
-    writers_and_readers,
+    calls_committed, first_refusal_counts, formats_set, locals_closed_in, log_grows, logs_full,
+    procedures_called, savepoints_kept, variables_set, writers_and_readers,
 };

@@ -5,7 +5,7 @@ ghost use Rattle.std.specs.Prelude.{◌≡◌, [], ◌∷◌, codes, false, pos,
 ghost use Rattle.val_types.specs.declared.value.Value.TheVariants.{Int};
 ghost use Rattle.session_model.specs.Answers.{ok, refused, refused_at, refused_by, showing};
 ghost use Rattle.session_model.specs.Running.{is_full};
-ghost use Rattle.session_model.specs.Worked.{answers_of, first_at, made_t, pair, places_of, s1, s2};
+ghost use Rattle.session_model.specs.Worked.{adds_nine, answers_of, asks_f, called_with_rows, first_at, hides_v, inserts_twice, made_t, pair, places_of, s1, s2, texts_of};
 
 /// A transaction under way: another session may not write, and reads what was committed before.
 pub fn writers_and_readers()
@@ -49,6 +49,33 @@ pub fn log_grows()
         ≡ first_at 206 ∷ first_at 336 ∷ first_at 336 ∷ [] }
     ensures rows { places_of (s1 (codes "SET binlog_format = 'ROW'") ∷ made_t ∷ s1 (codes "INSERT INTO t VALUES (1, 10)") ∷ s1 (codes "SELECT * FROM t") ∷ [])
         ≡ first_at 123 ∷ first_at 206 ∷ first_at 352 ∷ first_at 352 ∷ [] }
+{}
+
+/// CALL: a condition is logged as the DO over it, where it changed a row, and the user variable is assigned; statements behind an
+/// INSERT see its ROW_COUNT().
+pub fn procedures_called()
+    ensures answers { answers_of (made_t ∷ adds_nine ∷ asks_f ∷ s1 (codes "CALL i()") ∷ s1 (codes "SELECT @y") ∷ [])
+        ≡ ok 0 ∷ ok 0 ∷ ok 0 ∷ ok 0 ∷ showing ((Int (pos 1) ∷ []) ∷ []) ∷ [] }
+    ensures logged { texts_of (made_t ∷ adds_nine ∷ asks_f ∷ s1 (codes "CALL i()") ∷ []) ≡ (codes "DO `f`()" ∷ []) ∷ [] }
+    ensures counted { answers_of (made_t ∷ s1 (codes "CREATE PROCEDURE r() BEGIN INSERT INTO t VALUES (3, 3); SELECT ROW_COUNT(); END") ∷ s1 (codes "CALL r()") ∷ [])
+        ≡ ok 0 ∷ ok 0 ∷ called_with_rows ((Int (pos 1) ∷ []) ∷ []) 1 ∷ [] }
+{}
+
+/// Each statement of a procedure is a transaction by itself, and what was committed before an error stays; in a transaction none is
+/// committed before COMMIT.
+pub fn calls_committed()
+    ensures refused_third { answers_of (made_t ∷ inserts_twice ∷ s1 (codes "CALL q()") ∷ []) ≡ ok 0 ∷ ok 0 ∷ refused 1062 ∷ [] }
+    ensures two_committed { texts_of (made_t ∷ inserts_twice ∷ s1 (codes "CALL q()") ∷ [])
+        ≡ (codes "INSERT INTO `t` VALUES (1, 1)" ∷ []) ∷ (codes "INSERT INTO `t` VALUES (2, 2)" ∷ []) ∷ [] }
+    ensures none_before { texts_of (made_t ∷ inserts_twice ∷ s1 (codes "BEGIN") ∷ s1 (codes "CALL q()") ∷ []) ≡ [] }
+    ensures one_behind { texts_of (made_t ∷ inserts_twice ∷ s1 (codes "BEGIN") ∷ s1 (codes "CALL q()") ∷ s1 (codes "COMMIT") ∷ [])
+        ≡ (codes "INSERT INTO `t` VALUES (1, 1)" ∷ codes "INSERT INTO `t` VALUES (2, 2)" ∷ []) ∷ [] }
+{}
+
+/// A parameter that hides a column is logged with its value.
+pub fn locals_closed_in()
+    ensures { texts_of (made_t ∷ hides_v ∷ s1 (codes "INSERT INTO t VALUES (1, 10)") ∷ s1 (codes "CALL p(-5)") ∷ [])
+        ≡ (codes "INSERT INTO t VALUES (1, 10)" ∷ []) ∷ (codes "UPDATE `t` SET `v` = (NAME_CONST('v', -5) + 1) WHERE (`id` = 1)" ∷ []) ∷ [] }
 {}
 
 /// A log takes no transaction more behind 1 GiB, and none is behind the log 60,000.

@@ -1,7 +1,10 @@
+mod Calling
 mod Evaluating
 mod Giving
 mod Keeping
+mod Locals
 mod Locking
 mod Rerunning
+mod Sizing
 mod Stepping
 mod Turning

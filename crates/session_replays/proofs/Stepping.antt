@@ -7,6 +7,7 @@ use Rattle.catalog_rules.specs.Bases.{Base, empty_base}
 use Rattle.answer_text.specs.declared.answer.Answer.{Answer}
 use Rattle.text_answers.specs.Answers.{text_answer}
 use Rattle.sql_meaning.specs.Leading.{StatementsEndWell, EvaluationsEndWell}
+use Rattle.closing_laws.specs.Laws.{ClosedDoesTheSame, FittedIsShort}
 use Rattle.session_model.specs.Sessions.{Open, Session, Shared}
 use Rattle.session_model.specs.Running.{Call, Turn, is_other, items_of}
 use Rattle.session_model.specs.declared.format.Format.{Format}
@@ -17,6 +18,7 @@ use Rattle.session_model.proofs.Owning.{not_both}
 use Rattle.session_replays.specs.Again.{AllGive}
 use Rattle.session_replays.specs.Replaying.{ReplaysBegin, ReplaysOpen, ReplaysGoOn}
 use Rattle.session_replays.proofs.Giving.{none_give, entries_behind}
+use Rattle.session_replays.proofs.Sizing.{entries_keep}
 use Rattle.session_replays.proofs.Turning.{command_kept}
 
 -- for a session of another number: the base stays, or it has no item
@@ -40,9 +42,9 @@ each_gives n k old base sessions session within own frame owns each = by (k == n
         subst (λ (s : Option (Session Whole)). AllGive base [] (items_of (transaction_of s))) (sym (get_or-set_other sessions n k (Some session) None differ))
         (other_gives n k old base _ _ differ frame (owns k) (each k))
 
-pub replays_go_on : StatementsEndWell → EvaluationsEndWell → RunsGoOn → ReplaysGoOn
+pub replays_go_on : StatementsEndWell → EvaluationsEndWell → ClosedDoesTheSame → FittedIsShort → RunsGoOn → ReplaysGoOn
 unfolding step
-replays_go_on statements evaluations goes_on from m identity n text draw r within short =
+replays_go_on statements evaluations closes fits goes_on from m identity n text draw r within short =
     let call : Call Whole = record { identity = identity; draw = draw; number = n; known = whole } in
     let session : Session Whole = at_work call (slice_index_or m.state.sessions n None) in
     let same : session.transaction ≡ transaction_of (slice_index_or m.state.sessions n None) = work_same call (slice_index_or m.state.sessions n None) in
@@ -50,9 +52,11 @@ replays_go_on statements evaluations goes_on from m identity n text draw r withi
     let open_items : AllGive m.state.shared.base [] (items_of session.transaction) =
     subst (λ (t : Option (Open Whole)). AllGive m.state.shared.base [] (items_of t)) (sym same) (r.open_ones n) in
     let turn : Turn Whole Answer = with_count (text_turn call text (text_answer text) m.state.shared session) in
-    let kept = command_kept call refl m.state.shared session r.holds.shared own open_items statements evaluations text in
+    let sized = entries_keep m.history from.base m.state.shared.base r.holds.entries r.sizes in
+    let kept = command_kept identity draw n m.state.shared session r.holds.shared own open_items statements evaluations closes fits sized text in
     record {
       holds = goes_on from m identity n text draw r.holds within short;
+      sizes = r.sizes;
       history = entries_behind m.history turn.committed from.base m.state.shared.base r.history r.holds.entries kept.entries;
       open_ones = λ k. each_gives n k m.state.shared turn.shared.base m.state.sessions turn.session within kept.items kept.frame r.holds.each r.open_ones;
     }
@@ -63,7 +67,7 @@ none_open : (base : Base) (n : ℕ) → AllGive base [] (items_of (transaction_o
 none_open base n = subst (λ (s : Option (Session Whole)). AllGive base [] (items_of (transaction_of s))) (sym (none_there session_slots n)) tt
 
 pub replays_begin : RunsBegin → ReplaysBegin
-replays_begin begins from counters = record { holds = begins from counters; history = tt; open_ones = none_open from.base }
+replays_begin begins from counters sizes = record { holds = begins from counters; sizes = sizes; history = tt; open_ones = none_open from.base }
 
 pub replays_open : RunsOpen → ReplaysOpen
-replays_open opens identity draw = record { holds = opens identity draw; history = (tt, λ next made. tt); open_ones = none_open empty_base }
+replays_open opens identity draw = record { holds = opens identity draw; sizes = refl; history = (tt, λ next made. tt); open_ones = none_open empty_base }

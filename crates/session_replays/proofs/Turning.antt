@@ -1,6 +1,7 @@
 -- What each command of a session leaves: one lemma a command.
-use Rattle.std.proofs.Common.{◌≡◌, ℕ, inl, inr, Bool, true, false, List, [], ◌∷◌, map, find, zip, Option, Some, None, Result, Ok, Err, refl, sym, ◌∙◌, ap, subst, cond}
+use Rattle.std.proofs.Common.{◌≡◌, ℕ, inl, inr, Bool, true, false, List, [], ◌∷◌, map, find, zip, Option, Some, None, Result, Ok, Err, refl, sym, subst, cond}
 use Rattle.std.specs.Prelude.{is_some}
+use Rattle.std.specs.List.{list_all}
 use Rattle.std.specs.Option.{option_map}
 use Rattle.val_types.specs.declared.value.Value.{Value}
 use Rattle.catalog_rules.specs.Bases.{Base, defined}
@@ -13,26 +14,32 @@ use Rattle.sql_tree.specs.declared.statements.Target.{Target}
 use Rattle.answer_text.specs.declared.answer.Answer.{Answer}
 use Rattle.text_answers.specs.Answers.{TextAnswer, a_statement, a_syntax_error, too_deep, text_answer}
 use Rattle.sql_meaning.specs.Frames.{Context}
-use Rattle.sql_meaning.specs.Changing.{Did}
-use Rattle.sql_meaning.specs.Running.{evaluation, effect, most_nested}
 use Rattle.sql_meaning.specs.Leading.{StatementsEndWell, EvaluationsEndWell}
 use Rattle.session_model.specs.Answers.{ok, refused, refused_at}
 use Rattle.session_model.specs.Sessions.{Save, Open, Session, Shared}
-use Rattle.sql_reach.specs.Defining.{is_still_refused, number_of_bytes}
-use Rattle.session_model.specs.Running.{Call, Turn, Given, is_other, released, items_of, commit_shared, commit_entries, commit_open, scene_for, full, statement_run, expressions_run, setting_of, lock_refusal, writing_refusal}
-use Rattle.session_model.specs.Commands.{answered, unless_refused, begin_turn, dropped, rollback_turn, is_save_of, saves_but, changes_of_own, saved, save_turn, cut_back, changes_cut, back_to_save, back_in, release_in, with_answer, definition_item, made_turn, unless_answered, define_turn, definition_turn, assign_unless, first_refused, is_open, set_by, set_expressions, set_turn, code_answer, is_too_long, call_turn, plain_turn}
+use Rattle.closing_laws.specs.Laws.{ClosedDoesTheSame, FittedIsShort}
+use Rattle.port_traits.specs.declared.identity.Identity.{Identity}
+use Rattle.port_traits.specs.declared.identity.Draw.{Draw}
+use Rattle.session_model.specs.Running.{Call, Turn, Given, is_other, released, items_of, commit_shared, commit_entries, commit_open, full, expressions_run, lock_refusal, writing_refusal}
+use Rattle.session_model.specs.Commands.{answered, unless_refused, begin_turn, dropped, rollback_turn, is_save_of, saves_but, changes_of_own, saved, save_turn, cut_back, changes_cut, back_to_save, back_in, release_in, definition_item, made_turn, unless_answered, define_turn, definition_turn, assign_unless, first_refused, is_open, set_by, set_expressions, set_turn, code_answer, is_too_long, plain_turn}
+use Rattle.session_model.specs.Calling.{arguments_run, call_turn}
 use Rattle.session_model.specs.Machine.{Whole, whole, statement_turn, text_turn, with_count}
 use Rattle.session_model.specs.Holding.{Owns, SharedHolds}
 use Rattle.session_model.proofs.Assigning.{all_keep}
 use Rattle.session_model.proofs.Owning.{held_not_other, must_own, free_to_write}
-use Rattle.session_replays.specs.Again.{AllGive, without_values}
+use Rattle.session_model.proofs.Calling.{arguments_left, arguments_format}
+use Rattle.session_replays.specs.Again.{AllGive}
+use Rattle.session_replays.specs.Sizes.{has_sizes}
+use Rattle.session_replays.proofs.Calling.{statement_kept, values_kept, arguments_kept, called_kept}
 use Rattle.session_replays.proofs.Giving.{all_front, define_behind}
-use Rattle.session_replays.proofs.Evaluating.{sets_run_as_dos}
 use Rattle.session_replays.proofs.Locking.{released_base, commit_other, dropped_base, cut_base}
-use Rattle.session_replays.proofs.Keeping.{Kept, TurnKept, nothing_kept, ended_kept}
+use Rattle.session_replays.proofs.Keeping.{Kept, TurnKept, nothing_kept}
 
-module _ (call : Call Whole) (noted : call.known ≡ whole) (shared : Shared) (session : Session Whole) (h : SharedHolds shared) (o : Owns call.number shared session.format session.transaction)
+module _ (identity : Identity) (draw : Draw) (number : ℕ) (shared : Shared) (session : Session Whole) (h : SharedHolds shared) (o : Owns number shared session.format session.transaction)
     (g : AllGive shared.base [] (items_of session.transaction)) where
+  abbrev call : Call Whole
+  call = record { identity = identity; draw = draw; number = number; known = whole }
+
   same_kept : (answer : Answer) → TurnKept call.number shared (answered answer shared session)
   same_kept answer = nothing_kept call.number shared session.transaction g
 
@@ -122,31 +129,14 @@ module _ (call : Call Whole) (noted : call.known ≡ whole) (shared : Shared) (s
       answered_kept (writing_refusal call.number t.shared) t _ (ended_same t k) (λ free.
       made_kept text s (defined s t.shared.base) t k (free_to_write call.number t.shared free)))
 
-  still_kept : (text : List ℕ) (s : Statement) (b : Bool) (t : Turn Whole (Unit {0})) → Ended t → TurnKept call.number shared (cond b (with_answer (refused 30005) t) (define_turn call text s t))
-  still_kept text s true t k = ended_same t k
-  still_kept text s false t k = define_kept text s t k
-
   definition_kept : (text : List ℕ) (s : Statement) → TurnKept call.number shared (definition_turn call text s shared session)
-  definition_kept text s =
-      still_kept text s (is_still_refused s) (commit_open call shared session) (refl, commit_kept, commit_other call session.vars.context shared (items_of session.transaction))
+  definition_kept text s = define_kept text s (commit_open call shared session) (refl, commit_kept, commit_other call session.vars.context shared (items_of session.transaction))
 
   -- ---- statements that are run
-  module _ (statements : StatementsEndWell) (evaluations : EvaluationsEndWell) where
-    statement_kept : (text : List ℕ) (s : Statement) → TurnKept call.number shared (statement_run call full text s shared session)
-    statement_kept text s =
-        let before = scene_for call.number full session.vars.context shared in
-        let setting = setting_of shared.base.catalog session.vars.context (number_of_bytes 0 call.draw.uuid) in
-        ended_kept call full text s shared session (λ (did : Did). did.first) (λ (did : Did). did.last_id) (effect setting most_nested [] s before) noted h o g (statements setting most_nested [] s before)
-        (λ did scene e. record { did = did; ends = e })
-
+  module _ (statements : StatementsEndWell) (evaluations : EvaluationsEndWell) (closes : ClosedDoesTheSame) (fits : FittedIsShort) (sized : list_all has_sizes shared.base.catalog ≡ true) where
     -- a SET as the DO over its expressions
     expressions_kept : (text : List ℕ) (ts : Trees) → TurnKept call.number shared (expressions_run call full text ts shared session)
-    expressions_kept text ts =
-        let before = scene_for call.number full session.vars.context shared in
-        let setting = setting_of shared.base.catalog session.vars.context (number_of_bytes 0 call.draw.uuid) in
-        ended_kept call full text (evaluate ts) shared session (λ (vs : List Value). None) (λ (vs : List Value). None) (evaluation setting most_nested [] ts before) noted h o g
-        (evaluations setting most_nested [] ts before)
-        (λ vs scene e. record { did = _; ends = sets_run_as_dos setting most_nested [] ts before ∙ ap without_values e })
+    expressions_kept text ts = values_kept identity draw number shared session h o g evaluations full text (evaluate ts) [] ts (λ setting nesting scene. refl)
 
     assigned_kept : (refusal : Option ℕ) (assignments : List (Target × Value)) (t : Turn Whole (Given (List Value))) → TurnKept call.number shared t → TurnKept call.number shared (assign_unless refusal assignments t)
     assigned_kept None assignments t k =
@@ -171,12 +161,19 @@ module _ (call : Call Whole) (noted : call.known ≡ whole) (shared : Shared) (s
 
     call_kept : (name : List ℕ) (ts : Trees) → TurnKept call.number shared (call_turn call name ts shared session)
     call_kept name ts =
-        long_kept (is_too_long (spelling (evaluate ts))) (refused 1153) _
-        (unless_kept (code_answer (statement_refusal shared.base.catalog session_scope (call_procedure name ts))) _ (same_kept (refused 1305)))
+        let text = spelling (evaluate ts) in
+        let run = arguments_run call text ts shared session in
+        long_kept (is_too_long text) (refused 1153) _
+        (unless_kept (code_answer (statement_refusal shared.base.catalog session_scope (call_procedure name ts))) _
+        (unless_kept (lock_refusal call.number shared (evaluate ts)) _
+        (called_kept identity draw number shared session.format statements evaluations closes fits name run.given.result run sized
+        (arguments_format (Unit {0}) identity draw number shared session h o evaluations text ts) (arguments_left (Unit {0}) identity draw number shared session h o evaluations text ts)
+        (arguments_kept identity draw number shared session h o g evaluations text ts))))
 
     plain_kept : (text : List ℕ) (s : Statement) → TurnKept call.number shared (plain_turn call text s shared session)
     plain_kept text s =
-        unless_kept (code_answer (statement_refusal shared.base.catalog session_scope s)) _ (unless_kept (lock_refusal call.number shared s) _ (statement_kept text s))
+        unless_kept (code_answer (statement_refusal shared.base.catalog session_scope s)) _
+        (unless_kept (lock_refusal call.number shared s) _ (statement_kept identity draw number shared session h o g statements full text s))
 
     -- ---- one command
     any_kept : (text : List ℕ) (s : Statement) → TurnKept call.number shared (statement_turn call text s shared session)

@@ -7,17 +7,20 @@ use Rattle.session_model.specs.Running.{items_of}
 use Rattle.session_model.specs.Machine.{whole, Machine, machine_after, first_state, opened, step}
 use Rattle.session_model.specs.Holding.{Beginning, with_nothing, Holds, transaction_of}
 use Rattle.session_replays.specs.Again.{AllGive, EntriesGive}
+use Rattle.session_replays.specs.Sizes.{ProceduresHaveSizes}
 
--- A run that began so: its entries can be made (`Holds`), their transactions give their changes, and so do the items of each open
--- transaction on the committed base.
+-- A run that began so, with procedures whose types have sizes that there are: its entries can be made (`Holds`), their transactions
+-- give their changes, and so do the items of each open transaction on the committed base.
 pub record Replays (from : Beginning) (m : Machine) : Type 0 where
   pub holds : Holds from m
+  pub sizes : ProceduresHaveSizes from.base.catalog
   pub history : EntriesGive from.base m.history
   pub open_ones : (n : ℕ) → AllGive m.state.shared.base [] (items_of (transaction_of (slice_index_or m.state.sessions n None)))
 
 abbrev pub ReplaysBegin : Type 0
 ReplaysBegin =
-    (from : Beginning) (counters : List Counter) → Replays from (record { state = first_state from.base counters from.committed from.place; history = [] })
+    (from : Beginning) (counters : List Counter) → ProceduresHaveSizes from.base.catalog
+    → Replays from (record { state = first_state from.base counters from.committed from.place; history = [] })
 
 -- a source that begins without a store
 abbrev pub ReplaysOpen : Type 0

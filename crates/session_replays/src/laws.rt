@@ -3,6 +3,7 @@ ghost use Rattle.session_replays.specs.Again.{SetsRunAsDos};
 ghost use Rattle.session_replays.specs.Replaying.{ReplaysBegin, ReplaysGoOn, ReplaysOpen};
 ghost use Rattle.session_replays.specs.Rerun.{RunsAgain};
 
+use closing_laws::{closed_does_the_same, fitted_values_are_short};
 use session_model::runs_hold;
 use sql_meaning::statements_end_well;
 
@@ -20,6 +21,8 @@ pub fn transactions_replay()
     ensures goes_on { ReplaysGoOn }
 {
     statements_end_well();
+    closed_does_the_same();
+    fitted_values_are_short();
     runs_hold();
 }
 

@@ -4,20 +4,23 @@
 //! transaction after the other in the order of the entries, each statement gives just its changes.
 //!
 //! The definitions stand in specs/: `Again` (an item, a transaction and entries that give their changes), `Replaying` (what
-//! holds of every run), `Rerun` (all statements run again, as one function), `Worked` (a script).
+//! holds of every run), `Sizes` (the procedures that a run may begin with), `Rerun` (all statements run again, as one function), `Worked` (a script).
 //!
 //! - `laws`: what holds
-//! - `worked`: a script, whose committed statements the checker runs again
+//! - `worked`: scripts, whose committed statements the checker runs again
 //!
 //! # Proved
 //! - In every run, whatever the commands are, each committed statement that changed rows ends without an error where it runs
 //!   again with what it began with, on what the entries before its transaction made and behind the statements before it in its
 //!   transaction, and gives just the changes that its entry has; the catalog that it began with is the one that stands there.
-//!   So do the statements of each open transaction on the committed base ([`transactions_replay`]).
+//!   So do the statements of each open transaction on the committed base ([`transactions_replay`]). A run may begin with any
+//!   base in which the types of procedures have sizes that there are, as those that CREATE PROCEDURE made have.
+//! - Statements of procedures are among them, with their locals closed in: a condition, a DEFAULT or a SET that changed rows is the DO over
+//!   its expressions.
 //! - So what the statements of a run make of the base that it began with is the committed base ([`statements_make_the_base`]).
 //! - The DO over the expressions of a SET ends as their evaluation does ([`sets_run_as_dos`]), so that a SET whose expressions
 //!   changed rows is such a statement.
-//! - The worked script: statements by themselves, in a transaction, behind a savepoint and rolled back.
+//! - The worked scripts: statements by themselves, in a transaction, behind a savepoint and rolled back; a procedure's condition.
 //!
 //! Nothing is said here of statements that changed no row, and nothing of the text and the context that the log has of an item.
 #![tactic(auto)]
@@ -26,4 +29,4 @@ mod laws;
 mod worked;
 
 pub use laws::{sets_run_as_dos, statements_make_the_base, transactions_replay};
-pub use worked::script_run_again;
+pub use worked::{call_run_again, script_run_again};

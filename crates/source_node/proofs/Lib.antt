@@ -1,10 +1,6 @@
-pub mod Turns
-pub mod Bases
-pub mod Settling
-pub mod Keeps
 pub mod Making
-pub mod Places
 pub mod SetParts
+pub mod Ending
 pub mod Dispatch
 pub mod Standings
 pub mod Zipping

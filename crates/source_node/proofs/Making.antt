@@ -15,7 +15,7 @@ use Rattle.sql_tree.specs.Statement.{Statement, create_table}
 use Rattle.sql_tree.specs.declared.statements.CreateTable.{CreateTable}
 use Rattle.catalog_rules.specs.Objects.{Object}
 use Rattle.sql_meaning.specs.Frames.{Context}
-use Rattle.sql_reach.specs.Defining.{counters_after, is_still_refused}
+use Rattle.sql_reach.specs.Defining.{counters_after}
 use Rattle.log_entries.specs.declared.entries.Item.{Item}
 use Rattle.log_entries.specs.declared.entries.Entry.{Entry}
 use Rattle.log_entries.specs.declared.entries.Entry.TheVariants.{Definition}
@@ -29,11 +29,11 @@ use Rattle.session_model.specs.Answers.{ok, refused}
 use Rattle.session_model.specs.Sessions.{Session, Shared}
 use Rattle.session_model.specs.Running.{Turn, commit_entries, commit_open, commit_shared, counted_in, is_other, items_of, transaction_of, writing_refusal}
 use Rattle.session_model.specs.Commands.{define_turn, definition_turn, made_turn, unless_answered, with_answer}
-use Rattle.source_node.specs.declared.desk.Desk.{Desk}
-use Rattle.source_node.specs.Calls.{call_of}
-use Rattle.source_node.specs.Desk.{has_any, shared_by, shared_of}
-use Rattle.source_node.specs.Turned.{IsTurn, Logs, Moves, behind_turn, not_begun}
-use Rattle.source_node.proofs.Turns.{definition_place, log_on, logs_from, one_logged, same_entry, turn_is}
+use Rattle.session_steps.specs.declared.desk.Desk.{Desk}
+use Rattle.session_steps.specs.Calls.{call_of}
+use Rattle.session_steps.specs.Desk.{has_any, shared_by, shared_of}
+use Rattle.session_steps.specs.Turned.{IsTurn, Logs, Moves, behind_turn, not_begun}
+use Rattle.session_steps.proofs.Turns.{definition_place, log_on, logs_from, one_logged, same_entry, turn_is}
 
 pub none_if : (cs : List Change) → has_any cs ≡ false → cs ≡ []
 none_if [] e = refl
@@ -113,11 +113,11 @@ module _ (identity : Identity) (draw : Draw) (n : ℕ) (text : List ℕ) (s : St
   released_place shared true = refl
   released_place shared false = refl
 
-  pub defined_left : (old ran new : Desk) (session after later : Session Item) (answer : Answer) → is_still_refused s ≡ false
+  pub defined_left : (old ran new : Desk) (session after later : Session Item) (answer : Answer)
       → Moves old ran after (commit_open (call_of identity draw n) (shared_of old) session)
       → IsTurn ran new later answer (define_turn (call_of identity draw n) text s (not_begun (shared_of ran) after))
       → IsTurn old new later answer (definition_turn (call_of identity draw n) text s (shared_of old) session)
-  defined_left old ran new session after later answer allowed moves turn =
+  defined_left old ran new session after later answer moves turn =
       let t : Turn Item (Unit {0}) = commit_open (call_of identity draw n) (shared_of old) session in
       let u : Turn Item Answer = define_turn (call_of identity draw n) text s (not_begun t.shared t.session) in
       let committed : Shared = commit_shared (call_of identity draw n) session.vars.context (items_of session.transaction) (shared_of old) in
@@ -129,22 +129,14 @@ module _ (identity : Identity) (draw : Draw) (n : ℕ) (text : List ℕ) (s : St
       let both : IsTurn old new later answer (behind_turn t u) =
       ((there.0.0, there.0.1, commit_logs session.vars.context (items_of session.transaction) u.committed old ran new count place moves.2 there.0.2), there.1) in
       turn_is old new later answer (behind_turn t u) (definition_turn (call_of identity draw n) text s (shared_of old) session)
-      (sym (defined_behind t) ∙ ap (λ (b : Bool). if b then with_answer (refused 30005) t else define_turn (call_of identity draw n) text s t) (sym allowed)) both
+      (sym (defined_behind t)) both
 
-  pub defined_if : {E : Type 0} (r : Result Answer E) (old ran new : Desk) (session after later : Session Item) → is_still_refused s ≡ false
+  pub defined_if : {E : Type 0} (r : Result Answer E) (old ran new : Desk) (session after later : Session Item)
       → Moves old ran after (commit_open (call_of identity draw n) (shared_of old) session)
       → IfOk r (λ answer. IsTurn ran new later answer (define_turn (call_of identity draw n) text s (not_begun (shared_of ran) after)))
       → IfOk r (λ answer. IsTurn old new later answer (definition_turn (call_of identity draw n) text s (shared_of old) session))
-  defined_if (Ok answer) old ran new session after later allowed moves turn = defined_left old ran new session after later answer allowed moves turn
-  defined_if (Err e) old ran new session after later allowed moves turn = tt
-
-  pub refused_left : (old ran : Desk) (session after : Session Item) (answer : Answer) → is_still_refused s ≡ true
-      → Moves old ran after (commit_open (call_of identity draw n) (shared_of old) session) → answer ≡ refused 30005
-      → IsTurn old ran after answer (definition_turn (call_of identity draw n) text s (shared_of old) session)
-  refused_left old ran session after answer kept moves said =
-      let t : Turn Item (Unit {0}) = commit_open (call_of identity draw n) (shared_of old) session in
-      turn_is old ran after answer (with_answer (refused 30005) t) (definition_turn (call_of identity draw n) text s (shared_of old) session)
-      (ap (λ (b : Bool). if b then with_answer (refused 30005) t else define_turn (call_of identity draw n) text s t) (sym kept)) (moves, said)
+  defined_if (Ok answer) old ran new session after later moves turn = defined_left old ran new session after later answer moves turn
+  defined_if (Err e) old ran new session after later moves turn = tt
 
 -- ---- the checks of CREATE TABLE
 

@@ -19,8 +19,8 @@ use Rattle.session_model.specs.Sessions.{Session, Shared}
 use Rattle.session_model.specs.Running.{Call, Given, Turn, expressions_run, full, lock_refusal}
 use Rattle.session_model.specs.Commands.{answered, assign_unless, code_answer, first_refused, is_open, is_too_long, set_by, set_expressions, set_turn, unless_refused}
 use Rattle.source_node.specs.Assigning.{assigned_answer, assigned_session, result_of, set_from, set_parts, set_to, target_of, value_of}
-use Rattle.source_node.specs.declared.desk.Desk.{Desk}
-use Rattle.source_node.specs.Turned.{IsTurn, Moves, giving}
+use Rattle.session_steps.specs.declared.desk.Desk.{Desk}
+use Rattle.session_steps.specs.Turned.{IsTurn, Moves, giving}
 
 -- ---- the parts of assignments
 

@@ -15,10 +15,10 @@ use Rattle.logged_items.specs.Logged.{in_log}
 use Rattle.session_model.specs.Sessions.{Shared, State}
 use Rattle.session_model.specs.Holding.{Holds, with_nothing}
 use Rattle.session_model.specs.Machine.{Machine, Step, StepsAreKept, Whole, kept, kept_entry, kept_step, log_of, machine_after, nowhere, opened, step, whole}
-use Rattle.source_node.specs.Desk.{shared_of}
+use Rattle.session_steps.specs.Desk.{shared_of}
 use Rattle.source_node.specs.Standing.{Kept, Stands, no_session, state_of}
-use Rattle.source_node.specs.Turned.{Logs, logged}
-use Rattle.source_node.proofs.Turns.{logged_is}
+use Rattle.session_steps.specs.Turned.{Logs, logged}
+use Rattle.session_steps.proofs.Turns.{logged_is}
 
 -- ---- a step
 

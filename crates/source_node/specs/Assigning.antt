@@ -13,7 +13,7 @@ use Rattle.session_model.specs.Answers.{ok, refused}
 use Rattle.session_model.specs.Sessions.{Session, Shared}
 use Rattle.session_model.specs.Running.{Call, Given, Turn, expressions_run, full, lock_refusal}
 use Rattle.session_model.specs.Commands.{all_assigned, answered, code_answer, first_refused, is_open, is_too_long, unless_refused}
-use Rattle.source_node.specs.Turned.{giving}
+use Rattle.session_steps.specs.Turned.{giving}
 
 abbrev pub target_of : Assignment → Target
 target_of a = a.target

@@ -1,9 +1,3 @@
-pub mod Calls
-pub mod Desk
-pub mod Turned
-pub mod Saving
-pub mod Keeping
 pub mod Standing
-pub mod Ran
 pub mod Assigning
 pub mod Other

@@ -4,8 +4,8 @@ ghost use Rattle.session_model.specs.Commands.{all_assigned, assign, assignment_
 ghost use Rattle.source_node.specs.Assigning.{target_of, value_of};
 
 use crate::formats::{format_for, format_refusal, is_format};
-use crate::session::Session;
 use session_ctx::{set_variable, variable_fits};
+use session_steps::Session;
 use sql_tree::{Assignment, Expr, Target};
 use std::alloc::Global;
 use val_types::{Bytes, Duplicate, List, NoMemory, SqlError, Value};

@@ -1,18 +1,16 @@
 //! A command of a session: a text, whatever it is.
 ghost use Rattle.std.specs.Prelude.{◌≡◌, ◌≤◌, ◌^◌, Some, length, IfOk};
 ghost use Rattle.session_model.specs.Machine.{command, text_turn};
-ghost use Rattle.source_node.specs.Calls.{called};
-ghost use Rattle.source_node.specs.Desk.{shared_of};
-ghost use Rattle.source_node.specs.Turned.{IsTurn, Logs};
+ghost use Rattle.session_steps.specs.Calls.{called};
+ghost use Rattle.session_steps.specs.Desk.{shared_of};
+ghost use Rattle.session_steps.specs.Turned.{IsTurn, Logs};
 ghost use Rattle.text_answers.specs.Answers.{text_answer};
 
-use crate::call::Call;
-use crate::desk::Desk;
-use crate::session::Session;
 use crate::statements::run;
 use crate::working::{at_work, count};
 use answer_text::Answer;
 use node_answers::{NodeFault, refused, refused_at, statement_of};
+use session_steps::{Call, Desk, Session};
 use sql_parse::ParseRefusal;
 use std::alloc::Global;
 

@@ -3,31 +3,24 @@ ghost use Rattle.std.specs.Prelude.{◌≡◌, [], false, true, IfOk, OnOk};
 ghost use Rattle.sql_tree.specs.StatementView.{view};
 ghost use Rattle.catalog_rules.specs.Bases.{defined};
 ghost use Rattle.prog_run.specs.Runs.{Makes};
-ghost use Rattle.sql_reach.specs.Defining.{is_still_refused};
 ghost use Rattle.sql_reach.specs.Reach.{is_definition};
 ghost use Rattle.session_model.specs.Commands.{define_turn, definition_turn, made_turn};
-ghost use Rattle.source_node.specs.Calls.{called};
-ghost use Rattle.source_node.specs.Desk.{shared_of};
-ghost use Rattle.source_node.specs.Turned.{IsTurn, not_begun};
+ghost use Rattle.session_steps.specs.Calls.{called};
+ghost use Rattle.session_steps.specs.Desk.{shared_of};
+ghost use Rattle.session_steps.specs.Turned.{IsTurn, not_begun};
 
-use crate::call::Call;
-use crate::desk::Desk;
-use crate::running::full;
-use crate::session::Session;
 use crate::transactions::commit_open;
-use crate::writing::{definition_refusal, is_still_refused};
+use crate::writing::{definition_refusal, writing_refusal};
 use answer_text::Answer;
 use logged_items::encode_definition;
 use node_answers::{NodeFault, ok, refused};
 use port_traits::Draw;
 use prog_run::{Outcome, run_stmt};
 use session_ctx::Ctx;
+use session_steps::{Call, Desk, Session, full};
 use sql_tree::Stmt;
 use std::alloc::Global;
 use val_types::SqlRefusal;
-
-/// Procedures are not allowed yet.
-const NOT_ALLOWED: u16 = 30005;
 
 /// Runs a definition where no change is open.
 fn run_definition(
@@ -92,14 +85,13 @@ fn define_next(
     text: &[u8],
     statement: &Stmt,
 ) -> Result<Answer, NodeFault>
-    requires definition { is_definition (view statement.now) ≡ true }
-    requires allowed { is_still_refused (view statement.now) ≡ false }
+    requires { is_definition (view statement.now) ≡ true }
     ensures { IfOk result (λ answer. IsTurn desk.old desk.new session.new answer (define_turn (called call.now) text.now (view statement.now) (not_begun (shared_of desk.old) session.old))) }
 {
     if let Some(code) = definition_refusal(desk, statement) {
         return Ok(refused(alloc, code));
     }
-    if let Some(answer) = desk.writing_refusal(alloc, call.number) {
+    if let Some(answer) = writing_refusal(alloc, desk, call.number) {
         return Ok(answer);
     }
     make(alloc, call, desk, session, text, statement)
@@ -118,8 +110,5 @@ pub(crate) fn define(
     ensures { IfOk result (λ answer. IsTurn desk.old desk.new session.new answer (definition_turn (called call.now) text.now (view statement.now) (shared_of desk.old) session.old)) }
 {
     commit_open(alloc, call, desk, session)?;
-    if is_still_refused(statement) {
-        return Ok(refused(alloc, NOT_ALLOWED));
-    }
     define_next(alloc, call, desk, session, text, statement)
 }

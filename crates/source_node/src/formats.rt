@@ -2,7 +2,7 @@
 ghost use Rattle.std.specs.Prelude.{◌≡◌};
 ghost use Rattle.catalog_rules.specs.Bodies.{format_name};
 ghost use Rattle.catalog_rules.specs.Names.{same_name};
-ghost use Rattle.session_model.specs.Formats.{format_for, format_named, format_refusal, is_by_rows, is_word};
+ghost use Rattle.session_model.specs.Formats.{format_for, format_named, format_refusal, is_word};
 
 use session_ctx::WRONG_VALUE;
 use session_model::Format;
@@ -16,16 +16,6 @@ pub(crate) fn is_format(name: &Bytes) -> bool
     ensures { result ≡ same_name name.now format_name }
 {
     name.as_slice() == b"binlog_format".as_slice()
-}
-
-/// Whether statements are logged by the rows that they changed.
-pub(crate) fn is_by_rows(format: Format) -> bool
-    ensures { result ≡ is_by_rows format }
-{
-    match format {
-        Format::Statement => false,
-        Format::Row => true,
-    }
 }
 
 /// Whether a text is a word, in upper and lower case alike.

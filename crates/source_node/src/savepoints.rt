@@ -2,15 +2,13 @@
 ghost use Rattle.std.specs.Prelude.{◌≡◌, IfOk};
 ghost use Rattle.log_entries.specs.declared.entries.Item.{Item as LoggedItem};
 ghost use Rattle.session_model.specs.Commands.{back_turn, release_in, save_turn};
-ghost use Rattle.source_node.specs.Calls.{called};
-ghost use Rattle.source_node.specs.Desk.{shared_of};
-ghost use Rattle.source_node.specs.Turned.{IsTurn};
+ghost use Rattle.session_steps.specs.Calls.{called};
+ghost use Rattle.session_steps.specs.Desk.{shared_of};
+ghost use Rattle.session_steps.specs.Turned.{IsTurn};
 
-use crate::call::Call;
-use crate::desk::Desk;
-use crate::session::Session;
 use answer_text::Answer;
 use node_answers::{ok, refused};
+use session_steps::{Call, Desk, Session};
 use std::alloc::Global;
 use val_types::{Bytes, NoMemory};
 

@@ -1,36 +1,32 @@
-//! SET and CALL.
+//! SET.
 ghost use Rattle.std.specs.Prelude.{◌≡◌, zip, IfOk, OnOk};
 ghost use Rattle.sql_print.specs.StatementSpelling.{spelling};
-ghost use Rattle.sql_tree.specs.Statement.{call_procedure, evaluate, set_all};
+ghost use Rattle.sql_tree.specs.Statement.{evaluate, set_all};
 ghost use Rattle.sql_tree.specs.StatementView.{view, view_assignments};
 ghost use Rattle.sql_tree.specs.View.{view_trees};
 ghost use Rattle.catalog_rules.specs.Checks.{session_scope, statement_refusal};
 ghost use Rattle.session_model.specs.Running.{expressions_run, full};
-ghost use Rattle.session_model.specs.Commands.{call_turn, first_refused, is_open, is_too_long, set_turn};
+ghost use Rattle.session_model.specs.Commands.{first_refused, is_open, is_too_long, set_turn};
 ghost use Rattle.source_node.specs.Assigning.{assigned_answer, assigned_session, result_of, set_from, set_parts};
-ghost use Rattle.source_node.specs.Calls.{called};
-ghost use Rattle.source_node.specs.Desk.{shared_of};
-ghost use Rattle.source_node.specs.Turned.{EndsAs, IsTurn, giving};
+ghost use Rattle.session_steps.specs.Calls.{called};
+ghost use Rattle.session_steps.specs.Desk.{shared_of};
+ghost use Rattle.session_steps.specs.Turned.{IsTurn, giving};
 
 use crate::assigning::{assign_all, first_refused, taken_apart};
-use crate::call::Call;
-use crate::desk::Desk;
-use crate::keeping::{keep, start_of};
-use crate::running::evaluate;
-use crate::session::Session;
 use crate::writing::lock_refusal;
 use answer_text::Answer;
 use node_answers::{NodeFault, ok, refused};
+use session_steps::{Call, Desk, Session, evaluate_with_text, full};
 use sql_print::print;
 use sql_tree::{Assignment, Expr, Stmt, Target};
 use std::alloc::Global;
 use val_types::{Bytes, List, NoMemory, SqlError, SqlRefusal, Value};
 
 /// A text is longer than a command may be.
-const TOO_LONG: SqlError = 1153;
+pub(crate) const TOO_LONG: SqlError = 1153;
 
 /// The greatest length of a command.
-const LONGEST: usize = 1_048_576;
+pub(crate) const LONGEST: usize = 1_048_576;
 
 /// Assigns values, or refuses as the first that is refused and assigns none.
 fn assign_unless_refused(
@@ -51,42 +47,8 @@ fn assign_unless_refused(
     Ok(ok(alloc, 0))
 }
 
-/// The values of a session's expressions, which are those of a DO with a text; what functions changed is kept.
-fn evaluated(
-    alloc: Global,
-    call: &Call<'_>,
-    desk: &mut Desk,
-    session: &mut Session,
-    text: &Bytes,
-    statement: &Stmt,
-    expressions: &List<Expr>,
-) -> Result<List<Value>, SqlRefusal>
-    requires { view statement.now ≡ evaluate (view_trees expressions.now) }
-    ensures { EndsAs result desk.old desk.new session.new (giving result_of (expressions_run (called call.now) full text.now (view_trees expressions.now) (shared_of desk.old) session.old)) }
-{
-    let start = start_of(desk, call.number, &session.vars.context);
-    let context = &mut session.vars.context;
-    match evaluate(alloc, desk, call.number, expressions, context, call.draw) {
-        Err(refusal) => Err(refusal),
-        Ok(values) => {
-            match keep(
-                alloc,
-                call,
-                desk,
-                session,
-                text.as_slice(),
-                statement,
-                start,
-                None,
-            ) {
-                Err(refusal) => Err(refusal),
-                Ok(()) => Ok(values),
-            }
-        }
-    }
-}
-
 /// Sets targets to the values of expressions, which nothing refuses before.
+#[tactic(auto, using(crate::proofs::Ending::setting))]
 fn set_values(
     alloc: Global,
     call: &Call<'_>,
@@ -100,7 +62,17 @@ fn set_values(
     requires { view statement.now ≡ evaluate (view_trees expressions.now) }
     ensures { IfOk result (λ answer. IsTurn desk.old desk.new session.new answer (set_from targets.now (giving result_of (expressions_run (called call.now) full text.now (view_trees expressions.now) (shared_of desk.old) session.old)))) }
 {
-    match evaluated(alloc, call, desk, session, text, statement, expressions) {
+    let mut meter = full();
+    match evaluate_with_text(
+        alloc,
+        call,
+        desk,
+        session,
+        text.as_slice(),
+        statement,
+        expressions,
+        &mut meter,
+    ) {
         Err(SqlRefusal::NoMemory) => Err(NodeFault::NoMemory),
         Err(SqlRefusal::Sql(code)) => Ok(refused(alloc, code)),
         Ok(values) => Ok(assign_unless_refused(alloc, session, targets, &values)?),
@@ -160,28 +132,4 @@ pub(crate) fn set(
 {
     let (targets, expressions) = taken_apart(alloc, assignments)?;
     set_taken(alloc, call, desk, session, refusal, &targets, expressions)
-}
-
-/// CALL. As long as there are no procedures, it is refused: 1153 for the text of the DO over its arguments, else by the
-/// catalog's checks.
-pub(crate) fn call_none(
-    alloc: Global,
-    call: &Call<'_>,
-    desk: &Desk,
-    session: &Session,
-    refusal: Option<SqlError>,
-    name: &Bytes,
-    arguments: List<Expr>,
-) -> Result<Answer, NodeFault>
-    requires { refusal ≡ statement_refusal ((shared_of desk.now).base.catalog) session_scope (call_procedure name.now (view_trees arguments)) }
-    ensures { IfOk result (λ answer. IsTurn desk.now desk.now session.now answer (call_turn (called call.now) name.now (view_trees arguments) (shared_of desk.now) session.now)) }
-{
-    let _ = &session.vars;
-    let _ = name;
-    let _ = call.number;
-    let text = print(alloc, &Stmt::Do(arguments))?;
-    if text.len() > LONGEST {
-        return Ok(refused(alloc, TOO_LONG));
-    }
-    Ok(refused(alloc, refusal.unwrap_or(1305)))
 }

@@ -8,21 +8,20 @@ ghost use Rattle.session_model.specs.Machine.{statement_turn};
 ghost use Rattle.session_model.specs.Commands.{plain_turn};
 ghost use Rattle.catalog_rules.specs.Checks.{session_scope, statement_refusal};
 ghost use Rattle.source_node.specs.Other.{is_call, is_of_transaction, is_set, other_turn};
-ghost use Rattle.source_node.specs.Desk.{shared_of};
-ghost use Rattle.source_node.specs.Calls.{called};
-ghost use Rattle.source_node.specs.Turned.{IsTurn};
+ghost use Rattle.session_steps.specs.Desk.{shared_of};
+ghost use Rattle.session_steps.specs.Calls.{called};
+ghost use Rattle.session_steps.specs.Turned.{IsTurn};
 
-use crate::call::Call;
+use crate::calling::run_call;
 use crate::definitions::define;
-use crate::desk::Desk;
 use crate::plain::run_plain;
 use crate::savepoints::{back, release, save};
-use crate::session::Session;
-use crate::setting::{call_none, set};
+use crate::setting::set;
 use crate::transactions::{begin, commit, rollback};
-use crate::writing::{checked, is_definition, lock_refusal};
+use crate::writing::{is_definition, lock_refusal, refused_here};
 use answer_text::Answer;
 use node_answers::{NodeFault, refused};
+use session_steps::{Call, Desk, Session};
 use sql_tree::{Assignment, Expr, Stmt};
 use std::alloc::Global;
 use std::mem;
@@ -168,12 +167,12 @@ pub(crate) fn run(
 ) -> Result<Answer, NodeFault>
     ensures { IfOk result (λ answer. IsTurn desk.old desk.new session.new answer (statement_turn (called call.now) text.now (view statement.old) (shared_of desk.old) session.old)) }
 {
-    let refusal = checked(alloc, desk, statement);
+    let refusal = refused_here(alloc, desk, statement);
     if let Some(assignments) = take_assignments(alloc, statement) {
         return set(alloc, call, desk, session, refusal, assignments);
     }
     if let Some((name, arguments)) = take_call(alloc, statement) {
-        return call_none(alloc, call, desk, session, refusal, &name, arguments);
+        return run_call(alloc, call, desk, session, refusal, &name, arguments);
     }
     run_kept(alloc, call, desk, session, text, refusal, statement)
 }

@@ -1,14 +1,14 @@
 //! A session at its command.
 ghost use Rattle.std.specs.Prelude.{◌≡◌, IfOk};
-ghost use Rattle.session_model.specs.Machine.{at_work, counted};
-ghost use Rattle.source_node.specs.Calls.{called};
+ghost use Rattle.session_model.specs.Counting.{counted};
+ghost use Rattle.session_model.specs.Machine.{at_work};
+ghost use Rattle.session_steps.specs.Calls.{called};
 
-use crate::call::Call;
-use crate::session::Session;
 use answer_text::Answer;
 use node_answers::row_count_after;
 use session_ctx::SessionVars;
 use session_model::Format;
+use session_steps::{Call, Session};
 use std::alloc::Global;
 use val_types::NoMemory;
 

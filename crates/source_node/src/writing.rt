@@ -1,24 +1,22 @@
 //! What refuses statements before they run.
 ghost use Rattle.std.specs.Prelude.{◌≡◌, false};
-ghost use Rattle.sql_tree.specs.Statement.{create_function, create_table, create_trigger};
+ghost use Rattle.sql_tree.specs.Statement.{create_function, create_procedure, create_table, create_trigger};
 ghost use Rattle.sql_tree.specs.StatementView.{view, view_program, view_trigger};
 ghost use Rattle.catalog_objects.specs.Keys.{objects_of};
 ghost use Rattle.catalog_rules.specs.Checks.{session_scope, statement_refusal};
 ghost use Rattle.catalog_rules.specs.Creating.{ddl_refusal};
-ghost use Rattle.sql_reach.specs.Defining.{is_still_refused};
 ghost use Rattle.sql_reach.specs.Reach.{is_definition};
-ghost use Rattle.session_model.specs.Running.{lock_refusal};
-ghost use Rattle.source_node.specs.Desk.{shared_of};
+ghost use Rattle.session_model.specs.Running.{lock_refusal, writing_refusal};
+ghost use Rattle.session_steps.specs.Desk.{shared_of};
 
-use crate::desk::Desk;
 use answer_text::Answer;
 use catalog::Catalog;
-use program_creation::{function_refusal, trigger_refusal};
+use program_creation::{function_refusal, procedure_refusal, trigger_refusal};
+use session_steps::{Desk, checked, lock_check, refused_as};
 use sql_locals::Locals;
 use sql_tree::{CreateTable, Routine, Stmt, TriggerDef};
 use std::alloc::Global;
 use table_creation::table_refusal;
-use unsafe_rules::writes;
 use val_types::{SqlError, SqlRefusal};
 
 /// Whether a statement is a CREATE, a DROP or a TRUNCATE.
@@ -39,11 +37,14 @@ pub(crate) fn is_definition(statement: &Stmt) -> bool
     }
 }
 
-/// Whether a statement makes a procedure, which is not allowed yet.
-pub(crate) fn is_still_refused(statement: &Stmt) -> bool
-    ensures { result ≡ is_still_refused (view statement.now) }
+/// What refuses a statement that writes.
+pub(crate) fn writing_refusal(alloc: Global, desk: &Desk, number: u8) -> Option<Answer>
+    ensures { result ≡ writing_refusal number (shared_of desk.now) }
 {
-    matches!(statement, Stmt::CreateProcedure(_))
+    match desk.writing_check(number) {
+        None => None,
+        Some(refusal) => Some(refused_as(alloc, refusal)),
+    }
 }
 
 /// What refuses a statement for the writer's lock.
@@ -55,22 +56,17 @@ pub(crate) fn lock_refusal(
 ) -> Option<Answer>
     ensures { result ≡ lock_refusal number (shared_of desk.now) (view statement.now) }
 {
-    if writes(statement, desk.work.catalog().objects()) {
-        desk.writing_refusal(alloc, number)
-    } else {
-        None
+    match lock_check(desk, number, statement) {
+        None => None,
+        Some(refusal) => Some(refused_as(alloc, refusal)),
     }
 }
 
 /// The catalog's checks of a statement of a session.
-pub(crate) fn checked(alloc: Global, desk: &Desk, statement: &Stmt) -> Option<SqlError>
+pub(crate) fn refused_here(alloc: Global, desk: &Desk, statement: &Stmt) -> Option<SqlError>
     ensures { result ≡ statement_refusal ((shared_of desk.now).base.catalog) session_scope (view statement.now) }
 {
-    let locals = Locals::new(alloc);
-    match desk.work.catalog().check(statement, &locals) {
-        Err(SqlRefusal::Sql(code)) => Some(code),
-        _ => None,
-    }
+    checked(desk, statement, &Locals::new(alloc))
 }
 
 /// The checks of a CREATE TABLE.
@@ -87,6 +83,13 @@ fn function_refused(catalog: &Catalog, routine: &Routine) -> Option<SqlError>
     function_refusal(catalog.objects(), routine)
 }
 
+/// The checks of a CREATE PROCEDURE.
+fn procedure_refused(catalog: &Catalog, routine: &Routine) -> Option<SqlError>
+    ensures { result ≡ ddl_refusal (objects_of catalog.now) (create_procedure (view_program routine.now)) }
+{
+    procedure_refusal(catalog.objects(), routine)
+}
+
 /// The checks of a CREATE TRIGGER.
 fn trigger_refused(catalog: &Catalog, trigger: &TriggerDef) -> Option<SqlError>
     ensures { result ≡ ddl_refusal (objects_of catalog.now) (create_trigger (view_trigger trigger.now)) }
@@ -96,7 +99,6 @@ fn trigger_refused(catalog: &Catalog, trigger: &TriggerDef) -> Option<SqlError>
 
 /// The catalog's checks of a definition.
 pub(crate) fn definition_refusal(desk: &Desk, statement: &Stmt) -> Option<SqlError>
-    requires { is_still_refused (view statement.now) ≡ false }
     ensures { result ≡ ddl_refusal ((shared_of desk.now).base.catalog) (view statement.now) }
 {
     let catalog = desk.work.catalog();
@@ -105,6 +107,9 @@ pub(crate) fn definition_refusal(desk: &Desk, statement: &Stmt) -> Option<SqlErr
     }
     if let Stmt::CreateFunction(routine) = statement {
         return function_refused(catalog, routine.get());
+    }
+    if let Stmt::CreateProcedure(routine) = statement {
+        return procedure_refused(catalog, routine.get());
     }
     if let Stmt::CreateTrigger(trigger) = statement {
         return trigger_refused(catalog, trigger.get());

@@ -8,14 +8,13 @@
 //! - `names`: words that are no names
 //! - `limits`: 400 constructs, and 200 levels
 //! - `refusals`: how a refusal is told
-//! - `prints`, `trees`: what makes trees and prints them, each public call once
+//! - `trees`: copies and depths of trees and of their parts, each public call once
 
 mod accepted;
 mod common;
 mod limits;
 mod names;
 mod printed;
-mod prints;
 mod refusals;
 mod refused;
 mod refused_expressions;

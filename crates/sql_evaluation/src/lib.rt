@@ -23,7 +23,7 @@
 //! - [`rows_of_query`] and each kind of expression by itself the same, for every evaluation that is handed in
 //!
 //! # Only tested
-//! Nothing yet: statements are run where changes are.
+//! That statements run with ample memory, in `repl_tests` and the stored runs of the programs.
 #![tactic(auto, using(crate::proofs::Steps::steps))]
 
 mod aggregates;

@@ -1,7 +1,7 @@
 //! The canonical text of a statement: one text for each tree, which the parser reads back.
 //!
 //! Keywords are in upper case and names in backquotes, operators stand in parentheses with their
-//! operands, and no optional word is written that leaves the tree the same. Definitions are in
+//! operands, and an optional word is always written or never. Definitions are in
 //! `specs/Names.antt`, `specs/Spelling.antt` and `specs/StatementSpelling.antt`.
 //!
 //! - `names`: names, numbers, types and LIMITs

@@ -1,9 +1,9 @@
--- What CREATE, DROP and TRUNCATE do to counters, which of them are not allowed yet, and the number from which UUID() counts.
-use Rattle.std.specs.Prelude.{ℕ, ◌+◌, ◌*◌, Bool, true, false, List, [], ◌∷◌, ◌++◌, Some, None}
+-- What CREATE, DROP and TRUNCATE do to counters, and the number from which UUID() counts.
+use Rattle.std.specs.Prelude.{ℕ, ◌+◌, ◌*◌, List, [], ◌∷◌, ◌++◌, Some, None}
 use Rattle.val_types.specs.declared.definitions.TableDef.{TableDef}
 use Rattle.auto_inc.specs.declared.counters.Counter.{Counter}
 use Rattle.auto_inc.specs.Counting.{changed_for, counters_beside}
-use Rattle.sql_tree.specs.Statement.{Statement, create_table, create_procedure, drop_table, truncate}
+use Rattle.sql_tree.specs.Statement.{Statement, create_table, drop_table, truncate}
 use Rattle.catalog_rules.specs.Defined.{definition_of}
 
 -- the counter of a table that is made with an AUTO_INCREMENT column begins at 1
@@ -16,11 +16,6 @@ counters_after (create_table t) counters = counters_with (definition_of t) count
 counters_after (drop_table name) counters = counters_beside name counters
 counters_after (truncate name) counters = changed_for name (λ _. 1) counters
 counters_after s counters = counters
-
--- until they come, procedures are not allowed
-abbrev pub is_still_refused : Statement → Bool
-is_still_refused (create_procedure p) = true
-is_still_refused s = false
 
 -- bytes as a number, the most significant first
 abbrev pub number_of_bytes : ℕ → List ℕ → ℕ

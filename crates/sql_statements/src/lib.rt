@@ -26,7 +26,7 @@
 //!   no counter is lower, no turn came back (`leads`)
 //!
 //! # Only tested
-//! Nothing yet: statements are run where a session's are.
+//! That statements run with ample memory, in `repl_tests` and the stored runs of the programs.
 #![tactic(auto)]
 
 mod choosing;

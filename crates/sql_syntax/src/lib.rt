@@ -14,7 +14,7 @@
 //! # Proved
 //! - Of expressions, SELECTs and statements, with every number of constructs that may be opened: just
 //!   the texts of the rule are read, each as its one value, and a fault comes at the first token
-//!   behind which nothing of the rule goes on, or which opens a construct too many.
+//!   that cannot stand behind those before it, or which opens a construct too many.
 //! - Each text whose tokens begin somewhere is a statement, is refused at a place, or opens a construct
 //!   too many at a place; it is just one of these, with one statement and one place.
 //! - A syntax error's place is the first byte of its token, or where no token begins. The tokens of a

@@ -15,7 +15,7 @@
 //!   tables that statements and expressions read or change, in parts that are not evaluated too
 //!
 //! # Only tested
-//! Nothing yet: steps run where a session's statements do.
+//! That steps run with ample memory, in `repl_tests` and the stored runs of the programs.
 #![tactic(auto)]
 
 mod checks;

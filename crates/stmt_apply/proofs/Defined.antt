@@ -10,7 +10,7 @@ use Rattle.sql_tree.specs.Statement.{Statement}
 use Rattle.catalog_rules.specs.Bases.{Base, defined}
 use Rattle.catalog_rules.specs.Creating.{ddl_refusal}
 use Rattle.catalog_objects.specs.Keys.{objects_of}
-use Rattle.sql_reach.specs.Defining.{counters_after, is_still_refused}
+use Rattle.sql_reach.specs.Defining.{counters_after}
 use Rattle.sql_reach.specs.Reach.{is_definition}
 use Rattle.text_answers.specs.Answers.{TextAnswer, text_answer}
 use Rattle.applier_model.specs.Groups.{Applied, define_allowed, define_if}
@@ -38,42 +38,34 @@ reads_as text answer short is =
 
 -- ---- the definition
 
-abbrev allowed_by : (is still : Bool) → Base → List Counter → Statement → Option ℕ → Option Base → Result Applied ℕ
-allowed_by is still base counters s refusal made = if is then (if still then Err 30005 else define_if base counters s refusal made) else Err 30005
+abbrev allowed_by : Bool → Base → List Counter → Statement → Option ℕ → Option Base → Result Applied ℕ
+allowed_by is base counters s refusal made = if is then define_if base counters s refusal made else Err 30005
 
 pub no_definition : (base : Base) (counters : List Counter) (s : Statement) → is_definition s ≡ false → define_allowed base counters (Ok s) ≡ Err 30005
-no_definition base counters s e = ap (λ (b : Bool). allowed_by b (is_still_refused s) base counters s (ddl_refusal base.catalog s) (defined s base)) e
-
-abbrev refusal_if : Bool → Option ℕ → Option ℕ
-refusal_if still refusal = if still then Some 30005 else refusal
+no_definition base counters s e = ap (λ (b : Bool). allowed_by b base counters s (ddl_refusal base.catalog s) (defined s base)) e
 
 abbrev made_of : Statement → List Counter → Base → Result Applied ℕ
 made_of s counters b = Ok (record { base = b; counters = counters_after s counters })
 
-abbrev refused_with : ℕ → Result Applied ℕ
-refused_with code = Err code
-
-made_by : (still : Bool) (base b : Base) (counters : List Counter) (s : Statement) (refusal : Option ℕ) (made : Option Base) → refusal_if still refusal ≡ None → made ≡ Some b
-    → allowed_by true still base counters s refusal made ≡ made_of s counters b
-made_by true base b counters s refusal made e m = cc
-made_by false base b counters s refusal made e m =
+made_by : (base b : Base) (counters : List Counter) (s : Statement) (refusal : Option ℕ) (made : Option Base) → refusal ≡ None → made ≡ Some b
+    → define_if base counters s refusal made ≡ made_of s counters b
+made_by base b counters s refusal made e m =
     ap (λ (r : Option ℕ). define_if base counters s r made) e ∙ ap (define_if base counters s None) m
 
-refused_by : (still : Bool) (base : Base) (counters : List Counter) (s : Statement) (refusal : Option ℕ) (made : Option Base) (code : ℕ) → refusal_if still refusal ≡ Some code
-    → allowed_by true still base counters s refusal made ≡ refused_with code
-refused_by true base counters s refusal made code e = let same : 30005 ≡ code = cc in ap refused_with same
-refused_by false base counters s refusal made code e = ap (λ (r : Option ℕ). define_if base counters s r made) e
+refused_by : (base : Base) (counters : List Counter) (s : Statement) (refusal : Option ℕ) (made : Option Base) (code : ℕ) → refusal ≡ Some code
+    → define_if base counters s refusal made ≡ Err code
+refused_by base counters s refusal made code e = ap (λ (r : Option ℕ). define_if base counters s r made) e
 
 definition_by : (base : Base) (counters : List Counter) (s : Statement) → is_definition s ≡ true
-    → define_allowed base counters (Ok s) ≡ allowed_by true (is_still_refused s) base counters s (ddl_refusal base.catalog s) (defined s base)
-definition_by base counters s e = ap (λ (b : Bool). allowed_by b (is_still_refused s) base counters s (ddl_refusal base.catalog s) (defined s base)) e
+    → define_allowed base counters (Ok s) ≡ define_if base counters s (ddl_refusal base.catalog s) (defined s base)
+definition_by base counters s e = ap (λ (b : Bool). allowed_by b base counters s (ddl_refusal base.catalog s) (defined s base)) e
 
 -- it is made
 pub definition_made : (s : Statement) (told : Outcome) (before after : Contents) → is_definition s ≡ true → Makes s told before after
     → define_allowed (base_of before) before.counters (Ok s) ≡ Ok (applied_in after)
 definition_made s told before after is made =
     definition_by (base_of before) before.counters s is
-    ∙ made_by (is_still_refused s) (base_of before) (base_of after) before.counters s (ddl_refusal (objects_of before.objects) s) (defined s (base_of before)) made.allowed made.base
+    ∙ made_by (base_of before) (base_of after) before.counters s (ddl_refusal (objects_of before.objects) s) (defined s (base_of before)) made.allowed made.base
     ∙ (λ i. Ok (record { base = base_of after; counters = sym made.counters i }))
 
 -- or refused
@@ -81,7 +73,7 @@ pub definition_refused : (s : Statement) (refusal : SqlRefusal) (before after : 
     → IsRefusal (define_allowed (base_of before) before.counters (Ok s)) refusal
 definition_refused s (Sql code) before after is refused =
     definition_by (base_of before) before.counters s is
-    ∙ refused_by (is_still_refused s) (base_of before) before.counters s (ddl_refusal (objects_of before.objects) s) (defined s (base_of before)) code refused.0
+    ∙ refused_by (base_of before) before.counters s (ddl_refusal (objects_of before.objects) s) (defined s (base_of before)) code refused.0
 definition_refused s NoMemory before after is refused = tt
 
 pub definition_left : (s : Statement) (refusal : SqlRefusal) (before after : Contents) → Defines s (Err refusal) before after → after ≡ before

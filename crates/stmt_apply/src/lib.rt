@@ -22,7 +22,7 @@
 //! - [`checked`] gives just the error of the first of the catalog's checks of a statement
 //!
 //! # Only tested
-//! That groups are carried out with ample memory, in `apply_callers` and where a replica applies them.
+//! That groups are carried out with ample memory, where a replica applies them (`repl_tests`).
 #![tactic(auto)]
 
 mod changing;

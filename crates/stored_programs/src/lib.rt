@@ -27,7 +27,7 @@
 //! Memory is short, too, where a type is past the range of columns, which CREATE keeps out of every program.
 //!
 //! # Only tested
-//! Nothing yet: programs run where a session's statements do.
+//! That programs run with ample memory, in `repl_tests` and the stored runs of the programs.
 #![tactic(auto)]
 
 mod assigning;

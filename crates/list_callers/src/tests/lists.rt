@@ -1,8 +1,8 @@
 //! Lists and boxes.
 ghost use Rattle.std.specs.Prelude.{◌≡◌, codes, IfOk};
 
+use super::bytes;
 use std::alloc::Global;
-use std::test::Fail;
 use val_types::{Boxed, Bytes, List, NoMemory};
 
 fn put_together(alloc: Global) -> Result<Bytes, NoMemory>
@@ -15,38 +15,56 @@ fn put_together(alloc: Global) -> Result<Bytes, NoMemory>
     Ok(list)
 }
 
-#[test]
-fn items_are_put_in(rt: HostRuntime) -> Result<(), Fail> {
-    let list = put_together(rt.alloc())?;
-    assert_eq!(rt; list.as_slice(), b"abcdefg".as_slice());
-    assert_eq!(rt; list.len(), 7);
-    assert_eq!(rt; list.get(6).copied(), Some(b'g'));
-    assert_eq!(rt; list.get(7), None);
-    Ok(())
+/// Whether the items stand at their places.
+fn are_put_in(list: &Bytes) -> bool {
+    list.as_slice() == b"abcdefg".as_slice()
+        && list.len() == 7
+        && list.get(6).copied() == Some(b'g')
+        && list.get(7).is_none()
 }
 
-#[test]
-fn items_are_taken_out(rt: HostRuntime) -> Result<(), Fail> {
-    let mut list = put_together(rt.alloc())?;
-    assert_eq!(rt; list.remove(1), b'b');
+/// Whether items are taken out, from the front, the middle and the end.
+fn are_taken_out(list: &mut Bytes) -> bool {
+    if list.len() != 7 {
+        return false;
+    }
+    let removed = list.remove(1);
     list.set(0, b'A');
-    assert_eq!(rt; list.pop(), Some(b'g'));
+    let popped = list.pop();
     list.truncate(3);
-    assert_eq!(rt; list.as_slice(), b"Acd".as_slice());
+    let left = list.as_slice() == b"Acd".as_slice();
     list.clear();
-    assert!(rt; list.is_empty());
-    Ok(())
+    removed == b'b' && popped == Some(b'g') && left && list.is_empty()
 }
 
-#[test]
-fn lists_go_through_vectors_and_boxes(rt: HostRuntime) -> Result<(), Fail> {
-    let list = List::from_vec(put_together(rt.alloc())?.into_vec());
-    let boxed = Boxed::new(rt.alloc(), list)?;
-    assert_eq!(rt; boxed.get().len(), 7);
+/// The sum of the bytes in a box.
+fn sum_of(boxed: Boxed<Bytes>) -> u32 {
     let mut sum = 0u32;
     for byte in &boxed.into_inner() {
         sum = sum.wrapping_add(u32::from(*byte));
     }
-    assert_eq!(rt; sum, 700);
-    Ok(())
+    sum
+}
+
+/// Whether a list goes through a vector and a box.
+fn goes_through(alloc: Global) -> bool {
+    let list = List::from_vec(bytes(alloc, b"abcdefg").into_vec());
+    match Boxed::new(alloc, list) {
+        Ok(boxed) => boxed.get().len() == 7 && sum_of(boxed) == 700,
+        Err(_) => false,
+    }
+}
+
+/// Whether a list that was put together is as it should be, before and behind.
+fn is_put_together(found: Result<Bytes, NoMemory>) -> bool {
+    match found {
+        Ok(mut list) => are_put_in(&list) && are_taken_out(&mut list),
+        Err(_) => false,
+    }
+}
+
+#[test]
+fn lists_and_boxes(rt: HostRuntime) {
+    assert!(rt; is_put_together(put_together(rt.alloc())));
+    assert!(rt; goes_through(rt.alloc()));
 }

@@ -1,21 +1,19 @@
 //! Values in columns, rows in tables, and their keys.
 
-use super::{Part, row, value};
+use super::{Part, bytes, expect_all, row, value};
 use std::alloc::Global;
-use std::test::Fail;
 use val_types::{
-    ColType, ColumnDef, Duplicate, List, NoMemory, Row, SqlError, TableDef, Value, fits, key_of,
-    row_fits,
+    ColType, ColumnDef, Duplicate, List, Row, SqlError, TableDef, Value, fits, key_of, row_fits,
 };
 
 /// A column of a type, NULL where it may be.
-fn column(alloc: Global, kind: ColType, nullable: bool) -> Result<ColumnDef, NoMemory> {
-    Ok(ColumnDef {
-        name: List::from_slice(alloc, b"c")?,
+fn column(alloc: Global, kind: ColType, nullable: bool) -> ColumnDef {
+    ColumnDef {
+        name: bytes(alloc, b"c"),
         kind,
         nullable,
         preset: Some(Value::Int(7)),
-    })
+    }
 }
 
 /// Types with values and the error that putting them in gives, 0 for none.
@@ -45,20 +43,21 @@ static FITTING: [(ColType, Part, SqlError); 22] = [
 ];
 
 /// What putting a value into a column of a type gives, 0 for none.
-fn error_of(alloc: Global, kind: ColType, part: &Part) -> Result<SqlError, NoMemory> {
-    let value = value(alloc, part)?;
-    Ok(match fits(&column(alloc, kind, false)?, &value) {
+fn error_of(alloc: Global, kind: ColType, part: &Part) -> SqlError {
+    match fits(&column(alloc, kind, false), &value(alloc, part)) {
         Ok(()) => 0,
         Err(error) => error,
-    })
+    }
 }
 
-#[test]
-fn values_that_fit_their_columns(rt: HostRuntime) -> Result<(), Fail> {
-    for (at, (kind, part, error)) in FITTING.iter().enumerate() {
-        assert_eq!(rt; error_of(rt.alloc(), *kind, part)?, *error, "case {at}");
+/// How many values fit their columns or do not, from the first on.
+fn held_by_values(alloc: Global) -> usize {
+    for (i, (kind, part, error)) in FITTING.iter().enumerate() {
+        if error_of(alloc, *kind, part) != *error {
+            return i;
+        }
     }
-    Ok(())
+    FITTING.len()
 }
 
 /// The types of a table's columns, and where NULL may be.
@@ -68,24 +67,29 @@ static COLUMNS: [(ColType, bool); 3] = [
     (ColType::Varchar(2), true),
 ];
 
-fn columns(alloc: Global) -> Result<List<ColumnDef>, NoMemory> {
+fn columns(alloc: Global) -> List<ColumnDef> {
     let mut columns = List::new(alloc);
     for (kind, nullable) in &COLUMNS {
-        columns.push(column(alloc, *kind, *nullable)?)?;
+        let _ = columns.push(column(alloc, *kind, *nullable));
     }
-    Ok(columns)
+    columns
+}
+
+fn places(alloc: Global, of: &[u16]) -> List<u16> {
+    let mut places = List::new(alloc);
+    let _ = places.extend_from_slice(of);
+    places
 }
 
 /// A table with those columns and the primary key (third, first).
-fn table(alloc: Global) -> Result<TableDef, NoMemory> {
-    let columns = columns(alloc)?;
-    Ok(TableDef {
+fn table(alloc: Global) -> TableDef {
+    TableDef {
         name: List::new(alloc),
-        columns,
-        primary: List::from_slice(alloc, &[2u16, 0])?,
+        columns: columns(alloc),
+        primary: places(alloc, &[2, 0]),
         uniques: List::new(alloc),
         auto: Some(0),
-    })
+    }
 }
 
 /// Rows, their keys, and whether they may stand in the table.
@@ -128,29 +132,43 @@ static ROWS: [(&[Part], &[Part], bool); 8] = [
     (&[], &[Part::Null, Part::Null], false),
 ];
 
-fn has_key(alloc: Global, table: &TableDef, row: &Row, key: &[Part]) -> Result<bool, NoMemory> {
-    let wanted = super::row(alloc, key)?;
-    Ok(key_of(alloc, table, row)? == wanted)
-}
-
-#[test]
-fn rows_and_their_keys(rt: HostRuntime) -> Result<(), Fail> {
-    let table = table(rt.alloc())?;
-    for (at, (parts, key, fit)) in ROWS.iter().enumerate() {
-        let row = row(rt.alloc(), *parts)?;
-        assert_eq!(rt; row_fits(&table.columns, &row), *fit, "row {at}");
-        assert!(rt; has_key(rt.alloc(), &table, &row, *key)?, "row {at}");
+/// Whether a row has this key.
+fn has_key(alloc: Global, table: &TableDef, found: &Row, key: &[Part]) -> bool {
+    match key_of(alloc, table, found) {
+        Ok(own) => own == row(alloc, key),
+        Err(_) => false,
     }
-    Ok(())
 }
 
-fn is_copied(alloc: Global, table: &TableDef) -> Result<bool, NoMemory> {
-    Ok(table.duplicate(alloc)? == *table)
+/// How many rows may stand in a table or not, and have their keys, from the first on.
+fn held_by_rows(alloc: Global, table: &TableDef) -> usize {
+    for (i, (parts, key, fit)) in ROWS.iter().enumerate() {
+        let row = row(alloc, *parts);
+        if row_fits(&table.columns, &row) != *fit || !has_key(alloc, table, &row, *key) {
+            return i;
+        }
+    }
+    ROWS.len()
+}
+
+/// Whether a copy of a table is equal.
+fn is_copied(alloc: Global, table: &TableDef) -> bool {
+    match table.duplicate(alloc) {
+        Ok(copy) => copy == *table,
+        Err(_) => false,
+    }
 }
 
 #[test]
-fn definitions_are_copied(rt: HostRuntime) -> Result<(), Fail> {
-    let table = table(rt.alloc())?;
-    assert!(rt; is_copied(rt.alloc(), &table)?);
-    Ok(())
+fn columns_and_tables(rt: HostRuntime) {
+    let alloc = rt.alloc();
+    expect_all(
+        &rt,
+        "values that fit their columns",
+        held_by_values(alloc),
+        22,
+    );
+    let table = table(alloc);
+    expect_all(&rt, "rows and their keys", held_by_rows(alloc, &table), 8);
+    assert!(rt; is_copied(alloc, &table));
 }

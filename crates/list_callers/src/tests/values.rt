@@ -1,9 +1,8 @@
 //! Texts and order of values.
 
-use super::{Part, row, value};
+use super::{Part, expect_all, is_text, row, value};
 use std::alloc::Global;
-use std::test::Fail;
-use val_types::{NoMemory, Row, key_cmp, row_text, value_text};
+use val_types::{Row, key_cmp, row_text, value_text};
 
 /// Values with their text.
 static TEXTS: [(Part, &[u8]); 14] = [
@@ -23,17 +22,14 @@ static TEXTS: [(Part, &[u8]); 14] = [
     (Part::Text(b"\xff\xab"), b"X'FFAB'"),
 ];
 
-fn has_text(alloc: Global, part: &Part, shown: &[u8]) -> Result<bool, NoMemory> {
-    let value = value(alloc, part)?;
-    Ok(value_text(alloc, &value)?.as_slice() == shown)
-}
-
-#[test]
-fn values_as_text(rt: HostRuntime) -> Result<(), Fail> {
-    for (at, (part, shown)) in TEXTS.iter().enumerate() {
-        assert!(rt; has_text(rt.alloc(), part, *shown)?, "text {at}");
+/// How many values have their text, from the first on.
+fn held_by_texts(alloc: Global) -> usize {
+    for (i, (part, shown)) in TEXTS.iter().enumerate() {
+        if !is_text(value_text(alloc, &value(alloc, part)), *shown) {
+            return i;
+        }
     }
-    Ok(())
+    TEXTS.len()
 }
 
 /// Rows with their text.
@@ -46,17 +42,14 @@ static ROW_TEXTS: [(&[Part], &[u8]); 3] = [
     ),
 ];
 
-fn has_row_text(alloc: Global, parts: &[Part], shown: &[u8]) -> Result<bool, NoMemory> {
-    let row = row(alloc, parts)?;
-    Ok(row_text(alloc, &row)?.as_slice() == shown)
-}
-
-#[test]
-fn rows_as_text(rt: HostRuntime) -> Result<(), Fail> {
-    for (at, (parts, shown)) in ROW_TEXTS.iter().enumerate() {
-        assert!(rt; has_row_text(rt.alloc(), *parts, *shown)?, "row {at}");
+/// How many rows have their text, from the first on.
+fn held_by_rows(alloc: Global) -> usize {
+    for (i, (parts, shown)) in ROW_TEXTS.iter().enumerate() {
+        if !is_text(row_text(alloc, &row(alloc, *parts)), *shown) {
+            return i;
+        }
     }
-    Ok(())
+    ROW_TEXTS.len()
 }
 
 /// Keys, each below the next.
@@ -77,19 +70,29 @@ static KEYS: [&[Part]; 13] = [
 ];
 
 /// Whether a key stands to the key at each place of the table as its own place does.
-fn is_in_order(alloc: Global, at: usize, key: &Row) -> Result<bool, NoMemory> {
-    let mut holds = true;
+fn is_in_order(alloc: Global, at: usize, key: &Row) -> bool {
     for (other, parts) in KEYS.iter().enumerate() {
-        holds = holds && key_cmp(key, &row(alloc, *parts)?) == at.cmp(&other);
+        if key_cmp(key, &row(alloc, *parts)) != at.cmp(&other) {
+            return false;
+        }
     }
-    Ok(holds)
+    true
+}
+
+/// How many keys do so, from the first on.
+fn held_by_keys(alloc: Global) -> usize {
+    for (at, parts) in KEYS.iter().enumerate() {
+        if !is_in_order(alloc, at, &row(alloc, *parts)) {
+            return at;
+        }
+    }
+    KEYS.len()
 }
 
 #[test]
-fn keys_in_their_order(rt: HostRuntime) -> Result<(), Fail> {
-    for (at, parts) in KEYS.iter().enumerate() {
-        let key = row(rt.alloc(), *parts)?;
-        assert!(rt; is_in_order(rt.alloc(), at, &key)?, "key {at}");
-    }
-    Ok(())
+fn texts_and_order(rt: HostRuntime) {
+    let alloc = rt.alloc();
+    expect_all(&rt, "values as text", held_by_texts(alloc), 14);
+    expect_all(&rt, "rows as text", held_by_rows(alloc), 3);
+    expect_all(&rt, "keys in their order", held_by_keys(alloc), 13);
 }

@@ -1,73 +1,49 @@
 //! Rows stored and taken back, by hand.
+ghost use Rattle.std.specs.Prelude.{◌≡◌, []};
 ghost use Rattle.table_rules.specs.Leads.{Leads};
 
+use super::storing::definition;
+use super::{bytes, number};
 use dml_rows::{delete_row, insert_row, take_back_to, update_row};
 use row_store::{RowRefusal, Tables};
 use std::alloc::Global;
-use std::process::Abort;
-use std::test::Fail;
 use undo_log::Undo;
-use val_types::{Bytes, ColType, ColumnDef, List, Row, TableDef, Value};
+use val_types::{Bytes, Row, Value};
 
-fn row(alloc: Global, numbers: &[i64]) -> Result<Row, Fail> {
-    let mut row = List::new(alloc);
-    for number in numbers {
-        row.push(Value::Int(*number))?;
-    }
-    Ok(row)
-}
-
-fn name(alloc: Global) -> Result<Bytes, Fail> {
-    Ok(List::from_slice(alloc, b"t")?)
-}
-
-/// A table of two numbers, of which the first is the primary key.
-fn definition(alloc: Global) -> Result<TableDef, Fail> {
-    let mut columns = List::new(alloc);
-    for _ in 0..2 {
-        columns.push(ColumnDef {
-            name: name(alloc)?,
-            kind: ColType::Int,
-            nullable: false,
-            preset: None,
-        })?;
-    }
-    Ok(TableDef {
-        name: name(alloc)?,
-        columns,
-        primary: List::from_slice(alloc, &[0])?,
-        uniques: List::new(alloc),
-        auto: None,
-    })
-}
-
-/// What is done to the rows of the table, and what it answers.
+/// What is done to the rows of the table, of which the first and the third column have numbers, and what it answers.
 enum Step {
-    Insert(&'static [i64], Result<(), RowRefusal>),
-    Update(&'static [i64], &'static [i64], Result<(), RowRefusal>),
-    Delete(&'static [i64], Result<(), RowRefusal>),
+    Insert(i64, i64, Result<(), RowRefusal>),
+    Update(i64, i64, i64, Result<(), RowRefusal>),
+    Delete(i64, Result<(), RowRefusal>),
 }
 
 static STEPS: [Step; 9] = [
-    Step::Insert(&[1, 10], Ok(())),
-    Step::Insert(&[2, 20], Ok(())),
-    Step::Insert(&[1, 30], Err(RowRefusal::Taken { which: 0 })),
-    Step::Update(&[1], &[1, 11], Ok(())),
-    Step::Update(&[1], &[2, 11], Err(RowRefusal::Taken { which: 0 })),
-    Step::Update(&[2], &[5, 20], Ok(())),
-    Step::Delete(&[2], Err(RowRefusal::Absent)),
-    Step::Delete(&[1], Ok(())),
-    Step::Insert(&[1, 12], Ok(())),
+    Step::Insert(1, 10, Ok(())),
+    Step::Insert(2, 20, Ok(())),
+    Step::Insert(1, 30, Err(RowRefusal::Taken { which: 0 })),
+    Step::Update(1, 1, 11, Ok(())),
+    Step::Update(1, 2, 11, Err(RowRefusal::Taken { which: 0 })),
+    Step::Update(2, 5, 20, Ok(())),
+    Step::Delete(2, Err(RowRefusal::Absent)),
+    Step::Delete(1, Ok(())),
+    Step::Insert(1, 12, Ok(())),
 ];
 
-/// Does a step with a row that fits.
+fn row(alloc: Global, id: i64, a: i64) -> Row {
+    let mut row = number(alloc, id);
+    let _ = row.push(Value::Null);
+    let _ = row.push(Value::Int(a));
+    let _ = row.push(Value::Null);
+    row
+}
+
+/// Inserts a row that fits; absent where it does not.
 #[tactic(auto, using(table_rules::proofs::Leading::leading))]
-fn make_step(
+fn insert(
     alloc: Global,
     tables: &mut Tables,
     undo: &mut Undo,
     table: &Bytes,
-    key: Option<&Row>,
     row: Row,
 ) -> Result<(), RowRefusal>
     ensures { Leads tables.old undo.old tables.new undo.new }
@@ -75,75 +51,125 @@ fn make_step(
     if !tables.fits(table, &row) {
         return Err(RowRefusal::Absent);
     }
-    match key {
-        None => insert_row(alloc, tables, undo, table, row),
-        Some(key) => update_row(alloc, tables, undo, table, key, row),
-    }
+    insert_row(alloc, tables, undo, table, row)
 }
 
+/// Replaces a row by one that fits; absent where it does not.
 #[tactic(auto, using(table_rules::proofs::Leading::leading))]
-fn expect_step(
-    rt: &impl Abort,
+fn update(
     alloc: Global,
     tables: &mut Tables,
     undo: &mut Undo,
-    step_wanted: &Step,
-) -> Result<(), Fail>
+    table: &Bytes,
+    id: i64,
+    row: Row,
+) -> Result<(), RowRefusal>
     ensures { Leads tables.old undo.old tables.new undo.new }
 {
-    let table = name(alloc)?;
-    let (found, wanted) = match step_wanted {
-        Step::Insert(numbers, wanted) => {
-            let row = row(alloc, *numbers)?;
-            (make_step(alloc, tables, undo, &table, None, row), *wanted)
-        }
-        Step::Update(key, numbers, wanted) => {
-            let key = row(alloc, *key)?;
-            let row = row(alloc, *numbers)?;
-            (
-                make_step(alloc, tables, undo, &table, Some(&key), row),
-                *wanted,
-            )
-        }
-        Step::Delete(key, wanted) => {
-            let key = row(alloc, *key)?;
-            (delete_row(alloc, tables, undo, &table, &key), *wanted)
-        }
-    };
-    assert_eq!(rt; found, wanted);
-    Ok(())
+    let key = number(alloc, id);
+    if !tables.fits(table, &row) {
+        return Err(RowRefusal::Absent);
+    }
+    update_row(alloc, tables, undo, table, &key, row)
 }
 
-fn expect_rows(
-    rt: &impl Abort,
+/// Deletes a row.
+#[tactic(auto, using(table_rules::proofs::Leading::leading))]
+fn delete(
     alloc: Global,
-    tables: &Tables,
-    rows: &[&'static [i64]],
-) -> Result<(), Fail> {
-    let table = name(alloc)?;
-    assert_eq!(rt; tables.keys(&table)?.len(), rows.len());
-    for numbers in rows {
-        let wanted = row(alloc, *numbers)?;
-        let key = row(alloc, numbers.get(..1).unwrap_or(&[]))?;
-        assert_eq!(rt; tables.get(&table, &key), Some(&wanted));
+    tables: &mut Tables,
+    undo: &mut Undo,
+    table: &Bytes,
+    id: i64,
+) -> Result<(), RowRefusal>
+    ensures { Leads tables.old undo.old tables.new undo.new }
+{
+    let key = number(alloc, id);
+    delete_row(alloc, tables, undo, table, &key)
+}
+
+/// Whether a step answers as it should.
+#[tactic(auto, using(table_rules::proofs::Leading::leading))]
+fn answers(alloc: Global, tables: &mut Tables, undo: &mut Undo, table: &Bytes, step: &Step) -> bool
+    ensures { Leads tables.old undo.old tables.new undo.new }
+{
+    match step {
+        Step::Insert(id, a, wanted) => {
+            insert(alloc, tables, undo, table, row(alloc, *id, *a)) == *wanted
+        }
+        Step::Update(of, id, a, wanted) => {
+            update(alloc, tables, undo, table, *of, row(alloc, *id, *a)) == *wanted
+        }
+        Step::Delete(id, wanted) => delete(alloc, tables, undo, table, *id) == *wanted,
     }
-    Ok(())
+}
+
+/// Whether a row has these numbers.
+fn is_row(row: &[Value], id: i64, a: i64) -> bool {
+    match row {
+        [
+            Value::Int(first),
+            Value::Null,
+            Value::Int(third),
+            Value::Null,
+        ] => { *first == id && *third == a }
+        _ => false,
+    }
+}
+
+/// Whether the table has this row.
+fn has_row(alloc: Global, tables: &Tables, table: &Bytes, id: i64, a: i64) -> bool {
+    let key = number(alloc, id);
+    match tables.get(table, &key) {
+        Some(row) => is_row(row.as_slice(), id, a),
+        None => false,
+    }
+}
+
+/// How many rows the table has.
+fn count(tables: &Tables, table: &Bytes) -> Option<usize> {
+    match tables.keys(table) {
+        Ok(keys) => Some(keys.len()),
+        Err(_) => None,
+    }
+}
+
+/// Whether the table has just these rows.
+fn has_rows(alloc: Global, tables: &Tables, table: &Bytes, rows: &[(i64, i64)]) -> bool {
+    let mut same = count(tables, table) == Some(rows.len());
+    for (id, a) in rows {
+        same = same && has_row(alloc, tables, table, *id, *a);
+    }
+    same
+}
+
+/// Whether the steps answer as they should, and what they changed is taken back, from a mark on and then all of it.
+fn goes_back(alloc: Global, tables: &mut Tables, undo: &mut Undo, table: &Bytes) -> bool
+    requires { undo.old ≡ [] }
+{
+    let mut answered = true;
+    for step in &STEPS {
+        answered = answers(alloc, tables, undo, table, step) && answered;
+    }
+    let changed = undo.mark() == 6 && has_rows(alloc, tables, table, &[(1, 12), (5, 20)]);
+    take_back_to(tables, undo, 3);
+    let half = undo.mark() == 3 && has_rows(alloc, tables, table, &[(1, 11), (2, 20)]);
+    take_back_to(tables, undo, 0);
+    answered && changed && half && has_rows(alloc, tables, table, &[])
+}
+
+/// The same in a new table.
+fn goes_back_in_table(alloc: Global, tables: &mut Tables, undo: &mut Undo) -> bool
+    requires tables { tables.old.tables ≡ [] }
+    requires changes { undo.old ≡ [] }
+{
+    let created = tables.create(&definition(alloc, &[0])).is_ok();
+    created && goes_back(alloc, tables, undo, &bytes(alloc, b"t"))
 }
 
 #[test]
-fn changes_taken_back(rt: HostRuntime) -> Result<(), Fail> {
-    let alloc = rt.alloc();
-    let mut tables = Tables::new(alloc);
-    tables.create(&definition(alloc)?)?;
-    let mut undo = Undo::new(alloc);
-    for part in &STEPS {
-        expect_step(&rt, alloc, &mut tables, &mut undo, part)?;
-    }
-    assert_eq!(rt; undo.mark(), 6);
-    expect_rows(&rt, alloc, &tables, &[&[1, 12], &[5, 20]])?;
-    take_back_to(&mut tables, &mut undo, 3);
-    assert_eq!(rt; undo.mark(), 3);
-    expect_rows(&rt, alloc, &tables, &[&[1, 11], &[2, 20]])?;
-    take_back_to(&mut tables, &mut undo, 0);
-    expect_rows(&rt, alloc, &tables, &[])
+fn changes_taken_back(rt: HostRuntime) {
+    let mut tables = Tables::new(rt.alloc());
+    let mut undo = Undo::new(rt.alloc());
+    assert!(rt; goes_back_in_table(rt.alloc(), &mut tables, &mut undo));
 }

@@ -3,12 +3,10 @@
 ghost use Rattle.std.specs.Prelude.{IsTrue};
 ghost use Rattle.value_rules.specs.Functions.{takes};
 
-use super::{Part, outcome, value};
+use super::{Part, expect_all, is_answer, is_outcome, is_value, value, values};
 use expr_ops::{builtin, floor_rand, rand_step, time_text, uuid_text};
 use std::alloc::Global;
-use std::process::Abort;
-use std::test::Fail;
-use val_types::{Bytes, Func, List, SqlError, SqlRefusal, Value};
+use val_types::{Bytes, Func, List, NoMemory, SqlRefusal, Value};
 
 /// Built-in functions with their arguments and results.
 static BUILT_IN: [(Func, &[Part], Part); 58] = [
@@ -232,14 +230,6 @@ static BUILT_IN: [(Func, &[Part], Part); 58] = [
     ),
 ];
 
-fn values(alloc: Global, parts: &[Part]) -> Result<List<Value>, Fail> {
-    let mut values = List::new(alloc);
-    for part in parts {
-        values.push(value(alloc, part)?)?;
-    }
-    Ok(values)
-}
-
 /// Whether a built-in function takes so many arguments.
 fn takes(f: Func, count: usize) -> bool
     ensures { IsTrue result → IsTrue (takes f count) }
@@ -253,67 +243,28 @@ fn takes(f: Func, count: usize) -> bool
     }
 }
 
-fn expect_builtin(
-    rt: &impl Abort,
-    alloc: Global,
-    f: Func,
-    arguments: &List<Value>,
-    wanted: Result<Value, SqlError>,
-) -> Result<(), Fail> {
-    assert!(rt; takes(f, arguments.len()), "{f:?} with {arguments:?}");
-    let given = builtin(alloc, f, arguments);
-    assert_eq!(rt;
-        given,
-        wanted.map_err(SqlRefusal::Sql),
-        "{f:?} of {arguments:?}"
-    );
-    Ok(())
-}
-
-fn expect_calls(
-    rt: &impl Abort,
-    alloc: Global,
-    rows: &[(Func, &[Part], Part)],
-) -> Result<(), Fail> {
-    for (f, arguments, wanted) in rows {
-        let arguments = values(alloc, *arguments)?;
-        expect_builtin(rt, alloc, *f, &arguments, outcome(alloc, wanted)?)?;
+/// What a built-in function gives; want of memory, where it takes not so many arguments.
+fn given(alloc: Global, f: Func, arguments: &List<Value>) -> Result<Value, SqlRefusal> {
+    if !takes(f, arguments.len()) {
+        return Err(SqlRefusal::NoMemory);
     }
-    Ok(())
+    builtin(alloc, f, arguments)
 }
 
-#[test]
-fn built_in_functions(rt: HostRuntime) -> Result<(), Fail> {
-    expect_calls(&rt, rt.alloc(), &BUILT_IN)
+/// Whether a built-in function gives this.
+fn gives(alloc: Global, f: Func, arguments: &[Part], wanted: &Part) -> bool {
+    let arguments = values(alloc, arguments);
+    is_answer(&given(alloc, f, &arguments), wanted)
 }
 
-/// A text of so many times `a`.
-fn many(alloc: Global, count: usize) -> Result<Bytes, Fail> {
-    Ok(List::from_vec(vec![in alloc; b'a'; count]?))
-}
-
-/// CONCAT of so many times `a` and a value: NULL, an error, or a text of a length.
-fn expect_length(
-    rt: &impl Abort,
-    alloc: Global,
-    count: usize,
-    last: &Part,
-    wanted: &Part,
-) -> Result<(), Fail> {
-    let mut arguments = List::new(alloc);
-    arguments.push(Value::Text(many(alloc, count)?))?;
-    arguments.push(value(alloc, last)?)?;
-    assert!(rt; takes(Func::Concat, arguments.len()));
-    let length = match builtin(alloc, Func::Concat, &arguments) {
-        Ok(Value::Text(text)) => Ok(Value::Int(text.len() as i64)),
-        other => other,
-    };
-    assert_eq!(rt;
-        length,
-        outcome(alloc, wanted)?.map_err(SqlRefusal::Sql),
-        "{count}"
-    );
-    Ok(())
+/// How many calls do so, from the first on.
+fn held_by_functions(alloc: Global) -> usize {
+    for (i, (f, arguments, wanted)) in BUILT_IN.iter().enumerate() {
+        if !gives(alloc, *f, *arguments, wanted) {
+            return i;
+        }
+    }
+    BUILT_IN.len()
 }
 
 /// How many bytes CONCAT joins with a value, and the length of the result.
@@ -327,20 +278,43 @@ static LENGTHS: [(usize, Part, Part); 7] = [
     (65_536, Part::Null, Part::Null),
 ];
 
-fn expect_lengths(
-    rt: &impl Abort,
-    alloc: Global,
-    rows: &[(usize, Part, Part)],
-) -> Result<(), Fail> {
-    for (count, last, wanted) in rows {
-        expect_length(rt, alloc, *count, last, wanted)?;
+/// So many times `a`, and a value.
+fn many(alloc: Global, count: usize, last: &Part) -> List<Value> {
+    let mut many: Bytes = List::new(alloc);
+    for _letter in 0..count {
+        let _ = many.push(b'a');
     }
-    Ok(())
+    let mut arguments = List::new(alloc);
+    let _ = arguments.push(Value::Text(many));
+    let _ = arguments.push(value(alloc, last));
+    arguments
 }
 
-#[test]
-fn the_longest_text(rt: HostRuntime) -> Result<(), Fail> {
-    expect_lengths(&rt, rt.alloc(), &LENGTHS)
+/// Whether what is given is NULL, an error, or a text of a length.
+fn has_length(found: &Result<Value, SqlRefusal>, wanted: &Part) -> bool {
+    match found {
+        Ok(Value::Text(text)) => match i64::try_from(text.len()) {
+            Ok(length) => is_value(&Value::Int(length), wanted),
+            Err(_) => false,
+        },
+        _ => is_answer(found, wanted),
+    }
+}
+
+/// Whether CONCAT of so many times `a` and a value is NULL, an error, or a text of a length.
+fn joins(alloc: Global, count: usize, last: &Part, wanted: &Part) -> bool {
+    let arguments = many(alloc, count, last);
+    has_length(&given(alloc, Func::Concat, &arguments), wanted)
+}
+
+/// How many do so, from the first on.
+fn held_by_lengths(alloc: Global) -> usize {
+    for (i, (count, last, wanted)) in LENGTHS.iter().enumerate() {
+        if !joins(alloc, *count, last, wanted) {
+            return i;
+        }
+    }
+    LENGTHS.len()
 }
 
 /// Seconds since 1970-01-01 00:00:00 UTC with their text.
@@ -369,16 +343,22 @@ static MOMENTS: [(u32, &[u8]); 22] = [
     (4_294_967_295, b"2106-02-07 06:28:15"),
 ];
 
-fn expect_times(rt: &impl Abort, alloc: Global, rows: &[(u32, &[u8])]) -> Result<(), Fail> {
-    for (t, wanted) in rows {
-        assert_eq!(rt; time_text(alloc, *t)?.as_slice(), *wanted, "{t}");
+/// Whether a text is made, and is this one.
+fn is_text(found: Result<Bytes, NoMemory>, wanted: &[u8]) -> bool {
+    match found {
+        Ok(text) => text.as_slice() == wanted,
+        Err(_) => false,
     }
-    Ok(())
 }
 
-#[test]
-fn moments_as_text(rt: HostRuntime) -> Result<(), Fail> {
-    expect_times(&rt, rt.alloc(), &MOMENTS)
+/// How many moments have their text, from the first on.
+fn held_by_moments(alloc: Global) -> usize {
+    for (i, (t, wanted)) in MOMENTS.iter().enumerate() {
+        if !is_text(time_text(alloc, *t), *wanted) {
+            return i;
+        }
+    }
+    MOMENTS.len()
 }
 
 /// Numbers of 128 bits with the text of their UUID.
@@ -400,16 +380,14 @@ static IDENTIFIERS: [(u128, &[u8]); 6] = [
     ),
 ];
 
-fn expect_uuids(rt: &impl Abort, alloc: Global, rows: &[(u128, &[u8])]) -> Result<(), Fail> {
-    for (n, wanted) in rows {
-        assert_eq!(rt; uuid_text(alloc, *n)?.as_slice(), *wanted, "{n}");
+/// How many identifiers have their text, from the first on.
+fn held_by_identifiers(alloc: Global) -> usize {
+    for (i, (n, wanted)) in IDENTIFIERS.iter().enumerate() {
+        if !is_text(uuid_text(alloc, *n), *wanted) {
+            return i;
+        }
     }
-    Ok(())
-}
-
-#[test]
-fn identifiers_as_text(rt: HostRuntime) -> Result<(), Fail> {
-    expect_uuids(&rt, rt.alloc(), &IDENTIFIERS)
+    IDENTIFIERS.len()
 }
 
 /// Seeds before and after a step.
@@ -423,6 +401,16 @@ static STEPS: [(u64, u64, u64, u64); 8] = [
     (0, u64::MAX, 15, 63),
     (u64::MAX, u64::MAX, 60, 108),
 ];
+
+/// How many steps of the seeds are so, from the first on.
+fn held_by_steps() -> usize {
+    for (i, (s1, s2, first, second)) in STEPS.iter().enumerate() {
+        if rand_step(*s1, *s2) != (*first, *second) {
+            return i;
+        }
+    }
+    STEPS.len()
+}
 
 /// A first seed, n, and the floor of their product by the bound of seeds.
 static FLOORS: [(u64, Part, Part); 12] = [
@@ -448,37 +436,29 @@ static FLOORS: [(u64, Part, Part); 12] = [
     (u64::MAX, Part::Int(i64::MAX), Part::Error(1690)),
 ];
 
-fn expect_floor(
-    rt: &impl Abort,
-    alloc: Global,
-    s1: u64,
-    n: &Part,
-    wanted: &Part,
-) -> Result<(), Fail> {
-    let n = value(alloc, n)?;
-    assert_eq!(rt;
-        floor_rand(s1, &n),
-        outcome(alloc, wanted)?,
-        "{s1} and {n:?}"
-    );
-    Ok(())
+/// Whether the floor of a product is this.
+fn has_floor(alloc: Global, s1: u64, n: &Part, wanted: &Part) -> bool {
+    let n = value(alloc, n);
+    is_outcome(&floor_rand(s1, &n), wanted)
 }
 
-fn expect_steps(rt: &impl Abort, rows: &[(u64, u64, u64, u64)]) {
-    for (s1, s2, first, second) in rows {
-        assert_eq!(rt; rand_step(*s1, *s2), (*first, *second), "{s1} and {s2}");
+/// How many floors are so, from the first on.
+fn held_by_floors(alloc: Global) -> usize {
+    for (i, (s1, n, wanted)) in FLOORS.iter().enumerate() {
+        if !has_floor(alloc, *s1, n, wanted) {
+            return i;
+        }
     }
-}
-
-fn expect_floors(rt: &impl Abort, alloc: Global, rows: &[(u64, Part, Part)]) -> Result<(), Fail> {
-    for (s1, n, wanted) in rows {
-        expect_floor(rt, alloc, *s1, n, wanted)?;
-    }
-    Ok(())
+    FLOORS.len()
 }
 
 #[test]
-fn random_numbers(rt: HostRuntime) -> Result<(), Fail> {
-    expect_steps(&rt, &STEPS);
-    expect_floors(&rt, rt.alloc(), &FLOORS)
+fn functions(rt: HostRuntime) {
+    let alloc = rt.alloc();
+    expect_all(&rt, "built-in functions", held_by_functions(alloc), 58);
+    expect_all(&rt, "the longest text", held_by_lengths(alloc), 7);
+    expect_all(&rt, "moments as text", held_by_moments(alloc), 22);
+    expect_all(&rt, "identifiers as text", held_by_identifiers(alloc), 6);
+    expect_all(&rt, "steps of seeds", held_by_steps(), 8);
+    expect_all(&rt, "floors of random numbers", held_by_floors(alloc), 12);
 }

@@ -1,38 +1,25 @@
 //! Operators on values, and what a left operand decides.
 
-use super::{Part, outcome, value};
+use super::{Part, expect_all, is_error, is_outcome, is_value, value};
 use expr_ops::{binary, decided, truth, unary};
 use std::alloc::Global;
-use std::process::Abort;
-use std::test::Fail;
-use val_types::{BinOp, List, UnOp, Value};
+use val_types::{BinOp, UnOp, Value};
 
-fn expect_binary(
-    rt: &impl Abort,
-    alloc: Global,
-    op: BinOp,
-    a: &Part,
-    b: &Part,
-    wanted: &Part,
-) -> Result<(), Fail> {
-    let (a, b) = (value(alloc, a)?, value(alloc, b)?);
-    assert_eq!(rt;
-        binary(op, &a, &b),
-        outcome(alloc, wanted)?,
-        "{a:?} {op:?} {b:?}"
-    );
-    Ok(())
+/// Whether an operator gives this of two operands.
+fn gives(alloc: Global, op: BinOp, a: &Part, b: &Part, wanted: &Part) -> bool {
+    let a = value(alloc, a);
+    let b = value(alloc, b);
+    is_outcome(&binary(op, &a, &b), wanted)
 }
 
-fn expect_all(
-    rt: &impl Abort,
-    alloc: Global,
-    rows: &[(BinOp, Part, Part, Part)],
-) -> Result<(), Fail> {
-    for (op, a, b, wanted) in rows {
-        expect_binary(rt, alloc, *op, a, b, wanted)?;
+/// How many cases hold from the first on.
+fn held(alloc: Global, rows: &[(BinOp, Part, Part, Part)]) -> usize {
+    for (i, (op, a, b, wanted)) in rows.iter().enumerate() {
+        if !gives(alloc, *op, a, b, wanted) {
+            return i;
+        }
     }
-    Ok(())
+    rows.len()
 }
 
 /// Operands and results of arithmetic.
@@ -238,11 +225,6 @@ static ARITHMETIC: [(BinOp, Part, Part, Part); 54] = [
     ),
 ];
 
-#[test]
-fn arithmetic_with_its_ends(rt: HostRuntime) -> Result<(), Fail> {
-    expect_all(&rt, rt.alloc(), &ARITHMETIC)
-}
-
 /// AND and OR.
 static LOGIC: [(BinOp, Part, Part, Part); 28] = [
     (BinOp::And, Part::Int(0), Part::Int(0), Part::Int(0)),
@@ -294,11 +276,6 @@ static LOGIC: [(BinOp, Part, Part, Part); 28] = [
         Part::Error(30002),
     ),
 ];
-
-#[test]
-fn logic_with_three_values(rt: HostRuntime) -> Result<(), Fail> {
-    expect_all(&rt, rt.alloc(), &LOGIC)
-}
 
 /// Comparisons without an order.
 static UNCOMPARED: [(BinOp, Part, Part, Part); 35] = [
@@ -452,38 +429,32 @@ static COMPARISONS: [(BinOp, Part, Part, Part); 7] = [
     ),
 ];
 
-/// A comparison on each pair: what it gives below, at equal values and above.
-fn expect_comparison(
-    rt: &impl Abort,
-    alloc: Global,
-    pairs: &[(Part, Part)],
-    row: &(BinOp, Part, Part, Part),
-) -> Result<(), Fail> {
+/// Whether a comparison gives on a pair what it should below, at equal values and above.
+fn compares(alloc: Global, row: &(BinOp, Part, Part, Part), low: &Part, high: &Part) -> bool {
     let (op, below, equal, above) = row;
-    for (low, high) in pairs {
-        expect_binary(rt, alloc, *op, low, high, below)?;
-        expect_binary(rt, alloc, *op, low, low, equal)?;
-        expect_binary(rt, alloc, *op, high, low, above)?;
-    }
-    Ok(())
+    gives(alloc, *op, low, high, below)
+        && gives(alloc, *op, low, low, equal)
+        && gives(alloc, *op, high, low, above)
 }
 
-fn expect_comparisons(
-    rt: &impl Abort,
-    alloc: Global,
-    pairs: &[(Part, Part)],
-    rows: &[(BinOp, Part, Part, Part)],
-) -> Result<(), Fail> {
-    for row in rows {
-        expect_comparison(rt, alloc, pairs, row)?;
+/// Whether a comparison does so on each pair.
+fn compares_pairs(alloc: Global, row: &(BinOp, Part, Part, Part)) -> bool {
+    for (low, high) in &PAIRS {
+        if !compares(alloc, row, low, high) {
+            return false;
+        }
     }
-    Ok(())
+    true
 }
 
-#[test]
-fn comparisons(rt: HostRuntime) -> Result<(), Fail> {
-    expect_all(&rt, rt.alloc(), &UNCOMPARED)?;
-    expect_comparisons(&rt, rt.alloc(), &PAIRS, &COMPARISONS)
+/// How many comparisons do so, from the first on.
+fn held_by_pairs(alloc: Global) -> usize {
+    for (i, row) in COMPARISONS.iter().enumerate() {
+        if !compares_pairs(alloc, row) {
+            return i;
+        }
+    }
+    COMPARISONS.len()
 }
 
 /// Operators on one operand.
@@ -511,47 +482,101 @@ static UNARY: [(UnOp, Part, Part); 17] = [
     (UnOp::IsNotNull, Part::Text(b""), Part::Int(1)),
 ];
 
-fn expect_unary(
-    rt: &impl Abort,
-    alloc: Global,
-    op: UnOp,
-    a: &Part,
-    wanted: &Part,
-) -> Result<(), Fail> {
-    let a = value(alloc, a)?;
-    assert_eq!(rt; unary(op, &a), outcome(alloc, wanted)?, "{op:?} {a:?}");
-    Ok(())
+/// Whether an operator gives this of one operand.
+fn gives_of_one(alloc: Global, op: UnOp, a: &Part, wanted: &Part) -> bool {
+    let a = value(alloc, a);
+    is_outcome(&unary(op, &a), wanted)
 }
 
-fn expect_each(rt: &impl Abort, alloc: Global, rows: &[(UnOp, Part, Part)]) -> Result<(), Fail> {
-    for (op, a, wanted) in rows {
-        expect_unary(rt, alloc, *op, a, wanted)?;
+/// How many operators on one operand do so, from the first on.
+fn held_by_one(alloc: Global) -> usize {
+    for (i, (op, a, wanted)) in UNARY.iter().enumerate() {
+        if !gives_of_one(alloc, *op, a, wanted) {
+            return i;
+        }
     }
-    Ok(())
+    UNARY.len()
+}
+
+/// Values with the number that stands for their truth, or its error.
+static TRUTHS: [(Part, Part); 4] = [
+    (Part::Int(-1), Part::Int(1)),
+    (Part::Int(0), Part::Int(0)),
+    (Part::Null, Part::Null),
+    (Part::Text(b"1"), Part::Error(30002)),
+];
+
+/// Whether a value has this truth.
+fn has_truth(alloc: Global, of: &Part, wanted: &Part) -> bool {
+    let of = value(alloc, of);
+    match truth(&of) {
+        Ok(Some(holds)) => is_value(&Value::Int(i64::from(holds)), wanted),
+        Ok(None) => is_value(&Value::Null, wanted),
+        Err(code) => is_error(code, wanted),
+    }
+}
+
+/// How many values have their truth, from the first on.
+fn held_by_truths(alloc: Global) -> usize {
+    for (i, (of, wanted)) in TRUTHS.iter().enumerate() {
+        if !has_truth(alloc, of, wanted) {
+            return i;
+        }
+    }
+    TRUTHS.len()
+}
+
+/// What a left operand decides: a number or an error, or nothing, for which NULL stands.
+static DECIDED: [(BinOp, Part, Part); 8] = [
+    (BinOp::And, Part::Int(0), Part::Int(0)),
+    (BinOp::And, Part::Int(2), Part::Null),
+    (BinOp::And, Part::Null, Part::Null),
+    (BinOp::And, Part::Text(b"1"), Part::Error(30002)),
+    (BinOp::Or, Part::Int(2), Part::Int(1)),
+    (BinOp::Or, Part::Int(0), Part::Null),
+    (BinOp::Or, Part::Text(b"1"), Part::Error(30002)),
+    (BinOp::Add, Part::Text(b"1"), Part::Null),
+];
+
+/// Whether a left operand decides this.
+fn decides(alloc: Global, op: BinOp, left: &Part, wanted: &Part) -> bool {
+    let left = value(alloc, left);
+    match decided(op, &left) {
+        Ok(Some(Value::Int(number))) => is_value(&Value::Int(number), wanted),
+        Ok(Some(_)) => false,
+        Ok(None) => is_value(&Value::Null, wanted),
+        Err(code) => is_error(code, wanted),
+    }
+}
+
+/// How many left operands decide so, from the first on.
+fn held_by_left(alloc: Global) -> usize {
+    for (i, (op, left, wanted)) in DECIDED.iter().enumerate() {
+        if !decides(alloc, *op, left, wanted) {
+            return i;
+        }
+    }
+    DECIDED.len()
 }
 
 #[test]
-fn operators_on_one_operand(rt: HostRuntime) -> Result<(), Fail> {
-    expect_each(&rt, rt.alloc(), &UNARY)
-}
-
-#[test]
-fn left_operands_that_decide(rt: HostRuntime) -> Result<(), Fail> {
-    let text = Value::Text(List::from_slice(rt.alloc(), b"1")?);
-    assert_eq!(rt; truth(&Value::Int(-1)), Ok(Some(true)));
-    assert_eq!(rt; truth(&Value::Int(0)), Ok(Some(false)));
-    assert_eq!(rt; truth(&Value::Null), Ok(None));
-    assert_eq!(rt; truth(&text), Err(30002));
-    assert_eq!(rt;
-        decided(BinOp::And, &Value::Int(0)),
-        Ok(Some(Value::Int(0)))
+fn operators(rt: HostRuntime) {
+    let alloc = rt.alloc();
+    expect_all(
+        &rt,
+        "arithmetic with its ends",
+        held(alloc, &ARITHMETIC),
+        54,
     );
-    assert_eq!(rt; decided(BinOp::And, &Value::Int(2)), Ok(None));
-    assert_eq!(rt; decided(BinOp::And, &Value::Null), Ok(None));
-    assert_eq!(rt; decided(BinOp::And, &text), Err(30002));
-    assert_eq!(rt; decided(BinOp::Or, &Value::Int(2)), Ok(Some(Value::Int(1))));
-    assert_eq!(rt; decided(BinOp::Or, &Value::Int(0)), Ok(None));
-    assert_eq!(rt; decided(BinOp::Or, &text), Err(30002));
-    assert_eq!(rt; decided(BinOp::Add, &text), Ok(None));
-    Ok(())
+    expect_all(&rt, "logic with three values", held(alloc, &LOGIC), 28);
+    expect_all(
+        &rt,
+        "operands without an order",
+        held(alloc, &UNCOMPARED),
+        35,
+    );
+    expect_all(&rt, "comparisons", held_by_pairs(alloc), 7);
+    expect_all(&rt, "operators on one operand", held_by_one(alloc), 17);
+    expect_all(&rt, "truths", held_by_truths(alloc), 4);
+    expect_all(&rt, "left operands that decide", held_by_left(alloc), 8);
 }

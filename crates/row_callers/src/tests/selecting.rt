@@ -1,36 +1,9 @@
 //! Order, parts and aggregates, by hand.
 
+use super::{Part, expect_all, is_answer, number, values};
 use select_rows::{Keyed, aggregate, limit, order};
 use std::alloc::Global;
-use std::process::Abort;
-use std::test::Fail;
-use val_types::{Agg, List, SqlError, SqlRefusal, Value};
-
-/// A value, or the number of an error, as a table of tests holds it.
-enum Part {
-    Null,
-    Int(i64),
-    Text(&'static [u8]),
-    Error(SqlError),
-}
-
-fn outcome(alloc: Global, part: &Part) -> Result<Result<Value, SqlError>, Fail> {
-    Ok(match part {
-        Part::Null => Ok(Value::Null),
-        Part::Int(number) => Ok(Value::Int(*number)),
-        Part::Text(bytes) => Ok(Value::Text(List::from_slice(alloc, *bytes)?)),
-        Part::Error(code) => Err(*code),
-    })
-}
-
-/// Values; an error counts as NULL.
-fn values(alloc: Global, parts: &[Part]) -> Result<List<Value>, Fail> {
-    let mut values = List::new(alloc);
-    for part in parts {
-        values.push(outcome(alloc, part)?.unwrap_or(Value::Null))?;
-    }
-    Ok(values)
-}
+use val_types::{Agg, List, Value};
 
 /// Aggregates of values.
 static AGGREGATES: [(Agg, &[Part], Part); 24] = [
@@ -116,69 +89,20 @@ static AGGREGATES: [(Agg, &[Part], Part); 24] = [
     ),
 ];
 
-fn expect_aggregate(
-    rt: &impl Abort,
-    alloc: Global,
-    f: Agg,
-    parts: &[Part],
-    wanted: &Part,
-) -> Result<(), Fail> {
-    let values = values(alloc, parts)?;
-    let wanted = outcome(alloc, wanted)?.map_err(SqlRefusal::Sql);
-    assert_eq!(rt; aggregate(alloc, f, &values), wanted, "{f:?} of {values:?}");
-    Ok(())
+/// Whether an aggregate gives this.
+fn gives(alloc: Global, f: Agg, parts: &[Part], wanted: &Part) -> bool {
+    let values = values(alloc, parts);
+    is_answer(&aggregate(alloc, f, &values), wanted)
 }
 
-fn expect_aggregates(
-    rt: &impl Abort,
-    alloc: Global,
-    rows: &[(Agg, &[Part], Part)],
-) -> Result<(), Fail> {
-    for (f, parts, wanted) in rows {
-        expect_aggregate(rt, alloc, *f, *parts, wanted)?;
-    }
-    Ok(())
-}
-
-#[test]
-fn aggregates(rt: HostRuntime) -> Result<(), Fail> {
-    expect_aggregates(&rt, rt.alloc(), &AGGREGATES)
-}
-
-/// A row of one number, ordered by some values.
-fn keyed(alloc: Global, number: i64, by: &[Part], down: bool) -> Result<Keyed, Fail> {
-    let mut row = List::new(alloc);
-    row.push(Value::Int(number))?;
-    let mut downs = List::new(alloc);
-    for _part in by {
-        downs.push(down)?;
-    }
-    Ok(Keyed {
-        row,
-        by: values(alloc, by)?,
-        down: downs,
-    })
-}
-
-fn rows_of(alloc: Global, items: &[&[Part]], down: bool) -> Result<List<Keyed>, Fail> {
-    let mut rows = List::new(alloc);
-    let mut number = 0i64;
-    for by in items {
-        rows.push(keyed(alloc, number, *by, down)?)?;
-        number = number.wrapping_add(1);
-    }
-    Ok(rows)
-}
-
-/// The numbers that the rows hold.
-fn numbers(alloc: Global, rows: &List<Keyed>) -> Result<List<i64>, Fail> {
-    let mut numbers = List::new(alloc);
-    for row in rows.as_slice() {
-        if let Some(Value::Int(number)) = row.row.get(0) {
-            numbers.push(*number)?;
+/// How many aggregates do so, from the first on.
+fn held_by_aggregates(alloc: Global) -> usize {
+    for (i, (f, parts, wanted)) in AGGREGATES.iter().enumerate() {
+        if !gives(alloc, *f, *parts, wanted) {
+            return i;
         }
     }
-    Ok(numbers)
+    AGGREGATES.len()
 }
 
 /// What rows are ordered by, numbered from 0.
@@ -193,16 +117,49 @@ static ITEMS: [&[Part]; 8] = [
     &[Part::Int(10), Part::Null],
 ];
 
-fn expect_order(rt: &impl Abort, alloc: Global, down: bool, wanted: &[i64]) -> Result<(), Fail> {
-    let ordered = order(alloc, rows_of(alloc, &ITEMS, down)?)?;
-    assert_eq!(rt; numbers(alloc, &ordered)?.as_slice(), wanted);
-    Ok(())
+/// Whether each of so many values is ordered from the greatest on.
+fn downs(alloc: Global, count: usize, down: bool) -> List<bool> {
+    let mut downs = List::new(alloc);
+    for _value in 0..count {
+        let _ = downs.push(down);
+    }
+    downs
 }
 
-#[test]
-fn orders(rt: HostRuntime) -> Result<(), Fail> {
-    expect_order(&rt, rt.alloc(), false, &[6, 1, 4, 2, 0, 5, 7, 3])?;
-    expect_order(&rt, rt.alloc(), true, &[3, 7, 0, 5, 2, 4, 1, 6])
+/// A row of one number, ordered by some values.
+fn keyed(alloc: Global, place: i64, by: &[Part], down: bool) -> Keyed {
+    Keyed {
+        row: number(alloc, place),
+        by: values(alloc, by),
+        down: downs(alloc, by.len(), down),
+    }
+}
+
+fn rows(alloc: Global, down: bool) -> List<Keyed> {
+    let mut rows = List::new(alloc);
+    let mut place = 0i64;
+    for by in &ITEMS {
+        let _ = rows.push(keyed(alloc, place, *by, down));
+        place = place.wrapping_add(1);
+    }
+    rows
+}
+
+/// Whether the rows hold these numbers.
+fn are(rows: &List<Keyed>, wanted: &[i64]) -> bool {
+    let mut same = rows.len() == wanted.len();
+    for (row, place) in rows.as_slice().iter().zip(wanted) {
+        same = same && matches!(row.row.get(0), Some(Value::Int(own)) if *own == *place);
+    }
+    same
+}
+
+/// Whether the rows are ordered so.
+fn is_order(alloc: Global, down: bool, wanted: &[i64]) -> bool {
+    match order(alloc, rows(alloc, down)) {
+        Ok(ordered) => are(&ordered, wanted),
+        Err(_) => false,
+    }
 }
 
 /// OFFSET, LIMIT and the rows that are left of eight.
@@ -217,15 +174,27 @@ static PARTS: [(u64, u64, &[i64]); 8] = [
     (3, 0, &[]),
 ];
 
-fn expect_parts(rt: &impl Abort, alloc: Global, rows: &[(u64, u64, &[i64])]) -> Result<(), Fail> {
-    for (skip, take, wanted) in rows {
-        let part = limit(rows_of(alloc, &ITEMS, false)?, *skip, *take);
-        assert_eq!(rt; numbers(alloc, &part)?.as_slice(), *wanted, "{skip} {take}");
+/// Whether these rows are left.
+fn is_part(alloc: Global, skip: u64, take: u64, wanted: &[i64]) -> bool {
+    let part = limit(rows(alloc, false), skip, take);
+    are(&part, wanted)
+}
+
+/// How many parts are so, from the first on.
+fn held_by_parts(alloc: Global) -> usize {
+    for (i, (skip, take, wanted)) in PARTS.iter().enumerate() {
+        if !is_part(alloc, *skip, *take, *wanted) {
+            return i;
+        }
     }
-    Ok(())
+    PARTS.len()
 }
 
 #[test]
-fn parts(rt: HostRuntime) -> Result<(), Fail> {
-    expect_parts(&rt, rt.alloc(), &PARTS)
+fn rows_selected(rt: HostRuntime) {
+    let alloc = rt.alloc();
+    expect_all(&rt, "aggregates", held_by_aggregates(alloc), 24);
+    assert!(rt; is_order(alloc, false, &[6, 1, 4, 2, 0, 5, 7, 3]));
+    assert!(rt; is_order(alloc, true, &[3, 7, 0, 5, 2, 4, 1, 6]));
+    expect_all(&rt, "parts", held_by_parts(alloc), 8);
 }

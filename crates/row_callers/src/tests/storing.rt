@@ -1,72 +1,62 @@
 //! Tables, by hand.
+ghost use Rattle.std.specs.Prelude.{◌≡◌, []};
 
+use super::{Part, bytes, expect_all, is_value, values};
 use row_store::{RowRefusal, Tables};
+use sharing::Shared;
 use std::alloc::Global;
-use std::process::Abort;
-use std::test::Fail;
-use val_types::{Bytes, ColType, ColumnDef, KeyDef, List, Row, TableDef, Value};
+use val_types::{Bytes, ColType, ColumnDef, KeyDef, List, Row, TableDef};
 
-/// A value as a table of tests holds it.
-enum Part {
-    Null,
-    Int(i64),
-    Text(&'static [u8]),
-}
+/// A number, a text and two numbers.
+static COLUMNS: [(&[u8], ColType); 4] = [
+    (b"id", ColType::Int),
+    (b"k", ColType::Varchar(4)),
+    (b"a", ColType::BigInt),
+    (b"b", ColType::BigInt),
+];
 
-fn value(alloc: Global, part: &Part) -> Result<Value, Fail> {
-    Ok(match part {
-        Part::Null => Value::Null,
-        Part::Int(number) => Value::Int(*number),
-        Part::Text(bytes) => Value::Text(List::from_slice(alloc, *bytes)?),
-    })
-}
-
-fn row(alloc: Global, parts: &[Part]) -> Result<Row, Fail> {
-    let mut values = List::new(alloc);
-    for part in parts {
-        values.push(value(alloc, part)?)?;
-    }
-    Ok(values)
-}
-
-fn name(alloc: Global, bytes: &[u8]) -> Result<Bytes, Fail> {
-    Ok(List::from_slice(alloc, bytes)?)
-}
-
-fn column(alloc: Global, bytes: &[u8], kind: ColType) -> Result<ColumnDef, Fail> {
-    Ok(ColumnDef {
-        name: name(alloc, bytes)?,
-        kind,
-        nullable: true,
-        preset: None,
-    })
-}
-
-fn key(alloc: Global, bytes: &[u8], columns: &[u16]) -> Result<KeyDef, Fail> {
-    Ok(KeyDef {
-        name: name(alloc, bytes)?,
-        columns: List::from_slice(alloc, columns)?,
-    })
-}
-
-/// A table of four columns, a number, a text and two numbers, with the unique keys `u` of the text and
-/// `w` of both numbers.
-fn definition(alloc: Global, table: &[u8], primary: &[u16]) -> Result<TableDef, Fail> {
+fn columns(alloc: Global) -> List<ColumnDef> {
     let mut columns = List::new(alloc);
-    columns.push(column(alloc, b"id", ColType::Int)?)?;
-    columns.push(column(alloc, b"k", ColType::Varchar(4))?)?;
-    columns.push(column(alloc, b"a", ColType::BigInt)?)?;
-    columns.push(column(alloc, b"b", ColType::BigInt)?)?;
+    for (name, kind) in &COLUMNS {
+        let _ = columns.push(ColumnDef {
+            name: bytes(alloc, *name),
+            kind: *kind,
+            nullable: true,
+            preset: None,
+        });
+    }
+    columns
+}
+
+/// The unique keys `u` of the text and `w` of both numbers.
+static UNIQUES: [(&[u8], &[u16]); 2] = [(b"u", &[1]), (b"w", &[3, 2])];
+
+fn places(alloc: Global, of: &[u16]) -> List<u16> {
+    let mut places = List::new(alloc);
+    let _ = places.extend_from_slice(of);
+    places
+}
+
+fn uniques(alloc: Global) -> List<KeyDef> {
     let mut uniques = List::new(alloc);
-    uniques.push(key(alloc, b"u", &[1])?)?;
-    uniques.push(key(alloc, b"w", &[3, 2])?)?;
-    Ok(TableDef {
-        name: name(alloc, table)?,
-        columns,
-        primary: List::from_slice(alloc, primary)?,
-        uniques,
+    for (name, columns) in &UNIQUES {
+        let _ = uniques.push(KeyDef {
+            name: bytes(alloc, *name),
+            columns: places(alloc, *columns),
+        });
+    }
+    uniques
+}
+
+/// The table `t` of those columns and keys.
+pub(super) fn definition(alloc: Global, primary: &[u16]) -> TableDef {
+    TableDef {
+        name: bytes(alloc, b"t"),
+        columns: columns(alloc),
+        primary: places(alloc, primary),
+        uniques: uniques(alloc),
         auto: None,
-    })
+    }
 }
 
 /// What is done to the rows of a table, and what it answers.
@@ -189,151 +179,181 @@ static BY_FOUR: [Step; 4] = [
 ];
 
 /// Inserts a row that fits; absent where it does not.
-fn insert(tables: &mut Tables, table: &Bytes, row: Row) -> Result<(), RowRefusal> {
-    if tables.fits(table, &row) {
-        tables.insert(table, row)
-    } else {
-        Err(RowRefusal::Absent)
+fn insert(
+    alloc: Global,
+    tables: &mut Tables,
+    table: &Bytes,
+    parts: &[Part],
+) -> Result<(), RowRefusal> {
+    let row = values(alloc, parts);
+    if !tables.fits(table, &row) {
+        return Err(RowRefusal::Absent);
     }
+    tables.insert(table, row)
 }
 
 /// Replaces a row by one that fits; absent where it does not.
-fn update(tables: &mut Tables, table: &Bytes, key: &Row, row: Row) -> Result<(), RowRefusal> {
-    if tables.fits(table, &row) {
-        tables.update(table, key, row)
-    } else {
-        Err(RowRefusal::Absent)
+fn update(
+    alloc: Global,
+    tables: &mut Tables,
+    table: &Bytes,
+    key: &[Part],
+    parts: &[Part],
+) -> Result<(), RowRefusal> {
+    let key = values(alloc, key);
+    let row = values(alloc, parts);
+    if !tables.fits(table, &row) {
+        return Err(RowRefusal::Absent);
     }
+    tables.update(table, &key, row)
 }
 
 /// Deletes a row.
-fn delete(tables: &mut Tables, table: &Bytes, key: &Row) -> Result<(), RowRefusal> {
-    match tables.delete(table, key) {
+fn delete(
+    alloc: Global,
+    tables: &mut Tables,
+    table: &Bytes,
+    key: &[Part],
+) -> Result<(), RowRefusal> {
+    let key = values(alloc, key);
+    match tables.delete(table, &key) {
         Ok(_) => Ok(()),
         Err(refusal) => Err(refusal),
     }
 }
 
-fn expect_step(
-    rt: &impl Abort,
-    alloc: Global,
-    tables: &mut Tables,
-    table: &Bytes,
-    step: &Step,
-) -> Result<(), Fail> {
-    let (found, wanted) = match step {
-        Step::Insert(parts, wanted) => { (insert(tables, table, row(alloc, *parts)?), *wanted) }
+/// Whether a step answers as it should.
+fn answers(alloc: Global, tables: &mut Tables, table: &Bytes, step: &Step) -> bool {
+    match step {
+        Step::Insert(parts, wanted) => insert(alloc, tables, table, *parts) == *wanted,
         Step::Update(key, parts, wanted) => {
-            let key = row(alloc, *key)?;
-            let row = row(alloc, *parts)?;
-            (update(tables, table, &key, row), *wanted)
+            update(alloc, tables, table, *key, *parts) == *wanted
         }
-        Step::Delete(key, wanted) => {
-            let key = row(alloc, *key)?;
-            (delete(tables, table, &key), *wanted)
+        Step::Delete(key, wanted) => delete(alloc, tables, table, *key) == *wanted,
+    }
+}
+
+/// How many steps in a new table do so, from the first on.
+fn held(alloc: Global, tables: &mut Tables, primary: &[u16], steps: &[Step]) -> usize
+    requires { tables.old.tables ≡ [] }
+{
+    if tables.create(&definition(alloc, primary)).is_err() {
+        return 0;
+    }
+    let table = bytes(alloc, b"t");
+    for (i, step) in steps.iter().enumerate() {
+        if !answers(alloc, tables, &table, step) {
+            return i;
         }
-    };
-    assert_eq!(rt; found, wanted);
-    Ok(())
-}
-
-/// The tables after some steps in one of a name.
-fn stored(rt: &impl Abort, alloc: Global, primary: &[u16], steps: &[Step]) -> Result<Tables, Fail> {
-    let mut tables = Tables::new(alloc);
-    let table = name(alloc, b"t")?;
-    let definition = definition(alloc, b"t", primary)?;
-    tables.create(&definition)?;
-    for step in steps {
-        expect_step(rt, alloc, &mut tables, &table, step)?;
     }
-    Ok(tables)
+    steps.len()
 }
 
-fn expect_keys(
-    rt: &impl Abort,
-    alloc: Global,
-    tables: &Tables,
-    wanted: &[&'static [Part]],
-) -> Result<(), Fail> {
-    let keys = tables.keys(&name(alloc, b"t")?)?;
-    assert_eq!(rt; keys.len(), wanted.len());
-    for (i, parts) in wanted.iter().enumerate() {
-        let key = row(alloc, *parts)?;
-        assert_eq!(rt; keys.get(i), Some(&key));
+/// Whether a row is these parts.
+fn is_row(row: &Row, parts: &[Part]) -> bool {
+    let mut same = row.len() == parts.len();
+    for (value, part) in row.as_slice().iter().zip(parts) {
+        same = same && is_value(value, part);
     }
-    Ok(())
+    same
 }
 
-#[test]
-fn keys_in_the_way(rt: HostRuntime) -> Result<(), Fail> {
-    let alloc = rt.alloc();
-    let mut tables = stored(&rt, alloc, &[0], &BY_NUMBER)?;
-    tables.tidy();
-    expect_keys(
-        &rt,
-        alloc,
-        &tables,
-        &[
-            &[Part::Int(1)],
-            &[Part::Int(2)],
-            &[Part::Int(3)],
-            &[Part::Int(5)],
-        ],
-    )
+fn are_rows(rows: &List<Row>, wanted: &[&'static [Part]]) -> bool {
+    let mut same = rows.len() == wanted.len();
+    for (row, parts) in rows.as_slice().iter().zip(wanted) {
+        same = same && is_row(row, *parts);
+    }
+    same
 }
 
-#[test]
-fn rows_shared_while_they_change(rt: HostRuntime) -> Result<(), Fail> {
-    let alloc = rt.alloc();
-    let mut tables = stored(&rt, alloc, &[0], &BY_NUMBER)?;
-    let table = name(alloc, b"t")?;
-    assert_eq!(rt; tables.place(&table), Some(0));
-    let rows = tables.rows(0)?;
-    let same = tables.copy()?;
-    tables.clear(&table);
-    expect_keys(&rt, alloc, &tables, &[])?;
-    assert_eq!(rt; rows.len(), 4);
+/// Whether the table has these keys.
+fn has_keys(alloc: Global, tables: &Tables, wanted: &[&'static [Part]]) -> bool {
+    match tables.keys(&bytes(alloc, b"t")) {
+        Ok(keys) => are_rows(&keys, wanted),
+        Err(_) => false,
+    }
+}
+
+/// The keys that the first steps leave.
+static NUMBERED: [&[Part]; 4] = [
+    &[Part::Int(1)],
+    &[Part::Int(2)],
+    &[Part::Int(3)],
+    &[Part::Int(5)],
+];
+
+/// Whether rows stand in the way of themselves in one place and not in another.
+fn stand_in_way(rows: &List<Shared<Row>>, same: &Tables, cleared: &Tables) -> bool {
+    let mut stand = rows.len() == 4;
     for row in rows.as_slice() {
-        assert_eq!(rt; tables.key_in_way(0, row.get()), None);
-        assert_eq!(rt; same.key_in_way(0, row.get()), Some(0));
-        assert_eq!(rt; same.row_in_way(0, row.get()), Some(row.get()));
+        stand = stand
+            && cleared.key_in_way(0, row.get()) == None
+            && same.key_in_way(0, row.get()) == Some(0)
+            && same.row_in_way(0, row.get()) == Some(row.get());
     }
-    Ok(())
+    stand
 }
 
-#[test]
-fn texts_in_byte_order(rt: HostRuntime) -> Result<(), Fail> {
-    let alloc = rt.alloc();
-    let tables = stored(&rt, alloc, &[1], &BY_TEXT)?;
-    expect_keys(
-        &rt,
-        alloc,
-        &tables,
-        &[
-            &[Part::Text(b"\x7f")],
-            &[Part::Text(b"\x80a")],
-            &[Part::Text(b"\xff")],
-        ],
-    )
+/// Whether rows that are shared, and tables that are copied, stay when the table, which is in the first place, is cleared.
+fn stays_shared(alloc: Global, tables: &mut Tables) -> bool {
+    let table = bytes(alloc, b"t");
+    let is_first = tables.place(&table) == Some(0);
+    match (tables.rows(0), tables.copy()) {
+        (Ok(rows), Ok(same)) => {
+            tables.clear(&table);
+            is_first && stand_in_way(&rows, &same, tables)
+        }
+        _ => false,
+    }
 }
 
-#[test]
-fn keys_of_four_columns(rt: HostRuntime) -> Result<(), Fail> {
-    let alloc = rt.alloc();
-    let mut tables = stored(&rt, alloc, &[0, 2, 1, 3], &BY_FOUR)?;
-    expect_keys(
-        &rt,
-        alloc,
-        &tables,
-        &[
-            &[Part::Int(1), Part::Int(1), Part::Text(b"c"), Part::Int(3)],
-            &[Part::Int(1), Part::Int(2), Part::Text(b"a"), Part::Int(3)],
-            &[Part::Int(1), Part::Int(2), Part::Text(b"b"), Part::Int(1)],
-        ],
-    )?;
-    let table = name(alloc, b"t")?;
+/// The keys that texts are, in byte order.
+static LETTERED: [&[Part]; 3] = [
+    &[Part::Text(b"\x7f")],
+    &[Part::Text(b"\x80a")],
+    &[Part::Text(b"\xff")],
+];
+
+/// The keys of four columns.
+static OF_FOUR: [&[Part]; 3] = [
+    &[Part::Int(1), Part::Int(1), Part::Text(b"c"), Part::Int(3)],
+    &[Part::Int(1), Part::Int(2), Part::Text(b"a"), Part::Int(3)],
+    &[Part::Int(1), Part::Int(2), Part::Text(b"b"), Part::Int(1)],
+];
+
+/// Whether no key is left, once the table is cleared, and once it is dropped.
+fn is_emptied(alloc: Global, tables: &mut Tables) -> bool {
+    let table = bytes(alloc, b"t");
     tables.clear(&table);
-    expect_keys(&rt, alloc, &tables, &[])?;
+    let cleared = has_keys(alloc, tables, &[]);
     tables.drop_table(&table);
-    expect_keys(&rt, alloc, &tables, &[])
+    cleared && has_keys(alloc, tables, &[])
+}
+
+#[test]
+fn rows_by_number(rt: HostRuntime) {
+    let mut tables = Tables::new(rt.alloc());
+    let held = held(rt.alloc(), &mut tables, &[0], &BY_NUMBER);
+    expect_all(&rt, "keys in the way", held, 18);
+    tables.tidy();
+    assert!(rt; has_keys(rt.alloc(), &tables, &NUMBERED));
+    assert!(rt; stays_shared(rt.alloc(), &mut tables));
+    assert!(rt; has_keys(rt.alloc(), &tables, &[]));
+}
+
+#[test]
+fn rows_by_text(rt: HostRuntime) {
+    let mut tables = Tables::new(rt.alloc());
+    let held = held(rt.alloc(), &mut tables, &[1], &BY_TEXT);
+    expect_all(&rt, "texts in byte order", held, 5);
+    assert!(rt; has_keys(rt.alloc(), &tables, &LETTERED));
+}
+
+#[test]
+fn rows_by_four_columns(rt: HostRuntime) {
+    let mut tables = Tables::new(rt.alloc());
+    let held = held(rt.alloc(), &mut tables, &[0, 2, 1, 3], &BY_FOUR);
+    expect_all(&rt, "keys of four columns", held, 4);
+    assert!(rt; has_keys(rt.alloc(), &tables, &OF_FOUR));
+    assert!(rt; is_emptied(rt.alloc(), &mut tables));
 }

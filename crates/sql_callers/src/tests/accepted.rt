@@ -1,8 +1,6 @@
 //! Texts that are statements: each is read, and read back from its canonical text.
-use crate::tests::common::{is_read_back, repeated};
+use crate::tests::common::{expect_all, is_read_back, repeated};
 use std::alloc::Global;
-use std::test::Fail;
-use val_types::NoMemory;
 
 /// Tables, their rows, transactions and variables.
 static PLAIN: &[&str] = &[
@@ -123,37 +121,42 @@ static LONG: [(&str, u32, &str, &str); 6] = [
 
 type Long = (&'static str, u32, &'static str, &'static str);
 
-fn is_long_read_back(alloc: Global, long: &Long) -> Result<bool, NoMemory> {
+fn is_long_read_back(alloc: Global, long: &Long) -> bool {
     let (front, count, piece, end) = long;
-    let text = repeated(alloc, front, *count, piece, end)?;
+    let text = repeated(alloc, front, *count, piece, end);
     is_read_back(alloc, text.as_slice())
 }
 
 /// How many texts from the first on are read back.
-fn count_read_back(alloc: Global, rows: &[&str]) -> Result<usize, NoMemory> {
+fn count_read_back(alloc: Global, rows: &[&str]) -> usize {
     for (i, text) in rows.iter().enumerate() {
-        if !is_read_back(alloc, text.as_bytes())? {
-            return Ok(i);
+        if !is_read_back(alloc, text.as_bytes()) {
+            return i;
         }
     }
-    Ok(rows.len())
+    rows.len()
 }
 
 /// How many long texts from the first on are read back.
-fn count_long(alloc: Global, rows: &[Long]) -> Result<usize, NoMemory> {
+fn count_long(alloc: Global, rows: &[Long]) -> usize {
     for (i, long) in rows.iter().enumerate() {
-        if !is_long_read_back(alloc, long)? {
-            return Ok(i);
+        if !is_long_read_back(alloc, long) {
+            return i;
         }
     }
-    Ok(rows.len())
+    rows.len()
 }
 
 #[test]
-fn statements_are_read_back(rt: HostRuntime) -> Result<(), Fail> {
-    for table in [PLAIN, PROGRAMS, SHOP] {
-        assert_eq!(rt; count_read_back(rt.alloc(), table)?, table.len());
-    }
-    assert_eq!(rt; count_long(rt.alloc(), &LONG)?, LONG.len());
-    Ok(())
+fn statements_are_read_back(rt: HostRuntime) {
+    let alloc = rt.alloc();
+    expect_all(&rt, "plain", count_read_back(alloc, PLAIN), PLAIN.len());
+    expect_all(
+        &rt,
+        "programs",
+        count_read_back(alloc, PROGRAMS),
+        PROGRAMS.len(),
+    );
+    expect_all(&rt, "a shop", count_read_back(alloc, SHOP), SHOP.len());
+    expect_all(&rt, "long texts", count_long(alloc, &LONG), LONG.len());
 }

@@ -1,10 +1,9 @@
 //! At most 400 constructs are open at once, and a statement has at most 200 levels.
 use crate::tests::common::{
-    is_deep, is_read_back, is_refused_at, levels_of, push_times, read, repeated,
+    expect_all, is_deep, is_read_back, is_refused_at, levels_of, push_times, read, repeated,
 };
 use std::alloc::Global;
-use std::test::Fail;
-use val_types::{Bytes, NoMemory};
+use val_types::Bytes;
 
 type Opening = (&'static str, &'static str, u32, &'static str);
 
@@ -137,39 +136,33 @@ static OPENINGS: &[Opening] = &[
 ];
 
 /// A text of so many more constructs than the most, and then what is no token.
-fn opened(alloc: Global, opening: &Opening, more: u32) -> Result<Bytes, NoMemory> {
+fn opened(alloc: Global, opening: &Opening, more: u32) -> Bytes {
     let (front, piece, most, last) = opening;
-    let mut text = repeated(alloc, front, most.saturating_add(more), piece, last)?;
-    text.extend_from_slice(b"#")?;
-    Ok(text)
+    let mut text = repeated(alloc, front, most.saturating_add(more), piece, last);
+    let _ = text.extend_from_slice(b"#");
+    text
 }
 
 /// Whether the most are refused at their last byte.
-fn most_are_read(alloc: Global, opening: &Opening) -> Result<bool, NoMemory> {
-    let text = opened(alloc, opening, 0)?;
+fn most_are_read(alloc: Global, opening: &Opening) -> bool {
+    let text = opened(alloc, opening, 0);
     is_refused_at(alloc, text.as_slice(), text.len().saturating_sub(1))
 }
 
 /// Whether one construct more is too deep.
-fn one_more_is_deep(alloc: Global, opening: &Opening) -> Result<bool, NoMemory> {
-    let text = opened(alloc, opening, 1)?;
+fn one_more_is_deep(alloc: Global, opening: &Opening) -> bool {
+    let text = opened(alloc, opening, 1);
     is_deep(alloc, text.as_slice())
 }
 
 /// How many openings from the first on are counted so.
-fn count_opened(alloc: Global, rows: &[Opening]) -> Result<usize, NoMemory> {
+fn count_opened(alloc: Global, rows: &[Opening]) -> usize {
     for (i, opening) in rows.iter().enumerate() {
-        if !most_are_read(alloc, opening)? || !one_more_is_deep(alloc, opening)? {
-            return Ok(i);
+        if !most_are_read(alloc, opening) || !one_more_is_deep(alloc, opening) {
+            return i;
         }
     }
-    Ok(rows.len())
-}
-
-#[test]
-fn constructs_are_counted_while_open(rt: HostRuntime) -> Result<(), Fail> {
-    assert_eq!(rt; count_opened(rt.alloc(), OPENINGS)?, OPENINGS.len());
-    Ok(())
+    rows.len()
 }
 
 /// A front and a piece a thousand times, with never more than two constructs open at once.
@@ -205,10 +198,10 @@ static FLAT: &[(&str, &str)] = &[
 ];
 
 /// Whether a thousand of a piece, and then what is no token, are refused at that.
-fn is_flat(alloc: Global, front: &str, piece: &str) -> Result<bool, NoMemory> {
-    let mut text = repeated(alloc, front, 1000, piece, " ")?;
+fn is_flat(alloc: Global, front: &str, piece: &str) -> bool {
+    let mut text = repeated(alloc, front, 1000, piece, " ");
     let place = text.len();
-    text.extend_from_slice(b"#")?;
+    let _ = text.extend_from_slice(b"#");
     is_refused_at(alloc, text.as_slice(), place)
 }
 
@@ -237,11 +230,11 @@ static NOT_OPENED: &[NotOpened] = &[
     ("CREATE PROCEDURE p() ", "BEGIN ", "CREATE TABLE t ", "t ("),
 ];
 
-fn is_not_opened(alloc: Global, row: &NotOpened) -> Result<bool, NoMemory> {
+fn is_not_opened(alloc: Global, row: &NotOpened) -> bool {
     let (front, piece, before, wrong) = row;
-    let mut text = repeated(alloc, front, 400, piece, before)?;
+    let mut text = repeated(alloc, front, 400, piece, before);
     let place = text.len();
-    text.extend_from_slice(wrong.as_bytes())?;
+    let _ = text.extend_from_slice(wrong.as_bytes());
     is_refused_at(alloc, text.as_slice(), place)
 }
 
@@ -256,48 +249,40 @@ static LEFT: &[(&str, &str)] = &[
     ("CREATE PROCEDURE p() BEGIN ", "START "),
 ];
 
-fn is_left(alloc: Global, front: &str, wrong: &str) -> Result<bool, NoMemory> {
-    let mut text = repeated(alloc, front, 1, wrong, "")?;
-    push_times(&mut text, 401, "(")?;
+fn is_left(alloc: Global, front: &str, wrong: &str) -> bool {
+    let mut text = repeated(alloc, front, 1, wrong, "");
+    push_times(&mut text, 401, "(");
     is_refused_at(alloc, text.as_slice(), front.len())
 }
 
 /// How many rows from the first on are flat.
-fn count_flat(alloc: Global, rows: &[(&str, &str)]) -> Result<usize, NoMemory> {
+fn count_flat(alloc: Global, rows: &[(&str, &str)]) -> usize {
     for (i, (front, piece)) in rows.iter().enumerate() {
-        if !is_flat(alloc, front, piece)? {
-            return Ok(i);
+        if !is_flat(alloc, front, piece) {
+            return i;
         }
     }
-    Ok(rows.len())
+    rows.len()
 }
 
 /// How many rows from the first on open nothing more.
-fn count_not_opened(alloc: Global, rows: &[NotOpened]) -> Result<usize, NoMemory> {
+fn count_not_opened(alloc: Global, rows: &[NotOpened]) -> usize {
     for (i, row) in rows.iter().enumerate() {
-        if !is_not_opened(alloc, row)? {
-            return Ok(i);
+        if !is_not_opened(alloc, row) {
+            return i;
         }
     }
-    Ok(rows.len())
+    rows.len()
 }
 
 /// How many texts from the first on are refused before what is left counts.
-fn count_left(alloc: Global, rows: &[(&str, &str)]) -> Result<usize, NoMemory> {
+fn count_left(alloc: Global, rows: &[(&str, &str)]) -> usize {
     for (i, (front, wrong)) in rows.iter().enumerate() {
-        if !is_left(alloc, front, wrong)? {
-            return Ok(i);
+        if !is_left(alloc, front, wrong) {
+            return i;
         }
     }
-    Ok(rows.len())
-}
-
-#[test]
-fn constructs_beside_one_another_are_not_counted(rt: HostRuntime) -> Result<(), Fail> {
-    assert_eq!(rt; count_flat(rt.alloc(), FLAT)?, FLAT.len());
-    assert_eq!(rt; count_not_opened(rt.alloc(), NOT_OPENED)?, NOT_OPENED.len());
-    assert_eq!(rt; count_left(rt.alloc(), LEFT)?, LEFT.len());
-    Ok(())
+    rows.len()
 }
 
 /// A front, what stands again and again around the middle, that middle, what closes each, the end,
@@ -311,12 +296,12 @@ type Nest = (
     u32,
 );
 
-fn nested(alloc: Global, nest: &Nest, count: u32) -> Result<Bytes, NoMemory> {
+fn nested(alloc: Global, nest: &Nest, count: u32) -> Bytes {
     let (front, open, middle, close, end, _) = nest;
-    let mut text = repeated(alloc, front, count, open, middle)?;
-    push_times(&mut text, count, close)?;
-    text.extend_from_slice(end.as_bytes())?;
-    Ok(text)
+    let mut text = repeated(alloc, front, count, open, middle);
+    push_times(&mut text, count, close);
+    let _ = text.extend_from_slice(end.as_bytes());
+    text
 }
 
 /// Parentheses around what opens some constructs itself; they add no level.
@@ -367,37 +352,31 @@ static CLOSED: &[Nest] = &[
 ];
 
 /// The text with the most turns, and so many more.
-fn nest_of(alloc: Global, nest: &Nest, more: u32) -> Result<Bytes, NoMemory> {
+fn nest_of(alloc: Global, nest: &Nest, more: u32) -> Bytes {
     let (_, _, _, _, _, most) = nest;
     nested(alloc, nest, most.saturating_add(more))
 }
 
 /// Whether the most turns are a statement.
-fn most_turns_are_read(alloc: Global, nest: &Nest) -> Result<bool, NoMemory> {
-    let text = nest_of(alloc, nest, 0)?;
+fn most_turns_are_read(alloc: Global, nest: &Nest) -> bool {
+    let text = nest_of(alloc, nest, 0);
     is_read_back(alloc, text.as_slice())
 }
 
 /// Whether one turn more is too deep.
-fn one_turn_more_is_deep(alloc: Global, nest: &Nest) -> Result<bool, NoMemory> {
-    let text = nest_of(alloc, nest, 1)?;
+fn one_turn_more_is_deep(alloc: Global, nest: &Nest) -> bool {
+    let text = nest_of(alloc, nest, 1);
     is_deep(alloc, text.as_slice())
 }
 
 /// How many nests from the first on have that many turns at most.
-fn count_closed(alloc: Global, rows: &[Nest]) -> Result<usize, NoMemory> {
+fn count_closed(alloc: Global, rows: &[Nest]) -> usize {
     for (i, nest) in rows.iter().enumerate() {
-        if !most_turns_are_read(alloc, nest)? || !one_turn_more_is_deep(alloc, nest)? {
-            return Ok(i);
+        if !most_turns_are_read(alloc, nest) || !one_turn_more_is_deep(alloc, nest) {
+            return i;
         }
     }
-    Ok(rows.len())
-}
-
-#[test]
-fn four_hundred_constructs_are_read(rt: HostRuntime) -> Result<(), Fail> {
-    assert_eq!(rt; count_closed(rt.alloc(), CLOSED)?, CLOSED.len());
-    Ok(())
+    rows.len()
 }
 
 /// Statements of 200 levels, and of 201 or 202 with one turn more.
@@ -555,24 +534,49 @@ static LEVELS: &[Nest] = &[
 ];
 
 /// Whether the most turns are 200 levels.
-fn has_most_levels(alloc: Global, nest: &Nest) -> Result<bool, NoMemory> {
-    let text = nest_of(alloc, nest, 0)?;
-    Ok(levels_of(read(alloc, text.as_slice())) == Some(200))
+fn has_most_levels(alloc: Global, nest: &Nest) -> bool {
+    let text = nest_of(alloc, nest, 0);
+    levels_of(read(alloc, text.as_slice())) == Some(200)
 }
 
 /// How many nests from the first on have 200 levels at most.
-fn count_levelled(alloc: Global, rows: &[Nest]) -> Result<usize, NoMemory> {
+fn count_levelled(alloc: Global, rows: &[Nest]) -> usize {
     for (i, nest) in rows.iter().enumerate() {
-        if !has_most_levels(alloc, nest)? {
-            return Ok(i);
+        if !has_most_levels(alloc, nest) {
+            return i;
         }
     }
-    Ok(rows.len())
+    rows.len()
 }
 
 #[test]
-fn two_hundred_levels_are_read(rt: HostRuntime) -> Result<(), Fail> {
-    assert_eq!(rt; count_levelled(rt.alloc(), LEVELS)?, LEVELS.len());
-    assert_eq!(rt; count_closed(rt.alloc(), LEVELS)?, LEVELS.len());
-    Ok(())
+fn constructs_and_levels(rt: HostRuntime) {
+    let alloc = rt.alloc();
+    expect_all(
+        &rt,
+        "open constructs",
+        count_opened(alloc, OPENINGS),
+        OPENINGS.len(),
+    );
+    expect_all(&rt, "flat texts", count_flat(alloc, FLAT), FLAT.len());
+    expect_all(
+        &rt,
+        "what opens nothing",
+        count_not_opened(alloc, NOT_OPENED),
+        NOT_OPENED.len(),
+    );
+    expect_all(&rt, "what is left", count_left(alloc, LEFT), LEFT.len());
+    expect_all(
+        &rt,
+        "400 constructs",
+        count_closed(alloc, CLOSED),
+        CLOSED.len(),
+    );
+    expect_all(
+        &rt,
+        "200 levels",
+        count_levelled(alloc, LEVELS),
+        LEVELS.len(),
+    );
+    expect_all(&rt, "201 levels", count_closed(alloc, LEVELS), LEVELS.len());
 }

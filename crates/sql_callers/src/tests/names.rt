@@ -1,8 +1,6 @@
 //! Which words are names without quotes.
-use crate::tests::common::{is_read_back, is_refused_at, repeated};
+use crate::tests::common::{expect_all, is_read_back, is_refused_at, repeated};
 use std::alloc::Global;
-use std::test::Fail;
-use val_types::NoMemory;
 
 /// The reserved words.
 static RESERVED: &[&str] = &[
@@ -140,46 +138,51 @@ static FREE: &[&str] = &[
 ];
 
 /// Whether a word is refused as a name without quotes.
-fn is_reserved(alloc: Global, word: &str) -> Result<bool, NoMemory> {
-    let bare = repeated(alloc, "SAVEPOINT ", 1, word, "")?;
+fn is_reserved(alloc: Global, word: &str) -> bool {
+    let bare = repeated(alloc, "SAVEPOINT ", 1, word, "");
     is_refused_at(alloc, bare.as_slice(), 10)
 }
 
 /// Whether a word is a name in quotes.
-fn is_quoted(alloc: Global, word: &str) -> Result<bool, NoMemory> {
-    let quoted = repeated(alloc, "SAVEPOINT `", 1, word, "`")?;
+fn is_quoted(alloc: Global, word: &str) -> bool {
+    let quoted = repeated(alloc, "SAVEPOINT `", 1, word, "`");
     is_read_back(alloc, quoted.as_slice())
 }
 
 /// Whether a word is a name without quotes too.
-fn is_free(alloc: Global, word: &str) -> Result<bool, NoMemory> {
-    let bare = repeated(alloc, "SAVEPOINT ", 1, word, "")?;
+fn is_free(alloc: Global, word: &str) -> bool {
+    let bare = repeated(alloc, "SAVEPOINT ", 1, word, "");
     is_read_back(alloc, bare.as_slice())
 }
 
 /// How many words from the first on are names in quotes alone.
-fn count_reserved(alloc: Global, rows: &[&str]) -> Result<usize, NoMemory> {
+fn count_reserved(alloc: Global, rows: &[&str]) -> usize {
     for (i, word) in rows.iter().enumerate() {
-        if !is_reserved(alloc, word)? || !is_quoted(alloc, word)? {
-            return Ok(i);
+        if !is_reserved(alloc, word) || !is_quoted(alloc, word) {
+            return i;
         }
     }
-    Ok(rows.len())
+    rows.len()
 }
 
 /// How many words from the first on are names without quotes.
-fn count_free(alloc: Global, rows: &[&str]) -> Result<usize, NoMemory> {
+fn count_free(alloc: Global, rows: &[&str]) -> usize {
     for (i, word) in rows.iter().enumerate() {
-        if !is_free(alloc, word)? {
-            return Ok(i);
+        if !is_free(alloc, word) {
+            return i;
         }
     }
-    Ok(rows.len())
+    rows.len()
 }
 
 #[test]
-fn reserved_words_are_no_names(rt: HostRuntime) -> Result<(), Fail> {
-    assert_eq!(rt; count_reserved(rt.alloc(), RESERVED)?, RESERVED.len());
-    assert_eq!(rt; count_free(rt.alloc(), FREE)?, FREE.len());
-    Ok(())
+fn words_and_names(rt: HostRuntime) {
+    let alloc = rt.alloc();
+    expect_all(
+        &rt,
+        "reserved words",
+        count_reserved(alloc, RESERVED),
+        RESERVED.len(),
+    );
+    expect_all(&rt, "free words", count_free(alloc, FREE), FREE.len());
 }

@@ -1,9 +1,8 @@
 //! Texts that are no statement, with the byte where each is refused.
-use crate::tests::common::{is_read_back, is_refused_at};
+use crate::tests::common::{expect_all, is_read_back, is_refused_at};
 use crate::tests::refused_expressions::{CALLS, EXPRESSIONS, SELECTS, TOKENS};
 use std::alloc::Global;
-use std::test::Fail;
-use val_types::{List, NoMemory};
+use val_types::List;
 
 /// Statements. Before each `|` the text could go on, and is refused at its end.
 static CUT: &[&str] = &[
@@ -50,32 +49,26 @@ static CUT: &[&str] = &[
 ];
 
 /// Whether a text without its `|` is a statement, and is refused at the end before each.
-fn is_cut(alloc: Global, marked: &str) -> Result<bool, NoMemory> {
+fn is_cut(alloc: Global, marked: &str) -> bool {
     let mut text = List::new(alloc);
     for byte in marked.as_bytes() {
         if *byte != b'|' {
-            text.push(*byte)?;
-        } else if !is_refused_at(alloc, text.as_slice(), text.len())? {
-            return Ok(false);
+            let _ = text.push(*byte);
+        } else if !is_refused_at(alloc, text.as_slice(), text.len()) {
+            return false;
         }
     }
     is_read_back(alloc, text.as_slice())
 }
 
 /// How many texts from the first on are refused at the end of each front.
-fn count_cut(alloc: Global, rows: &[&str]) -> Result<usize, NoMemory> {
+fn count_cut(alloc: Global, rows: &[&str]) -> usize {
     for (i, text) in rows.iter().enumerate() {
-        if !is_cut(alloc, text)? {
-            return Ok(i);
+        if !is_cut(alloc, text) {
+            return i;
         }
     }
-    Ok(rows.len())
-}
-
-#[test]
-fn fronts_are_refused_at_their_end(rt: HostRuntime) -> Result<(), Fail> {
-    assert_eq!(rt; count_cut(rt.alloc(), CUT)?, CUT.len());
-    Ok(())
+    rows.len()
 }
 
 /// The whole text, and what stands behind a statement. The refused byte is that behind the `^`.
@@ -492,41 +485,50 @@ static CHANGES: &[&str] = &[
 ];
 
 /// Whether a text without its `^` is refused there.
-fn is_refused(alloc: Global, marked: &str) -> Result<bool, NoMemory> {
+fn is_refused(alloc: Global, marked: &str) -> bool {
     let mut text = List::new(alloc);
     let mut place = 0;
     for byte in marked.as_bytes() {
         if *byte == b'^' {
             place = text.len();
         } else {
-            text.push(*byte)?;
+            let _ = text.push(*byte);
         }
     }
     is_refused_at(alloc, text.as_slice(), place)
 }
 
 /// How many texts from the first on are refused at their place.
-fn count_refused(alloc: Global, rows: &[&str]) -> Result<usize, NoMemory> {
+fn count_refused(alloc: Global, rows: &[&str]) -> usize {
     for (i, text) in rows.iter().enumerate() {
-        if !is_refused(alloc, text)? {
-            return Ok(i);
+        if !is_refused(alloc, text) {
+            return i;
         }
     }
-    Ok(rows.len())
+    rows.len()
 }
 
 #[test]
-fn statements_are_refused_at_their_place(rt: HostRuntime) -> Result<(), Fail> {
-    for table in [WHOLE, SET, TABLE, PROGRAMS, CHANGES] {
-        assert_eq!(rt; count_refused(rt.alloc(), table)?, table.len());
-    }
-    Ok(())
-}
-
-#[test]
-fn expressions_are_refused_at_their_place(rt: HostRuntime) -> Result<(), Fail> {
-    for table in [SELECTS, EXPRESSIONS, CALLS, TOKENS] {
-        assert_eq!(rt; count_refused(rt.alloc(), table)?, table.len());
-    }
-    Ok(())
+fn texts_are_refused_at_their_place(rt: HostRuntime) {
+    let alloc = rt.alloc();
+    expect_all(&rt, "fronts", count_cut(alloc, CUT), CUT.len());
+    expect_all(&rt, "whole texts", count_refused(alloc, WHOLE), WHOLE.len());
+    expect_all(&rt, "variables", count_refused(alloc, SET), SET.len());
+    expect_all(&rt, "tables", count_refused(alloc, TABLE), TABLE.len());
+    expect_all(
+        &rt,
+        "programs",
+        count_refused(alloc, PROGRAMS),
+        PROGRAMS.len(),
+    );
+    expect_all(&rt, "changes", count_refused(alloc, CHANGES), CHANGES.len());
+    expect_all(&rt, "selects", count_refused(alloc, SELECTS), SELECTS.len());
+    expect_all(
+        &rt,
+        "expressions",
+        count_refused(alloc, EXPRESSIONS),
+        EXPRESSIONS.len(),
+    );
+    expect_all(&rt, "calls", count_refused(alloc, CALLS), CALLS.len());
+    expect_all(&rt, "tokens", count_refused(alloc, TOKENS), TOKENS.len());
 }

@@ -1,192 +1,136 @@
-//! Each public call once with ample memory: what is made, how deep it is, and that a text gives it.
+//! Each public call on trees once with ample memory: what a text gives is as deep as it should be, and so are copies of it and of its
+//! parts.
+use crate::tests::common::read;
+use sql_parse::ParseRefusal;
 use sql_tree::{
-    Assignment, Cause, Expr, OrderItem, Routine, Select, Selection, SqlType, Stmt, Target, Time,
-    TriggerDef, depth, expr_depth, is_name, select_depth, well, well_expr, well_select, well_step,
+    Cause, Expr, OrderItem, Routine, Select, Selection, Stmt, Time, TriggerDef, depth, expr_depth,
+    is_name, select_depth, well, well_expr, well_select, well_step,
 };
 use std::alloc::Global;
-use std::test::Fail;
 use tree_copies::{
     copy_expr, copy_exprs, copy_order, copy_routine, copy_select, copy_stmt, copy_trigger,
 };
-use val_types::{BinOp, Boxed, Bytes, List, NoMemory, Value};
+use val_types::{BinOp, List, NoMemory};
 
-/// What is copied, and whether something is what the tests make. A function that holds a tree is
-/// over this, since what drops one on its way out is dear to check.
-trait Copied: Drop {
-    fn copied(&self, alloc: Global) -> Result<Self, NoMemory>;
-
+/// Whether something is what the texts below give. A function that holds a tree is over this, since what drops one on its way out is
+/// dear to check.
+trait Meant {
     fn is_meant(&self) -> bool;
 }
 
-fn is_copied<T: Copied>(alloc: Global, made: Result<T, NoMemory>) -> Result<bool, NoMemory> {
-    let made = made?;
-    let copy = made.copied(alloc)?;
-    Ok(copy.is_meant())
-}
-
-fn name(alloc: Global) -> Result<Bytes, NoMemory> {
-    List::from_slice(alloc, b"a")
+/// Whether a copy was made, and is meant.
+fn is_copied<T: Meant + Drop>(copy: Result<T, NoMemory>) -> bool {
+    match copy {
+        Ok(part) => part.is_meant(),
+        Err(_) => false,
+    }
 }
 
 /// `a + 1`
-fn sum(alloc: Global) -> Result<Expr, NoMemory> {
-    let name = name(alloc)?;
-    let left = Boxed::new(alloc, Expr::Name(name))?;
-    let right = Boxed::new(alloc, Expr::Literal(Value::Int(1)))?;
-    Ok(Expr::Binary(BinOp::Add, left, right))
-}
-
 fn is_sum(expr: &Expr) -> bool {
     matches!(expr, Expr::Binary(BinOp::Add, _, _)) && expr_depth(expr) == 2 && well_expr(expr)
 }
 
-impl Copied for Expr {
-    fn copied(&self, alloc: Global) -> Result<Expr, NoMemory> {
-        copy_expr(alloc, self)
-    }
-
+impl Meant for Expr {
     fn is_meant(&self) -> bool {
         is_sum(self)
     }
 }
 
-fn sums(alloc: Global) -> Result<List<Expr>, NoMemory> {
-    let mut exprs = List::new(alloc);
-    exprs.push(sum(alloc)?)?;
-    Ok(exprs)
-}
-
-impl Copied for List<Expr> {
-    fn copied(&self, alloc: Global) -> Result<List<Expr>, NoMemory> {
-        copy_exprs(alloc, self)
-    }
-
+impl Meant for List<Expr> {
     fn is_meant(&self) -> bool {
         matches!(self.as_slice(), [expr] if is_sum(expr))
     }
 }
 
-fn select(alloc: Global) -> Result<Select, NoMemory> {
-    let what = Selection::Items(sums(alloc)?);
-    Ok(Select { what, from: None })
-}
-
-impl Copied for Select {
-    fn copied(&self, alloc: Global) -> Result<Select, NoMemory> {
-        copy_select(alloc, self)
-    }
-
+/// `SELECT a + 1`
+impl Meant for Select {
     fn is_meant(&self) -> bool {
         select_depth(self) == 3 && well_select(self)
     }
 }
 
 /// `a + 1 DESC`
-fn order(alloc: Global) -> Result<List<OrderItem>, NoMemory> {
-    let mut items = List::new(alloc);
-    let by = sum(alloc)?;
-    let descending = true;
-    items.push(OrderItem { by, descending })?;
-    Ok(items)
-}
-
-impl Copied for List<OrderItem> {
-    fn copied(&self, alloc: Global) -> Result<List<OrderItem>, NoMemory> {
-        copy_order(alloc, self)
-    }
-
+impl Meant for List<OrderItem> {
     fn is_meant(&self) -> bool {
         matches!(self.as_slice(), [item] if item.descending && is_sum(&item.by))
     }
-}
-
-#[test]
-fn expressions_are_copied(rt: HostRuntime) -> Result<(), Fail> {
-    let alloc = rt.alloc();
-    assert!(rt; is_copied(alloc, sum(alloc))?);
-    assert!(rt; is_copied(alloc, sums(alloc))?);
-    assert!(rt; is_copied(alloc, select(alloc))?);
-    assert!(rt; is_copied(alloc, order(alloc))?);
-    Ok(())
-}
-
-/// `CREATE FUNCTION a() RETURNS INT RETURN a + 1`, from its name on.
-fn function(alloc: Global) -> Result<Routine, NoMemory> {
-    let name = name(alloc)?;
-    let body = Stmt::Return(sum(alloc)?);
-    Ok(Routine {
-        name,
-        parameters: List::new(alloc),
-        returns: Some(SqlType::Int),
-        body,
-    })
 }
 
 fn is_body(step: &Stmt) -> bool {
     depth(step) == 3 && well_step(step)
 }
 
-impl Copied for Routine {
-    fn copied(&self, alloc: Global) -> Result<Routine, NoMemory> {
-        copy_routine(alloc, self)
-    }
-
+/// `CREATE FUNCTION a() RETURNS INT RETURN a + 1`, from its name on.
+impl Meant for Routine {
     fn is_meant(&self) -> bool {
         is_name(&self.name) && is_body(&self.body)
     }
 }
 
-fn create_function(alloc: Global) -> Result<Stmt, NoMemory> {
-    let routine = Boxed::new(alloc, function(alloc)?)?;
-    Ok(Stmt::CreateFunction(routine))
-}
-
-impl Copied for Stmt {
-    fn copied(&self, alloc: Global) -> Result<Stmt, NoMemory> {
-        copy_stmt(alloc, self)
-    }
-
-    fn is_meant(&self) -> bool {
-        depth(self) == 4 && well(self)
-    }
-}
-
-/// `SET NEW.a = a + 1`
-fn assignment(alloc: Global) -> Result<Stmt, NoMemory> {
-    let name = name(alloc)?;
-    let value = sum(alloc)?;
-    let target = Target::New(name);
-    let mut assignments = List::new(alloc);
-    assignments.push(Assignment { target, value })?;
-    Ok(Stmt::Set(assignments))
-}
-
 /// `CREATE TRIGGER a BEFORE INSERT ON a FOR EACH ROW SET NEW.a = a + 1`
-fn trigger(alloc: Global) -> Result<TriggerDef, NoMemory> {
-    Ok(TriggerDef {
-        name: name(alloc)?,
-        time: Time::Before,
-        event: Cause::Insert,
-        table: name(alloc)?,
-        body: assignment(alloc)?,
-    })
-}
-
-impl Copied for TriggerDef {
-    fn copied(&self, alloc: Global) -> Result<TriggerDef, NoMemory> {
-        copy_trigger(alloc, self)
-    }
-
+impl Meant for TriggerDef {
     fn is_meant(&self) -> bool {
         self.time == Time::Before && self.event == Cause::Insert && is_body(&self.body)
     }
 }
 
+/// A statement of four levels.
+impl Meant for Stmt {
+    fn is_meant(&self) -> bool {
+        depth(self) == 4 && well(self)
+    }
+}
+
+/// What is copied part by part.
+trait Parted {
+    /// Whether the copies of its parts are meant.
+    fn has_copies(&self, alloc: Global) -> bool;
+}
+
+/// Whether the copies of the one value that is selected are meant.
+fn has_items(alloc: Global, select: &Select) -> bool {
+    match &select.what {
+        Selection::Items(items) => {
+            is_copied(copy_exprs(alloc, items))
+                && matches!(items.as_slice(), [sum] if is_copied(copy_expr(alloc, sum)))
+        }
+        _ => false,
+    }
+}
+
+impl Parted for Stmt {
+    fn has_copies(&self, alloc: Global) -> bool {
+        match self {
+            Stmt::Select(select) => is_copied(copy_select(alloc, select))
+                && has_items(alloc, select),
+            Stmt::Delete(delete) => is_copied(copy_order(alloc, &delete.order)),
+            Stmt::CreateFunction(routine) => {
+                is_copied(copy_stmt(alloc, self)) && is_copied(copy_routine(alloc, routine.get()))
+            }
+            Stmt::CreateTrigger(trigger) => {
+                is_copied(copy_stmt(alloc, self)) && is_copied(copy_trigger(alloc, trigger.get()))
+            }
+            _ => false,
+        }
+    }
+}
+
+/// Whether something was read, and its copies are meant.
+fn are_copied<T: Parted + Drop>(alloc: Global, answer: Result<T, ParseRefusal>) -> bool {
+    match answer {
+        Ok(part) => part.has_copies(alloc),
+        Err(_) => false,
+    }
+}
+
 #[test]
-fn statements_are_copied(rt: HostRuntime) -> Result<(), Fail> {
+fn trees_are_copied(rt: HostRuntime) {
     let alloc = rt.alloc();
-    assert!(rt; is_copied(alloc, function(alloc))?);
-    assert!(rt; is_copied(alloc, create_function(alloc))?);
-    assert!(rt; is_copied(alloc, trigger(alloc))?);
-    Ok(())
+    let function = b"CREATE FUNCTION a() RETURNS INT RETURN a + 1";
+    let trigger = b"CREATE TRIGGER a BEFORE INSERT ON a FOR EACH ROW SET NEW.a = a + 1";
+    assert!(rt; are_copied(alloc, read(alloc, b"SELECT a + 1")));
+    assert!(rt; are_copied(alloc, read(alloc, b"DELETE FROM t ORDER BY a + 1 DESC")));
+    assert!(rt; are_copied(alloc, read(alloc, function)));
+    assert!(rt; are_copied(alloc, read(alloc, trigger)));
 }

@@ -2,7 +2,7 @@ use Rattle.std.proofs.Common.{refl}
 use Rattle.std.specs.Fmt.{digits}
 use Rattle.catalog_rules.specs.Checks.{statement_refusal}
 use Rattle.sql_reach.specs.Closing.{closed}
-use Rattle.name_const.specs.Refusing.{closing_refusal}
+use Rattle.proc_model.specs.Closing.{closing_refusal}
 use Rattle.proc_model.specs.Procedures.{call_at, called}
 use Rattle.proc_model.proofs.worked.calls_inside.Goals as goal
 

@@ -8,7 +8,7 @@ use Rattle.prog_run.proofs.defining.create.Goals as goal
 
 pub returns-in-Err-Sql-clause-defines : goal.returns-in-Err-Sql-clause-defines
 returns-in-Err-Sql-clause-defines c =
-    refused_by (create_table c.args.t.now) c.args.catalog.now c.add_table.new.self c.args.stage.now c.in-Err-Sql.code refl
+    refused_by (create_table c.args.t.now) c.args.catalog.now c.add_table.new.self c.args.stage.now c.in-Err-Sql.code
     (refused_with c.in-Err-Sql.field-0 c.in-Err-Sql.code (create_table c.args.t.now) (objects_of c.args.catalog.now) (objects_of c.add_table.new.self) c.in-Err-Sql.field-0-is c.in-Err-Sql.ensures.made)
     c.in-Err-Sql.ensures.same
 
@@ -27,7 +27,7 @@ store-requires-clause-free_counter c d e =
 pub returns-in-Ok-store-clause-defines : goal.returns-in-Ok-store-clause-defines
 returns-in-Ok-store-clause-defines c =
     let there = is_there c.args.catalog.now c.add_table.new.self c.args.stage.now c.args.t.now c.requires.closed c.requires.together c.in-Ok.ensures.made.0 c.in-Ok.ensures.made.1 in
-    makes_by (create_table c.args.t.now) c.nothing_told.result (contents_of c.args.catalog.now c.args.stage.now) (contents_of c.add_table.new.self c.store.new.stage) refl
+    makes_by (create_table c.args.t.now) c.nothing_told.result (contents_of c.args.catalog.now c.args.stage.now) (contents_of c.add_table.new.self c.store.new.stage)
     c.in-Ok.ensures.made.0 c.in-Ok.ensures.made.1
     (c.in-Ok-store.ensures.tables (definition_of c.args.t.now) there) (c.in-Ok-store.ensures.counters (definition_of c.args.t.now) there) c.store.ensures.changes c.nothing_told.ensures
 

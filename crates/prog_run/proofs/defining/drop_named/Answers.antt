@@ -23,7 +23,7 @@ returns-in-Ok-clause-together c =
 
 pub returns-in-Err-Sql-clause-defines : goal.returns-in-Err-Sql-clause-defines
 returns-in-Err-Sql-clause-defines c =
-    refused_by (drop_table c.args.name.now) c.args.catalog.now c.remove.new.self c.args.stage.now c.in-Err-Sql.code refl
+    refused_by (drop_table c.args.name.now) c.args.catalog.now c.remove.new.self c.args.stage.now c.in-Err-Sql.code
     (sym (ap (λ (s : Statement). ddl_refusal (objects_of c.args.catalog.now) s) c.requires.statement)
     ∙ refused_with c.in-Err-Sql.field-0 c.in-Err-Sql.code (view c.args.statement.now) (objects_of c.args.catalog.now) (objects_of c.remove.new.self) c.in-Err-Sql.field-0-is c.in-Err-Sql.ensures.made)
     c.in-Err-Sql.ensures.same

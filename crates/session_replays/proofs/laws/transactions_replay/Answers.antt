@@ -8,4 +8,5 @@ pub returns-clause-opens : goal.returns-clause-opens
 returns-clause-opens c = replays_open c.runs_hold.ensures.opens
 
 pub returns-clause-goes_on : goal.returns-clause-goes_on
-returns-clause-goes_on c = replays_go_on c.statements_end_well.ensures.statements c.statements_end_well.ensures.evaluations c.runs_hold.ensures.goes_on
+returns-clause-goes_on c =
+    replays_go_on c.statements_end_well.ensures.statements c.statements_end_well.ensures.evaluations c.closed_does_the_same.ensures.statements c.fitted_values_are_short.ensures c.runs_hold.ensures.goes_on

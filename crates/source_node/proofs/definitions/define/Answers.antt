@@ -1,4 +1,3 @@
-use Rattle.std.proofs.Common.{sym, ◌∙◌}
 use Rattle.sql_tree.specs.StatementView.{view}
 use Rattle.source_node.proofs.Making.{defined_if}
 use Rattle.source_node.proofs.definitions.define.Goals as goal
@@ -6,4 +5,4 @@ use Rattle.source_node.proofs.definitions.define.Goals as goal
 pub returns : goal.returns
 returns c =
     defined_if c.args.call.now.identity.now c.args.call.now.draw.now c.args.call.now.number c.args.text.now (view c.args.statement.now) c.define_next.result c.args.desk.now c.commit_open.new.desk c.define_next.new.desk
-    c.args.session.now c.commit_open.new.session c.define_next.new.session (sym c.is_still_refused.ensures ∙ c.if-is_still_refused.false) c.in_ok-commit_open.ensures c.define_next.ensures
+    c.args.session.now c.commit_open.new.session c.define_next.new.session c.in_ok-commit_open.ensures c.define_next.ensures

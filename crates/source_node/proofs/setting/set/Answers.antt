@@ -3,10 +3,10 @@ use Rattle.sql_tree.specs.StatementView.{view_assignments}
 use Rattle.sql_tree.specs.View.{view_trees}
 use Rattle.session_model.specs.Commands.{set_turn}
 use Rattle.source_node.specs.Assigning.{set_parts}
-use Rattle.source_node.specs.Calls.{called}
-use Rattle.source_node.specs.Desk.{shared_of}
+use Rattle.session_steps.specs.Calls.{called}
+use Rattle.session_steps.specs.Desk.{shared_of}
 use Rattle.source_node.proofs.SetParts.{set_taken_apart}
-use Rattle.source_node.proofs.Turns.{turn_if}
+use Rattle.session_steps.proofs.Turns.{turn_if}
 use Rattle.source_node.proofs.setting.set.Goals as goal
 
 pub returns : goal.returns

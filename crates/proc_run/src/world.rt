@@ -1,0 +1,11 @@
+//! What is round a statement of a procedure.
+use catalog::Catalog;
+use sql_stage::Running;
+
+/// The catalog, how many more programs may run one inside the other, and the procedures that are running.
+#[derive(Clone, Copy)]
+pub struct World<'a> {
+    pub catalog: &'a Catalog,
+    pub nesting: u8,
+    pub running: &'a Running<'a>,
+}

@@ -1,0 +1,438 @@
+-- A procedure evaluates its expressions where each local holds a value that NAME_CONST can say, whatever it is told.
+use Rattle.std.proofs.Common.{◌≡◌, ℕ, zero, suc, Bool, true, false, List, [], ◌∷◌, ◌++◌, map, length, take, zip, Option, Some, None, Result, Ok, Err, refl, ◌∙◌, subst, cond}
+use Rattle.std.specs.Prelude.{◌==◌, nat_eq, nat_le, not, is_some, option_to_list}
+use Rattle.std.specs.List.{list_all}
+use Rattle.std.specs.Cmp.Lexicographic.{pointwise}
+use Rattle.std.proofs.lemmas.Bool.{and_parts}
+use Rattle.val_types.specs.declared.value.Value.{Value}
+use Rattle.val_types.specs.declared.definitions.ColType.{ColType}
+use Rattle.val_types.specs.declared.definitions.ColType.TheVariants as kinds
+use Rattle.val_types.specs.Fitting.{fitting}
+use Rattle.value_rules.specs.Operators.{truth_of, with_value}
+use Rattle.value_rules.specs.Functions.{is_known_true}
+use Rattle.sql_tree.specs.Tree.{Tree, Trees, no_tree, tree, Part, no_part, part}
+use Rattle.sql_tree.specs.Statement.{Declared, Program, Statement, create_table, create_function, create_procedure, create_trigger, drop_table, drop_function, drop_procedure, drop_trigger, truncate, insert_into, replace_into, update_rows, delete_rows, select, evaluate, set_all, call_procedure, begin, commit, rollback, savepoint, rollback_to, release_savepoint, block, if_steps, while_steps, return_value}
+use Rattle.sql_tree.specs.Statement.{Statements, no_statement, statement, Branches, no_branch, branch, Otherwise, no_else, else_steps}
+use Rattle.sql_tree.specs.declared.statements.SqlType.{SqlType}
+use Rattle.sql_tree.specs.declared.statements.SqlType.TheVariants as types
+use Rattle.sql_tree.specs.declared.statements.Parameter.{Parameter}
+use Rattle.sql_tree.specs.declared.statements.Target.{Target}
+use Rattle.sql_locals.specs.Locals.{find_from, find_local, set_local}
+use Rattle.sql_locals.specs.Types.{column_type, has_size}
+use Rattle.sql_locals.specs.declared.locals.Local.{Local}
+use Rattle.catalog_rules.specs.Bodies.{declared_types, types_in_steps, types_in_branches, types_in_otherwise}
+use Rattle.catalog_rules.specs.Checks.{statement_refusal}
+use Rattle.catalog_rules.specs.Creating.{program_types}
+use Rattle.catalog_rules.specs.Names.{first_made, is_among, same_name}
+use Rattle.catalog_rules.specs.Objects.{Object, table, function, procedure, reaction, as_procedure, procedure_in, name_of, parameters_of, result_of, body_of}
+use Rattle.sql_meaning.specs.Within.{values_assigned}
+use Rattle.sql_reach.specs.Closing.{closed}
+use Rattle.closing_laws.specs.Laws.{is_short, holds_short, FittedIsShort}
+use Rattle.proc_model.specs.Closing.{closing_refusal}
+use Rattle.proc_model.specs.Talk.{Left, Refusal, Effect, Told, Talk, ends, runs, evaluates, assigns, and_then, Steps, brought}
+use Rattle.proc_model.specs.Procedures.{Held, Ending, done, failed, Action, unless_failed, ◌>>=◌, pure, fail, answered, let_through, carried_on, then_try, all_tried, turn_spent, spend_turn, heard_with, heard_as, run_closed, evaluate_with, World, checked_values, first_value, value_of, holds_here, local_of, add_local, preset_value, declare, add_parameter, misfit, local_refusal, assignment_refusal, assign_one, assignments_of, assign_all, set_step, is_plain, note, plain_step, other_step, argument_values, scope_of, call_step, turns, step, steps, step_of_branches, steps_otherwise, procedure_body, free_procedure, started, call_at, begins, came, called}
+use Rattle.session_replays.specs.Sizes.{has_sizes}
+use Rattle.session_replays.proofs.Sizing.{split_all}
+
+-- ---- talks that evaluate only where locals are such
+
+-- expressions are evaluated only where locals are such, and the end is such
+abbrev pub Only : {A : Type 0} → (List Local → Type 0) → (A → Type 0) → Talk A → Type 0
+Only such end (ends a) = end a
+Only such end (runs left s go) = (told : Told Effect) → Only such end (go told)
+Only such end (evaluates left locals ts go) = such locals × ((told : Told (List Value)) → Only such end (go told))
+Only such end (assigns n v go) = Only such end go
+
+-- what each step keeps, where it evaluates only so, the talk keeps
+pub talk_keeps_where : {S A : Type 0} (steps : Steps S) (holds : S → Type 0) (such : List Local → Type 0) (end : A → Type 0)
+    → ((left : Left) (s : Statement) (state : S) → holds state → holds (steps.run left s state).1)
+    → ((left : Left) (locals : List Local) (ts : Trees) (state : S) → such locals → holds state → holds (steps.evaluate left locals ts state).1)
+    → ((n : List ℕ) (v : Value) (state : S) → holds state → holds (steps.assign n v state))
+    → (talk : Talk A) (state : S) → Only such end talk → holds state → holds (brought steps talk state).1
+talk_keeps_where steps holds such end r g a (ends x) state o h = h
+talk_keeps_where steps holds such end r g a (runs left s go) state o h =
+    talk_keeps_where steps holds such end r g a (go (steps.run left s state).0) (steps.run left s state).1 (o (steps.run left s state).0) (r left s state h)
+talk_keeps_where steps holds such end r g a (evaluates left locals ts go) state o h =
+    talk_keeps_where steps holds such end r g a (go (steps.evaluate left locals ts state).0) (steps.evaluate left locals ts state).1 (o.1 (steps.evaluate left locals ts state).0) (g left locals ts state o.0 h)
+talk_keeps_where steps holds such end r g a (assigns n v go) state o h = talk_keeps_where steps holds such end r g a go (steps.assign n v state) o (a n v state h)
+
+only_then : {A B : Type 0} (such : List Local → Type 0) (first : A → Type 0) (last : B → Type 0) (m : Talk A) (next : A → Talk B) → Only such first m → ((a : A) → first a → Only such last (next a))
+    → Only such last (and_then m next)
+only_then such first last (ends a) next o k = k a o
+only_then such first last (runs left s go) next o k = λ told. only_then such first last (go told) next (o told) k
+only_then such first last (evaluates left locals ts go) next o k = (o.0, λ told. only_then such first last (go told) next (o.1 told) k)
+only_then such first last (assigns n v go) next o k = only_then such first last go next o k
+
+-- any end
+abbrev pub Any : {A : Type 0} → A → Type 0
+Any a = Unit {0}
+
+-- ---- locals
+
+abbrev has_room : ColType → Bool
+has_room kinds.Int = true
+has_room kinds.BigInt = true
+has_room (kinds.Varchar most) = nat_le most 65535
+
+-- a local holds a short value, and its type takes no other
+pub record Fits (l : Local) : Type 0 where
+  pub room : has_room l.kind ≡ true
+  pub short : is_short l.value ≡ true
+
+abbrev pub AllFit : List Local → Type 0
+AllFit [] = Unit {0}
+AllFit (l ∷ ls) = Fits l × AllFit ls
+
+pub all_short : (ls : List Local) → AllFit ls → list_all holds_short ls ≡ true
+all_short [] f = refl
+all_short (l ∷ ls) f = rw (f.0.short, all_short ls f.1) refl
+
+one_more : (ls : List Local) (l : Local) → AllFit ls → Fits l → AllFit (ls ++ l ∷ [])
+one_more [] l f g = (g, tt)
+one_more (k ∷ ls) l f g = (f.0, one_more ls l f.1 g)
+
+first_ones : (k : ℕ) (ls : List Local) → AllFit ls → AllFit (take k ls)
+first_ones zero ls f = tt
+first_ones (suc k) [] f = tt
+first_ones (suc k) (l ∷ ls) f = (f.0, first_ones k ls f.1)
+
+set_fits : (n : List ℕ) (v : Value) (ls : List Local) → is_short v ≡ true → AllFit ls → AllFit (set_local n v ls)
+set_fits n v [] e f = tt
+set_fits n v (l ∷ ls) e f = by (is_some (find_local ls n)) (pointwise nat_eq l.name n) (set_fits n v ls e f.1)
+  where
+    by : (b c : Bool) → AllFit (set_local n v ls) → AllFit (cond b (l ∷ set_local n v ls) (cond c (record l { value = v } ∷ ls) (l ∷ ls)))
+    by true c more = (f.0, more)
+    by false true more = (record { room = f.0.room; short = e }, f.1)
+    by false false more = f
+
+-- the local that a name means
+abbrev FitsIf : Option Local → Type 0
+FitsIf None = Unit {0}
+FitsIf (Some l) = Fits l
+
+found_from : (found : Option Local) (ls : List Local) (n : List ℕ) → FitsIf found → AllFit ls → FitsIf (find_from found ls n)
+found_from found [] n f g = f
+found_from found (l ∷ ls) n f g = found_from (cond (pointwise nat_eq l.name n) (Some l) found) ls n (by (pointwise nat_eq l.name n)) g.1
+  where
+    by : (b : Bool) → FitsIf (cond b (Some l) found)
+    by true = g.0
+    by false = f
+
+module _ (law : FittedIsShort) where
+  -- a value that fits a type with room is short
+  fitted_short : (kind : ColType) (v : Value) → has_room kind ≡ true → fitting kind v ≡ Ok tt → is_short v ≡ true
+  fitted_short kinds.Int v room e = law types.Int v refl e
+  fitted_short kinds.BigInt v room e = law types.BigInt v refl e
+  fitted_short (kinds.Varchar most) v room e = law (types.Varchar most) v room e
+
+  type_room : (kind : SqlType) → has_size kind ≡ true → has_room (column_type kind) ≡ true
+  type_room types.Int e = refl
+  type_room types.BigInt e = refl
+  type_room (types.Varchar most) e = e
+
+  -- what an assignment refuses not, is short
+  assigned_short : (locals : List Local) (n : List ℕ) (v : Value) → AllFit locals → assignment_refusal locals (Target.Plain n, v) ≡ None → is_short v ≡ true
+  assigned_short locals n v f e = by (find_local locals n) (found_from None locals n tt f) e
+    where
+      fits : (kind : ColType) (r : Result (Unit {0}) ℕ) → fitting kind v ≡ r → has_room kind ≡ true → misfit r ≡ None → is_short v ≡ true
+      fits kind (Ok u) q room x = fitted_short kind v room q
+      fits kind (Err code) q room x = cc
+
+      by : (o : Option Local) → FitsIf o → local_refusal o v ≡ None → is_short v ≡ true
+      by None g x = cc
+      by (Some l) g x = fits l.kind (fitting l.kind v) refl g.room x
+
+  -- one local more of a type that there is
+  added_fit : (kind : SqlType) (v : Value) (locals : List Local) (n : List ℕ) (out : List Local) → has_size kind ≡ true → AllFit locals → add_local kind v locals n ≡ Ok out → AllFit out
+  added_fit kind v locals n out size f e = by (fitting (column_type kind) v) refl e
+    where
+      added : locals ++ local_of n kind v ∷ [] ≡ out → is_short v ≡ true → AllFit out
+      added q short = subst AllFit q (one_more locals (local_of n kind v) f (record { room = type_room kind size; short = short }))
+
+      by : (r : Result (Unit {0}) ℕ) → fitting (column_type kind) v ≡ r → with_value {A = Unit {0}} {B = List Local} (λ _. locals ++ local_of n kind v ∷ []) r ≡ Ok out → AllFit out
+      by (Ok u) q x = let same : locals ++ local_of n kind v ∷ [] ≡ out = cc in added same (law kind v size q)
+      by (Err code) q x = cc
+
+  -- several
+  tried_names : (kind : SqlType) (v : Value) (ns : List (List ℕ)) (locals out : List Local) → has_size kind ≡ true → AllFit locals → all_tried (add_local kind v) locals ns ≡ Ok out → AllFit out
+  tried_names kind v [] locals out size f e = let same : locals ≡ out = cc in subst AllFit same f
+  tried_names kind v (n ∷ ns) locals out size f e =
+      by (add_local kind v locals n) refl e (λ next q x. tried_names kind v ns next out size (added_fit kind v locals n next size f q) x)
+    where
+      by : (r : Result (List Local) ℕ) → add_local kind v locals n ≡ r → then_try r (λ next. all_tried (add_local kind v) next ns) ≡ Ok out
+          → ((next : List Local) → add_local kind v locals n ≡ Ok next → all_tried (add_local kind v) next ns ≡ Ok out → AllFit out) → AllFit out
+      by (Ok next) q x more = more next q x
+      by (Err code) q x more = cc
+
+  tried_parameters : (ps : List Parameter) (vs : List Value) (locals out : List Local) → list_all has_size (map (λ (q : Parameter). q.kind) ps) ≡ true → AllFit locals
+      → all_tried add_parameter locals (zip ps vs) ≡ Ok out → AllFit out
+  tried_parameters [] vs locals out size f e = let same : locals ≡ out = cc in subst AllFit same f
+  tried_parameters (p ∷ ps) [] locals out size f e = let same : locals ≡ out = cc in subst AllFit same f
+  tried_parameters (p ∷ ps) (v ∷ vs) locals out size f e =
+      let s = and_parts (has_size p.kind) (list_all has_size (map (λ (k : Parameter). k.kind) ps)) size in
+      by (add_parameter locals (p, v)) refl e (λ next q x. tried_parameters ps vs next out s.1 (added_fit p.kind v locals p.name next s.0 f q) x)
+    where
+      by : (r : Result (List Local) ℕ) → add_parameter locals (p, v) ≡ r → then_try r (λ next. all_tried add_parameter next (zip ps vs)) ≡ Ok out
+          → ((next : List Local) → add_parameter locals (p, v) ≡ Ok next → all_tried add_parameter next (zip ps vs) ≡ Ok out → AllFit out) → AllFit out
+      by (Ok next) q x more = more next q x
+      by (Err code) q x more = cc
+
+  -- ---- actions
+
+  abbrev DoneAs : {A : Type 0} → (A → Type 0) → Ending A → Type 0
+  DoneAs end (done a held) = end a
+  DoneAs end (failed refusal held) = Unit {0}
+
+  -- an action evaluates only so, and gives what is such
+  abbrev Acts : {A : Type 0} → (A → Type 0) → Action A → Type 0
+  Acts end m = (held : Held) → Only AllFit (DoneAs end) (m held)
+
+  goes_on : {A B : Type 0} (first : A → Type 0) (last : B → Type 0) (m : Action A) (next : A → Action B) → Acts first m → ((a : A) → first a → Acts last (next a)) → Acts last (m >>= next)
+  goes_on {A = A} first last m next h k held = only_then AllFit (DoneAs first) (DoneAs last) (m held) (unless_failed next) (h held) by
+    where
+      by : (e : Ending A) → DoneAs first e → Only AllFit (DoneAs last) (unless_failed next e)
+      by (done a now) x = k a x now
+      by (failed refusal now) x = tt
+
+  answered_acts : {A : Type 0} (end : A → Type 0) (r : Result A ℕ) → ((a : A) → r ≡ Ok a → end a) → Acts end (answered r)
+  answered_acts end (Ok a) h held = h a refl
+  answered_acts end (Err code) h held = tt
+
+  -- behind a check
+  behind_check : {B : Type 0} (last : B → Type 0) (code : Option ℕ) (next : Action B) → (code ≡ None → Acts last next) → Acts last (let_through code >>= λ _. next)
+  behind_check last None next h held = h refl held
+  behind_check last (Some code) next h held = tt
+
+  heard_any : {A : Type 0} (r : Result A Refusal) (held : Held) → DoneAs Any (heard_as r held)
+  heard_any (Ok a) held = tt
+  heard_any (Err refusal) held = tt
+
+  run_acts : (nesting : ℕ) (s : Statement) → Acts Any (run_closed nesting s)
+  run_acts nesting s held told = heard_any told.result (heard_with told held)
+
+  evaluate_acts : (nesting : ℕ) (locals : List Local) (ts : Trees) → AllFit locals → Acts Any (evaluate_with nesting locals ts)
+  evaluate_acts nesting locals ts f held = (f, λ told. heard_any told.result (heard_with told held))
+
+  values_act : (world : World) (locals : List Local) (ts : Trees) → AllFit locals → Acts Any (checked_values world locals ts)
+  values_act world locals ts f = behind_check Any (closing_refusal (evaluate ts) locals) (evaluate_with world.nesting locals ts) (λ _. evaluate_acts world.nesting locals ts f)
+
+  value_acts : (world : World) (locals : List Local) (t : Tree) → AllFit locals → Acts Any (value_of world locals t)
+  value_acts world locals t f = goes_on Any Any (checked_values world locals (tree t no_tree)) (λ vs. pure (first_value vs)) (values_act world locals (tree t no_tree) f) (λ vs x held. tt)
+
+  holds_acts : (world : World) (locals : List Local) (t : Tree) → AllFit locals → Acts Any (holds_here world locals t)
+  holds_acts world locals t f =
+      goes_on Any Any (value_of world locals t) (λ v. answered (with_value is_known_true (truth_of v))) (value_acts world locals t f)
+      (λ v x. answered_acts Any (with_value is_known_true (truth_of v)) (λ a e. tt))
+
+  -- ---- DECLARE and SET
+
+  preset_acts : (world : World) (locals : List Local) (p : Part) → AllFit locals → Acts Any (preset_value world locals p)
+  preset_acts world locals no_part f = λ held. tt
+  preset_acts world locals (part t) f = value_acts world locals t f
+
+  declare_acts : (world : World) (locals : List Local) (d : Declared) → has_size d.kind ≡ true → AllFit locals → Acts AllFit (declare world locals d)
+  declare_acts world locals d size f =
+      goes_on Any AllFit (preset_value world locals d.preset) (λ v. answered (all_tried (add_local d.kind v) locals d.names)) (preset_acts world locals d.preset f)
+      (λ v x. answered_acts AllFit (all_tried (add_local d.kind v) locals d.names) (λ out e. tried_names d.kind v d.names locals out size f e))
+
+  declares_act : (world : World) (ds : List Declared) (locals : List Local) → list_all has_size (map (λ (d : Declared). d.kind) ds) ≡ true → AllFit locals → Acts AllFit (carried_on (declare world) locals ds)
+  declares_act world [] locals size f = λ held. f
+  declares_act world (d ∷ ds) locals size f =
+      let s = and_parts (has_size d.kind) (list_all has_size (map (λ (k : Declared). k.kind) ds)) size in
+      goes_on AllFit AllFit (declare world locals d) (λ next. carried_on (declare world) next ds) (declare_acts world locals d s.0 f) (λ next g. declares_act world ds next s.1 g)
+
+  assign_acts : (locals : List Local) (target : Target) (v : Value) → (assignment_refusal locals (target, v) ≡ None → (now : List Local) → AllFit locals → AllFit now → Acts AllFit (assign_one now (target, v)))
+  assign_acts locals (Target.Plain n) v e now f g = λ held. set_fits n v now (assigned_short locals n v f e) g
+  assign_acts locals (Target.User n) v e now f g = λ held. g
+  assign_acts locals (Target.New c) v e now f g = λ held. g
+  assign_acts locals (Target.System n) v e now f g = λ held. g
+
+  -- assignments that were let through where the locals were others
+  assigns_act : (locals : List Local) (as' : List (Target × Value)) (now : List Local) → first_made (assignment_refusal locals) as' ≡ None → AllFit locals → AllFit now → Acts AllFit (carried_on assign_one now as')
+  assigns_act locals [] now e f g = λ held. g
+  assigns_act locals (a ∷ as') now e f g = by (assignment_refusal locals a) refl e (λ x next k. assigns_act locals as' next x f k)
+    where
+      by : (o : Option ℕ) → assignment_refusal locals a ≡ o → elim o as (λ _. Option ℕ) [ None ↦ first_made (assignment_refusal locals) as' | Some b ↦ Some b ] ≡ None
+          → (first_made (assignment_refusal locals) as' ≡ None → (next : List Local) → AllFit next → Acts AllFit (carried_on assign_one next as')) → Acts AllFit (carried_on assign_one now (a ∷ as'))
+      by None q x more = goes_on AllFit AllFit (assign_one now a) (λ next. carried_on assign_one next as') (assign_acts locals a.0 a.1 q now f g) (more x)
+      by (Some code) q x more = cc
+
+  set_acts : (world : World) (locals : List Local) (as' : List (Target × Tree)) → AllFit locals → Acts AllFit (set_step world locals as')
+  set_acts world locals as' f =
+      goes_on Any AllFit (checked_values world locals (values_assigned as')) (λ vs. assign_all locals (assignments_of as' vs)) (values_act world locals (values_assigned as') f)
+      (λ vs x. behind_check AllFit (first_made (assignment_refusal locals) (assignments_of as' vs)) (carried_on assign_one locals (assignments_of as' vs))
+      (λ e. assigns_act locals (assignments_of as' vs) locals e f f))
+
+  -- ---- changes, SELECT and DO
+
+  plain_acts : (world : World) (locals : List Local) (s : Statement) → AllFit locals → Acts AllFit (plain_step world locals s)
+  plain_acts world locals s f =
+      behind_check AllFit (closing_refusal s locals) (run_closed world.nesting (closed s locals) >>= note >>= λ _. pure locals)
+      (λ _. goes_on Any AllFit (run_closed world.nesting (closed s locals) >>= note) (λ _. pure locals)
+      (goes_on Any Any (run_closed world.nesting (closed s locals)) note (run_acts world.nesting (closed s locals)) (λ effect x held. tt)) (λ u x held. f))
+
+  other_acts : (world : World) (locals : List Local) (s : Statement) → AllFit locals → Acts AllFit (other_step world locals s)
+  other_acts world locals s f = by (is_plain s)
+    where
+      by : (b : Bool) → Acts AllFit (cond b (plain_step world locals s) (fail 30005))
+      by true = plain_acts world locals s f
+      by false = λ held. tt
+
+  -- ---- steps
+
+  module _ (world : World) (calls : (n : List ℕ) (vs : List Value) → Acts Any (world.call n vs)) where
+    arguments_act : (locals : List Local) (ts : Trees) → AllFit locals → Acts Any (argument_values world locals ts)
+    arguments_act locals no_tree f = λ held. tt
+    arguments_act locals (tree t ts) f = evaluate_acts world.nesting locals (tree t ts) f
+
+    call_acts : (locals : List Local) (n : List ℕ) (ts : Trees) → AllFit locals → Acts AllFit (call_step world locals n ts)
+    call_acts locals n ts f =
+        behind_check AllFit (closing_refusal (evaluate ts) locals) _ (λ _.
+        behind_check AllFit (statement_refusal world.catalog (scope_of locals) (call_procedure n ts)) _ (λ _.
+        goes_on Any AllFit (argument_values world locals ts) (λ vs. world.call n vs >>= λ _. pure locals) (arguments_act locals ts f)
+        (λ vs x. goes_on Any AllFit (world.call n vs) (λ _. pure locals) (calls n vs) (λ u y held. f))))
+
+    -- a loop, by its condition and its body
+    turns_act : (n : ℕ) (test : List Local → Action Bool) (body : List Local → Action (List Local)) → ((now : List Local) → AllFit now → Acts Any (test now)) → ((now : List Local) → AllFit now → Acts AllFit (body now))
+        → (locals : List Local) → AllFit locals → Acts AllFit (turns n test body locals)
+    turns_act zero test body t b locals f =
+        goes_on Any AllFit (test locals) (λ goes. cond goes (fail 30004) (pure locals)) (t locals f) (λ goes x. by goes)
+      where
+        by : (goes : Bool) → Acts AllFit (cond goes (fail 30004) (pure locals))
+        by true = λ held. tt
+        by false = λ held. f
+    turns_act (suc n) test body t b locals f =
+        goes_on Any AllFit (test locals) (λ goes. cond goes (spend_turn >>= λ _. body locals >>= λ after. turns n test body after) (pure locals)) (t locals f) (λ goes x. by goes (λ after g. turns_act n test body t b after g))
+      where
+        spent : (left : ℕ) (held : Held) → Only AllFit (DoneAs Any) (turn_spent left held)
+        spent zero held = tt
+        spent (suc k) held = tt
+
+        by : (goes : Bool) → ((after : List Local) → AllFit after → Acts AllFit (turns n test body after))
+            → Acts AllFit (cond goes (spend_turn >>= λ _. body locals >>= λ after. turns n test body after) (pure locals))
+        by true more =
+            goes_on Any AllFit spend_turn (λ _. body locals >>= λ after. turns n test body after) (λ held. spent held.turns held)
+            (λ u x. goes_on AllFit AllFit (body locals) (λ after. turns n test body after) (b locals f) more)
+        by false more = λ held. f
+
+    mutual
+      step_acts : (s : Statement) (locals : List Local) → list_all has_size (declared_types s) ≡ true → AllFit locals → Acts AllFit (step world locals s)
+      step_acts (block ds ss) locals size f =
+          let s = split_all has_size (map (λ (d : Declared). d.kind) ds) (types_in_steps ss) size in
+          goes_on AllFit AllFit (carried_on (declare world) locals ds) (λ inner. steps world inner ss >>= λ after. pure (take (length locals) after)) (declares_act world ds locals s.0 f)
+          (λ inner g. goes_on AllFit AllFit (steps world inner ss) (λ after. pure (take (length locals) after)) (steps_act ss inner s.1 g) (λ after k held. first_ones (length locals) after k))
+      step_acts (if_steps bs o) locals size f =
+          let s = split_all has_size (types_in_branches bs) (types_in_otherwise o) size in
+          branches_act bs locals (steps_otherwise world locals o) s.0 f (otherwise_acts o locals s.1 f)
+      step_acts (while_steps c ss) locals size f =
+          λ held. turns_act held.turns (λ now. holds_here world now c) (λ now. steps world now ss) (λ now g. holds_acts world now c g) (λ now g. steps_act ss now size g) locals f held
+      step_acts (set_all as') locals size f = set_acts world locals as' f
+      step_acts (call_procedure n ts) locals size f = call_acts locals n ts f
+      step_acts (create_table t) locals size f = other_acts world locals (create_table t) f
+      step_acts (create_function p) locals size f = other_acts world locals (create_function p) f
+      step_acts (create_procedure p) locals size f = other_acts world locals (create_procedure p) f
+      step_acts (create_trigger t) locals size f = other_acts world locals (create_trigger t) f
+      step_acts (drop_table n) locals size f = other_acts world locals (drop_table n) f
+      step_acts (drop_function n) locals size f = other_acts world locals (drop_function n) f
+      step_acts (drop_procedure n) locals size f = other_acts world locals (drop_procedure n) f
+      step_acts (drop_trigger n) locals size f = other_acts world locals (drop_trigger n) f
+      step_acts (truncate n) locals size f = other_acts world locals (truncate n) f
+      step_acts (insert_into ignore t names supply sets) locals size f = other_acts world locals (insert_into ignore t names supply sets) f
+      step_acts (replace_into t names supply) locals size f = other_acts world locals (replace_into t names supply) f
+      step_acts (update_rows t sets condition os limit) locals size f = other_acts world locals (update_rows t sets condition os limit) f
+      step_acts (delete_rows t condition os limit) locals size f = other_acts world locals (delete_rows t condition os limit) f
+      step_acts (select q) locals size f = other_acts world locals (select q) f
+      step_acts (evaluate ts) locals size f = other_acts world locals (evaluate ts) f
+      step_acts begin locals size f = other_acts world locals begin f
+      step_acts commit locals size f = other_acts world locals commit f
+      step_acts rollback locals size f = other_acts world locals rollback f
+      step_acts (savepoint n) locals size f = other_acts world locals (savepoint n) f
+      step_acts (rollback_to n) locals size f = other_acts world locals (rollback_to n) f
+      step_acts (release_savepoint n) locals size f = other_acts world locals (release_savepoint n) f
+      step_acts (return_value v) locals size f = other_acts world locals (return_value v) f
+
+      steps_act : (ss : Statements) (locals : List Local) → list_all has_size (types_in_steps ss) ≡ true → AllFit locals → Acts AllFit (steps world locals ss)
+      steps_act no_statement locals size f = λ held. f
+      steps_act (statement s ss) locals size f =
+          let p = split_all has_size (declared_types s) (types_in_steps ss) size in
+          goes_on AllFit AllFit (step world locals s) (λ after. steps world after ss) (step_acts s locals p.0 f) (λ after g. steps_act ss after p.1 g)
+
+      branches_act : (bs : Branches) (locals : List Local) (otherwise : Action (List Local)) → list_all has_size (types_in_branches bs) ≡ true → AllFit locals → Acts AllFit otherwise
+          → Acts AllFit (step_of_branches world locals bs otherwise)
+      branches_act no_branch locals otherwise size f o = o
+      branches_act (branch c ss bs) locals otherwise size f o =
+          let p = split_all has_size (types_in_steps ss) (types_in_branches bs) size in
+          goes_on Any AllFit (holds_here world locals c) (λ is_true. cond is_true (steps world locals ss) (step_of_branches world locals bs otherwise)) (holds_acts world locals c f)
+          (λ is_true x. by is_true (steps_act ss locals p.0 f) (branches_act bs locals otherwise p.1 f o))
+        where
+          by : (b : Bool) → Acts AllFit (steps world locals ss) → Acts AllFit (step_of_branches world locals bs otherwise) → Acts AllFit (cond b (steps world locals ss) (step_of_branches world locals bs otherwise))
+          by true x y = x
+          by false x y = y
+
+      otherwise_acts : (o : Otherwise) (locals : List Local) → list_all has_size (types_in_otherwise o) ≡ true → AllFit locals → Acts AllFit (steps_otherwise world locals o)
+      otherwise_acts no_else locals size f = λ held. f
+      otherwise_acts (else_steps ss) locals size f = steps_act ss locals size f
+
+    procedure_acts : (p : Program) (vs : List Value) → list_all has_size (program_types p) ≡ true → Acts Any (procedure_body world p vs)
+    procedure_acts p vs size =
+        let kinds : List SqlType = map (λ (q : Parameter). q.kind) (parameters_of p) in
+        let a = split_all has_size (kinds ++ option_to_list (result_of p)) (declared_types (body_of p)) size in
+        let b = split_all has_size kinds (option_to_list (result_of p)) a.0 in
+        goes_on AllFit Any (answered (all_tried add_parameter [] (zip (parameters_of p) vs))) (λ locals. step world locals (body_of p) >>= λ _. pure tt)
+        (answered_acts AllFit (all_tried add_parameter [] (zip (parameters_of p) vs)) (λ out e. tried_parameters (parameters_of p) vs [] out b.0 tt e))
+        (λ locals f. goes_on AllFit Any (step world locals (body_of p)) (λ _. pure tt) (step_acts (body_of p) locals a.1 f) (λ after g held. tt))
+
+  -- ---- procedures
+
+  module _ (catalog : List Object) (sized : list_all has_sizes catalog ≡ true) where
+    -- a procedure that is there has types of sizes that there are
+    procedure_sized : (os : List Object) (n : List ℕ) (p : Program) → list_all has_sizes os ≡ true → first_made (as_procedure n) os ≡ Some p → list_all has_size (program_types p) ≡ true
+    procedure_sized [] n p h e = cc
+    procedure_sized (o ∷ os) n p h e =
+        let s = and_parts (has_sizes o) (list_all has_sizes os) h in
+        by (as_procedure n o) refl e (λ x. procedure_sized os n p s.1 x)
+      where
+        named : (r : Program) (b : Bool) → cond b (Some r) None ≡ Some p → list_all has_size (program_types r) ≡ true → list_all has_size (program_types p) ≡ true
+        named r true q s = let same : r ≡ p = cc in subst (λ (x : Program). list_all has_size (program_types x) ≡ true) same s
+        named r false q s = cc
+
+        one : (x : Object) → has_sizes x ≡ true → as_procedure n x ≡ Some p → list_all has_size (program_types p) ≡ true
+        one (table d) s q = cc
+        one (function r) s q = cc
+        one (procedure r) s q = named r (same_name n (name_of r)) q s
+        one (reaction r) s q = cc
+
+        by : (found : Option Program) → as_procedure n o ≡ found → elim found as (λ _. Option Program) [ None ↦ first_made (as_procedure n) os | Some r ↦ Some r ] ≡ Some p
+            → (first_made (as_procedure n) os ≡ Some p → list_all has_size (program_types p) ≡ true) → list_all has_size (program_types p) ≡ true
+        by None q x more = more x
+        by (Some r) q x more = one o (and_parts (has_sizes o) (list_all has_sizes os) h).0 (q ∙ x)
+
+    started_sized : (running : List (List ℕ)) (n : List ℕ) (vs : List Value) (p : Program) → started catalog running n vs ≡ Ok p → list_all has_size (program_types p) ≡ true
+    started_sized running n vs p e = by (procedure_in catalog n) refl e
+      where
+        by_tests : (q : Program) (a b : Bool) → cond {A = Result Program ℕ} a (Err 1318) (cond b (Err 1456) (Ok q)) ≡ Ok p → q ≡ p
+        by_tests q true b y = cc
+        by_tests q false true y = cc
+        by_tests q false false y = cc
+
+        free : (q : Program) → free_procedure running n vs q ≡ Ok p → q ≡ p
+        free q x = by_tests q (not (length (parameters_of q) == length vs)) (is_among running n) x
+
+        by : (o : Option Program) → procedure_in catalog n ≡ o → elim o as (λ _. Result Program ℕ) [ None ↦ Err 1305 | Some q ↦ free_procedure running n vs q ] ≡ Ok p → list_all has_size (program_types p) ≡ true
+        by None q x = cc
+        by (Some found) q x = subst (λ (r : Program). list_all has_size (program_types r) ≡ true) (free found x) (procedure_sized catalog n found sized q)
+
+    calls_act : (nesting : ℕ) (running : List (List ℕ)) (n : List ℕ) (vs : List Value) → Acts Any (call_at catalog nesting running n vs)
+    unfolding call_at
+    calls_act zero running n vs =
+        goes_on Any Any (answered (started catalog running n vs)) (λ p. fail 30003) (answered_acts Any (started catalog running n vs) (λ p e. tt)) (λ p x held. tt)
+    calls_act (suc below) running n vs =
+        let world : World = record { catalog = catalog; nesting = below; call = call_at catalog below (n ∷ running) } in
+        goes_on (λ (p : Program). list_all has_size (program_types p) ≡ true) Any (answered (started catalog running n vs)) (λ p. procedure_body world p vs)
+        (answered_acts (λ (p : Program). list_all has_size (program_types p) ≡ true) (started catalog running n vs) (λ p e. started_sized running n vs p e))
+        (λ p size. procedure_acts world (λ m ws. calls_act below (n ∷ running) m ws) p vs size)
+
+    -- a CALL of a session evaluates only where locals fit
+    pub called_only : (left : Left) (n : List ℕ) (vs : List Value) → Only AllFit Any (called catalog left n vs)
+    unfolding called
+    called_only left n vs = only_then AllFit (DoneAs Any) Any (call_at catalog left.nesting [] n vs (begins left)) (λ e. ends (came e)) (calls_act left.nesting [] n vs (begins left)) (λ e x. tt)

@@ -1,0 +1,16 @@
+-- The procedures that a run may begin with: the types of their parameters and locals have sizes that there are.
+use Rattle.std.specs.Prelude.{Bool, true, List, IsTrue}
+use Rattle.std.specs.List.{list_all}
+use Rattle.sql_locals.specs.Types.{has_size}
+use Rattle.catalog_rules.specs.Creating.{program_types}
+use Rattle.catalog_rules.specs.Objects.{Object, table, function, procedure, reaction}
+
+-- a procedure whose VARCHARs have at most 65,535 bytes, as every one has that CREATE PROCEDURE made
+abbrev pub has_sizes : Object → Bool
+has_sizes (table definition) = true
+has_sizes (function p) = true
+has_sizes (procedure p) = list_all has_size (program_types p)
+has_sizes (reaction t) = true
+
+abbrev pub ProceduresHaveSizes : List Object → Type 0
+ProceduresHaveSizes catalog = IsTrue (list_all has_sizes catalog)

@@ -1,0 +1,241 @@
+-- The rows that were last committed, and what a statement begins on and leaves.
+use Rattle.std.proofs.Common.{◌≡◌, ℕ, ◌+◌, ◌-◌, ◌<◌, ◌≤◌, List, [], ◌∷◌, ◌++◌, length, drop, Bool, true, false, if◌then◌else◌, Option, Some, None, unwrap_or, Result, Ok, Err, refl, sym, ap, ◌∙◌, subst, arith}
+use Rattle.std.specs.Prelude.{nat_lt}
+use Rattle.std.proofs.lemmas.Bool.{ltb-true, ltb-false}
+use Rattle.std.proofs.lemmas.List.{length-drop}
+use Rattle.std.specs.Option.{option_and_then}
+use Rattle.val_types.specs.declared.change.Change.{Change}
+use Rattle.val_types.specs.declared.value.Value.{Value}
+use Rattle.val_types.specs.declared.refusal.SqlRefusal.{SqlRefusal}
+use Rattle.val_types.specs.declared.refusal.SqlRefusal.TheVariants.{Sql, NoMemory}
+use Rattle.port_traits.specs.declared.identity.Draw.{Draw}
+use Rattle.table_rules.specs.Tables.{Table}
+use Rattle.table_rules.specs.Stored.{all_applied, all_inverse}
+use Rattle.table_rules.proofs.Equations.{all_applied_behind, applied_none}
+use Rattle.table_rules.proofs.Storing.{turn_back}
+use Rattle.catalog_rules.specs.Bases.{empty_base}
+use Rattle.catalog_objects.specs.Keys.{objects_of}
+use Rattle.catalog_objects.specs.declared.object.Object.{Object}
+use Rattle.sql_locals.specs.declared.locals.Local.{Local}
+use Rattle.sql_tree.specs.Tree.{Trees}
+use Rattle.sql_tree.specs.Statement.{Statement}
+use Rattle.sql_meaning.specs.Scenes.{Ending, done, failed}
+use Rattle.sql_meaning.specs.Frames.{Context}
+use Rattle.sql_meaning.specs.Running.{effect, evaluation}
+use Rattle.sql_meaning.specs.Leading.{EndsWell, Leads, StaysAsItWas}
+use Rattle.sql_meaning.proofs.LedBodies.{statements_end, evaluations_end}
+use Rattle.prog_run.specs.declared.meter.Meter.{Meter}
+use Rattle.prog_run.specs.declared.meter.Outcome.{Outcome}
+use Rattle.prog_run.specs.Contents.{Contents, nothing, IsTogether, as_committed, committed_tables, without_changes}
+use Rattle.prog_run.specs.Runs.{moment, scene_at, setting_at, effect_at, evaluation_at, Runs, Evaluated}
+use Rattle.log_entries.specs.declared.entries.Item.{Item}
+use Rattle.log_entries.specs.declared.entries.Entry.{Entry}
+use Rattle.log_model.specs.Log.{LogPlace, behind}
+use Rattle.session_model.specs.Sessions.{Shared, tables_with}
+use Rattle.proc_run.specs.Calls.{left_of}
+use Rattle.session_model.specs.Running.{all_committed, is_other, scene_for, with_counters}
+use Rattle.session_steps.specs.Desk.{has_any, own_behind, shared_by}
+use Rattle.session_steps.specs.Ran.{fuel_at, place_at, shared_behind, Comes, Gives}
+
+-- ---- the rows that were last committed
+
+pub rows_stand : (c : Contents) → IsTogether c → tables_with c.changes (committed_tables c) ≡ c.tables
+rows_stand c together = ap (λ o. unwrap_or o (committed_tables c)) together.made
+
+pub base_stays : (old new : Contents) (more : List Change) → IsTogether old → new.changes ≡ old.changes ++ more → all_applied more old.tables ≡ Some new.tables
+    → committed_tables new ≡ committed_tables old
+base_stays old new more together added made =
+    let all : all_applied (old.changes ++ more) (committed_tables old) ≡ Some new.tables =
+    all_applied_behind old.changes more (committed_tables old) ∙ ap (λ o. option_and_then (all_applied more) o) together.made ∙ made in
+    let back = turn_back (old.changes ++ more) (committed_tables old) new.tables together.committed all in
+    ap (λ cs. unwrap_or (all_applied (all_inverse cs) new.tables) new.tables) added ∙ ap (λ o. unwrap_or o new.tables) back.0
+
+pub base_same : (old new : Contents) → new.tables ≡ old.tables → new.changes ≡ old.changes → committed_tables new ≡ committed_tables old
+base_same old new tables changes = ap (λ cs. without_changes cs new.tables) changes ∙ ap (λ ts. without_changes old.changes ts) tables
+
+-- ---- where a statement begins
+
+module _ (n : ℕ) (c : Contents) (writer : Option ℕ) (count : ℕ) (place : LogPlace) (context : Context) (start : Meter) where
+  pub own_scene : IsTogether c → is_other n writer ≡ false → scene_for n (left_of start) context (shared_by c writer count place) ≡ scene_at (moment c context start)
+  own_scene together own =
+      rw own (ap (λ (ts : List Table). record { tables = ts; changes = c.changes; counters = c.counters; seeds = context.seeds; turns = start.turns; uuids = start.uuids }) (rows_stand c together))
+
+  pub other_scene : is_other n writer ≡ true → scene_for n (left_of start) context (shared_by c writer count place) ≡ scene_at (moment (as_committed c) context start)
+  other_scene other = rw other refl
+
+-- ---- what a statement leaves
+
+-- what is shared, by its parts
+shared_parts : (old new : Contents) (writer : Option ℕ) (count : ℕ) (place : LogPlace) → new.objects ≡ old.objects → committed_tables new ≡ committed_tables old
+    → shared_by new writer count place ≡ record { base = record { catalog = objects_of old.objects; tables = committed_tables old }; counters = new.counters; changes = new.changes; writer = writer; committed = count; place = place }
+shared_parts old new writer count place objects base =
+    ap (λ (os : List Object). record { base = record { catalog = objects_of os; tables = committed_tables new }; counters = new.counters; changes = new.changes; writer = writer; committed = count; place = place }) objects
+    ∙ ap (λ (ts : List Table). record { base = record { catalog = objects_of old.objects; tables = ts }; counters = new.counters; changes = new.changes; writer = writer; committed = count; place = place }) base
+
+module _ (n : ℕ) (old new : Contents) (writer : Option ℕ) (count : ℕ) (place : LogPlace) (context context' : Context) (start meter : Meter) (objects : new.objects ≡ old.objects) where
+  own_done : {A : Type 0} (ending : Ending A) (a : A) → IsTogether old → is_other n writer ≡ false → EndsWell (scene_at (moment old context start)) ending
+      → ending ≡ done a (scene_at (moment new context' meter))
+      → shared_by new writer count place ≡ shared_behind n (shared_by old writer count place) (scene_at (moment new context' meter))
+  own_done ending a together own well ends =
+      let led : Leads (scene_at (moment old context start)) (scene_at (moment new context' meter)) = subst (λ e. EndsWell (scene_at (moment old context start)) e) ends well in
+      rw own (shared_parts old new writer count place objects (base_stays old new led.more together led.added led.made))
+
+  own_failed : {A : Type 0} (ending : Ending A) (code : ℕ) → EndsWell (scene_at (moment old context start)) ending
+      → ending ≡ failed code (scene_at (moment new context' meter))
+      → shared_by new writer count place ≡ with_counters (scene_at (moment new context' meter)) (shared_by old writer count place)
+  own_failed ending code well ends =
+      let same : StaysAsItWas (scene_at (moment old context start)) (scene_at (moment new context' meter)) = subst (λ e. EndsWell (scene_at (moment old context start)) e) ends well in
+      shared_parts old new writer count place objects (base_same old new same.tables same.changes)
+      ∙ ap (λ (cs : List Change). record { base = record { catalog = objects_of old.objects; tables = committed_tables old }; counters = new.counters; changes = cs; writer = writer; committed = count; place = place }) same.changes
+
+-- ---- a statement beside no other session's open changes
+
+pub comes_own : (n : ℕ) (draw : Draw) (s : Statement) (result : Result Outcome SqlRefusal) (old new : Contents) (writer : Option ℕ) (count : ℕ) (place : LogPlace) (context context' : Context) (start meter : Meter)
+    → IsTogether old → is_other n writer ≡ false → Runs draw s result (moment old context start) (moment new context' meter)
+    → Comes n draw (left_of start) s result (fuel_at meter) (place_at (shared_by old writer count place) context) (place_at (shared_by new writer count place) context')
+comes_own n draw s (Ok told) old new writer count place context context' start meter together own ran =
+    let well = statements_end (setting_at draw (moment old context start)) start.depth [] s (scene_at (moment old context start)) in
+    record {
+      did = ran.did;
+      scene = scene_at (moment new context' meter);
+      ends = ap (effect (setting_at draw (moment old context start)) start.depth [] s) (own_scene n old writer count place context start together own) ∙ ran.ends;
+      outcome = ran.outcome;
+      leaves = record {
+        shared = own_done n old new writer count place context context' start meter ran.passes.objects (effect_at draw s (moment old context start)) ran.did together own well ran.ends;
+        context = ran.passes.context;
+        spent = refl;
+      };
+    }
+comes_own n draw s (Err (Sql code)) old new writer count place context context' start meter together own ran =
+    let well = statements_end (setting_at draw (moment old context start)) start.depth [] s (scene_at (moment old context start)) in
+    record {
+      scene = scene_at (moment new context' meter);
+      ends = ap (effect (setting_at draw (moment old context start)) start.depth [] s) (own_scene n old writer count place context start together own) ∙ ran.0;
+      shared = own_failed n old new writer count place context context' start meter ran.1.objects (effect_at draw s (moment old context start)) code well ran.0;
+      context = ran.1.context;
+      spent = refl;
+    }
+comes_own n draw s (Err NoMemory) old new writer count place context context' start meter together own ran = tt
+
+pub gives_own : (n : ℕ) (draw : Draw) (locals : List Local) (ts : Trees) (result : Result (List Value) SqlRefusal) (old new : Contents) (writer : Option ℕ) (count : ℕ) (place : LogPlace) (context context' : Context) (start meter : Meter)
+    → IsTogether old → is_other n writer ≡ false → Evaluated draw locals ts result (moment old context start) (moment new context' meter)
+    → Gives n draw (left_of start) locals ts result (fuel_at meter) (place_at (shared_by old writer count place) context) (place_at (shared_by new writer count place) context')
+gives_own n draw locals ts (Ok vs) old new writer count place context context' start meter together own ran =
+    let well = evaluations_end (setting_at draw (moment old context start)) start.depth locals ts (scene_at (moment old context start)) in
+    record {
+      scene = scene_at (moment new context' meter);
+      ends = ap (evaluation (setting_at draw (moment old context start)) start.depth locals ts) (own_scene n old writer count place context start together own) ∙ ran.0;
+      leaves = record {
+        shared = own_done n old new writer count place context context' start meter ran.1.objects (evaluation_at draw locals ts (moment old context start)) vs together own well ran.0;
+        context = ran.1.context;
+        spent = refl;
+      };
+    }
+gives_own n draw locals ts (Err (Sql code)) old new writer count place context context' start meter together own ran =
+    let well = evaluations_end (setting_at draw (moment old context start)) start.depth locals ts (scene_at (moment old context start)) in
+    record {
+      scene = scene_at (moment new context' meter);
+      ends = ap (evaluation (setting_at draw (moment old context start)) start.depth locals ts) (own_scene n old writer count place context start together own) ∙ ran.0;
+      shared = own_failed n old new writer count place context context' start meter ran.1.objects (evaluation_at draw locals ts (moment old context start)) code well ran.0;
+      context = ran.1.context;
+      spent = refl;
+    }
+gives_own n draw locals ts (Err NoMemory) old new writer count place context context' start meter together own ran = tt
+
+-- ---- a statement that reads beside another session's open changes
+
+pub comes_beside : (n : ℕ) (draw : Draw) (s : Statement) (result : Result Outcome SqlRefusal) (old copy : Contents) (writer : Option ℕ) (count : ℕ) (place : LogPlace) (context context' : Context) (start meter : Meter)
+    → is_other n writer ≡ true → Runs draw s result (moment (as_committed old) context start) (moment copy context' meter)
+    → Comes n draw (left_of start) s result (fuel_at meter) (place_at (shared_by old writer count place) context) (place_at (shared_by (record old { counters = copy.counters }) writer count place) context')
+comes_beside n draw s (Ok told) old copy writer count place context context' start meter other ran = record {
+  did = ran.did;
+  scene = scene_at (moment copy context' meter);
+  ends = ap (effect (setting_at draw (moment (as_committed old) context start)) start.depth [] s) (other_scene n old writer count place context start other) ∙ ran.ends;
+  outcome = ran.outcome;
+  leaves = record { shared = rw other refl; context = ran.passes.context; spent = refl };
+}
+comes_beside n draw s (Err (Sql code)) old copy writer count place context context' start meter other ran = record {
+  scene = scene_at (moment copy context' meter);
+  ends = ap (effect (setting_at draw (moment (as_committed old) context start)) start.depth [] s) (other_scene n old writer count place context start other) ∙ ran.0;
+  shared = refl;
+  context = ran.1.context;
+  spent = refl;
+}
+comes_beside n draw s (Err NoMemory) old copy writer count place context context' start meter other ran = tt
+
+pub gives_beside : (n : ℕ) (draw : Draw) (locals : List Local) (ts : Trees) (result : Result (List Value) SqlRefusal) (old copy : Contents) (writer : Option ℕ) (count : ℕ) (place : LogPlace) (context context' : Context) (start meter : Meter)
+    → is_other n writer ≡ true → Evaluated draw locals ts result (moment (as_committed old) context start) (moment copy context' meter)
+    → Gives n draw (left_of start) locals ts result (fuel_at meter) (place_at (shared_by old writer count place) context) (place_at (shared_by (record old { counters = copy.counters }) writer count place) context')
+gives_beside n draw locals ts (Ok vs) old copy writer count place context context' start meter other ran = record {
+  scene = scene_at (moment copy context' meter);
+  ends = ap (evaluation (setting_at draw (moment (as_committed old) context start)) start.depth locals ts) (other_scene n old writer count place context start other) ∙ ran.0;
+  leaves = record { shared = rw other refl; context = ran.1.context; spent = refl };
+}
+gives_beside n draw locals ts (Err (Sql code)) old copy writer count place context context' start meter other ran = record {
+  scene = scene_at (moment copy context' meter);
+  ends = ap (evaluation (setting_at draw (moment (as_committed old) context start)) start.depth locals ts) (other_scene n old writer count place context start other) ∙ ran.0;
+  shared = refl;
+  context = ran.1.context;
+  spent = refl;
+}
+gives_beside n draw locals ts (Err NoMemory) old copy writer count place context context' start meter other ran = tt
+
+-- ---- on the copy that the code has
+
+pub comes_beside_at : (n : ℕ) (draw : Draw) (s : Statement) (result : Result Outcome SqlRefusal) (old read copy now : Contents) (writer : Option ℕ) (count : ℕ) (place : LogPlace) (context context' : Context) (start meter : Meter)
+    → read ≡ as_committed old → now ≡ record old { counters = copy.counters } → is_other n writer ≡ true → Runs draw s result (moment read context start) (moment copy context' meter)
+    → Comes n draw (left_of start) s result (fuel_at meter) (place_at (shared_by old writer count place) context) (place_at (shared_by now writer count place) context')
+comes_beside_at n draw s result old read copy now writer count place context context' start meter is moved other ran =
+    subst (λ (c : Contents). Comes n draw (left_of start) s result (fuel_at meter) (place_at (shared_by old writer count place) context) (place_at (shared_by c writer count place) context')) (sym moved)
+    (comes_beside n draw s result old copy writer count place context context' start meter other
+    (subst (λ (c : Contents). Runs draw s result (moment c context start) (moment copy context' meter)) is ran))
+
+pub gives_beside_at : (n : ℕ) (draw : Draw) (locals : List Local) (ts : Trees) (result : Result (List Value) SqlRefusal) (old read copy now : Contents) (writer : Option ℕ) (count : ℕ) (place : LogPlace) (context context' : Context) (start meter : Meter)
+    → read ≡ as_committed old → now ≡ record old { counters = copy.counters } → is_other n writer ≡ true → Evaluated draw locals ts result (moment read context start) (moment copy context' meter)
+    → Gives n draw (left_of start) locals ts result (fuel_at meter) (place_at (shared_by old writer count place) context) (place_at (shared_by now writer count place) context')
+gives_beside_at n draw locals ts result old read copy now writer count place context context' start meter is moved other ran =
+    subst (λ (c : Contents). Gives n draw (left_of start) locals ts result (fuel_at meter) (place_at (shared_by old writer count place) context) (place_at (shared_by c writer count place) context')) (sym moved)
+    (gives_beside n draw locals ts result old copy writer count place context context' start meter other
+    (subst (λ (c : Contents). Evaluated draw locals ts result (moment c context start) (moment copy context' meter)) is ran))
+
+-- ---- a commit
+
+pub committed_now : (old new : Contents) (writer : Option ℕ) (count next : ℕ) (place later : LogPlace) (e : Entry Item) → IsTogether old → new ≡ record old { changes = [] } → next ≡ count + 1 → later ≡ behind e count place
+    → shared_by new writer next later ≡ all_committed e (shared_by old writer count place)
+committed_now old new writer count next place later e together is more moved =
+    ap (λ (c : Contents). shared_by c writer next later) is
+    ∙ ap (λ (k : ℕ). shared_by (record old { changes = [] }) writer k later) more
+    ∙ ap (λ (p : LogPlace). shared_by (record old { changes = [] }) writer (count + 1) p) moved
+    ∙ ap (λ (ts : List Table). record { base = record { catalog = objects_of old.objects; tables = ts }; counters = old.counters; changes = []; writer = writer; committed = count + 1; place = behind e count place })
+    (ap (λ o. unwrap_or o old.tables) (applied_none old.tables) ∙ sym (rows_stand old together))
+
+-- ---- at the beginning
+
+pub nothing_shared : (place : LogPlace) → shared_by nothing None 0 place ≡ record { base = empty_base; counters = []; changes = []; writer = None; committed = 0; place = place }
+nothing_shared place =
+    ap (λ (ts : List Table). record { base = record { catalog = []; tables = ts }; counters = []; changes = []; writer = None; committed = 0; place = place }) (ap (λ o. unwrap_or o []) (applied_none []))
+
+-- ---- changes behind a mark
+
+any_some : (cs : List Change) → 0 < length cs → has_any cs ≡ true
+any_some [] some = absurd (omega (arith, some))
+any_some (c ∷ cs) some = refl
+
+any_none : (cs : List Change) → length cs ≤ 0 → has_any cs ≡ false
+any_none [] none = refl
+any_none (c ∷ cs) none = absurd (omega (arith, none))
+
+any_by : (b : Bool) (k : ℕ) (cs : List Change) → nat_lt k (length cs) ≡ b → b ≡ has_any (drop k cs)
+any_by true k cs e =
+    let few : k < length cs = ltb-true k (length cs) e in
+    let rest : length (drop k cs) ≡ length cs - k = length-drop k cs in
+    sym (any_some (drop k cs) (omega (arith, few, rest)))
+any_by false k cs e =
+    let all : length cs ≤ k = ltb-false k (length cs) e in
+    let rest : length (drop k cs) ≡ length cs - k = length-drop k cs in
+    sym (any_none (drop k cs) (omega (arith, all, rest)))
+
+pub changed_behind : (n mark count : ℕ) (other : Bool) (shared : Shared) → other ≡ is_other n shared.writer → other ≡ false → count ≡ length shared.changes → nat_lt mark count ≡ has_any (own_behind n mark shared)
+changed_behind n mark count other shared is own at =
+    ap (nat_lt mark) at ∙ any_by (nat_lt mark (length shared.changes)) mark shared.changes refl
+    ∙ ap (λ (b : Bool). has_any (if b then [] else drop mark shared.changes)) (sym own ∙ is)

@@ -1,0 +1,51 @@
+-- What is kept of a statement that changed something.
+use Rattle.std.specs.Prelude.{ℕ, Bool, true, false, if◌then◌else◌, List, [], ◌∷◌, Option, Some, None, Result, Ok, Err, ℤ}
+use Rattle.val_types.specs.declared.change.Change.{Change}
+use Rattle.log_entries.specs.declared.entries.Item.{Item}
+use Rattle.sql_meaning.specs.Frames.{Context}
+use Rattle.sql_tree.specs.Statement.{Statement}
+use Rattle.sql_reach.specs.Carrying.{carried}
+use Rattle.catalog_rules.specs.Objects.{Object}
+use Rattle.logged_items.specs.declared.before.Before.{Before}
+use Rattle.logged_items.specs.Items.{as_before, statement_item}
+use Rattle.session_model.specs.Sessions.{Open, Session, Shared}
+use Rattle.session_model.specs.Running.{Call, Turn, all_committed, kept_entries, kept_open, logged_by, takes_too_much, transaction_of}
+use Rattle.session_steps.specs.Desk.{cut_to}
+
+-- changes outside a transaction are one by itself; in an open one the session keeps the lock
+abbrev pub kept_in : Call Item → Context → Item → Option (Open Item) → Shared → Shared
+kept_in call context item None shared = all_committed (logged_by call (transaction_of call context (item ∷ []))) shared
+kept_in call context item (Some open') shared = record shared { writer = Some call.number }
+
+-- the changes behind a mark kept as an item, or taken back: whether they were kept
+abbrev pub kept_if : Bool → Call Item → Item → ℕ → Shared → Session Item → Turn Item Bool
+kept_if true call item mark shared session = record {
+  shared = kept_in call session.vars.context item session.transaction shared;
+  session = record session { transaction = kept_open item session.transaction };
+  committed = kept_entries call session.vars.context item session.transaction;
+  given = true;
+}
+kept_if false call item mark shared session = record { shared = cut_to call.number mark shared; session = session; committed = []; given = false }
+
+-- they are kept where the transaction has not too many bytes then
+abbrev pub item_kept : Call Item → Item → ℕ → Shared → Session Item → Turn Item Bool
+item_kept call item mark shared session =
+    if takes_too_much call session.transaction item then kept_if false call item mark shared session else kept_if true call item mark shared session
+
+-- 1197 where they were not: LAST_INSERT_ID() is what it was
+abbrev pub with_last_id : ℤ → Session Item → Session Item
+with_last_id last_id session = record session { vars = record (session.vars) { context = record (session.vars.context) { last_id = last_id } } }
+
+abbrev pub refused_unless : Bool → ℤ → Turn Item Bool → Turn Item (Result (Unit {0}) ℕ)
+refused_unless true last_id t = record { shared = t.shared; session = t.session; committed = t.committed; given = Ok tt }
+refused_unless false last_id t = record { shared = t.shared; session = with_last_id last_id t.session; committed = t.committed; given = Err 1197 }
+
+-- no changes leave no item
+abbrev pub changes_kept : Call Item → (List Change → Item) → List Change → ℕ → ℤ → Shared → Session Item → Turn Item (Result (Unit {0}) ℕ)
+changes_kept call item [] mark last_id shared session = record { shared = shared; session = session; committed = []; given = Ok tt }
+changes_kept call item (c ∷ cs) mark last_id shared session =
+    refused_unless (item_kept call (item (c ∷ cs)) mark shared session).given last_id (item_kept call (item (c ∷ cs)) mark shared session)
+
+-- the item of a statement by the context behind it, with the numbers before it, by its rows or by its text
+abbrev pub item_made : List ℕ → Statement → Before → Option ℤ → (rows : Bool) → List Object → Context → List Change → Item
+item_made text s before first rows catalog context changes = statement_item text (carried catalog s (as_before before context) first) rows catalog changes

@@ -1,0 +1,210 @@
+//! A statement run, with what it changed kept as its item.
+ghost use Rattle.std.specs.Prelude.{◌≡◌, [], false};
+ghost use Rattle.sql_print.specs.StatementSpelling.{spelling};
+ghost use Rattle.sql_tree.specs.Statement.{evaluate};
+ghost use Rattle.sql_tree.specs.StatementView.{view};
+ghost use Rattle.sql_tree.specs.View.{view_trees};
+ghost use Rattle.sql_reach.specs.Closing.{closed};
+ghost use Rattle.sql_reach.specs.Reach.{is_definition};
+ghost use Rattle.prog_run.specs.Runs.{Spends};
+ghost use Rattle.proc_run.specs.Calls.{left_of};
+ghost use Rattle.session_model.specs.Running.{expressions_run, statement_run, values_run};
+ghost use Rattle.session_steps.specs.Calls.{called};
+ghost use Rattle.session_steps.specs.Desk.{shared_of};
+ghost use Rattle.session_steps.specs.Ran.{fuel_at, told_given};
+ghost use Rattle.session_steps.specs.Turned.{EndsWith, giving};
+
+use crate::call::Call;
+use crate::desk::Desk;
+use crate::keeping::{keep, keep_closed, keep_printed, start_of};
+use crate::running::{evaluate, run};
+use crate::session::Session;
+use prog_run::{Meter, Outcome};
+use sql_locals::Locals;
+use sql_tree::{Expr, Stmt};
+use std::alloc::Global;
+use val_types::{List, SqlRefusal, Value};
+
+/// Runs a change, a SELECT or a DO, and keeps what it changed by its text.
+pub fn run_with_text(
+    alloc: Global,
+    call: &Call<'_>,
+    desk: &mut Desk,
+    session: &mut Session,
+    text: &[u8],
+    statement: &Stmt,
+    meter: &mut Meter,
+) -> Result<Outcome, SqlRefusal>
+    requires { is_definition (view statement.now) ≡ false }
+    ensures ends { EndsWith result (fuel_at meter.new) desk.old desk.new session.new (giving told_given (statement_run (called call.now) (left_of meter.old) text.now (view statement.now) (shared_of desk.old) session.old)) }
+    ensures spends { Spends meter.old meter.new }
+{
+    let start = start_of(desk, call.number, &session.vars.context);
+    let context = &mut session.vars.context;
+    match run(
+        alloc,
+        desk,
+        call.number,
+        statement,
+        context,
+        call.draw,
+        meter,
+    ) {
+        Err(refusal) => Err(refusal),
+        Ok(outcome) => {
+            match keep(
+                alloc,
+                call,
+                desk,
+                session,
+                text,
+                statement,
+                start,
+                outcome.first,
+            ) {
+                Err(refusal) => Err(refusal),
+                Ok(()) => Ok(outcome),
+            }
+        }
+    }
+}
+
+/// The same of a statement of a procedure, whose text is the canonical one.
+pub(crate) fn run_printed(
+    alloc: Global,
+    call: &Call<'_>,
+    desk: &mut Desk,
+    session: &mut Session,
+    statement: &Stmt,
+    meter: &mut Meter,
+) -> Result<Outcome, SqlRefusal>
+    requires { is_definition (view statement.now) ≡ false }
+    ensures ends { EndsWith result (fuel_at meter.new) desk.old desk.new session.new (giving told_given (statement_run (called call.now) (left_of meter.old) (spelling (view statement.now)) (view statement.now) (shared_of desk.old) session.old)) }
+    ensures spends { Spends meter.old meter.new }
+{
+    let start = start_of(desk, call.number, &session.vars.context);
+    let context = &mut session.vars.context;
+    match run(
+        alloc,
+        desk,
+        call.number,
+        statement,
+        context,
+        call.draw,
+        meter,
+    ) {
+        Err(refusal) => Err(refusal),
+        Ok(outcome) => {
+            match keep_printed(alloc, call, desk, session, statement, start, outcome.first) {
+                Err(refusal) => Err(refusal),
+                Ok(()) => Ok(outcome),
+            }
+        }
+    }
+}
+
+/// The values of a session's expressions, where no local is in scope.
+fn evaluate_kept(
+    alloc: Global,
+    call: &Call<'_>,
+    desk: &mut Desk,
+    session: &mut Session,
+    text: &[u8],
+    statement: &Stmt,
+    expressions: &List<Expr>,
+    locals: &Locals,
+    meter: &mut Meter,
+) -> Result<List<Value>, SqlRefusal>
+    requires is { view statement.now ≡ evaluate (view_trees expressions.now) }
+    requires none { locals.now ≡ [] }
+    ensures ends { EndsWith result (fuel_at meter.new) desk.old desk.new session.new (expressions_run (called call.now) (left_of meter.old) text.now (view_trees expressions.now) (shared_of desk.old) session.old) }
+    ensures spends { Spends meter.old meter.new }
+{
+    let start = start_of(desk, call.number, &session.vars.context);
+    let context = &mut session.vars.context;
+    match evaluate(
+        alloc,
+        desk,
+        call.number,
+        expressions,
+        locals,
+        context,
+        call.draw,
+        meter,
+    ) {
+        Err(refusal) => Err(refusal),
+        Ok(values) => {
+            match keep(alloc, call, desk, session, text, statement, start, None) {
+                Err(refusal) => Err(refusal),
+                Ok(()) => Ok(values),
+            }
+        }
+    }
+}
+
+/// The values of a session's expressions, which are those of the DO with a text; what functions changed is kept by it.
+pub fn evaluate_with_text(
+    alloc: Global,
+    call: &Call<'_>,
+    desk: &mut Desk,
+    session: &mut Session,
+    text: &[u8],
+    statement: &Stmt,
+    expressions: &List<Expr>,
+    meter: &mut Meter,
+) -> Result<List<Value>, SqlRefusal>
+    requires { view statement.now ≡ evaluate (view_trees expressions.now) }
+    ensures ends { EndsWith result (fuel_at meter.new) desk.old desk.new session.new (expressions_run (called call.now) (left_of meter.old) text.now (view_trees expressions.now) (shared_of desk.old) session.old) }
+    ensures spends { Spends meter.old meter.new }
+{
+    let locals = Locals::new(alloc);
+    evaluate_kept(
+        alloc,
+        call,
+        desk,
+        session,
+        text,
+        statement,
+        expressions,
+        &locals,
+        meter,
+    )
+}
+
+/// The values of a procedure's expressions where locals are in scope; what functions changed is kept as the DO with its
+/// locals closed in.
+pub(crate) fn evaluate_closed(
+    alloc: Global,
+    call: &Call<'_>,
+    desk: &mut Desk,
+    session: &mut Session,
+    statement: &Stmt,
+    expressions: &List<Expr>,
+    locals: &Locals,
+    meter: &mut Meter,
+) -> Result<List<Value>, SqlRefusal>
+    requires { view statement.now ≡ evaluate (view_trees expressions.now) }
+    ensures ends { EndsWith result (fuel_at meter.new) desk.old desk.new session.new (values_run (called call.now) (left_of meter.old) (spelling (closed (view statement.now) locals.now)) (closed (view statement.now) locals.now) locals.now (view_trees expressions.now) (shared_of desk.old) session.old) }
+    ensures spends { Spends meter.old meter.new }
+{
+    let start = start_of(desk, call.number, &session.vars.context);
+    let context = &mut session.vars.context;
+    match evaluate(
+        alloc,
+        desk,
+        call.number,
+        expressions,
+        locals,
+        context,
+        call.draw,
+        meter,
+    ) {
+        Err(refusal) => Err(refusal),
+        Ok(values) => {
+            match keep_closed(alloc, call, desk, session, statement, locals, start) {
+                Err(refusal) => Err(refusal),
+                Ok(()) => Ok(values),
+            }
+        }
+    }
+}

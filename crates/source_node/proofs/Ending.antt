@@ -1,0 +1,138 @@
+-- Statements that begin with all that a command has, as its commands answer for them.
+use Rattle.std.proofs.Common.{◌≡◌, ℕ, List, [], ◌∷◌, zip, Result, Ok, Err, IfOk, refl, sym, ap, ◌∙◌, subst}
+use Rattle.val_types.specs.declared.value.Value.{Value}
+use Rattle.val_types.specs.declared.refusal.SqlRefusal.{SqlRefusal}
+use Rattle.val_types.specs.declared.refusal.SqlRefusal.TheVariants.{Sql}
+use Rattle.port_traits.specs.declared.identity.Draw.{Draw}
+use Rattle.port_traits.specs.declared.identity.Identity.{Identity}
+use Rattle.answer_text.specs.declared.answer.Answer.{Answer}
+use Rattle.log_entries.specs.declared.entries.Item.{Item}
+use Rattle.sql_tree.specs.Statement.{Statement, evaluate}
+use Rattle.sql_tree.specs.Tree.{Trees, no_tree, tree}
+use Rattle.sql_tree.specs.View.{view_trees}
+use Rattle.sql_tree.specs.declared.expressions.Expr.{Expr}
+use Rattle.sql_tree.specs.declared.statements.Target.{Target}
+use Rattle.sql_meaning.specs.Changing.{Did}
+use Rattle.sql_meaning.specs.Running.{most_nested}
+use Rattle.prog_run.specs.declared.meter.Meter.{Meter}
+use Rattle.prog_run.specs.declared.meter.Outcome.{Outcome}
+use Rattle.prog_run.specs.Runs.{Spends, outcome_of}
+use Rattle.node_answers.specs.Telling.{told_answer}
+use Rattle.proc_model.specs.Talk.{brought}
+use Rattle.proc_model.specs.Procedures as procedures
+use Rattle.proc_run.specs.Calls.{left_of}
+use Rattle.session_model.specs.Answers.{refused}
+use Rattle.session_model.specs.Sessions.{Session, Shared}
+use Rattle.session_model.specs.Running.{Call, Fuel, Given, Turn, did_answer, expressions_run, full, given_answer, statement_run}
+use Rattle.session_model.specs.Commands.{first_refused, given_turn, is_open}
+use Rattle.session_model.specs.Calling.{Reached, arguments_run, called_by, called_with, came_to, steps_of}
+use Rattle.session_steps.specs.Calls.{call_of}
+use Rattle.session_steps.specs.Desk.{shared_of}
+use Rattle.session_steps.specs.Ran.{fuel_at, full_meter, told_given, told_of}
+use Rattle.session_steps.specs.Stepping.{Stood}
+use Rattle.session_steps.specs.Turned.{EndsWith, IsTurn, Moves, giving}
+use Rattle.session_steps.specs.declared.desk.Desk.{Desk}
+use Rattle.session_steps.proofs.Counting.{Counts, values_count}
+use Rattle.source_node.specs.Assigning.{assigned_answer, assigned_session, result_of, set_from}
+use Rattle.source_node.proofs.SetParts.{set_failed, set_values}
+
+-- ---- a change, a SELECT or a DO
+
+told_is : (told : Outcome) (fuel : Fuel) (given : Given Did) → told_given given ≡ record { result = Ok told; fuel = fuel } → told_answer told ≡ given_answer given
+told_is told fuel given e = by_result given.result (ap (λ (g : Given Outcome). g.result) e)
+  where
+    by_result : (r : Result Did ℕ) → told_of r ≡ Ok told → told_answer told ≡ elim r [ Ok did ↦ did_answer did | Err code ↦ refused code ]
+    by_result (Ok did) e = let same : outcome_of did ≡ told = cc in ap told_answer (sym same)
+    by_result (Err code) e = cc
+
+refused_is : (code : ℕ) (fuel : Fuel) (given : Given Did) → told_given given ≡ record { result = Err code; fuel = fuel } → refused code ≡ given_answer given
+refused_is code fuel given e = by_result given.result (ap (λ (g : Given Outcome). g.result) e)
+  where
+    by_result : (r : Result Did ℕ) → told_of r ≡ Err code → refused code ≡ elim r [ Ok did ↦ did_answer did | Err other ↦ refused other ]
+    by_result (Ok did) e = cc
+    by_result (Err other) e = let same : other ≡ code = cc in ap refused (sym same)
+
+module _ (call : Call Item) (old new : Desk) (session after : Session Item) (start : Meter) (fuel : Fuel) (begins : start ≡ full_meter) where
+  pub plain_told : (text : List ℕ) (s : Statement) (told : Outcome) (answer : Answer) → EndsWith (Ok told) fuel old new after (giving told_given (statement_run call (left_of start) text s (shared_of old) session))
+      → answer ≡ told_answer told → IsTurn old new after answer (given_turn (statement_run call full text s (shared_of old) session))
+  plain_told text s told answer ends said =
+      subst (λ (m : Meter). IsTurn old new after answer (given_turn (statement_run call (left_of m) text s (shared_of old) session))) begins
+      (ends.0, said ∙ told_is told fuel (statement_run call (left_of start) text s (shared_of old) session).given ends.1)
+
+  pub plain_refused : (text : List ℕ) (s : Statement) (code : ℕ) (answer : Answer) → EndsWith {A = Outcome} (Err (Sql code)) fuel old new after (giving told_given (statement_run call (left_of start) text s (shared_of old) session))
+      → answer ≡ refused code → IsTurn old new after answer (given_turn (statement_run call full text s (shared_of old) session))
+  plain_refused text s code answer ends said =
+      subst (λ (m : Meter). IsTurn old new after answer (given_turn (statement_run call (left_of m) text s (shared_of old) session))) begins
+      (ends.0, said ∙ refused_is code fuel (statement_run call (left_of start) text s (shared_of old) session).given ends.1)
+
+  -- ---- SET
+
+  pub set_told : (names : List Target) (text said : List ℕ) (ts : Trees) (vs : List Value) (answer : Answer) (later : Session Item) → said ≡ text → EndsWith (Ok vs) fuel old new after (expressions_run call (left_of start) said ts (shared_of old) session)
+      → answer ≡ assigned_answer (first_refused (is_open after) (zip names vs)) → later ≡ assigned_session (first_refused (is_open after) (zip names vs)) (zip names vs) after
+      → IsTurn old new later answer (set_from names (giving result_of (expressions_run call full text ts (shared_of old) session)))
+  set_told names text said ts vs answer later same ends answered left =
+      subst (λ (x : List ℕ). IsTurn old new later answer (set_from names (giving result_of (expressions_run call full x ts (shared_of old) session)))) same
+      (subst (λ (m : Meter). IsTurn old new later answer (set_from names (giving result_of (expressions_run call (left_of m) said ts (shared_of old) session)))) begins
+      (set_values names vs old new after later answer (giving result_of (expressions_run call (left_of start) said ts (shared_of old) session)) ends.0 (ap result_of ends.1) answered left))
+
+  pub set_refused : (names : List Target) (text said : List ℕ) (ts : Trees) (code : ℕ) (answer : Answer) → said ≡ text → EndsWith {A = List Value} (Err (Sql code)) fuel old new after (expressions_run call (left_of start) said ts (shared_of old) session)
+      → answer ≡ refused code → IsTurn old new after answer (set_from names (giving result_of (expressions_run call full text ts (shared_of old) session)))
+  set_refused names text said ts code answer same ends answered =
+      subst (λ (x : List ℕ). IsTurn old new after answer (set_from names (giving result_of (expressions_run call full x ts (shared_of old) session)))) same
+      (subst (λ (m : Meter). IsTurn old new after answer (set_from names (giving result_of (expressions_run call (left_of m) said ts (shared_of old) session)))) begins
+      (set_failed names code old new after answer (giving result_of (expressions_run call (left_of start) said ts (shared_of old) session)) ends.0 (ap result_of ends.1) answered))
+
+-- ---- the arguments of a CALL
+
+pub no_argument : (call : Call Item) (text : List ℕ) (es : List Expr) (desk : Desk) (session : Session Item) (m : Meter) → es ≡ [] → m ≡ full_meter
+    → EndsWith (Ok []) (fuel_at m) desk desk session (arguments_run call text (view_trees es) (shared_of desk) session)
+no_argument call text es desk session m none full =
+    subst (λ (xs : List Expr). EndsWith (Ok []) (fuel_at m) desk desk session (arguments_run call text (view_trees xs) (shared_of desk) session)) (sym none)
+    (subst (λ (k : Meter). EndsWith (Ok []) (fuel_at k) desk desk session (arguments_run call text no_tree (shared_of desk) session)) (sym full) ((refl, refl, (refl, tt)), refl))
+
+pub some_argument : (call : Call Item) (text said : List ℕ) (es : List Expr) (r : Result (List Value) SqlRefusal) (fuel : Fuel) (old new : Desk) (session after : Session Item) (m : Meter) → (es ≡ [] → ⊥) → said ≡ text → m ≡ full_meter
+    → EndsWith r fuel old new after (expressions_run call (left_of m) said (view_trees es) (shared_of old) session)
+    → EndsWith r fuel old new after (arguments_run call text (view_trees es) (shared_of old) session)
+some_argument call text said [] r fuel old new session after m some same begins ends = absurd (some refl)
+some_argument call text said (e ∷ es) r fuel old new session after m some same begins ends =
+    subst (λ (x : List ℕ). EndsWith r fuel old new after (expressions_run call full x (view_trees (e ∷ es)) (shared_of old) session)) same
+    (subst (λ (k : Meter). EndsWith r fuel old new after (expressions_run call (left_of k) said (view_trees (e ∷ es)) (shared_of old) session)) begins ends)
+
+-- ---- CALL
+
+module _ (identity : Identity) (draw : Draw) (n : ℕ) where
+  arguments_count : (text : List ℕ) (ts : Trees) (shared : Shared) (session : Session Item) → Counts shared (arguments_run (call_of identity draw n) text ts shared session)
+  arguments_count text no_tree shared session = record { count = refl; place = refl }
+  arguments_count text (tree t ts) shared session = values_count identity draw n full text (evaluate (tree t ts)) [] (tree t ts) shared session
+
+  pub call_comes : {E : Type 0} (r : Result Answer E) (name text : List ℕ) (ts : Trees) (vs : List Value) (old mid new : Desk) (session ran after : Session Item) (start m : Meter) → start ≡ full_meter → Spends start m
+      → EndsWith (Ok vs) (fuel_at m) old mid ran (arguments_run (call_of identity draw n) text ts (shared_of old) session)
+      → ((o : Desk) (at : Reached Item) → Stood o mid ran at → IfOk r (λ answer. IsTurn o new after answer (came_to (brought (steps_of (call_of identity draw n)) (procedures.called at.shared.base.catalog (left_of m) name vs) at))))
+      → IfOk r (λ answer. IsTurn old new after answer (called_with (call_of identity draw n) name (arguments_run (call_of identity draw n) text ts (shared_of old) session)))
+  call_comes r name text ts vs old mid new session ran after start m begins spends ends law =
+      let t : Turn Item (Given (List Value)) = arguments_run (call_of identity draw n) text ts (shared_of old) session in
+      let at : Reached Item = record { shared = t.shared; session = t.session; committed = t.committed; given = tt } in
+      let counts : Counts (shared_of old) t = arguments_count text ts (shared_of old) session in
+      let stood : Stood old mid ran at = record {
+        moves = ends.0;
+        count = ap (λ (s : Shared). s.committed) ends.0.0 ∙ counts.count;
+        place = ap (λ (s : Shared). s.place) ends.0.0 ∙ counts.place;
+      } in
+      let deep : m.depth ≡ most_nested = spends.depth ∙ ap (λ (k : Meter). k.depth) begins in
+      subst (λ (g : Given (List Value)). IfOk r (λ answer. IsTurn old new after answer (called_by (call_of identity draw n) name g.result (record { shared = t.shared; session = t.session; committed = t.committed; given = g })))) (sym ends.1)
+      (subst (λ (k : ℕ). IfOk r (λ answer. IsTurn old new after answer (came_to (brought (steps_of (call_of identity draw n)) (procedures.called t.shared.base.catalog (record { nesting = k; turns = m.turns; uuids = m.uuids }) name vs) at)))) deep
+      (law old at stood))
+
+  pub call_refused : (name text : List ℕ) (ts : Trees) (code : ℕ) (fuel : Fuel) (old new : Desk) (session after : Session Item) (answer : Answer)
+      → EndsWith {A = List Value} (Err (Sql code)) fuel old new after (arguments_run (call_of identity draw n) text ts (shared_of old) session) → answer ≡ refused code
+      → IsTurn old new after answer (called_with (call_of identity draw n) name (arguments_run (call_of identity draw n) text ts (shared_of old) session))
+  call_refused name text ts code fuel old new session after answer ends said =
+      let t : Turn Item (Given (List Value)) = arguments_run (call_of identity draw n) text ts (shared_of old) session in
+      subst (λ (g : Given (List Value)). IsTurn old new after answer (called_by (call_of identity draw n) name g.result (record { shared = t.shared; session = t.session; committed = t.committed; given = g }))) (sym ends.1)
+      (ends.0, said)
+
+pub ruleset setting = (set_told, set_refused)
+
+pub ruleset telling = (plain_told, plain_refused)
+
+pub ruleset arguing = (no_argument, some_argument)
