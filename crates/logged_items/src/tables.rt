@@ -8,9 +8,9 @@ ghost use Rattle.val_types.specs.Changes.{table_of};
 
 use catalog_checks::is_among;
 use catalog_objects::{Object, Objects};
+use statement_names::Names;
 use std::alloc::Global;
 use val_types::{Bytes, Change, Duplicate, List, NoMemory, TableDef};
-use variable_names::Names;
 
 /// Puts a copy of a definition at the end, where its table is among some names.
 fn put_among(

@@ -19,8 +19,8 @@ use sql_locals::Locals;
 use sql_stage::Stage;
 use sql_statements::Did;
 use sql_tree::{Expr, Stmt};
+use statement_names::tables_of;
 use std::alloc::Global;
-use table_names::tables_of;
 use val_types::{List, SqlRefusal, Value};
 
 /// What a statement does to a stage.

@@ -11,8 +11,8 @@ use Rattle.catalog_rules.specs.Nodes.{Node}
 use Rattle.log_entries.specs.Variables.{variable_set}
 use Rattle.sql_reach.specs.Carrying.{user_variable_at, in_byte_order}
 use Rattle.sql_reach.specs.Reach.{body_nodes, reached_nodes, reached_programs}
-use Rattle.variable_names.specs.Naming.{nodes_put, NamesAreInByteOrder}
-use Rattle.variable_names.specs.Rising.{by_bytes, Above, Rises}
+use Rattle.statement_names.specs.Naming.{nodes_put, NamesAreInByteOrder}
+use Rattle.statement_names.specs.Rising.{by_bytes, Above, Rises}
 use Rattle.unsafe_rules.specs.Reaching.{at_places, is_at, IsAll}
 use Rattle.unsafe_rules.proofs.All.{places_reached}
 

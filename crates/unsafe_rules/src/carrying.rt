@@ -9,7 +9,7 @@ ghost use Rattle.sql_reach.specs.Reach.{body_nodes, reached_nodes};
 ghost use Rattle.sql_tree.specs.StatementView.{view};
 ghost use Rattle.unsafe_rules.specs.Places.{places_of};
 ghost use Rattle.unsafe_rules.specs.Reaching.{IsAll, IsFound, at_places, nothing_wanted};
-ghost use Rattle.variable_names.specs.Naming.{nodes_put};
+ghost use Rattle.statement_names.specs.Naming.{nodes_put};
 
 use crate::found::{Found, is_found, more, nothing};
 use crate::reach::{next_of, reaches};
@@ -18,9 +18,9 @@ use log_entries::{Carried, Vars};
 use node_walk::{Ask, in_statement};
 use session_ctx::Ctx;
 use sql_tree::Stmt;
+use statement_names::{Names, names_are_in_byte_order, put_variables};
 use std::alloc::Global;
 use val_types::{Bytes, Duplicate, NoMemory, Value};
-use variable_names::{Names, names_are_in_byte_order, put_variables};
 
 /// Puts the user variables of the body of an object among other names.
 fn put_body(names: &mut Names, object: &Object) -> Result<(), NoMemory>

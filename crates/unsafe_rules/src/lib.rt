@@ -15,7 +15,7 @@
 //! - `found`: what was found so far, as a list on the stack, and whether an object is reached from it
 //!
 //! What is asked of the nodes of a statement, and the walk that asks it, stand in `node_walk`, the names of user variables in
-//! `variable_names`. What the answers are, is defined in `sql_reach`, where programs are reached by rounds: in each round all
+//! `statement_names`. What the answers are, is defined in `sql_reach`, where programs are reached by rounds: in each round all
 //! objects of the catalog that the statement or the programs of the round before name. In specs/ stand `Reaching` (what is
 //! reached from what was found), `Unsafe` (reasons as they are kept) and `Places`.
 //!

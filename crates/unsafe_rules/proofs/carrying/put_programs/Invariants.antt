@@ -1,7 +1,7 @@
 use Rattle.std.proofs.Common.{◌≡◌, drop, flat_map}
 use Rattle.catalog_objects.specs.Keys.{objects_of}
 use Rattle.sql_reach.specs.Reach.{body_nodes}
-use Rattle.variable_names.specs.Naming.{nodes_put}
+use Rattle.statement_names.specs.Naming.{nodes_put}
 use Rattle.unsafe_rules.specs.Places.{places_of}
 use Rattle.unsafe_rules.specs.Reaching.{at_places}
 use Rattle.unsafe_rules.proofs.carrying.put_programs.Given as goal

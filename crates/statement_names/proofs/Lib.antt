@@ -1,0 +1,4 @@
+pub mod Gathered
+pub mod Named
+pub mod Placed
+pub mod Walked

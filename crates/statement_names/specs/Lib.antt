@@ -1,0 +1,4 @@
+pub mod Naming
+pub mod Rising
+pub mod Visiting
+pub mod Walking
