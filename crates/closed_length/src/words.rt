@@ -1,130 +1,17 @@
 //! System variables' names, in backquotes only where they need them, at the end of a length.
-ghost use Rattle.std.specs.Prelude.{◌≡◌, ◌++◌, codes, map};
-ghost use Rattle.std.specs.List.{list_all};
-ghost use Rattle.sql_print.specs.Names.{bare_name, is_among, is_name_part, is_name_start, is_reserved, is_word};
+ghost use Rattle.std.specs.Prelude.{◌≡◌, ◌++◌, codes};
+ghost use Rattle.sql_print.specs.Names.{bare_name};
 ghost use Rattle.closed_length.specs.Growing.{grown};
 
 use crate::lengths::{add, add_name};
+use sql_print::is_bare;
 use val_types::Bytes;
-
-/// The words that are no names without backquotes.
-const RESERVED_WORDS: [&[u8]; 65] = [
-    b"alter",
-    b"and",
-    b"as",
-    b"asc",
-    b"before",
-    b"between",
-    b"bigint",
-    b"by",
-    b"call",
-    b"case",
-    b"create",
-    b"declare",
-    b"default",
-    b"delete",
-    b"desc",
-    b"deterministic",
-    b"distinct",
-    b"div",
-    b"drop",
-    b"each",
-    b"else",
-    b"elseif",
-    b"exists",
-    b"for",
-    b"from",
-    b"group",
-    b"if",
-    b"ignore",
-    b"in",
-    b"insert",
-    b"int",
-    b"integer",
-    b"into",
-    b"is",
-    b"join",
-    b"key",
-    b"limit",
-    b"mod",
-    b"modifies",
-    b"not",
-    b"null",
-    b"on",
-    b"or",
-    b"order",
-    b"primary",
-    b"procedure",
-    b"reads",
-    b"release",
-    b"replace",
-    b"return",
-    b"select",
-    b"set",
-    b"sql",
-    b"table",
-    b"then",
-    b"to",
-    b"trigger",
-    b"union",
-    b"unique",
-    b"update",
-    b"values",
-    b"varchar",
-    b"when",
-    b"where",
-    b"while",
-];
-
-fn is_name_start(byte: u8) -> bool
-    ensures { result ≡ is_name_start byte }
-{
-    byte.is_ascii_uppercase() || byte.is_ascii_lowercase() || byte == b'_'
-}
-
-fn is_name_part(byte: u8) -> bool
-    ensures { result ≡ is_name_part byte }
-{
-    is_name_start(byte) || byte.is_ascii_digit() || byte == b'$'
-}
-
-fn are_name_parts(bytes: &[u8]) -> bool
-    ensures { result ≡ list_all is_name_part bytes.now }
-{
-    bytes.iter().all(|byte| is_name_part(*byte))
-}
-
-fn is_word(name: &[u8]) -> bool
-    ensures { result ≡ is_word name.now }
-{
-    match name {
-        [] => false,
-        [first, rest @ ..] => is_name_start(*first) && are_name_parts(rest),
-    }
-}
-
-fn is_among(words: &[&[u8]], name: &[u8]) -> bool
-    ensures { result ≡ is_among (map (λ w. w.now) words.now) name.now }
-{
-    for word in words {
-        if *word == name {
-            return true;
-        }
-    }
-    false
-}
-
-fn is_reserved(name: &[u8]) -> bool
-    ensures { result ≡ is_reserved name.now }
-{
-    is_among(&RESERVED_WORDS, name)
-}
 
 /// A system variable's name, in backquotes only where it needs them.
 fn add_bare_name(total: &mut u64, name: &Bytes)
     ensures { total.new ≡ grown total.old (bare_name name.now) }
 {
-    if is_word(name.as_slice()) && !is_reserved(name.as_slice()) {
+    if is_bare(name.as_slice()) {
         add(total, name.as_slice());
     } else {
         add_name(total, name);
