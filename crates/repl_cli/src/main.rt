@@ -1,23 +1,17 @@
 //! The program: standard input and output, the clock and the random source of the system, and the words of the command line.
 //!
-//! - `main` (here): both nodes at the system's edges, handed to [`start`]
-//! - `nodes`: who the source and the replica are
+//! `main` hands both nodes, at the system's edges, to [`start`].
 //!
 //! # Proved
-//! - The number of a text is the one that it is in decimal from 1 to 4294967295, and 1 for any other text; without a text it is 1
-//!   (`server_id_of`).
-//! - The source is `root@localhost`, the replica `rep@localhost` with the number 2.
+//! Nothing of its own: who the nodes are, and what is done with them, are clauses of `repl_start` and `repl_run`.
 //!
 //! # Only tested
-//! What `main` hands on, by one stored run. That `REPL_SERVER_ID` is the text that is read is seen in these lines alone.
+//! What `main` hands on, by one stored run.
 #![tactic(auto)]
 
-mod nodes;
-
 use answer_text::Status;
-use nodes::{replica_identity, source_identity};
 use port_traits::HostEnv;
-use repl_start::{Known, exit_of, start, tell};
+use repl_start::{Known, exit_of, replica_identity, source_identity, start, tell};
 use std::process::ExitCode;
 use val_types::NoMemory;
 

@@ -5,7 +5,7 @@ use crate::playing::{
     is_rep, is_root, joined, plays, report_of, wanted,
 };
 use answer_text::{Report, Status};
-use repl_start::tell;
+use repl_start::{number_of, tell};
 use std::alloc::Global;
 use val_types::{Bytes, List};
 
@@ -254,12 +254,37 @@ fn are_told(alloc: Global) -> bool {
         && out.as_slice() == b"bad script at 17\nout of memory\n".as_slice()
 }
 
+/// Texts, and the number of the source's server that each gives.
+static NUMBERS: [(&str, u32); 10] = [
+    ("1", 1),
+    ("2", 2),
+    ("4294967295", 4294967295),
+    ("4294967296", 1),
+    ("0", 1),
+    ("007", 1),
+    ("+7", 1),
+    (" 7", 1),
+    ("7x", 1),
+    ("", 1),
+];
+
+/// How many texts give these numbers, from the first on.
+fn held_numbers(alloc: Global) -> usize {
+    for (i, (text, number)) in NUMBERS.iter().enumerate() {
+        if !matches!(number_of(alloc, *text), Ok(found) if found == *number) {
+            return i;
+        }
+    }
+    NUMBERS.len()
+}
+
 #[test]
 fn scripts_and_words(rt: HostRuntime) {
     let alloc = rt.alloc();
     expect_all(&rt, "bad scripts", held_scripts(alloc), BAD_SCRIPTS.len());
     expect_all(&rt, "limits", held_limits(alloc), LIMITS.len());
     expect_all(&rt, "words", held_words(alloc), WORDS.len());
+    expect_all(&rt, "server ids", held_numbers(alloc), NUMBERS.len());
 }
 
 #[test]

@@ -1,4 +1,4 @@
-//! Who the two nodes are.
+//! Who the two nodes of a program over the system are.
 ghost use Rattle.std.specs.Prelude.{◌≡◌, ◌≢◌, ◌<◌, ◌^◌, ℕ, codes, string_bytes, IfOk, OnErr};
 ghost use Rattle.std.specs.Fmt.{decimal};
 ghost use Rattle.std.specs.Str.{bytes_eq};
@@ -34,7 +34,7 @@ fn prints_as(alloc: Global, number: u32, text: &str) -> Result<bool, NoMemory>
 
 /// The number that a text gives: a decimal number from 1 to 4294967295 without sign or leading zero,
 /// and 1 for any other text.
-fn number_of(alloc: Global, text: &str) -> Result<u32, NoMemory>
+pub fn number_of(alloc: Global, text: &str) -> Result<u32, NoMemory>
     ensures number { IfOk result (λ id. (n : ℕ) → 0 < n → n < 2 ^ 32 → text.now ≡ decimal n → id ≡ n) }
     ensures other { IfOk result (λ id. ((n : ℕ) → 0 < n → n < 2 ^ 32 → text.now ≢ decimal n) → id ≡ 1) }
 {
@@ -82,34 +82,4 @@ pub fn replica_identity(alloc: Global) -> Result<Identity, NoMemory>
         server_id: REPLICA_ID,
         user: List::from_slice(alloc, b"rep@localhost")?,
     })
-}
-
-#[cfg(test)]
-mod tests {
-    use super::*;
-    use std::test::Fail;
-
-    #[test]
-    fn numbers_of_servers(rt: HostRuntime) -> Result<(), Fail> {
-        for (text, id) in [
-            ("1", 1),
-            ("2", 2),
-            ("4294967295", 4294967295),
-            ("4294967296", 1),
-            ("0", 1),
-            ("007", 1),
-            ("+7", 1),
-            (" 7", 1),
-            ("7x", 1),
-            ("", 1),
-        ] {
-            assert_eq!(rt; number_of(rt.alloc(), text)?, id, "of {text:?}");
-        }
-        let source = source_identity(&rt)?;
-        assert_eq!(rt; source.user.as_slice(), b"root@localhost".as_slice());
-        let replica = replica_identity(rt.alloc())?;
-        assert_eq!(rt; replica.server_id, 2);
-        assert_eq!(rt; replica.user.as_slice(), b"rep@localhost".as_slice());
-        Ok(())
-    }
 }
