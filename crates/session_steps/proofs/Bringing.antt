@@ -127,11 +127,15 @@ module _ (call : Call Item) (old : Desk) where
       (ends.1.1.moves, ap (λ (c : Came). c.answer) ends.0)
 
 -- as the code has it: who carries it out begins with the desk and the session, and with an equal catalog
-pub call_so : (call : Call Item) (catalog : List Object) (left : Left) (name : List ℕ) (vs : List Value) (before after : CallSteps) (came : Came) (desk : Desk) (session : Session Item) → call_by before ≡ call → before.desk ≡ desk → before.session ≡ session
-    → catalog ≡ (shared_of desk).base.catalog → Led step_rules (called catalog left name vs) before came after → (old : Desk) (at : Reached Item) → Stood old desk session at
-    → IsTurn old after.desk after.session came.answer (came_to (brought (steps_of call) (called at.shared.base.catalog left name vs) at))
-call_so call catalog left name vs before after came desk session who desks sessions objects led old at stood =
+pub call_so : (call : Call Item) (catalog : List Object) (left : Left) (name : List ℕ) (vs : List Value) (before after : CallSteps) (came : Came) (desk last : Desk) (session left' : Session Item)
+    → call_by before ≡ call → before.desk ≡ desk → before.session ≡ session → catalog ≡ (shared_of desk).base.catalog → Led step_rules (called catalog left name vs) before came after
+    → last ≡ after.desk → left' ≡ after.session → (old : Desk) (at : Reached Item) → Stood old desk session at
+    → IsTurn old last left' came.answer (came_to (brought (steps_of call) (called at.shared.base.catalog left name vs) at))
+call_so call catalog left name vs before after came desk last session left' who desks sessions objects led back backs old at stood =
     let begun : Stood old before.desk before.session at = subst (λ (d : Desk). Stood old d before.session at) (sym desks) (subst (λ (s : Session Item). Stood old desk s at) (sym sessions) stood) in
     let same : catalog ≡ at.shared.base.catalog = objects ∙ ap (λ (s : Shared). s.base.catalog) stood.moves.0 in
+    let turn : IsTurn old after.desk after.session came.answer (came_to (brought (steps_of call) (called at.shared.base.catalog left name vs) at)) =
     subst (λ (os : List Object). IsTurn old after.desk after.session came.answer (came_to (brought (steps_of call) (called os left name vs) at))) same
-    (call_turns call old catalog left name vs before after came at who led begun)
+    (call_turns call old catalog left name vs before after came at who led begun) in
+    subst (λ (d : Desk). IsTurn old d left' came.answer (came_to (brought (steps_of call) (called at.shared.base.catalog left name vs) at))) (sym back)
+    (subst (λ (s : Session Item). IsTurn old after.desk s came.answer (came_to (brought (steps_of call) (called at.shared.base.catalog left name vs) at))) (sym backs) turn)

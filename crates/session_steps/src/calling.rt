@@ -6,7 +6,7 @@ ghost use Rattle.proc_model.specs.Talk.{brought};
 ghost use Rattle.proc_run.specs.Calls.{left_of};
 ghost use Rattle.session_model.specs.Calling.{Reached, came_to, steps_of};
 ghost use Rattle.session_steps.specs.Calls.{called};
-ghost use Rattle.session_steps.specs.Stepping.{Stood};
+ghost use Rattle.session_steps.specs.Stepping.{Stood, call_by};
 ghost use Rattle.session_steps.specs.declared.desk.Desk.{Desk as LeftDesk};
 ghost use Rattle.session_steps.specs.Turned.{IsTurn};
 
@@ -32,6 +32,38 @@ fn vacant(alloc: Global, call: &Call<'_>) -> Result<Session, NoMemory> {
     })
 }
 
+/// Takes desk and session of a command for the steps of its CALL; what is vacant stands in their places meanwhile.
+fn begin(
+    alloc: Global,
+    call: &Call<'_>,
+    desk: &mut Desk,
+    session: &mut Session,
+) -> Result<CallSteps, NoMemory>
+    ensures call { IfOk result (λ steps. call_by steps ≡ called call.now) }
+    ensures desk { IfOk result (λ steps. steps.desk ≡ desk.old) }
+    ensures session { IfOk result (λ steps. steps.session ≡ session.old) }
+{
+    let identity = call.identity.duplicate(alloc)?;
+    let aside = vacant(alloc, call)?;
+    Ok(CallSteps {
+        alloc,
+        identity,
+        draw: *call.draw,
+        number: call.number,
+        desk: mem::replace(desk, Desk::new(alloc, Bytes::new(alloc))),
+        session: mem::replace(session, aside),
+    })
+}
+
+/// Gives desk and session back.
+fn give_back(steps: CallSteps, desk: &mut Desk, session: &mut Session)
+    ensures desk { desk.new ≡ steps.desk }
+    ensures session { session.new ≡ steps.session }
+{
+    *desk = steps.desk;
+    *session = steps.session;
+}
+
 /// Carries out a procedure with the values of its arguments, behind any turn that led here. A runner without a device
 /// answers for none, so that a CALL without an answer wants memory.
 pub fn call_steps(
@@ -46,24 +78,9 @@ pub fn call_steps(
     ensures { (old : LeftDesk) → (at : Reached Item) → Stood old desk.old session.old at → IfOk result (λ answer. IsTurn old desk.new session.new answer (came_to (brought (steps_of (called call.now)) (carried_out at.shared.base.catalog (left_of meter.old) name.now values) at))) }
 {
     let catalog = desk.work.catalog().copy()?;
-    let identity = call.identity.duplicate(alloc)?;
-    let aside = vacant(alloc, call)?;
-    let mut steps = CallSteps {
-        alloc,
-        identity,
-        draw: *call.draw,
-        number: call.number,
-        desk: mem::replace(desk, Desk::new(alloc, Bytes::new(alloc))),
-        session: mem::replace(session, aside),
-    };
+    let mut steps = begin(alloc, call, desk, session)?;
     let answer = proc_run::call(alloc, &mut steps, &catalog, name, values, meter);
-    let CallSteps {
-        desk: left_desk,
-        session: left_session,
-        ..
-    } = steps;
-    *desk = left_desk;
-    *session = left_session;
+    give_back(steps, desk, session);
     match answer {
         Ok(answer) => Ok(answer),
         Err(_) => Err(NodeFault::NoMemory),
