@@ -19,7 +19,8 @@
 //!
 //! # Only read
 //! The text of the pages; that only a program that has the word `log` takes it; that pages go to standard output, and the line of
-//! a status to standard error; that `REPL_SERVER_ID` is the variable that is read. What [`start`] hands to `top` is tested by the programs' stored runs.
+//! a status to standard error; that `REPL_SERVER_ID` is the variable that is read. What [`start`] hands to `top` is tested by the
+//! programs' stored runs.
 #![tactic(auto)]
 
 mod command_line;
