@@ -3,3 +3,4 @@ pub mod Parts
 pub mod Fitting
 pub mod Encoding
 pub mod Forms
+pub mod Cutting

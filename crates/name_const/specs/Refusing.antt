@@ -1,6 +1,5 @@
 -- What a call that closes a statement over locals answers.
-use Rattle.std.specs.Prelude.{◌≡◌, List, Some, None, Result, Ok, Err, pos}
-use Rattle.val_types.specs.declared.value.Value.TheVariants.{Int}
+use Rattle.std.specs.Prelude.{◌≡◌, List, Some, None, Result, Ok, Err}
 use Rattle.val_types.specs.declared.refusal.SqlRefusal.{SqlRefusal}
 use Rattle.val_types.specs.declared.refusal.SqlRefusal.TheVariants.{Sql, NoMemory}
 use Rattle.sql_tree.specs.Statement.{Statement}
@@ -15,13 +14,3 @@ abbrev pub Closes : Result Stmt SqlRefusal → Statement → List Local → Type
 Closes (Ok copy) s locals = (closing_refusal s locals ≡ None) × (view copy ≡ closed s locals)
 Closes (Err (Sql code)) s locals = closing_refusal s locals ≡ Some code
 Closes (Err NoMemory) s locals = Unit {0}
-
--- nothing refuses it, or this does, or no memory
-abbrev pub CanClose : Result (Unit {0}) SqlRefusal → Statement → List Local → Type 0
-CanClose (Ok u) s locals = closing_refusal s locals ≡ None
-CanClose (Err (Sql code)) s locals = closing_refusal s locals ≡ Some code
-CanClose (Err NoMemory) s locals = Unit {0}
-
--- a local of the same name that is a number
-abbrev pub numbered : Local → Local
-numbered l = record l { value = Int (pos 0) }

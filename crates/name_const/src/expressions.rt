@@ -4,7 +4,7 @@ ghost use Rattle.sql_tree.specs.View.{view_aggregate, view_aggregates, view_arm,
 ghost use Rattle.closed_length.specs.Closed.{closed_aggregates, closed_arms, closed_orders, closed_origin, closed_part, closed_query, closed_selected, closed_tree, closed_trees};
 ghost use Rattle.closed_length.specs.Items.{closed_aggregate, closed_arm};
 
-use crate::names::{close_limit, close_name};
+use closed_names::{close_limit, close_name};
 use sql_locals::Locals;
 use sql_tree::{Aggregate, Arm, Expr, FromClause, OrderItem, Select, Selection};
 use std::alloc::Global;

@@ -6,7 +6,7 @@ ghost use Rattle.sql_reach.specs.Closing.{closed};
 ghost use Rattle.closed_length.specs.Closed.{closed_part, closed_rows, closed_sets, closed_supply};
 
 use crate::expressions::{close_expr, close_exprs, close_order, close_select};
-use crate::names::close_count_if;
+use closed_names::close_count_if;
 use sql_locals::Locals;
 use sql_tree::{ColumnSet, DeleteStmt, Expr, InsertStmt, ReplaceStmt, Source, Stmt, UpdateStmt};
 use std::alloc::Global;

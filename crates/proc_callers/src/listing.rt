@@ -2,7 +2,7 @@
 ghost use Rattle.std.specs.Prelude.{◌≡◌};
 
 use proc_model::Ruled;
-use proc_run::{RunRefusal, Runner};
+use proc_parts::{RunRefusal, Runner};
 use prog_run::{Meter, Outcome};
 use sharing::Shared;
 use sql_locals::Locals;

@@ -12,9 +12,10 @@ use Rattle.proc_model.specs.Procedures.{Came, Ending, Held, IsCall, begins, call
 use Rattle.proc_model.proofs.Leading.{led_then}
 use Rattle.proc_run.specs.declared.calls.CallRefusal.{CallRefusal}
 use Rattle.proc_run.specs.declared.calls.CallRefusal.TheVariants as stops
-use Rattle.proc_run.specs.declared.runner.RunRefusal.{RunRefusal}
-use Rattle.proc_run.specs.declared.runner.RunRefusal.TheVariants.{Sql, Device, NoMemory}
-use Rattle.proc_run.specs.Calls.{AnswersBy, EndsBy, plainly, refusal_of}
+use Rattle.proc_parts.specs.declared.runner.RunRefusal.{RunRefusal}
+use Rattle.proc_parts.specs.declared.runner.RunRefusal.TheVariants.{Sql, Device, NoMemory}
+use Rattle.proc_parts.specs.Calls.{EndsBy, plainly, refusal_of}
+use Rattle.proc_run.specs.Answers.{AnswersBy}
 
 pub nobody_runs : (under_way Nothing).functions ≡ []
 nobody_runs = search (rules, the_lemmas)

@@ -1,11 +1,4 @@
 pub mod Answering
-pub mod Asked
-pub mod Assigned
-pub mod Behind
-pub mod Called
-pub mod Closed
-pub mod Evaluated
-pub mod Locals
 pub mod Nested
 pub mod Performed
 pub mod Stepping

@@ -18,12 +18,13 @@ use Rattle.sql_stage.specs.UnderWay.{under_way}
 use Rattle.sql_evaluation.specs.Seen.{running_of}
 use Rattle.proc_model.specs.Talk.{Rules}
 use Rattle.proc_model.specs.Procedures.{Held, Action, World as Around, done, ◌>>=◌, pure, fail, answered, all_tried, add_parameter, call_at, free_procedure, procedure_body, started}
-use Rattle.proc_run.specs.declared.runner.RunRefusal.{RunRefusal}
-use Rattle.proc_run.specs.declared.runner.RunRefusal.TheVariants.{Sql}
-use Rattle.proc_run.specs.declared.world.World.{World}
-use Rattle.proc_run.specs.Calls.{EndsBy, Tries, always, plainly, widened, world_of}
-use Rattle.proc_run.specs.Parts.{body_at, step_at}
-use Rattle.proc_run.proofs.Behind.{onto_done, onto_ends, failed_ends, tried_onto, untried_ends}
+use Rattle.proc_parts.specs.declared.runner.RunRefusal.{RunRefusal}
+use Rattle.proc_parts.specs.declared.runner.RunRefusal.TheVariants.{Sql}
+use Rattle.proc_parts.specs.declared.world.World.{World}
+use Rattle.proc_parts.specs.Calls.{EndsBy, Tries, always, plainly, widened, world_of}
+use Rattle.proc_parts.specs.Parts.{step_at}
+use Rattle.proc_run.specs.Steps.{body_at}
+use Rattle.proc_parts.proofs.Behind.{onto_done, onto_ends, failed_ends, tried_onto, untried_ends}
 
 -- ---- what is round it
 

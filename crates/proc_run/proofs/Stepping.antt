@@ -1,164 +1,35 @@
 -- The statements of a procedure, one at a time.
 use Rattle.std.proofs.Common.{◌≡◌, ◌≤◌, ◌<◌, ◌+◌, ◌-◌, ℕ, zero, suc, Bool, true, false, List, length, get_or, drop, take, Option, None, Result, Ok, Err, refl, sym, ap, ◌∙◌, rules, arith, cond}
 use Rattle.std.proofs.lemmas.List.{drop_all}
-use Rattle.val_types.specs.declared.value.Value.{Value}
-use Rattle.val_types.specs.declared.value.Value.TheVariants.{Null}
 use Rattle.val_types.specs.declared.list.List.{List as Items}
-use Rattle.val_types.specs.declared.refusal.SqlRefusal.{SqlRefusal}
-use Rattle.sql_tree.specs.Tree.{Tree, part, no_part}
+use Rattle.sql_tree.specs.Tree.{Tree}
 use Rattle.sql_tree.specs.Statement.{Declared, Statement, Statements, Branches, branch, Otherwise, no_else, else_steps, Program, Trigger, block, if_steps, while_steps}
 use Rattle.sql_tree.specs.View.{view_tree}
-use Rattle.sql_tree.specs.StatementView.{view, view_branch, view_branches, view_declaration, view_declarations, view_otherwise, view_statements, statement_step, branch_step, program_step, trigger_step}
+use Rattle.sql_tree.specs.StatementView.{view, view_branch, view_branches, view_otherwise, view_statements, statement_step, branch_step, program_step, trigger_step}
 use Rattle.sql_tree.specs.declared.statements.Branch.{Branch, out-Branch}
-use Rattle.sql_tree.specs.declared.statements.Declaration.{Declaration}
 use Rattle.sql_tree.specs.declared.statements.Stmt.{Stmt, If, the_lemmas}
 use Rattle.sql_tree.specs.declared.statements.Stmt.TheFolds.{fold_out-Branch}
 use Rattle.sql_locals.specs.declared.locals.Local.{Local}
 use Rattle.sql_meaning.specs.Within.{do_one}
 use Rattle.sql_evaluation.proofs.Branching.{rest_is}
-use Rattle.value_rules.specs.Operators.{truth_of, with_value}
-use Rattle.value_rules.specs.Functions.{is_known_true}
 use Rattle.proc_model.specs.Talk.{Rules, Led, Talk, ends}
-use Rattle.proc_model.specs.Procedures.{Held, Ending, done, failed, Action, ◌>>=◌, pure, fail, answered, all_tried, add_local, turn_spent, spend_turn, value_of, preset_value, declare, carried_on, steps}
-use Rattle.proc_run.specs.declared.runner.RunRefusal.{RunRefusal}
-use Rattle.proc_run.specs.declared.runner.RunRefusal.TheVariants.{Sql}
-use Rattle.proc_run.specs.declared.world.World.{World}
-use Rattle.proc_run.specs.Calls.{EndsBy, Tries, always, plainly, refusal_of, widened, world_of}
-use Rattle.proc_run.specs.Parts.{values_at, value_at, holds_at, preset_at, declared_at, all_declared_at, step_at, steps_at, otherwise_at, branches_at, turns_at}
-use Rattle.proc_run.proofs.Behind.{Onto, onto_start, onto_ends, onto_done, failed_ends, tried_ends, untried_alone}
-
-pub onto_on : {S E : Type 0} (rules : Rules S) (faults : S → ℕ) (a : Talk E) (b : Talk E) (c : Talk E) (here mid start : S)
-    → Onto rules faults a here b mid → Onto rules faults b mid c start → Onto rules faults a here c start
-onto_on rules faults a b c here mid start p q =
-    let l = p.later in let m = q.later in record { later = omega (arith, l, m); on = λ e after h. q.on e after (p.on e after h) }
+use Rattle.proc_model.specs.Procedures.{Held, Ending, done, failed, Action, ◌>>=◌, pure, fail, turn_spent, spend_turn, steps}
+use Rattle.proc_parts.specs.declared.runner.RunRefusal.{RunRefusal}
+use Rattle.proc_parts.specs.declared.runner.RunRefusal.TheVariants.{Sql}
+use Rattle.proc_parts.specs.declared.world.World.{World}
+use Rattle.proc_parts.specs.Calls.{EndsBy, always, plainly, refusal_of, world_of}
+use Rattle.proc_parts.specs.Parts.{values_at, value_at, holds_at, all_declared_at, step_at}
+use Rattle.proc_run.specs.Steps.{steps_at, otherwise_at, branches_at, turns_at}
+use Rattle.proc_parts.proofs.Behind.{Onto, onto_start, onto_on, onto_ends, onto_done, failed_ends}
 
 -- ---- views
 
 pub if_view : (arms : Items Branch) (otherwise : Option (Items Stmt)) → view (If arms otherwise) ≡ if_steps (view_branches arms) (view_otherwise otherwise)
 if_view arms otherwise = search (rules, the_lemmas)
 
--- ---- conditions
+-- ---- statements, one after the other
 
 module _ {S : Type 0} (rules : Rules S) (faults : S → ℕ) (w : World) where
-  truth_behind : Value → Action Bool
-  truth_behind v = answered (with_value is_known_true (truth_of v))
-
-  holds_is : (locals : List Local) (q : Statement) (held : Held) → holds_at w locals q held ≡ (value_at w locals q >>= truth_behind) held
-  unfolding holds_at truth_behind
-  holds_is locals q held = refl
-
-  pub holds_untold : {A B : Type 0} (view' : A → Value) (other : B → Bool) (locals : List Local) (q : Statement) (e : RunRefusal) (held held' : Held) (before after : S)
-      → EndsBy rules faults view' (Err e) held' before (value_at w locals q held) after → EndsBy rules faults other (Err e) held' before (holds_at w locals q held) after
-  holds_untold view' other locals q e held held' before after h =
-      rw (holds_is locals q held) (failed_ends rules faults (value_at w locals q) truth_behind view' other e held held' before after h)
-
-  holds_behind : (locals : List Local) (q : Statement) (v : Value) (held held' : Held) (before after : S)
-      → Led rules (value_at w locals q held) before (done v held') after → faults before ≤ faults after
-      → Onto rules faults (answered (with_value is_known_true (truth_of v)) held') after (holds_at w locals q held) before
-  unfolding truth_behind
-  holds_behind locals q v held held' before after h later =
-      rw (holds_is locals q held) (onto_done rules faults (value_at w locals q) truth_behind v held held' before after later h)
-
-  pub holds_told : (locals : List Local) (q : Statement) (v : Value) (goes : Bool) (held held' : Held) (before after : S)
-      → EndsBy rules faults plainly (Ok v) held' before (value_at w locals q held) after → Ok goes ≡ with_value is_known_true (truth_of v) → faults before ≤ faults after
-      → EndsBy rules faults plainly (Ok goes) held' before (holds_at w locals q held) after
-  holds_told locals q v goes held held' before after h is later =
-      onto_ends rules faults plainly (Ok goes) held' (answered (with_value is_known_true (truth_of v)) held') (holds_at w locals q held) after before after
-      (holds_behind locals q v held held' before after h later) (rw (sym is) (refl, refl))
-
-  pub holds_mixed : {B : Type 0} (other : B → Bool) (locals : List Local) (q : Statement) (v : Value) (code : ℕ) (held held' : Held) (before after : S)
-      → EndsBy rules faults plainly (Ok v) held' before (value_at w locals q held) after → Err code ≡ with_value is_known_true (truth_of v) → faults before ≤ faults after
-      → EndsBy rules faults other (Err (Sql code None)) held' before (holds_at w locals q held) after
-  holds_mixed other locals q v code held held' before after h is later =
-      onto_ends rules faults other (Err (Sql code None)) held' (answered (with_value is_known_true (truth_of v)) held') (holds_at w locals q held) after before after
-      (holds_behind locals q v held held' before after h later) (rw (sym is) (refl, refl))
-
-  pub holds_asked : (locals : List Local) (t : Tree) (q : Statement) (r : Result Bool RunRefusal) (held held' : Held) (before after : S) → q ≡ do_one t
-      → EndsBy rules faults plainly r held' before (holds_at w locals q held) after → EndsBy rules faults plainly r held' before (holds_at w locals (do_one t) held) after
-  holds_asked locals t q r held held' before after is h = rw is at h
-
-  -- a DO over one expression asks what the definitions ask
-  value_is : (locals : List Local) (t : Tree) (held : Held) → value_of (world_of w) locals t held ≡ value_at w locals (do_one t) held
-  unfolding value_at values_at
-  value_is locals t held = refl
-
-  -- ---- DEFAULT
-
-  pub preset_none : (locals : List Local) (v : Value) (held : Held) (here : S) → v ≡ Null → EndsBy rules faults plainly (Ok v) held here (preset_at w locals no_part held) here
-  unfolding preset_at
-  preset_none locals v held here is = rw is (refl, refl)
-
-  preset_is : (locals : List Local) (t : Tree) (q : Statement) (held : Held) → q ≡ do_one t → value_at w locals q held ≡ preset_at w locals (part t) held
-  unfolding preset_at
-  preset_is locals t q held is = ap (λ (s : Statement). value_at w locals s held) is ∙ sym (value_is locals t held)
-
-  pub preset_some : (locals : List Local) (t : Tree) (q : Statement) (r : Result Value RunRefusal) (held held' : Held) (before after : S) → q ≡ do_one t
-      → EndsBy rules faults plainly r held' before (value_at w locals q held) after → EndsBy rules faults plainly r held' before (preset_at w locals (part t) held) after
-  preset_some locals t q r held held' before after is h = rw (preset_is locals t q held is) at h
-
-  -- ---- DECLARE
-
-  pub declare_unset : {A B : Type 0} (view' : A → Value) (other : B → List Local) (locals : List Local) (d : Declared) (e : RunRefusal) (held held' : Held) (before after : S)
-      → EndsBy rules faults view' (Err e) held' before (preset_at w locals d.preset held) after → EndsBy rules faults other (Err e) held' before (declared_at w locals d held) after
-  unfolding preset_at declared_at
-  declare_unset view' other locals d e held held' before after h =
-      failed_ends rules faults (preset_value (world_of w) locals d.preset) (λ v. answered (all_tried (add_local d.kind v) locals d.names)) view' other e held held' before after h
-
-  declare_behind : (locals : List Local) (d : Declared) (v : Value) (held held' : Held) (before after : S)
-      → Led rules (preset_at w locals d.preset held) before (done v held') after → faults before ≤ faults after
-      → Onto rules faults (answered (all_tried (add_local d.kind v) locals d.names) held') after (declared_at w locals d held) before
-  unfolding preset_at declared_at
-  declare_behind locals d v held held' before after h later =
-      onto_done rules faults (preset_value (world_of w) locals d.preset) (λ v. answered (all_tried (add_local d.kind v) locals d.names)) v held held' before after later h
-
-  pub declare_done : (locals locals' : List Local) (d : Declared) (v : Value) (u : Unit {0}) (held held' : Held) (before after : S)
-      → EndsBy rules faults plainly (Ok v) held' before (preset_at w locals d.preset held) after → Tries (always locals') (Ok u) (all_tried (add_local d.kind v) locals d.names) → faults before ≤ faults after
-      → EndsBy rules faults (always locals') (Ok u) held' before (declared_at w locals d held) after
-  declare_done locals locals' d v u held held' before after h fits later =
-      onto_ends rules faults (always locals') (Ok u) held' (answered (all_tried (add_local d.kind v) locals d.names) held') (declared_at w locals d held) after before after
-      (declare_behind locals d v held held' before after h later) (tried_ends rules faults _ (always locals') u held' after fits)
-
-  pub declare_unfit : {B : Type 0} (other : B → List Local) (locals locals' : List Local) (d : Declared) (v : Value) (e : SqlRefusal) (held held' : Held) (before after : S)
-      → EndsBy rules faults plainly (Ok v) held' before (preset_at w locals d.preset held) after → Tries {A = Unit {0}} (always locals') (Err e) (all_tried (add_local d.kind v) locals d.names) → faults before ≤ faults after
-      → EndsBy rules faults other (Err (widened e)) held' before (declared_at w locals d held) after
-  declare_unfit other locals locals' d v e held held' before after h unfit later =
-      onto_ends rules faults other (Err (widened e)) held' (answered (all_tried (add_local d.kind v) locals d.names) held') (declared_at w locals d held) after before after
-      (declare_behind locals d v held held' before after h later) (untried_alone rules faults _ (always locals') other e held' after unfit)
-
-  -- DECLAREs, one after the other
-  declares_next : (locals : List Local) (xs : List Declaration) (i : ℕ) (x : Declaration) (held : Held) → i < length xs → x ≡ get_or xs i x
-      → all_declared_at w locals (view_declarations (drop i xs)) held ≡ (declared_at w locals (view_declaration x) >>= λ next. all_declared_at w next (view_declarations (drop (i + 1) xs))) held
-  unfolding all_declared_at declared_at
-  declares_next locals xs i x held within is = ap (λ (ys : List Declaration). carried_on (declare (world_of w)) locals (view_declarations ys) held) (rest_is xs i x within is)
-
-  pub declares_more : (locals locals' : List Local) (xs : List Declaration) (i : ℕ) (x : Declaration) (u : Unit {0}) (held held' : Held) (start before after : S) (whole : Talk (Ending (List Local)))
-      → i < length xs → x ≡ get_or xs i x → EndsBy rules faults (always locals') (Ok u) held' before (declared_at w locals (view_declaration x) held) after → faults before ≤ faults after
-      → Onto rules faults (all_declared_at w locals (view_declarations (drop i xs)) held) before whole start
-      → Onto rules faults (all_declared_at w locals' (view_declarations (drop (i + 1) xs)) held') after whole start
-  declares_more locals locals' xs i x u held held' start before after whole within is h later so_far =
-      onto_on rules faults _ (all_declared_at w locals (view_declarations (drop i xs)) held) whole after before start
-      (rw (declares_next locals xs i x held within is) (onto_done rules faults (declared_at w locals (view_declaration x)) (λ next. all_declared_at w next (view_declarations (drop (i + 1) xs))) locals' held held' before after later h)) so_far
-
-  pub declares_fail : {B : Type 0} (locals locals' : List Local) (other : B → List Local) (xs : List Declaration) (i : ℕ) (x : Declaration) (e : RunRefusal) (held held' : Held) (start before after : S) (whole : Talk (Ending (List Local)))
-      → i < length xs → x ≡ get_or xs i x → EndsBy {A = Unit {0}} rules faults (always locals') (Err e) held' before (declared_at w locals (view_declaration x) held) after
-      → Onto rules faults (all_declared_at w locals (view_declarations (drop i xs)) held) before whole start
-      → EndsBy rules faults other (Err e) held' start whole after
-  declares_fail locals locals' other xs i x e held held' start before after whole within is h so_far =
-      onto_ends rules faults other (Err e) held' (all_declared_at w locals (view_declarations (drop i xs)) held) whole before start after so_far
-      (rw (declares_next locals xs i x held within is) (failed_ends rules faults (declared_at w locals (view_declaration x)) (λ next. all_declared_at w next (view_declarations (drop (i + 1) xs))) (always locals') other e held held' before after h))
-
-  pub declares_end : (locals : List Local) (xs : List Declaration) (i : ℕ) (u : Unit {0}) (held : Held) (start here : S) (whole : Talk (Ending (List Local))) → length xs ≤ i
-      → Onto rules faults (all_declared_at w locals (view_declarations (drop i xs)) held) here whole start → EndsBy rules faults (always locals) (Ok u) held start whole here
-  unfolding all_declared_at
-  declares_end locals xs i u held start here whole past so_far =
-      so_far.on (done locals held) here (rw (drop_all i xs past) (refl, refl))
-
-  pub declares_start : (locals : List Local) (xs : List Declaration) (held : Held) (here : S)
-      → Onto rules faults (all_declared_at w locals (view_declarations xs) held) here (all_declared_at w locals (view_declarations xs) held) here
-  declares_start locals xs held here = onto_start rules faults _ here
-
-  -- ---- statements, one after the other
-
   steps_next : (locals : List Local) (xs : List Stmt) (i : ℕ) (x : Stmt) (held : Held) → i < length xs → x ≡ get_or xs i x
       → steps_at w locals (view_statements (drop i xs)) held ≡ (step_at w locals (view x) >>= λ next. steps_at w next (view_statements (drop (i + 1) xs))) held
   unfolding steps_at step_at

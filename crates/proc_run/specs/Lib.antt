@@ -1,2 +1,2 @@
-pub mod Calls
-pub mod Parts
+pub mod Answers
+pub mod Steps

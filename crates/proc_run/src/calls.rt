@@ -3,15 +3,14 @@ ghost use Rattle.std.specs.Prelude.{◌≡◌, ◌≤◌, Err, IfOk};
 ghost use Rattle.port_traits.specs.Causes.{Rose};
 ghost use Rattle.catalog_objects.specs.Keys.{objects_of};
 ghost use Rattle.proc_model.specs.Procedures.{Came, IsCall};
-ghost use Rattle.proc_run.specs.Calls.{AnswersBy, held_of, left_of};
+ghost use Rattle.proc_parts.specs.Calls.{held_of, left_of};
+ghost use Rattle.proc_run.specs.Answers.{AnswersBy};
 ghost use Rattle.proc_run.specs.declared.calls.CallRefusal.TheVariants.{Device};
 
-use crate::held::Held;
 use crate::nesting::call_procedure;
-use crate::runner::{RunRefusal, Runner};
-use crate::world::World;
 use answer_text::{Answer, End};
 use catalog::Catalog;
+use proc_parts::{Held, RunRefusal, Runner, World};
 use prog_run::Meter;
 use sql_stage::Running;
 use std::alloc::Global;

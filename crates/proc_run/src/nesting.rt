@@ -1,17 +1,14 @@
 //! Procedures, one inside the other.
 ghost use Rattle.std.specs.Prelude.{◌≡◌, ◌<◌, ◌-◌, ◌∷◌, None};
-ghost use Rattle.proc_run.specs.declared.runner.RunRefusal.TheVariants.{Sql};
+ghost use Rattle.proc_parts.specs.declared.runner.RunRefusal.TheVariants.{Sql};
 ghost use Rattle.sql_tree.specs.StatementView.{view_program};
 ghost use Rattle.catalog_objects.specs.Keys.{objects_of};
 ghost use Rattle.sql_evaluation.specs.Seen.{running_of};
-ghost use Rattle.proc_run.specs.Calls.{EndsBy, Moves, held_of, plainly, world_of};
-ghost use Rattle.proc_run.specs.Parts.{body_at};
+ghost use Rattle.proc_parts.specs.Calls.{EndsBy, Moves, held_of, plainly, world_of};
+ghost use Rattle.proc_run.specs.Steps.{body_at};
 
-use crate::declaring::parameters;
-use crate::held::Held;
-use crate::runner::{RunRefusal, Runner};
 use crate::steps::step;
-use crate::world::World;
+use proc_parts::{Held, RunRefusal, Runner, World, parameters};
 use sql_locals::Locals;
 use sql_stage::Running;
 use sql_tree::Routine;
@@ -62,7 +59,7 @@ fn further_down<'a>(world: &World<'a>, running: &'a Running<'a>) -> World<'a>
 
 /// The body of a procedure, behind its parameters.
 #[cycle(nesting)]
-#[tactic(auto, using(crate::proofs::Nested::bodies, crate::proofs::Behind::moving))]
+#[tactic(auto, using(crate::proofs::Nested::bodies, proc_parts::proofs::Behind::moving))]
 fn run_procedure<R: Runner>(
     alloc: Global,
     world: &World<'_>,
@@ -89,7 +86,7 @@ fn run_procedure<R: Runner>(
 /// A CALL with the values of its arguments: 1305 where there is no such procedure, 1318 for another number of arguments,
 /// 1456 where it is running already, 30003 where it would be nested too deep.
 #[cycle(nesting)]
-#[tactic(auto, using(crate::proofs::Nested::nested, crate::proofs::Behind::moving))]
+#[tactic(auto, using(crate::proofs::Nested::nested, proc_parts::proofs::Behind::moving))]
 pub(crate) fn call_procedure<R: Runner>(
     alloc: Global,
     world: &World<'_>,

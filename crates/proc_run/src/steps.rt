@@ -4,17 +4,13 @@ ghost use Rattle.sql_tree.specs.Statement.{block, while_steps};
 ghost use Rattle.sql_tree.specs.StatementView.{view, view_declarations, view_otherwise, view_statements};
 ghost use Rattle.sql_tree.specs.View.{view_tree};
 ghost use Rattle.proc_model.specs.Procedures.{is_plain};
-ghost use Rattle.proc_run.specs.Calls.{Calls, CallsMove, EndsBy, Moves, always, held_of, world_of};
-ghost use Rattle.proc_run.specs.Parts.{has_form, otherwise_at, step_at, steps_at};
+ghost use Rattle.proc_parts.specs.Calls.{Calls, CallsMove, EndsBy, Moves, always, held_of, world_of};
+ghost use Rattle.proc_parts.specs.Parts.{step_at};
+ghost use Rattle.proc_run.specs.Steps.{has_form, otherwise_at, steps_at};
 
-use crate::assigning::set_step;
-use crate::calling::call_step;
-use crate::declaring::declare_all;
-use crate::evaluating::condition_holds;
-use crate::held::Held;
-use crate::performing::plain_step;
-use crate::runner::{RunRefusal, Runner};
-use crate::world::World;
+use proc_parts::{
+    Held, RunRefusal, Runner, World, call_step, condition_holds, declare_all, plain_step, set_step,
+};
 use sql_locals::Locals;
 use sql_tree::{Declaration, Expr, Stmt};
 use std::alloc::Global;
@@ -65,7 +61,7 @@ fn has_form(s: &Stmt) -> bool
 ///
 /// Statements nest 197 deep in 16 procedures, so what takes much of the stack stands here and not in `step`. That calls it at
 /// two places, since Rattle's own compiler puts a function that is called at one place into its caller.
-#[tactic(auto, using(crate::proofs::Behind::moving, crate::proofs::Performed::step_plain, crate::proofs::Performed::step_none))]
+#[tactic(auto, using(proc_parts::proofs::Behind::moving, crate::proofs::Performed::step_plain, crate::proofs::Performed::step_none))]
 fn leaf_step<R: Runner, F: Fn(&mut R, &mut Held, &Bytes, List<Value>) -> Result<(), RunRefusal>>(
     alloc: Global,
     call: &F,
@@ -101,7 +97,7 @@ fn leaf_step<R: Runner, F: Fn(&mut R, &mut Held, &Bytes, List<Value>) -> Result<
 
 /// A statement of a procedure. Most are plain, and go first.
 #[cycle(step)]
-#[tactic(auto, using(crate::proofs::Behind::moving))]
+#[tactic(auto, using(proc_parts::proofs::Behind::moving))]
 pub(crate) fn step<
     R: Runner,
     F: Fn(&mut R, &mut Held, &Bytes, List<Value>) -> Result<(), RunRefusal>,
@@ -144,7 +140,7 @@ pub(crate) fn step<
 
 /// Statements, one after the other.
 #[cycle(step)]
-#[tactic(auto, using(crate::proofs::Behind::moving, crate::proofs::Stepping::steps_start, crate::proofs::Stepping::steps_more, crate::proofs::Stepping::steps_fail, crate::proofs::Stepping::steps_end))]
+#[tactic(auto, using(proc_parts::proofs::Behind::moving, crate::proofs::Stepping::steps_start, crate::proofs::Stepping::steps_more, crate::proofs::Stepping::steps_fail, crate::proofs::Stepping::steps_end))]
 fn steps<R: Runner, F: Fn(&mut R, &mut Held, &Bytes, List<Value>) -> Result<(), RunRefusal>>(
     alloc: Global,
     call: &F,
@@ -168,7 +164,7 @@ fn steps<R: Runner, F: Fn(&mut R, &mut Held, &Bytes, List<Value>) -> Result<(), 
 
 /// A block: its locals end with it.
 #[cycle(step)]
-#[tactic(auto, using(crate::proofs::Behind::moving, crate::proofs::Stepping::block_undeclared, crate::proofs::Stepping::block_fails, crate::proofs::Stepping::block_done))]
+#[tactic(auto, using(proc_parts::proofs::Behind::moving, crate::proofs::Stepping::block_undeclared, crate::proofs::Stepping::block_fails, crate::proofs::Stepping::block_done))]
 fn block_step<R: Runner, F: Fn(&mut R, &mut Held, &Bytes, List<Value>) -> Result<(), RunRefusal>>(
     alloc: Global,
     call: &F,
@@ -194,7 +190,7 @@ fn block_step<R: Runner, F: Fn(&mut R, &mut Held, &Bytes, List<Value>) -> Result
 
 /// The statements behind ELSE, if there is one.
 #[cycle(step)]
-#[tactic(auto, using(crate::proofs::Behind::moving, crate::proofs::Stepping::else_absent, crate::proofs::Stepping::else_there))]
+#[tactic(auto, using(proc_parts::proofs::Behind::moving, crate::proofs::Stepping::else_absent, crate::proofs::Stepping::else_there))]
 fn else_step<R: Runner, F: Fn(&mut R, &mut Held, &Bytes, List<Value>) -> Result<(), RunRefusal>>(
     alloc: Global,
     call: &F,
@@ -218,7 +214,7 @@ fn else_step<R: Runner, F: Fn(&mut R, &mut Held, &Bytes, List<Value>) -> Result<
 
 /// IF: the statements behind the first condition that holds, or else those behind ELSE. It is given no other statement.
 #[cycle(step)]
-#[tactic(auto, using(crate::proofs::Behind::moving, crate::proofs::Stepping::if_start, crate::proofs::Stepping::branches_skip, crate::proofs::Stepping::branches_fail, crate::proofs::Stepping::branches_here, crate::proofs::Stepping::branches_end))]
+#[tactic(auto, using(proc_parts::proofs::Behind::moving, crate::proofs::Stepping::if_start, crate::proofs::Stepping::branches_skip, crate::proofs::Stepping::branches_fail, crate::proofs::Stepping::branches_here, crate::proofs::Stepping::branches_end))]
 fn if_step<R: Runner, F: Fn(&mut R, &mut Held, &Bytes, List<Value>) -> Result<(), RunRefusal>>(
     alloc: Global,
     call: &F,
@@ -247,7 +243,7 @@ fn if_step<R: Runner, F: Fn(&mut R, &mut Held, &Bytes, List<Value>) -> Result<()
 
 /// WHILE: a turn is spent where the condition holds.
 #[cycle(step)]
-#[tactic(auto, using(crate::proofs::Behind::moving, crate::proofs::Stepping::turns_start, crate::proofs::Stepping::turns_past, crate::proofs::Stepping::turns_untested, crate::proofs::Stepping::turns_unspent, crate::proofs::Stepping::turns_fail, crate::proofs::Stepping::turns_more))]
+#[tactic(auto, using(proc_parts::proofs::Behind::moving, crate::proofs::Stepping::turns_start, crate::proofs::Stepping::turns_past, crate::proofs::Stepping::turns_untested, crate::proofs::Stepping::turns_unspent, crate::proofs::Stepping::turns_fail, crate::proofs::Stepping::turns_more))]
 fn while_step<R: Runner, F: Fn(&mut R, &mut Held, &Bytes, List<Value>) -> Result<(), RunRefusal>>(
     alloc: Global,
     call: &F,

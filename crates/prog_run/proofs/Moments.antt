@@ -18,11 +18,12 @@ use Rattle.sql_meaning.specs.Running.{effect, evaluation, context_after}
 use Rattle.sql_stage.specs.declared.stage.Stage.{Stage}
 use Rattle.sql_stage.specs.Stage.{scene_of, LeadsOn}
 use Rattle.sql_stage.proofs.Leading.{rows_led, counters_led, names_led}
+use Rattle.stage_undo.specs.Back.{IsBack}
 use Rattle.sql_reach.specs.Defining.{number_of_bytes}
 use Rattle.prog_run.specs.declared.meter.Meter.{Meter}
 use Rattle.prog_run.specs.declared.meter.Outcome.{Outcome}
 use Rattle.prog_run.specs.Runs.{moment, scene_at, setting_at, Runs, Evaluated, LeavesAll, contents_of, Comes, Gives}
-use Rattle.prog_run.specs.Together.{AreTogether, IsBack}
+use Rattle.prog_run.specs.Together.{AreTogether}
 
 -- what holds stays where a stage leads on
 pub together_on : (objects : List Object) (a b : Stage) → AreTogether objects a.tables a.undo a.counters → LeadsOn a b → AreTogether objects b.tables b.undo b.counters

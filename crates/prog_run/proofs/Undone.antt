@@ -1,32 +1,19 @@
 -- An error takes back what was done.
-use Rattle.std.proofs.Common.{◌≡◌, ℕ, true, List, length, drop, refl, sym, ap, subst, ◌∙◌, ◌≤◌, arith}
-use Rattle.std.specs.Prelude.{unwrap_or}
-use Rattle.val_types.specs.declared.change.Change.{Change}
-use Rattle.auto_inc.specs.declared.counters.Counter.{Counter}
-use Rattle.auto_inc.specs.Counting.{value_for, tables_of}
-use Rattle.table_rules.specs.Stores.{Store, can_take_back}
-use Rattle.table_rules.specs.Leads.{Leads}
+use Rattle.std.proofs.Common.{◌≡◌, ℕ, true, Result, Ok, Err, length, drop, refl, sym, ap, ◌∙◌, arith}
+use Rattle.std.specs.Prelude.{OnErr, OnOk}
+use Rattle.val_types.specs.declared.refusal.SqlRefusal.{SqlRefusal}
+use Rattle.val_types.specs.declared.refusal.SqlRefusal.TheVariants.{Sql, NoMemory}
+use Rattle.table_rules.specs.Stores.{can_take_back}
 use Rattle.table_rules.proofs.Leading.{noted_taken_back}
 use Rattle.sql_meaning.specs.Scenes.{Scene, done, failed, Action, undone, undone_from, put_back}
 use Rattle.sql_stage.specs.declared.stage.Stage.{Stage}
-use Rattle.sql_stage.specs.Stage.{scene_of, LeadsOn}
-use Rattle.sql_stage.proofs.Leading.{rows_led, counters_led, names_led, turns_led}
-use Rattle.prog_run.specs.Together.{StandsBack, IsBack}
+use Rattle.sql_stage.specs.Stage.{scene_of, LeadsOn, EndsAs, EndsAsBy}
+use Rattle.sql_stage.proofs.Leading.{rows_led}
+use Rattle.stage_undo.specs.Back.{StandsBack, IsBack}
 
 -- the changes since can be taken back
 pub since_taken_back : (start now : Stage) (mark : ℕ) → LeadsOn start now → mark ≡ length start.undo → can_take_back now.tables (drop mark now.undo) ≡ true
 since_taken_back start now mark p e = noted_taken_back start.tables now.tables start.undo now.undo (rows_led start now p) mark (omega (arith, e))
-
--- a stage with the rows and changes of an earlier one leads on from that
-pub led_back : (start now back : Stage) → LeadsOn start now → Leads start.tables start.undo back.tables back.undo
-    → back.counters ≡ now.counters → back.turns ≡ now.turns → LeadsOn start back
-unfolding LeadsOn
-led_back start now back p rows counters turns = record {
-  rows = rows;
-  counters = λ table. subst (λ (cs : List Counter). unwrap_or (value_for table start.counters) 0 ≤ unwrap_or (value_for table cs) 0) (sym counters) (counters_led start now p table);
-  named = ap tables_of counters ∙ names_led start now p;
-  turns = subst (λ (n : ℕ). n ≤ start.turns) (sym turns) (turns_led start now p);
-}
 
 -- the scene is the one before with what stays used
 pub back_is : (start now back : Stage) → StandsBack start now back → scene_of back ≡ put_back (scene_of start) (scene_of now)
@@ -47,28 +34,27 @@ undone_failed start now back m code e h = ap (undone_from (scene_of start)) e �
 pub undone_done : {A : Type 0} (start now : Stage) (m : Action A) (a : A) → m (scene_of start) ≡ done a (scene_of now) → undone m (scene_of start) ≡ done a (scene_of now)
 undone_done start now m a e = ap (undone_from (scene_of start)) e
 
+-- an action whose error takes back what it did, by what it came to and the stage behind that
+pub undone_ends : {A B : Type 0} (view : A → B) (start now back : Stage) (m : Action B) (r : Result A SqlRefusal) → EndsAsBy view r (scene_of now) (m (scene_of start))
+    → OnOk r (back ≡ now) → OnErr r (StandsBack start now back) → EndsAsBy view r (scene_of back) (undone m (scene_of start))
+undone_ends view start now back m (Ok a) e same h = undone_done start now m (view a) e ∙ ap (λ (s : Stage). done (view a) (scene_of s)) (sym same)
+undone_ends view start now back m (Err (Sql code)) e same h = undone_failed start now back m code e h
+undone_ends view start now back m (Err NoMemory) e same h = tt
+
+-- the same where what it gives is told as it is
+pub undone_gives : {A : Type 0} (start now back : Stage) (m : Action A) (r : Result A SqlRefusal) → EndsAs r (scene_of now) (m (scene_of start))
+    → OnOk r (back ≡ now) → OnErr r (StandsBack start now back) → EndsAs r (scene_of back) (undone m (scene_of start))
+undone_gives start now back m (Ok a) e same h = undone_done start now m a e ∙ ap (λ (s : Stage). done a (scene_of s)) (sym same)
+undone_gives start now back m (Err (Sql code)) e same h = undone_failed start now back m code e h
+undone_gives start now back m (Err NoMemory) e same h = tt
+
 -- what is as it was is back
 pub stays_back : (s : Stage) → IsBack s s
 stays_back s = record { tables = refl; undo = refl }
 
 -- what a failed statement leaves
-pub is_back : (start now back : Stage) → StandsBack start now back → IsBack start back
-is_back start now back h = record { tables = h.tables; undo = h.undo }
+pub is_back : {A : Type 0} (start now back : Stage) (r : Result A SqlRefusal) → OnErr r (StandsBack start now back) → OnErr r (IsBack start back)
+is_back start now back (Ok a) h = tt
+is_back start now back (Err e) h = record { tables = h.tables; undo = h.undo }
 
--- changes taken back to where some stage stood
-pub taken_back_to : (start old new : Stage) (mark : ℕ) → LeadsOn start old → mark ≡ length start.undo
-    → ((s : Store) (noted : List Change) → Leads s noted old.tables old.undo → mark ≡ length noted → (new.tables.tables ≡ s.tables) × (new.undo ≡ noted))
-    → new.counters ≡ old.counters → new.seeds ≡ old.seeds → new.turns ≡ old.turns → new.uuids ≡ old.uuids → StandsBack start old new
-taken_back_to start old new mark p e home counters seeds turns uuids =
-    let h = home start.tables start.undo (rows_led start old p) e in
-    record { tables = h.0; undo = h.1; counters = counters; seeds = seeds; turns = turns; uuids = uuids }
-
-pub leads_back_to : (start old new : Stage) (mark : ℕ) → LeadsOn start old → mark ≡ length start.undo
-    → ((s : Store) (noted : List Change) → Leads s noted old.tables old.undo → length noted ≤ mark → Leads s noted new.tables new.undo)
-    → new.counters ≡ old.counters → new.turns ≡ old.turns → LeadsOn start new
-leads_back_to start old new mark p e leads counters turns =
-    led_back start old new p (leads start.tables start.undo (rows_led start old p) (omega (arith, e))) counters turns
-
-pub ruleset taking_back = (taken_back_to, leads_back_to)
-
-pub ruleset undoing = (since_taken_back, undone_failed, undone_done, is_back)
+pub ruleset undoing = (since_taken_back, undone_ends, undone_gives, is_back)

@@ -8,7 +8,6 @@ use Rattle.catalog_rules.specs.Bases.{definitions_in}
 use Rattle.sql_tree.specs.Statement.{Statement, drop_function, drop_procedure, drop_trigger}
 use Rattle.catalog_objects.specs.declared.object.Object.{Object}
 use Rattle.catalog_objects.specs.Keys.{objects_of}
-use Rattle.sql_stage.specs.declared.stage.Stage.{Stage}
 use Rattle.prog_run.specs.Contents.{counted_names}
 
 -- the changes can be taken back without memory; tables and counters are those of the catalog
@@ -16,20 +15,6 @@ pub record AreTogether (objects : List Object) (store : Store) (changes : List C
   pub reversible : can_take_back store changes ≡ true
   pub theirs : definitions_of store.tables ≡ definitions_in (objects_of objects)
   pub counted : tables_of counters ≡ counted_names (definitions_in (objects_of objects))
-
--- the rows and changes of an earlier stage, with all else as it was used since
-pub record StandsBack (start now back : Stage) : Type 0 where
-  pub tables : back.tables.tables ≡ start.tables.tables
-  pub undo : back.undo ≡ start.undo
-  pub counters : back.counters ≡ now.counters
-  pub seeds : back.seeds ≡ now.seeds
-  pub turns : back.turns ≡ now.turns
-  pub uuids : back.uuids ≡ now.uuids
-
--- the rows and changes are as they were
-pub record IsBack (start back : Stage) : Type 0 where
-  pub tables : back.tables.tables ≡ start.tables.tables
-  pub undo : back.undo ≡ start.undo
 
 -- a value that is there is not below 0
 abbrev pub Counts : Option ℤ → Type 0

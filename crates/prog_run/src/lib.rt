@@ -8,8 +8,8 @@
 //! - `meter`: [`Meter`], what is left to a command, and [`Outcome`], what is told of a statement
 //! - `running`: [`run_stmt`] and [`eval_list`]
 //! - `defining`: CREATE, DROP and TRUNCATE
-//! - `staged`, `undoing`, `programs`: a statement on a stage with its context, what an error takes back, and statements
-//!   with the stored programs that they reach
+//! - `staged`, `undoing`, `programs`: a statement on a stage with its context, what an error takes back (by `stage_undo`),
+//!   and statements with the stored programs that they reach
 //! - `context`, `number`, `under_way`: what a statement leaves of a context; the number from which UUID() counts; what is
 //!   under way where it runs, a statement by the names of its tables, which are gathered once
 //!

@@ -6,7 +6,7 @@ ghost use Rattle.catalog_objects.specs.Keys.{objects_of};
 ghost use Rattle.sql_meaning.specs.Running.{effect, evaluation};
 ghost use Rattle.sql_stage.specs.Stage.{EndsAs, EndsAsBy, LeadsOn, scene_of};
 ghost use Rattle.sql_statements.specs.Did.{did_of};
-ghost use Rattle.prog_run.specs.Together.{IsBack};
+ghost use Rattle.stage_undo.specs.Back.{IsBack};
 ghost use Rattle.prog_run.specs.Runs.{Comes, Gives};
 
 use crate::context::{around, forced_for, settle};

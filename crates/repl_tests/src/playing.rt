@@ -5,8 +5,9 @@
 
 use answer_text::{Report, Status, status_line};
 use port_traits::{Draw, Identity, MemEnv, MemSink, MemSource};
-use repl_run::{top, write_log};
+use repl_run::top;
 use run_streams::empty_report;
+use script_run::write_log;
 use std::alloc::Global;
 use std::process::Abort;
 use val_types::{Bytes, List, NoMemory};

@@ -11,7 +11,7 @@ use Rattle.replica_model.specs.Applying.{Going, Stop, differs, damaged, foreign,
 use Rattle.replica_model.specs.Replica.{Replica}
 use Rattle.relay_log.specs.declared.place.Walk.{Walk}
 use Rattle.relay_log.specs.Reaching.{Fetched, IsAhead, place_seen}
-use Rattle.stmt_apply.specs.Ends.{applied_in}
+use Rattle.stmt_apply.specs.Applying.{applied_in}
 use Rattle.replica_node.specs.declared.told.Applied as code_applied
 use Rattle.replica_node.specs.declared.told.Step.{Step}
 use Rattle.replica_node.specs.declared.told.Step.TheVariants.{Over, Moved, Carried, Waits, Stopped as StoppedBy}

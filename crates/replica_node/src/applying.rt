@@ -14,8 +14,9 @@ use node_answers::NodeFault;
 use port_traits::{Draw, Identity};
 use prog_run::Work;
 use relay_log::Walk;
+use row_apply::Stop;
 use std::alloc::Global;
-use stmt_apply::{Stop, apply_group};
+use stmt_apply::apply_group;
 
 /// Carries a group out and lets its changes stand, or says why it stops.
 fn carry_out(

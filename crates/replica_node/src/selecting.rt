@@ -3,7 +3,7 @@ ghost use Rattle.std.specs.Prelude.{◌≡◌, ◌≤◌, ◌^◌, [], false, le
 ghost use Rattle.sql_tree.specs.StatementView.{view};
 ghost use Rattle.prog_run.specs.Contents.{base_of};
 ghost use Rattle.sql_reach.specs.Reach.{is_definition};
-ghost use Rattle.stmt_apply.specs.Ends.{Stays};
+ghost use Rattle.row_apply.specs.Ends.{Stays};
 ghost use Rattle.replica_model.specs.Selecting.{select_answer, select_checked, select_run};
 
 use answer_text::Answer;

@@ -1,8 +1,5 @@
--- The rows that were last committed, and what a statement begins on and leaves.
-use Rattle.std.proofs.Common.{◌≡◌, ℕ, ◌+◌, ◌-◌, ◌<◌, ◌≤◌, List, [], ◌∷◌, ◌++◌, length, drop, Bool, true, false, if◌then◌else◌, Option, Some, None, unwrap_or, Result, Ok, Err, refl, sym, ap, ◌∙◌, subst, arith}
-use Rattle.std.specs.Prelude.{nat_lt}
-use Rattle.std.proofs.lemmas.Bool.{ltb-true, ltb-false}
-use Rattle.std.proofs.lemmas.List.{length-drop}
+-- What a statement begins on, and what it leaves of the rows that were last committed.
+use Rattle.std.proofs.Common.{◌≡◌, ℕ, List, [], ◌++◌, true, false, Option, Some, unwrap_or, Result, Ok, Err, refl, sym, ap, ◌∙◌, subst}
 use Rattle.std.specs.Option.{option_and_then}
 use Rattle.val_types.specs.declared.change.Change.{Change}
 use Rattle.val_types.specs.declared.value.Value.{Value}
@@ -11,9 +8,8 @@ use Rattle.val_types.specs.declared.refusal.SqlRefusal.TheVariants.{Sql, NoMemor
 use Rattle.port_traits.specs.declared.identity.Draw.{Draw}
 use Rattle.table_rules.specs.Tables.{Table}
 use Rattle.table_rules.specs.Stored.{all_applied, all_inverse}
-use Rattle.table_rules.proofs.Equations.{all_applied_behind, applied_none}
+use Rattle.table_rules.proofs.Equations.{all_applied_behind}
 use Rattle.table_rules.proofs.Storing.{turn_back}
-use Rattle.catalog_rules.specs.Bases.{empty_base}
 use Rattle.catalog_objects.specs.Keys.{objects_of}
 use Rattle.catalog_objects.specs.declared.object.Object.{Object}
 use Rattle.sql_locals.specs.declared.locals.Local.{Local}
@@ -26,21 +22,16 @@ use Rattle.sql_meaning.specs.Leading.{EndsWell, Leads, StaysAsItWas}
 use Rattle.sql_meaning.proofs.LedBodies.{statements_end, evaluations_end}
 use Rattle.prog_run.specs.declared.meter.Meter.{Meter}
 use Rattle.prog_run.specs.declared.meter.Outcome.{Outcome}
-use Rattle.prog_run.specs.Contents.{Contents, nothing, IsTogether, as_committed, committed_tables, without_changes}
+use Rattle.prog_run.specs.Contents.{Contents, IsTogether, as_committed, committed_tables, without_changes}
 use Rattle.prog_run.specs.Runs.{moment, scene_at, setting_at, effect_at, evaluation_at, Runs, Evaluated}
-use Rattle.log_entries.specs.declared.entries.Item.{Item}
-use Rattle.log_entries.specs.declared.entries.Entry.{Entry}
-use Rattle.log_model.specs.Log.{LogPlace, behind}
-use Rattle.session_model.specs.Sessions.{Shared, tables_with}
-use Rattle.proc_run.specs.Calls.{left_of}
-use Rattle.session_model.specs.Running.{all_committed, is_other, scene_for, with_counters}
-use Rattle.session_steps.specs.Desk.{has_any, own_behind, shared_by}
+use Rattle.log_model.specs.Log.{LogPlace}
+use Rattle.proc_parts.specs.Calls.{left_of}
+use Rattle.session_model.specs.Running.{is_other, scene_for, with_counters}
+use Rattle.session_desk.specs.Desk.{shared_by}
+use Rattle.session_desk.proofs.Bases.{rows_stand}
 use Rattle.session_steps.specs.Ran.{fuel_at, place_at, shared_behind, Comes, Gives}
 
 -- ---- the rows that were last committed
-
-pub rows_stand : (c : Contents) → IsTogether c → tables_with c.changes (committed_tables c) ≡ c.tables
-rows_stand c together = ap (λ o. unwrap_or o (committed_tables c)) together.made
 
 pub base_stays : (old new : Contents) (more : List Change) → IsTogether old → new.changes ≡ old.changes ++ more → all_applied more old.tables ≡ Some new.tables
     → committed_tables new ≡ committed_tables old
@@ -197,45 +188,3 @@ gives_beside_at n draw locals ts result old read copy now writer count place con
     subst (λ (c : Contents). Gives n draw (left_of start) locals ts result (fuel_at meter) (place_at (shared_by old writer count place) context) (place_at (shared_by c writer count place) context')) (sym moved)
     (gives_beside n draw locals ts result old copy writer count place context context' start meter other
     (subst (λ (c : Contents). Evaluated draw locals ts result (moment c context start) (moment copy context' meter)) is ran))
-
--- ---- a commit
-
-pub committed_now : (old new : Contents) (writer : Option ℕ) (count next : ℕ) (place later : LogPlace) (e : Entry Item) → IsTogether old → new ≡ record old { changes = [] } → next ≡ count + 1 → later ≡ behind e count place
-    → shared_by new writer next later ≡ all_committed e (shared_by old writer count place)
-committed_now old new writer count next place later e together is more moved =
-    ap (λ (c : Contents). shared_by c writer next later) is
-    ∙ ap (λ (k : ℕ). shared_by (record old { changes = [] }) writer k later) more
-    ∙ ap (λ (p : LogPlace). shared_by (record old { changes = [] }) writer (count + 1) p) moved
-    ∙ ap (λ (ts : List Table). record { base = record { catalog = objects_of old.objects; tables = ts }; counters = old.counters; changes = []; writer = writer; committed = count + 1; place = behind e count place })
-    (ap (λ o. unwrap_or o old.tables) (applied_none old.tables) ∙ sym (rows_stand old together))
-
--- ---- at the beginning
-
-pub nothing_shared : (place : LogPlace) → shared_by nothing None 0 place ≡ record { base = empty_base; counters = []; changes = []; writer = None; committed = 0; place = place }
-nothing_shared place =
-    ap (λ (ts : List Table). record { base = record { catalog = []; tables = ts }; counters = []; changes = []; writer = None; committed = 0; place = place }) (ap (λ o. unwrap_or o []) (applied_none []))
-
--- ---- changes behind a mark
-
-any_some : (cs : List Change) → 0 < length cs → has_any cs ≡ true
-any_some [] some = absurd (omega (arith, some))
-any_some (c ∷ cs) some = refl
-
-any_none : (cs : List Change) → length cs ≤ 0 → has_any cs ≡ false
-any_none [] none = refl
-any_none (c ∷ cs) none = absurd (omega (arith, none))
-
-any_by : (b : Bool) (k : ℕ) (cs : List Change) → nat_lt k (length cs) ≡ b → b ≡ has_any (drop k cs)
-any_by true k cs e =
-    let few : k < length cs = ltb-true k (length cs) e in
-    let rest : length (drop k cs) ≡ length cs - k = length-drop k cs in
-    sym (any_some (drop k cs) (omega (arith, few, rest)))
-any_by false k cs e =
-    let all : length cs ≤ k = ltb-false k (length cs) e in
-    let rest : length (drop k cs) ≡ length cs - k = length-drop k cs in
-    sym (any_none (drop k cs) (omega (arith, all, rest)))
-
-pub changed_behind : (n mark count : ℕ) (other : Bool) (shared : Shared) → other ≡ is_other n shared.writer → other ≡ false → count ≡ length shared.changes → nat_lt mark count ≡ has_any (own_behind n mark shared)
-changed_behind n mark count other shared is own at =
-    ap (nat_lt mark) at ∙ any_by (nat_lt mark (length shared.changes)) mark shared.changes refl
-    ∙ ap (λ (b : Bool). has_any (if b then [] else drop mark shared.changes)) (sym own ∙ is)

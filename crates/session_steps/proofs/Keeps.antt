@@ -23,8 +23,8 @@ use Rattle.session_model.specs.Sessions.{Session, Shared}
 use Rattle.session_steps.specs.Ran.{Came, Gave, Gives, place_at, told_given}
 use Rattle.session_model.specs.Running.{expressions_run, Fuel, Given, Turn, statement_run, values_run, with_context}
 use Rattle.session_steps.specs.Calls.{call_of}
-use Rattle.session_steps.specs.declared.desk.Desk.{Desk}
-use Rattle.session_steps.specs.Desk.{has_any, own_behind, shared_of}
+use Rattle.session_desk.specs.declared.desk.Desk.{Desk}
+use Rattle.session_desk.specs.Desk.{has_any, own_behind, shared_of}
 use Rattle.session_steps.specs.Keeping.{changes_kept, item_kept, item_made, refused_unless, with_last_id}
 use Rattle.session_steps.specs.Turned.{EndsAs, EndsWith, IsTurn, giving}
 use Rattle.session_steps.proofs.Settling.{came_kept, came_to, gave_kept, kept_as, not_given_so}

@@ -30,9 +30,9 @@ use Rattle.proc_model.specs.Talk.{Left}
 use Rattle.session_model.specs.Running.{Fuel, Given, Turn, ended, fuel_of, is_other, item_of, keep, made_behind, scene_for, setting_of, settle, statement_run, takes_too_much, undone, values_run, with_context, with_counters}
 use Rattle.session_model.specs.Commands.{changes_of_own}
 use Rattle.session_steps.specs.Calls.{call_of}
-use Rattle.session_steps.specs.Desk.{cut_to, own_behind, shared_of}
+use Rattle.session_desk.specs.Desk.{cut_to, own_behind, shared_of}
 use Rattle.session_steps.specs.Keeping.{changes_kept, item_kept, item_made, kept_if, refused_unless, with_last_id}
-use Rattle.session_steps.specs.declared.desk.Desk.{Desk}
+use Rattle.session_desk.specs.declared.desk.Desk.{Desk}
 use Rattle.session_steps.specs.Ran.{Came, Comes, Fails, Gives, Gave, effect_for, evaluation_for, place_at, shared_behind, told_given}
 use Rattle.session_steps.specs.Turned.{EndsWith, giving}
 

@@ -5,7 +5,7 @@ use Rattle.port_traits.specs.declared.identity.Draw.{Draw}
 use Rattle.log_entries.specs.declared.entries.Item.{Item}
 use Rattle.session_model.specs.Running as running
 use Rattle.session_model.specs.Machine.{kept}
-use Rattle.session_steps.specs.declared.call.Call.{Call}
+use Rattle.session_desk.specs.declared.call.Call.{Call}
 
 abbrev pub call_of : Identity → Draw → ℕ → running.Call Item
 call_of identity draw number = record { identity = identity; draw = draw; number = number; known = kept }

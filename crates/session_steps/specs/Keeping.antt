@@ -10,7 +10,7 @@ use Rattle.logged_items.specs.declared.before.Before.{Before}
 use Rattle.logged_items.specs.Items.{as_before, statement_item}
 use Rattle.session_model.specs.Sessions.{Open, Session, Shared}
 use Rattle.session_model.specs.Running.{Call, Turn, all_committed, kept_entries, kept_open, logged_by, takes_too_much, transaction_of}
-use Rattle.session_steps.specs.Desk.{cut_to}
+use Rattle.session_desk.specs.Desk.{cut_to}
 
 -- changes outside a transaction are one by itself; in an open one the session keeps the lock
 abbrev pub kept_in : Call Item → Context → Item → Option (Open Item) → Shared → Shared

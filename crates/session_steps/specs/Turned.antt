@@ -1,27 +1,13 @@
 -- What a turn of the machine leaves of a desk and a session.
-use Rattle.std.specs.Prelude.{◌≡◌, ℕ, List, [], ◌∷◌, ◌++◌, length, Result, Ok, Err}
+use Rattle.std.specs.Prelude.{◌≡◌, ℕ, [], ◌++◌, Result, Ok, Err}
 use Rattle.val_types.specs.declared.refusal.SqlRefusal.{SqlRefusal}
 use Rattle.val_types.specs.declared.refusal.SqlRefusal.TheVariants.{Sql, NoMemory}
 use Rattle.log_entries.specs.declared.entries.Item.{Item}
-use Rattle.log_entries.specs.declared.entries.Entry.{Entry}
-use Rattle.log_model.specs.Log.{log}
-use Rattle.entry_groups.specs.Entries.{CanLogAll}
-use Rattle.logged_items.specs.Logged.{in_log}
 use Rattle.session_model.specs.Sessions.{Session, Shared}
 use Rattle.session_model.specs.Running.{Fuel, Given, Turn}
-use Rattle.session_steps.specs.declared.desk.Desk.{Desk}
-use Rattle.session_steps.specs.Desk.{shared_of}
-
--- ---- the log
-
--- a log with entries behind it, where so many transactions stand before them
-abbrev pub logged : List (Entry Item) → List ℕ → ℕ → List ℕ
-logged [] bytes committed = bytes
-logged (e ∷ es) bytes committed = bytes ++ log (e ∷ es) committed (in_log (length bytes))
-
--- entries are logged, and each can be
-abbrev pub Logs : List (Entry Item) → Desk → Desk → Type 0
-Logs es old new = (new.log ≡ logged es old.log old.committed) × CanLogAll es old.committed (in_log (length old.log))
+use Rattle.session_desk.specs.declared.desk.Desk.{Desk}
+use Rattle.session_desk.specs.Desk.{shared_of}
+use Rattle.session_desk.specs.Logging.{Logs}
 
 -- ---- a turn
 

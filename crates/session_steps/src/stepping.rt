@@ -7,19 +7,17 @@ ghost use Rattle.sql_tree.specs.View.{view_trees};
 ghost use Rattle.sql_reach.specs.Closing.{closed};
 ghost use Rattle.sql_reach.specs.Reach.{is_definition};
 ghost use Rattle.prog_run.specs.Runs.{Spends};
-ghost use Rattle.proc_run.specs.Calls.{left_of};
+ghost use Rattle.proc_parts.specs.Calls.{left_of};
 ghost use Rattle.session_model.specs.Running.{expressions_run, statement_run, values_run};
 ghost use Rattle.session_steps.specs.Calls.{called};
-ghost use Rattle.session_steps.specs.Desk.{shared_of};
+ghost use Rattle.session_desk.specs.Desk.{shared_of};
 ghost use Rattle.session_steps.specs.Ran.{fuel_at, told_given};
 ghost use Rattle.session_steps.specs.Turned.{EndsWith, giving};
 
-use crate::call::Call;
-use crate::desk::Desk;
 use crate::keeping::{keep, keep_closed, keep_printed, start_of};
 use crate::running::{evaluate, run};
-use crate::session::Session;
 use prog_run::{Meter, Outcome};
+use session_desk::{Call, Desk, Session};
 use sql_locals::Locals;
 use sql_tree::{Expr, Stmt};
 use std::alloc::Global;
@@ -70,7 +68,7 @@ pub fn run_with_text(
 }
 
 /// The same of a statement of a procedure, whose text is the canonical one.
-pub(crate) fn run_printed(
+pub fn run_printed(
     alloc: Global,
     call: &Call<'_>,
     desk: &mut Desk,
@@ -173,7 +171,7 @@ pub fn evaluate_with_text(
 
 /// The values of a procedure's expressions where locals are in scope; what functions changed is kept as the DO with its
 /// locals closed in.
-pub(crate) fn evaluate_closed(
+pub fn evaluate_closed(
     alloc: Global,
     call: &Call<'_>,
     desk: &mut Desk,

@@ -1,5 +1,5 @@
 -- Statements that begin with all that a command has, as its commands answer for them.
-use Rattle.std.proofs.Common.{◌≡◌, ℕ, List, [], ◌∷◌, zip, Result, Ok, Err, IfOk, refl, sym, ap, ◌∙◌, subst}
+use Rattle.std.proofs.Common.{◌≡◌, ℕ, List, [], ◌∷◌, Result, Ok, Err, IfOk, refl, sym, ap, ◌∙◌, subst}
 use Rattle.val_types.specs.declared.value.Value.{Value}
 use Rattle.val_types.specs.declared.refusal.SqlRefusal.{SqlRefusal}
 use Rattle.val_types.specs.declared.refusal.SqlRefusal.TheVariants.{Sql}
@@ -11,7 +11,6 @@ use Rattle.sql_tree.specs.Statement.{Statement, evaluate}
 use Rattle.sql_tree.specs.Tree.{Trees, no_tree, tree}
 use Rattle.sql_tree.specs.View.{view_trees}
 use Rattle.sql_tree.specs.declared.expressions.Expr.{Expr}
-use Rattle.sql_tree.specs.declared.statements.Target.{Target}
 use Rattle.sql_meaning.specs.Changing.{Did}
 use Rattle.sql_meaning.specs.Running.{most_nested}
 use Rattle.prog_run.specs.declared.meter.Meter.{Meter}
@@ -20,21 +19,19 @@ use Rattle.prog_run.specs.Runs.{Spends, outcome_of}
 use Rattle.node_answers.specs.Telling.{told_answer}
 use Rattle.proc_model.specs.Talk.{brought}
 use Rattle.proc_model.specs.Procedures as procedures
-use Rattle.proc_run.specs.Calls.{left_of}
+use Rattle.proc_parts.specs.Calls.{left_of}
 use Rattle.session_model.specs.Answers.{refused}
 use Rattle.session_model.specs.Sessions.{Session, Shared}
 use Rattle.session_model.specs.Running.{Call, Fuel, Given, Turn, did_answer, expressions_run, full, given_answer, statement_run}
-use Rattle.session_model.specs.Commands.{first_refused, given_turn, is_open}
+use Rattle.session_model.specs.Commands.{given_turn}
 use Rattle.session_model.specs.Calling.{Reached, arguments_run, called_by, called_with, came_to, steps_of}
 use Rattle.session_steps.specs.Calls.{call_of}
-use Rattle.session_steps.specs.Desk.{shared_of}
+use Rattle.session_desk.specs.Desk.{shared_of}
 use Rattle.session_steps.specs.Ran.{fuel_at, full_meter, told_given, told_of}
-use Rattle.session_steps.specs.Stepping.{Stood}
+use Rattle.session_calls.specs.Stepping.{Stood}
 use Rattle.session_steps.specs.Turned.{EndsWith, IsTurn, Moves, giving}
-use Rattle.session_steps.specs.declared.desk.Desk.{Desk}
-use Rattle.session_steps.proofs.Counting.{Counts, values_count}
-use Rattle.source_node.specs.Assigning.{assigned_answer, assigned_session, result_of, set_from}
-use Rattle.source_node.proofs.SetParts.{set_failed, set_values}
+use Rattle.session_desk.specs.declared.desk.Desk.{Desk}
+use Rattle.session_calls.proofs.Counting.{Counts, values_count}
 
 -- ---- a change, a SELECT or a DO
 
@@ -64,23 +61,6 @@ module _ (call : Call Item) (old new : Desk) (session after : Session Item) (sta
   plain_refused text s code answer ends said =
       subst (λ (m : Meter). IsTurn old new after answer (given_turn (statement_run call (left_of m) text s (shared_of old) session))) begins
       (ends.0, said ∙ refused_is code fuel (statement_run call (left_of start) text s (shared_of old) session).given ends.1)
-
-  -- ---- SET
-
-  pub set_told : (names : List Target) (text said : List ℕ) (ts : Trees) (vs : List Value) (answer : Answer) (later : Session Item) → said ≡ text → EndsWith (Ok vs) fuel old new after (expressions_run call (left_of start) said ts (shared_of old) session)
-      → answer ≡ assigned_answer (first_refused (is_open after) (zip names vs)) → later ≡ assigned_session (first_refused (is_open after) (zip names vs)) (zip names vs) after
-      → IsTurn old new later answer (set_from names (giving result_of (expressions_run call full text ts (shared_of old) session)))
-  set_told names text said ts vs answer later same ends answered left =
-      subst (λ (x : List ℕ). IsTurn old new later answer (set_from names (giving result_of (expressions_run call full x ts (shared_of old) session)))) same
-      (subst (λ (m : Meter). IsTurn old new later answer (set_from names (giving result_of (expressions_run call (left_of m) said ts (shared_of old) session)))) begins
-      (set_values names vs old new after later answer (giving result_of (expressions_run call (left_of start) said ts (shared_of old) session)) ends.0 (ap result_of ends.1) answered left))
-
-  pub set_refused : (names : List Target) (text said : List ℕ) (ts : Trees) (code : ℕ) (answer : Answer) → said ≡ text → EndsWith {A = List Value} (Err (Sql code)) fuel old new after (expressions_run call (left_of start) said ts (shared_of old) session)
-      → answer ≡ refused code → IsTurn old new after answer (set_from names (giving result_of (expressions_run call full text ts (shared_of old) session)))
-  set_refused names text said ts code answer same ends answered =
-      subst (λ (x : List ℕ). IsTurn old new after answer (set_from names (giving result_of (expressions_run call full x ts (shared_of old) session)))) same
-      (subst (λ (m : Meter). IsTurn old new after answer (set_from names (giving result_of (expressions_run call (left_of m) said ts (shared_of old) session)))) begins
-      (set_failed names code old new after answer (giving result_of (expressions_run call (left_of start) said ts (shared_of old) session)) ends.0 (ap result_of ends.1) answered))
 
 -- ---- the arguments of a CALL
 
@@ -130,8 +110,6 @@ module _ (identity : Identity) (draw : Draw) (n : ℕ) where
       let t : Turn Item (Given (List Value)) = arguments_run (call_of identity draw n) text ts (shared_of old) session in
       subst (λ (g : Given (List Value)). IsTurn old new after answer (called_by (call_of identity draw n) name g.result (record { shared = t.shared; session = t.session; committed = t.committed; given = g }))) (sym ends.1)
       (ends.0, said)
-
-pub ruleset setting = (set_told, set_refused)
 
 pub ruleset telling = (plain_told, plain_refused)
 

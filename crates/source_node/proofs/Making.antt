@@ -29,11 +29,13 @@ use Rattle.session_model.specs.Answers.{ok, refused}
 use Rattle.session_model.specs.Sessions.{Session, Shared}
 use Rattle.session_model.specs.Running.{Turn, commit_entries, commit_open, commit_shared, counted_in, is_other, items_of, transaction_of, writing_refusal}
 use Rattle.session_model.specs.Commands.{define_turn, definition_turn, made_turn, unless_answered, with_answer}
-use Rattle.session_steps.specs.declared.desk.Desk.{Desk}
+use Rattle.session_desk.specs.declared.desk.Desk.{Desk}
 use Rattle.session_steps.specs.Calls.{call_of}
-use Rattle.session_steps.specs.Desk.{has_any, shared_by, shared_of}
-use Rattle.session_steps.specs.Turned.{IsTurn, Logs, Moves, behind_turn, not_begun}
-use Rattle.session_steps.proofs.Turns.{definition_place, log_on, logs_from, one_logged, same_entry, turn_is}
+use Rattle.session_desk.specs.Desk.{has_any, shared_by, shared_of}
+use Rattle.session_desk.specs.Logging.{Logs}
+use Rattle.session_steps.specs.Turned.{IsTurn, Moves, behind_turn, not_begun}
+use Rattle.session_desk.proofs.Logging.{definition_place, log_on, logs_from, one_logged, same_entry}
+use Rattle.session_steps.proofs.Turns.{turn_is}
 
 pub none_if : (cs : List Change) → has_any cs ≡ false → cs ≡ []
 none_if [] e = refl

@@ -6,7 +6,7 @@ ghost use Rattle.prog_run.specs.Runs.{Makes};
 ghost use Rattle.sql_reach.specs.Reach.{is_definition};
 ghost use Rattle.session_model.specs.Commands.{define_turn, definition_turn, made_turn};
 ghost use Rattle.session_steps.specs.Calls.{called};
-ghost use Rattle.session_steps.specs.Desk.{shared_of};
+ghost use Rattle.session_desk.specs.Desk.{shared_of};
 ghost use Rattle.session_steps.specs.Turned.{IsTurn, not_begun};
 
 use crate::transactions::commit_open;
@@ -17,7 +17,8 @@ use node_answers::{NodeFault, ok, refused};
 use port_traits::Draw;
 use prog_run::{Outcome, run_stmt};
 use session_ctx::Ctx;
-use session_steps::{Call, Desk, Session, full};
+use session_desk::{Call, Desk, Session};
+use session_steps::full;
 use sql_tree::Stmt;
 use std::alloc::Global;
 use val_types::SqlRefusal;

@@ -6,13 +6,14 @@
 //!
 //! - `source`: [`SourceNode`], with [`SourceNode::open`], [`SourceNode::exec`] and [`SourceNode::log_bytes`]
 //! - `command`: a command of a session; `working`: a session at its command
-//! - `statements`: which command a statement is; `transactions`, `savepoints`, `setting` with `assigning` and `formats`,
-//!   `calling`, `definitions`, `plain`: the commands, one function each
+//! - `statements`: which command a statement is; `transactions`, `savepoints`, `calling`, `definitions`, `plain`: the commands,
+//!   one function each
 //! - `writing`: what refuses statements before they run
 //!
-//! What its sessions share and how one statement runs on it, also of a procedure, stands in `session_steps`; items and the
-//! bytes of entries are made in `logged_items`. The definitions in specs/ say for which runs a node stands (`Standing`), and
-//! what commands leave by their parts (`Assigning`, `Other`).
+//! What its sessions share and how one statement runs on it, also of a procedure, stands in `session_steps`, SET in
+//! `session_sets`; items and the bytes of entries are made in `logged_items`, which also cuts the bytes of the log that are
+//! served. The definitions in specs/ say for which runs a node stands (`Standing`), and what commands leave by their parts
+//! (`Other`).
 //!
 //! # Proved
 //! - [`SourceNode::exec`]: for each run of the machine that began with nothing and for which the node stands, the answer is
@@ -27,14 +28,11 @@
 //! Nothing here: that calls succeed with ample memory is tested where scripts run.
 #![tactic(auto)]
 
-mod assigning;
 mod calling;
 mod command;
 mod definitions;
-mod formats;
 mod plain;
 mod savepoints;
-mod setting;
 mod source;
 mod statements;
 mod transactions;

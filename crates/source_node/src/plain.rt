@@ -5,12 +5,13 @@ ghost use Rattle.sql_reach.specs.Reach.{is_definition};
 ghost use Rattle.session_model.specs.Running.{full, statement_run};
 ghost use Rattle.session_model.specs.Commands.{given_turn};
 ghost use Rattle.session_steps.specs.Calls.{called};
-ghost use Rattle.session_steps.specs.Desk.{shared_of};
+ghost use Rattle.session_desk.specs.Desk.{shared_of};
 ghost use Rattle.session_steps.specs.Turned.{IsTurn};
 
 use answer_text::Answer;
 use node_answers::{NodeFault, refused, told};
-use session_steps::{Call, Desk, Session, full, run_with_text};
+use session_desk::{Call, Desk, Session};
+use session_steps::{full, run_with_text};
 use sql_tree::Stmt;
 use std::alloc::Global;
 use val_types::SqlRefusal;

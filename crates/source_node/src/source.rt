@@ -4,15 +4,15 @@ ghost use Rattle.entry_groups.specs.Entries.{CanLogAll};
 ghost use Rattle.session_model.specs.Holding.{Holds, with_nothing};
 ghost use Rattle.session_model.specs.Machine.{Machine, kept, kept_entry, log_bytes, machine_after, opened, step, whole};
 ghost use Rattle.source_node.specs.Standing.{no_session, state_of, Stands};
-ghost use Rattle.session_steps.specs.Turned.{Logs};
+ghost use Rattle.session_desk.specs.Logging.{Logs};
 
 use crate::command::run_command;
 use answer_text::Answer;
-use logged_items::encode_start;
+use logged_items::{encode_start, served_bytes};
 use node_answers::NodeFault;
 use port_traits::{Draw, Identity};
+use session_desk::{Call, Desk, Session};
 use session_model::steps_are_kept;
-use session_steps::{Call, Desk, Session};
 use std::alloc::Global;
 use std::marker::Model;
 use val_types::{Bytes, NoMemory};
@@ -87,10 +87,7 @@ impl SourceNode {
         if log != FIRST_LOG {
             return Ok(Bytes::new(alloc));
         }
-        let bytes = self.desk.log.as_slice();
-        let start = bytes.len().min(pos as usize);
-        let count = (bytes.len() - start).min(max as usize);
-        Bytes::from_slice(alloc, &bytes[start..start + count])
+        served_bytes(alloc, self.desk.log.as_slice(), pos, max)
     }
 
     /// Carries out a text in the session of a number, as the machine that keeps of an item what the log has of it.

@@ -7,8 +7,8 @@ ghost use Rattle.session_steps.specs.Calls.{called};
 use answer_text::Answer;
 use node_answers::row_count_after;
 use session_ctx::SessionVars;
+use session_desk::{Call, Session};
 use session_model::Format;
-use session_steps::{Call, Session};
 use std::alloc::Global;
 use val_types::NoMemory;
 

@@ -6,13 +6,13 @@ ghost use Rattle.catalog_objects.specs.Keys.{objects_of};
 ghost use Rattle.catalog_rules.specs.Checks.{session_scope, statement_refusal};
 ghost use Rattle.catalog_rules.specs.Creating.{ddl_refusal};
 ghost use Rattle.sql_reach.specs.Reach.{is_definition};
-ghost use Rattle.session_model.specs.Running.{lock_refusal, writing_refusal};
-ghost use Rattle.session_steps.specs.Desk.{shared_of};
+ghost use Rattle.session_model.specs.Running.{writing_refusal};
+ghost use Rattle.session_desk.specs.Desk.{shared_of};
 
 use answer_text::Answer;
 use catalog::Catalog;
 use program_creation::{function_refusal, procedure_refusal, trigger_refusal};
-use session_steps::{Desk, checked, lock_check, refused_as};
+use session_desk::{Desk, checked, refused_as};
 use sql_locals::Locals;
 use sql_tree::{CreateTable, Routine, Stmt, TriggerDef};
 use std::alloc::Global;
@@ -42,21 +42,6 @@ pub(crate) fn writing_refusal(alloc: Global, desk: &Desk, number: u8) -> Option<
     ensures { result ≡ writing_refusal number (shared_of desk.now) }
 {
     match desk.writing_check(number) {
-        None => None,
-        Some(refusal) => Some(refused_as(alloc, refusal)),
-    }
-}
-
-/// What refuses a statement for the writer's lock.
-pub(crate) fn lock_refusal(
-    alloc: Global,
-    desk: &Desk,
-    number: u8,
-    statement: &Stmt,
-) -> Option<Answer>
-    ensures { result ≡ lock_refusal number (shared_of desk.now) (view statement.now) }
-{
-    match lock_check(desk, number, statement) {
         None => None,
         Some(refusal) => Some(refused_as(alloc, refusal)),
     }

@@ -18,8 +18,8 @@ use Rattle.applier_model.specs.Texts.{statement_by, statement_in, most_text}
 use Rattle.prog_run.specs.Contents.{Contents, base_of}
 use Rattle.prog_run.specs.Runs.{Defines, Makes}
 use Rattle.prog_run.specs.declared.meter.Outcome.{Outcome}
+use Rattle.stmt_apply.specs.Applying.{applied_in}
 use Rattle.stmt_apply.specs.Ending.{EndsBy, IsRefusal}
-use Rattle.stmt_apply.specs.Ends.{applied_in}
 
 -- ---- the text
 

@@ -22,12 +22,13 @@ use Rattle.transaction_sizes.specs.Sizes.{changes_size}
 use Rattle.applier_model.specs.Texts.{Applier, Needs, Progress, carried_of, carry_text, no_needs, stops_at}
 use Rattle.applier_model.specs.Groups.{Applied, Going, and_then, applied_by, carry_changes, carry_rows, event_carried, first_place, going_from, is_too_large, item_ended, items_carried, rows_ended, store_of, text_ended, with_bytes, with_needs, with_store}
 use Rattle.prog_run.specs.Contents.{Contents, base_of}
-use Rattle.stmt_apply.specs.Changes.{change_carried}
-use Rattle.stmt_apply.specs.Ends.{Adds, Ends, applied_in, applier_in, progress_in}
+use Rattle.row_apply.specs.Changes.{change_carried}
+use Rattle.row_apply.specs.Ends.{Ends, progress_in}
+use Rattle.row_apply.specs.declared.stop.Stop.{Stop}
+use Rattle.row_apply.specs.declared.stop.Stop.TheVariants as stop
+use Rattle.stmt_apply.specs.Applying.{Adds, applied_in, applier_in}
 use Rattle.stmt_apply.specs.Needing.{needs_of, no_text}
 use Rattle.stmt_apply.specs.UnderWay.{ComesTo, Goes, Stands, items_from, text_carried, transaction_carried}
-use Rattle.stmt_apply.specs.declared.stop.Stop.{Stop}
-use Rattle.stmt_apply.specs.declared.stop.Stop.TheVariants as stop
 use Rattle.stmt_apply.specs.declared.under_way.UnderWay.{UnderWay}
 
 -- ---- stopping

@@ -1,10 +1,5 @@
-pub mod Alike
 pub mod Bounded
 pub mod Defined
 pub mod Going
-pub mod Making
-pub mod Named
-pub mod Raising
 pub mod Ran
-pub mod Refusing
 pub mod Staying

@@ -17,8 +17,9 @@ use Rattle.prog_run.specs.declared.meter.Meter.{Meter}
 use Rattle.prog_run.specs.declared.meter.Outcome.{Outcome}
 use Rattle.prog_run.specs.Contents.{Contents}
 use Rattle.prog_run.specs.Runs.{Runs, moment, scene_at, setting_at}
+use Rattle.row_apply.specs.Ends.{progress_in}
+use Rattle.stmt_apply.specs.Applying.{Adds, applier_in, full_meter}
 use Rattle.stmt_apply.specs.Ending.{EndsBy, IsRefusal}
-use Rattle.stmt_apply.specs.Ends.{Adds, applier_in, full_meter, progress_in}
 
 -- ---- what may stand in a transaction is no definition
 

@@ -1,5 +1,5 @@
 -- What stays while a group is carried out.
-use Rattle.std.proofs.Common.{◌≡◌, List, [], ◌++◌, Option, Some, Result, Ok, Err, OnErr, refl, sym, ap, subst, ◌∙◌}
+use Rattle.std.proofs.Common.{◌≡◌, List, [], ◌++◌, Option, Some, Result, Ok, Err, OnErr, sym, ap, subst, ◌∙◌}
 use Rattle.std.specs.Prelude.{unwrap_or}
 use Rattle.std.specs.Option.{option_and_then}
 use Rattle.val_types.specs.declared.change.Change.{Change}
@@ -21,26 +21,9 @@ use Rattle.sql_meaning.proofs.LedBodies.{statements_end}
 use Rattle.prog_run.specs.declared.meter.Meter.{Meter}
 use Rattle.prog_run.specs.declared.meter.Outcome.{Outcome}
 use Rattle.prog_run.specs.Contents.{Contents, IsTogether, committed_tables, counted_names, without_changes}
-use Rattle.prog_run.specs.Carrying.{ChangesRows, given_up}
+use Rattle.prog_run.specs.Carrying.{given_up}
 use Rattle.prog_run.specs.Runs.{LeavesAll, Runs, moment, scene_at, setting_at}
-use Rattle.stmt_apply.specs.Ends.{Stays}
-
-pub stays_same : (c : Contents) → Stays c c
-stays_same c = record { objects = refl; committed = refl; counted = refl }
-
-pub stays_on : (a b c : Contents) → Stays a b → Stays b c → Stays a c
-stays_on a b c p q = record { objects = q.objects ∙ p.objects; committed = q.committed ∙ p.committed; counted = q.counted ∙ p.counted }
-
-pub stays_changed : (a b : Contents) → ChangesRows a b → Stays a b
-stays_changed a b p = record { objects = p.objects; committed = p.committed; counted = ap (λ (cs : List Counter). tables_of cs) p.counters }
-
--- rows were changed, and then counters raised
-pub stays_raised : (a b c : Contents) (counters : List Counter) → ChangesRows a b → c ≡ record b { counters = counters } → tables_of c.counters ≡ tables_of b.counters → Stays a c
-stays_raised a b c counters p is same = record {
-  objects = ap (λ (k : Contents). k.objects) is ∙ p.objects;
-  committed = ap (λ (k : Contents). committed_tables k) is ∙ p.committed;
-  counted = same ∙ ap (λ (cs : List Counter). tables_of cs) p.counters;
-}
+use Rattle.row_apply.specs.Ends.{Stays}
 
 -- ---- a statement was run
 
@@ -91,5 +74,3 @@ given_back old work counters none p same =
     ∙ ap (λ (ts : List Table). contents old.objects ts counters) (p.committed ∙ nothing_open old.changes old.tables none)
     ∙ ap (contents old.objects old.tables) same
     ∙ (λ i. record { objects = old.objects; tables = old.tables; changes = sym none i; counters = old.counters })
-
-pub ruleset staying = (stays_same, stays_on, stays_changed, stays_raised)

@@ -1,5 +1,4 @@
-pub mod Changes
+pub mod Applying
 pub mod Ending
-pub mod Ends
 pub mod Needing
 pub mod UnderWay

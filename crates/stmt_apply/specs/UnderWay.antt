@@ -8,10 +8,10 @@ use Rattle.applier_model.specs.Stops.{Differs}
 use Rattle.applier_model.specs.Texts.{Applier, carried_of, carry_text, stops_at}
 use Rattle.applier_model.specs.Groups.{Going, Applied, and_then, applied_by, going_from, items_carried, store_of, text_ended}
 use Rattle.prog_run.specs.Contents.{Contents, base_of}
-use Rattle.stmt_apply.specs.Ends.{progress_in}
+use Rattle.row_apply.specs.Ends.{progress_in}
+use Rattle.row_apply.specs.declared.stop.Stop.{Stop}
+use Rattle.row_apply.specs.declared.stop.Stop.TheVariants as stop
 use Rattle.stmt_apply.specs.Needing.{needs_of}
-use Rattle.stmt_apply.specs.declared.stop.Stop.{Stop}
-use Rattle.stmt_apply.specs.declared.stop.Stop.TheVariants as stop
 use Rattle.stmt_apply.specs.declared.under_way.UnderWay.{UnderWay}
 
 -- the code is where the definition is

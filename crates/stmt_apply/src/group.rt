@@ -3,14 +3,15 @@ ghost use Rattle.std.specs.Prelude.{◌≡◌, [], OnErr};
 ghost use Rattle.log_groups.specs.Views.{group_seen};
 ghost use Rattle.applier_model.specs.Groups.{group_carried};
 ghost use Rattle.prog_run.specs.Contents.{base_of};
-ghost use Rattle.stmt_apply.specs.Ends.{Ends, applied_in};
+ghost use Rattle.row_apply.specs.Ends.{Ends};
+ghost use Rattle.stmt_apply.specs.Applying.{applied_in};
 
 use crate::definition::apply_definition;
-use crate::stop::Stop;
 use crate::transaction::apply_transaction;
 use log_groups::{Form, Group};
 use port_traits::{Draw, Identity};
 use prog_run::Work;
+use row_apply::Stop;
 use std::alloc::Global;
 
 /// Carries out a group, or stops where it differs from what is there. The changes of a transaction then stand open, so that

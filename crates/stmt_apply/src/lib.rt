@@ -1,19 +1,17 @@
 //! What an applier does with a group of a log.
 //!
 //! [`apply_group`] carries out a group on the rows and the catalog of a [`Work`](prog_run::Work): a transaction, whose rows are
-//! put as they are, with no trigger, and whose texts are run with what they carry, or a CREATE, DROP or TRUNCATE. It does all of it
-//! or nothing. A replica stands on it, which reads groups by `log_groups` and commits them; the definition is `applier_model`'s.
+//! put as they are, with no trigger, and whose texts are run with what they carry, or a CREATE, DROP or TRUNCATE. It does all of
+//! it or nothing. A replica stands on it, which reads groups by `log_groups` and commits them; the definition is
+//! `applier_model`'s. One change of a row, and [`Stop`](row_apply::Stop), why a group is not carried out, stand in `row_apply`.
 //!
-//! - `stop`: [`Stop`], why a group is not carried out
 //! - `group`: [`apply_group`]
 //! - `definition`: a CREATE, DROP or TRUNCATE
 //! - `transaction`: the events of a transaction; `under_way`: what is kept between them
 //! - `reading`: the statement that a text is; `needs`: what stands before a text for it; `text`: a text run, and [`checked`]
-//! - `changing`: one change of a row; `table`: what its table says of it; `columns`: whether the columns of a map and of a table
-//!   are the same
 //!
-//! The definitions in specs/ join the code to the definition: `Ends` and `Ending` (how parts of a group and statements end),
-//! `Changes` (one change, by its steps), `Needing` (what stands before a text), `UnderWay` (a transaction under way).
+//! The definitions in specs/ join the code to the definition: `Applying` (who carries out a group, and what stands behind it),
+//! `Ending` (how statements end), `Needing` (what stands before a text), `UnderWay` (a transaction under way).
 //!
 //! # Proved
 //! - [`apply_group`] makes just the base and the counters that the definition of a group gives, or stops with just its place, its
@@ -25,18 +23,13 @@
 //! That groups are carried out with ample memory, where a replica applies them (`repl_tests`).
 #![tactic(auto)]
 
-mod changing;
-mod columns;
 mod definition;
 mod group;
 mod needs;
 mod reading;
-mod stop;
-mod table;
 mod text;
 mod transaction;
 mod under_way;
 
 pub use group::apply_group;
-pub use stop::Stop;
 pub use text::checked;

@@ -7,8 +7,9 @@ ghost use Rattle.sql_reach.specs.Reach.{is_definition};
 ghost use Rattle.event_codec.specs.Event.{query_of};
 ghost use Rattle.port_traits.specs.declared.identity.Identity.{Identity as Who};
 ghost use Rattle.applier_model.specs.Texts.{allowed, carried_of, carry_text, may_stand, run_in};
+ghost use Rattle.row_apply.specs.Ends.{Stays, progress_in};
+ghost use Rattle.stmt_apply.specs.Applying.{Adds, applier_in, full_meter};
 ghost use Rattle.stmt_apply.specs.Ending.{EndsBy};
-ghost use Rattle.stmt_apply.specs.Ends.{Adds, Stays, applier_in, full_meter, progress_in};
 ghost use Rattle.stmt_apply.specs.Needing.{Counts, needs_of};
 
 use crate::needs::Needs;

@@ -6,18 +6,18 @@ ghost use Rattle.log_groups.specs.Views.{part_of, parts};
 ghost use Rattle.applier_model.specs.Groups.{Going, carry_changes, carry_rows, event_carried, with_bytes};
 ghost use Rattle.row_events.specs.Sizes.{bounded};
 ghost use Rattle.transaction_sizes.specs.Sizes.{changes_size};
-ghost use Rattle.stmt_apply.specs.Ends.{Ends, Stays, applied_in, applier_in, progress_in};
+ghost use Rattle.row_apply.specs.Ends.{Ends, Stays, progress_in};
+ghost use Rattle.stmt_apply.specs.Applying.{applied_in, applier_in};
 ghost use Rattle.stmt_apply.specs.Needing.{Counts, MayStand};
 ghost use Rattle.stmt_apply.specs.UnderWay.{ComesTo, Goes, Stands, items_from, text_carried, transaction_carried};
 
-use crate::changing::carry_change;
-use crate::stop::{Stop, stop_at};
 use crate::text::run_text;
 use crate::under_way::{UnderWay, find_map};
 use event_codec::{Event, MapView, QueryView, RowsView};
 use log_groups::{Items, Part};
 use port_traits::{Draw, Identity};
 use prog_run::Work;
+use row_apply::{Stop, carry_change, stop_at};
 use row_image::rows_of;
 use std::alloc::Global;
 use transaction_sizes::changes_size;
@@ -33,7 +33,7 @@ fn backwards(changes: List<Change>) -> List<Change>
 }
 
 /// The changes of an event at a place, one after the other, by the map of their table.
-#[tactic(auto, using(crate::proofs::Staying::staying))]
+#[tactic(auto, using(row_apply::proofs::Staying::staying))]
 fn carry_changes(
     alloc: Global,
     work: &mut Work,
@@ -52,7 +52,7 @@ fn carry_changes(
 }
 
 /// The rows of an event at a place.
-#[tactic(auto, using(crate::proofs::Staying::staying))]
+#[tactic(auto, using(row_apply::proofs::Staying::staying))]
 fn apply_rows(
     alloc: Global,
     work: &mut Work,
@@ -109,7 +109,7 @@ fn apply_query(
 }
 
 /// An event, whose bytes are counted.
-#[tactic(auto, using(crate::proofs::Going::passes, crate::proofs::Going::mapped, crate::proofs::Staying::staying))]
+#[tactic(auto, using(crate::proofs::Going::passes, crate::proofs::Going::mapped, row_apply::proofs::Staying::staying))]
 fn apply_body<'a>(
     alloc: Global,
     work: &mut Work,
@@ -167,7 +167,7 @@ fn apply_event<'a>(
 }
 
 /// The events of a transaction's items.
-#[tactic(auto, using(crate::proofs::Staying::staying))]
+#[tactic(auto, using(row_apply::proofs::Staying::staying))]
 fn apply_items(
     alloc: Global,
     work: &mut Work,

@@ -9,8 +9,8 @@ ghost use Rattle.stmt_apply.specs.Needing.{no_text};
 ghost use Rattle.stmt_apply.specs.UnderWay.{Goes, Stands};
 
 use crate::needs::Needs;
-use crate::stop::{Stop, stop_at};
 use event_codec::MapView;
+use row_apply::{Stop, stop_at};
 use std::alloc::Global;
 use val_types::{List, SqlError};
 

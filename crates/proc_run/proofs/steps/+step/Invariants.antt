@@ -3,9 +3,10 @@ use Rattle.sql_tree.specs.Statement.{while_steps}
 use Rattle.sql_tree.specs.StatementView.{view, view_branches, view_otherwise, view_statements}
 use Rattle.sql_tree.specs.View.{view_tree}
 use Rattle.sql_meaning.specs.Within.{do_one}
-use Rattle.proc_run.specs.Calls.{Moves, held_of}
-use Rattle.proc_run.specs.Parts.{branches_at, step_at, steps_at}
-use Rattle.proc_run.proofs.Behind.{Onto}
+use Rattle.proc_parts.specs.Calls.{Moves, held_of}
+use Rattle.proc_parts.specs.Parts.{step_at}
+use Rattle.proc_run.specs.Steps.{branches_at, steps_at}
+use Rattle.proc_parts.proofs.Behind.{Onto}
 use Rattle.proc_run.proofs.Stepping.{TurnsTo}
 use Rattle.proc_run.proofs.steps.+step.Given as goal
 

@@ -1,6 +1,6 @@
 use Rattle.std.proofs.Common.{sym, ◌∙◌}
 use Rattle.sql_tree.specs.StatementView.{view}
-use Rattle.proc_run.specs.Calls.{always, held_of}
+use Rattle.proc_parts.specs.Calls.{always, held_of}
 use Rattle.proc_run.proofs.Performed.{step_none}
 use Rattle.proc_run.proofs.steps.leaf_step.Goals as goal
 

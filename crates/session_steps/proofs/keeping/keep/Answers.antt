@@ -2,7 +2,7 @@ use Rattle.std.proofs.Common.{rules, ◌≡◌, ◌≤◌, length, ap, ◌∙◌
 use Rattle.catalog_objects.specs.Keys.{objects_of}
 use Rattle.sql_tree.specs.StatementView.{view}
 use Rattle.session_model.specs.Formats.{is_by_rows}
-use Rattle.session_steps.specs.Desk.{own_behind, shared_of}
+use Rattle.session_desk.specs.Desk.{own_behind, shared_of}
 use Rattle.session_steps.specs.Keeping.{item_made}
 use Rattle.session_steps.proofs.Keeps.{kept_changes, lost_changes}
 use Rattle.session_steps.proofs.keeping.keep.Goals as goal

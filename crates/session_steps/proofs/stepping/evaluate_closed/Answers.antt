@@ -1,7 +1,7 @@
 use Rattle.std.proofs.Common.{List, Ok, Err, refl, subst}
 use Rattle.log_entries.specs.declared.entries.Item.{Item}
 use Rattle.val_types.specs.declared.value.Value.{Value}
-use Rattle.proc_run.specs.Calls.{left_of}
+use Rattle.proc_parts.specs.Calls.{left_of}
 use Rattle.sql_print.specs.StatementSpelling.{spelling}
 use Rattle.sql_reach.specs.Closing.{closed}
 use Rattle.sql_tree.specs.StatementView.{view}
@@ -9,7 +9,7 @@ use Rattle.sql_tree.specs.View.{view_trees}
 use Rattle.session_model.specs.Sessions.{Session}
 use Rattle.session_model.specs.Running.{values_run, with_context}
 use Rattle.session_steps.specs.Calls.{called}
-use Rattle.session_steps.specs.Desk.{shared_of}
+use Rattle.session_desk.specs.Desk.{shared_of}
 use Rattle.session_steps.specs.Ran.{fuel_at}
 use Rattle.session_steps.specs.Turned.{EndsWith}
 use Rattle.session_steps.proofs.Keeps.{closed_leaves, gave_so}

@@ -1,12 +1,12 @@
 use Rattle.std.proofs.Common.{Ok, Err, subst}
 use Rattle.log_entries.specs.declared.entries.Item.{Item}
 use Rattle.prog_run.specs.declared.meter.Outcome.{Outcome}
-use Rattle.proc_run.specs.Calls.{left_of}
+use Rattle.proc_parts.specs.Calls.{left_of}
 use Rattle.sql_tree.specs.StatementView.{view}
 use Rattle.session_model.specs.Sessions.{Session}
 use Rattle.session_model.specs.Running.{statement_run}
 use Rattle.session_steps.specs.Calls.{called}
-use Rattle.session_steps.specs.Desk.{shared_of}
+use Rattle.session_desk.specs.Desk.{shared_of}
 use Rattle.session_steps.specs.Ran.{fuel_at, told_given}
 use Rattle.session_steps.specs.Turned.{EndsWith, giving}
 use Rattle.session_steps.proofs.Keeps.{came_so}

@@ -3,7 +3,8 @@ use Rattle.sql_tree.specs.StatementView.{view}
 use Rattle.catalog_objects.specs.Keys.{objects_of}
 use Rattle.catalog_rules.specs.Checks.{session_scope, statement_refusal}
 use Rattle.applier_model.specs.Texts.{may_stand}
-use Rattle.stmt_apply.specs.Ends.{applier_in, progress_in}
+use Rattle.row_apply.specs.Ends.{progress_in}
+use Rattle.stmt_apply.specs.Applying.{applier_in}
 use Rattle.stmt_apply.proofs.Ran.{runs_on}
 use Rattle.stmt_apply.proofs.text.run_allowed.Goals as goal
 

@@ -1,10 +1,10 @@
 use Rattle.std.proofs.lemmas.Result.{err_from_is_err_and}
 use Rattle.std.proofs.Common.{refl}
 use Rattle.log_groups.specs.Views.{part_of, parts, place_of}
-use Rattle.stmt_apply.specs.Ends.{applier_in}
+use Rattle.stmt_apply.specs.Applying.{applier_in}
 use Rattle.stmt_apply.proofs.Bounded.{first_stands}
 use Rattle.stmt_apply.proofs.Going.{begins, event_on, event_stopped, events_done, same_applier}
-use Rattle.stmt_apply.proofs.Staying.{stays_on, stays_same}
+use Rattle.row_apply.proofs.Staying.{stays_on, stays_same}
 use Rattle.stmt_apply.proofs.transaction.apply_items.Goals as goal
 
 pub loop-part-init : goal.loop-part-init

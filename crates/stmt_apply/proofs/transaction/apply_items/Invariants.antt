@@ -1,6 +1,7 @@
 use Rattle.std.proofs.Common.{length}
 use Rattle.log_groups.specs.Views.{parts}
-use Rattle.stmt_apply.specs.Ends.{Stays, applier_in}
+use Rattle.row_apply.specs.Ends.{Stays}
+use Rattle.stmt_apply.specs.Applying.{applier_in}
 use Rattle.stmt_apply.proofs.Going.{Reached}
 use Rattle.stmt_apply.proofs.transaction.apply_items.Given as goal
 

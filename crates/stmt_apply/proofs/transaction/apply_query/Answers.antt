@@ -3,7 +3,8 @@ use Rattle.val_types.specs.declared.change.Change.{Change}
 use Rattle.event_codec.specs.Event.{query_of}
 use Rattle.row_events.specs.Sizes.{bounded}
 use Rattle.transaction_sizes.specs.Sizes.{changes_size}
-use Rattle.stmt_apply.specs.Ends.{applier_in, progress_in}
+use Rattle.row_apply.specs.Ends.{progress_in}
+use Rattle.stmt_apply.specs.Applying.{applier_in}
 use Rattle.stmt_apply.proofs.Going.{text_run, text_stands}
 use Rattle.stmt_apply.proofs.transaction.apply_query.Goals as goal
 

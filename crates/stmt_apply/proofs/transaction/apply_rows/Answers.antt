@@ -7,7 +7,7 @@ use Rattle.event_codec.specs.Event.{map_of, rows_of}
 use Rattle.row_events.specs.Sizes.{bounded}
 use Rattle.transaction_sizes.specs.Sizes.{changes_size}
 use Rattle.applier_model.specs.Groups.{carry_changes}
-use Rattle.stmt_apply.specs.Ends.{progress_in}
+use Rattle.row_apply.specs.Ends.{progress_in}
 use Rattle.stmt_apply.proofs.Going.{rows_ended_so, rows_stand}
 use Rattle.stmt_apply.proofs.transaction.apply_rows.Goals as goal
 

@@ -1,6 +1,6 @@
 use Rattle.std.proofs.lemmas.Result.{err_from_is_err_and}
 use Rattle.event_codec.specs.Event.{map_of}
-use Rattle.stmt_apply.specs.Ends.{progress_in}
+use Rattle.row_apply.specs.Ends.{progress_in}
 use Rattle.stmt_apply.proofs.Going.{change_stopped}
 use Rattle.stmt_apply.proofs.transaction.carry_changes.Goals as goal
 

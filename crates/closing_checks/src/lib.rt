@@ -1,0 +1,17 @@
+//! What refuses to close a statement of a procedure over its locals, without closing it.
+//!
+//! - `closing`: what refuses it: [`check_closing`]
+//!
+//! In specs/ stands `Refusing`, what a call of this answers. What refuses to close a statement is a definition of `proc_model`.
+//!
+//! # Proved
+//! - [`check_closing`] lets a statement be closed, or refuses it with 1153, 1327 or 30002 in this order, each exactly where its
+//!   condition holds, or finds no memory. It closes nothing.
+//!
+//! # Only tested
+//! That calls succeed with ample memory, in `proc_callers` and `repl_tests`.
+#![tactic(auto)]
+
+mod closing;
+
+pub use closing::check_closing;

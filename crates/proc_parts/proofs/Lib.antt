@@ -1,0 +1,10 @@
+pub mod Asked
+pub mod Assigned
+pub mod Behind
+pub mod Called
+pub mod Closed
+pub mod Conditions
+pub mod Declared
+pub mod Evaluated
+pub mod Locals
+pub mod Plain

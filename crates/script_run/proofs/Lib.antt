@@ -1,0 +1,6 @@
+pub mod Asking
+pub mod Drawing
+pub mod Logged
+pub mod Running
+pub mod Scripts
+pub mod Spoken

@@ -1,0 +1,27 @@
+-- What the code that reads a script gives, as plain data.
+use Rattle.std.specs.Prelude.{◌≡◌, ℕ, Bool, true, ◌&&◌, nat_lt, nat_le, List, length, map, Result, Ok, Err}
+use Rattle.answer_text.specs.declared.status.Status.{Status}
+use Rattle.answer_text.specs.declared.status.Status.TheVariants.{BadScript, NoMemory}
+use Rattle.run_model.specs.Asked.{Asked, say, select, take_bytes, take_groups}
+use Rattle.script_run.specs.declared.asked.Asked as code_asked_type
+use Rattle.script_run.specs.declared.asked.Asked.TheVariants as code_asked
+
+abbrev pub asked_seen : code_asked_type.Asked → Asked
+asked_seen (code_asked.Say n text) = say n text.now
+asked_seen (code_asked.Select text) = select text.now
+asked_seen (code_asked.Fetch count) = take_bytes count
+asked_seen (code_asked.Apply count) = take_groups count
+
+-- whether a text is no longer than a command, and its session, if it has one, has a place among those of a source
+abbrev pub is_fit : code_asked_type.Asked → Bool
+is_fit (code_asked.Say n text) = nat_lt n 100 && nat_le (length text.now) 1048576
+is_fit (code_asked.Select text) = nat_le (length text.now) 1048576
+is_fit (code_asked.Fetch count) = true
+is_fit (code_asked.Apply count) = true
+
+-- what is asked is what the definition gives, or the status says why nothing is
+abbrev pub GivesAsked : Result (List code_asked_type.Asked) Status → Result (List Asked) ℕ → Type 0
+GivesAsked (Ok asked) all = all ≡ Ok (map asked_seen asked)
+GivesAsked (Err (BadScript at)) all = all ≡ Err at
+GivesAsked (Err NoMemory) all = Unit {0}
+GivesAsked (Err _) all = ⊥

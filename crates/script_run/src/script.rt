@@ -1,0 +1,84 @@
+//! The word `run`: the script on the input, over any input, output and environments.
+ghost use Rattle.std.specs.Prelude.{◌≡◌, ◌≤◌, true, IfSome, IfErr};
+ghost use Rattle.port_traits.specs.Causes.{Rose};
+ghost use Rattle.run_streams.specs.Read.{RestBehindScript, TakesUpToLimit};
+ghost use Rattle.run_streams.specs.Reports.{AllTold, IsEmpty, Tells};
+ghost use Rattle.run_streams.specs.Stops.{failed_writes, is_early, status_of};
+ghost use Rattle.script_run.specs.Faults.{HasFault};
+ghost use Rattle.script_run.specs.Ran.{EndsBy};
+
+use crate::asked::read_asked;
+use crate::commands::run_commands;
+use answer_text::{Report, Status};
+use port_traits::{Env, Sink, Source};
+use run_streams::read_script;
+use std::alloc::Global;
+
+/// Carries out the script on the input, which is read whole and split before anything runs.
+fn run<S: Source, K: Sink, E: Env, F: Env>(
+    alloc: Global,
+    input: &mut S,
+    out: &mut K,
+    src_env: &mut E,
+    rep_env: &mut F,
+    report: &mut Report,
+) -> Result<(), Status>
+    requires { IsEmpty report.old }
+    ensures run { EndsBy (status_of result) (S.left input.old) (S.left input.new) report.new (K.written out.old) (K.written out.new) }
+    ensures refused { IfSome (S.left input.old) (λ script. RestBehindScript (status_of result) script (S.left input.new)) }
+    ensures limit { TakesUpToLimit (S.left input.old) (S.left input.new) }
+    ensures once { S.ended input.old ≡ 0 → S.ended input.new ≤ 1 }
+    ensures last { result ≡ Err Status.ReadFault → S.ended input.old ≡ 0 → S.ended input.new ≡ 1 }
+    ensures at_end { status_of result ≡ Status.Done → S.ended input.old ≡ 0 → S.ended input.new ≡ 1 }
+    ensures ended { K.ended out.old ≡ 0 → K.ended out.new ≡ failed_writes (status_of result) }
+    ensures idle { is_early (status_of result) ≡ true → (out.new ≡ out.old)
+        × (src_env.new ≡ src_env.old) × (rep_env.new ≡ rep_env.old) × (report.new ≡ report.old) }
+    ensures src_drawn { AllTold (status_of result) (E.draws src_env.old) (E.draws src_env.new) report.new.src_draws }
+    ensures rep_drawn { AllTold (status_of result) (F.draws rep_env.old) (F.draws rep_env.new) report.new.rep_draws }
+    ensures fault { IfErr result (λ status. HasFault status (S.faults input.old) (S.faults input.new)
+        (K.faults out.old) (K.faults out.new)) }
+    ensures src { Tells (E.told src_env.old) (E.draws src_env.old) report.new.src_identity report.new.src_draws }
+    ensures rep { Tells (F.told rep_env.old) (F.draws rep_env.old) report.new.rep_identity report.new.rep_draws }
+{
+    let script = read_script(alloc, input)?;
+    let asked = read_asked(alloc, script.as_slice())?;
+    run_commands(alloc, &asked, src_env, rep_env, report, out)
+}
+
+/// The word `run`, with its end as a status: carries out the script on the input, each command by a source in the one environment
+/// or a replica in the other, which begin without tables, and writes what it is told before the next begins.
+///
+/// The report is empty before, and tells after, at any status, who the source and the replica are, as far as they were opened, and
+/// what they drew.
+pub fn run_script<S: Source, K: Sink, E: Env, F: Env>(
+    alloc: Global,
+    input: &mut S,
+    out: &mut K,
+    src_env: &mut E,
+    rep_env: &mut F,
+    report: &mut Report,
+) -> Status
+    requires { IsEmpty report.old }
+    ensures run { EndsBy result (S.left input.old) (S.left input.new) report.new (K.written out.old) (K.written out.new) }
+    ensures refused { IfSome (S.left input.old) (λ script. RestBehindScript result script (S.left input.new)) }
+    ensures limit { TakesUpToLimit (S.left input.old) (S.left input.new) }
+    ensures idle { is_early result ≡ true → (out.new ≡ out.old)
+        × (src_env.new ≡ src_env.old) × (rep_env.new ≡ rep_env.old) × (report.new ≡ report.old) }
+    ensures read_fault { result ≡ Status.ReadFault → Rose (S.faults input.old) (S.faults input.new) }
+    ensures write_fault { result ≡ Status.WriteFault → Rose (K.faults out.old) (K.faults out.new) }
+    ensures reads_once { S.ended input.old ≡ 0 → S.ended input.new ≤ 1 }
+    ensures last_read { result ≡ Status.ReadFault → S.ended input.old ≡ 0 → S.ended input.new ≡ 1 }
+    ensures read_end { result ≡ Status.Done → S.ended input.old ≡ 0 → S.ended input.new ≡ 1 }
+    ensures last_write { K.ended out.old ≡ 0 → K.ended out.new ≡ failed_writes result }
+    ensures src_drawn { AllTold result (E.draws src_env.old) (E.draws src_env.new) report.new.src_draws }
+    ensures rep_drawn { AllTold result (F.draws rep_env.old) (F.draws rep_env.new) report.new.rep_draws }
+    ensures source { Tells (E.told src_env.old) (E.draws src_env.old)
+        report.new.src_identity report.new.src_draws }
+    ensures replica { Tells (F.told rep_env.old) (F.draws rep_env.old)
+        report.new.rep_identity report.new.rep_draws }
+{
+    match run(alloc, input, out, src_env, rep_env, report) {
+        Ok(()) => Status::Done,
+        Err(status) => status,
+    }
+}

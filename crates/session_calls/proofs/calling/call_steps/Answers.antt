@@ -1,0 +1,11 @@
+use Rattle.std.proofs.Common.{ap, ◌∙◌}
+use Rattle.catalog_objects.specs.Keys.{objects_of}
+use Rattle.proc_parts.specs.Calls.{left_of}
+use Rattle.session_steps.specs.Calls.{called}
+use Rattle.session_calls.proofs.Bringing.{call_so}
+use Rattle.session_calls.proofs.calling.call_steps.Goals as goal
+
+pub returns-in-Ok : goal.returns-in-Ok
+returns-in-Ok c =
+    λ old at stood. call_so (called c.args.call.now) (objects_of c.in_ok-catalog.catalog) (left_of c.args.meter.now) c.args.name.now c.args.values _ c.call-answer.new.r (record { answer = c.in-Ok.answer; turns = c.call-answer.new.m.turns; uuids = c.call-answer.new.m.uuids })
+    c.args.desk.now _ c.args.session.now _ c.in_ok-steps.ensures.call c.in_ok-steps.ensures.desk c.in_ok-steps.ensures.session (ap objects_of (c.in_ok-catalog.ensures ∙ c.catalog.ensures)) c.in-Ok.ensures.call c.give_back.ensures.desk c.give_back.ensures.session old at stood

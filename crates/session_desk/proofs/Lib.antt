@@ -1,0 +1,3 @@
+pub mod Logging
+pub mod Bases
+pub mod Places

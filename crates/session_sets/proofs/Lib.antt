@@ -1,0 +1,3 @@
+pub mod SetParts
+pub mod Ending
+pub mod Zipping

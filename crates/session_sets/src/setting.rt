@@ -1,0 +1,131 @@
+//! SET.
+ghost use Rattle.std.specs.Prelude.{◌≡◌, zip, IfOk, OnOk};
+ghost use Rattle.sql_print.specs.StatementSpelling.{spelling};
+ghost use Rattle.sql_tree.specs.Statement.{evaluate, set_all};
+ghost use Rattle.sql_tree.specs.StatementView.{view, view_assignments};
+ghost use Rattle.sql_tree.specs.View.{view_trees};
+ghost use Rattle.catalog_rules.specs.Checks.{session_scope, statement_refusal};
+ghost use Rattle.session_model.specs.Running.{expressions_run, full};
+ghost use Rattle.session_model.specs.Commands.{first_refused, is_open, is_too_long, set_turn};
+ghost use Rattle.session_sets.specs.Assigning.{assigned_answer, assigned_session, result_of, set_from, set_parts};
+ghost use Rattle.session_steps.specs.Calls.{called};
+ghost use Rattle.session_desk.specs.Desk.{shared_of};
+ghost use Rattle.session_steps.specs.Turned.{IsTurn, giving};
+
+use crate::assigning::{assign_all, first_refused, taken_apart};
+use crate::refusing::{LONGEST, TOO_LONG, lock_refusal};
+use answer_text::Answer;
+use node_answers::{NodeFault, ok, refused};
+use session_desk::{Call, Desk, Session};
+use session_steps::{evaluate_with_text, full};
+use sql_print::print;
+use sql_tree::{Assignment, Expr, Stmt, Target};
+use std::alloc::Global;
+use val_types::{Bytes, List, NoMemory, SqlError, SqlRefusal, Value};
+
+/// Assigns values, or refuses as the first that is refused and assigns none.
+fn assign_unless_refused(
+    alloc: Global,
+    session: &mut Session,
+    targets: &List<Target>,
+    values: &List<Value>,
+) -> Result<Answer, NoMemory>
+    ensures answer { IfOk result (λ answer. answer ≡ assigned_answer (first_refused (is_open session.old) (zip targets.now values.now))) }
+    ensures session { OnOk result (session.new ≡ assigned_session (first_refused (is_open session.old) (zip targets.now values.now)) (zip targets.now values.now) session.old) }
+{
+    let (targets, values) = (targets.as_slice(), values.as_slice());
+    let is_open = session.transaction.is_some();
+    if let Some(code) = first_refused(is_open, targets, values) {
+        return Ok(refused(alloc, code));
+    }
+    assign_all(alloc, session, targets, values)?;
+    Ok(ok(alloc, 0))
+}
+
+/// Sets targets to the values of expressions, which nothing refuses before.
+#[tactic(auto, using(crate::proofs::Ending::setting))]
+fn set_values(
+    alloc: Global,
+    call: &Call<'_>,
+    desk: &mut Desk,
+    session: &mut Session,
+    text: &Bytes,
+    targets: &List<Target>,
+    statement: &Stmt,
+    expressions: &List<Expr>,
+) -> Result<Answer, NodeFault>
+    requires { view statement.now ≡ evaluate (view_trees expressions.now) }
+    ensures { IfOk result (λ answer. IsTurn desk.old desk.new session.new answer (set_from targets.now (giving result_of (expressions_run (called call.now) full text.now (view_trees expressions.now) (shared_of desk.old) session.old)))) }
+{
+    let mut meter = full();
+    match evaluate_with_text(
+        alloc,
+        call,
+        desk,
+        session,
+        text.as_slice(),
+        statement,
+        expressions,
+        &mut meter,
+    ) {
+        Err(SqlRefusal::NoMemory) => Err(NodeFault::NoMemory),
+        Err(SqlRefusal::Sql(code)) => Ok(refused(alloc, code)),
+        Ok(values) => Ok(assign_unless_refused(alloc, session, targets, &values)?),
+    }
+}
+
+/// SET, taken apart: 1153 for the text of the DO over its expressions, the catalog's checks, the lock, the values of
+/// all expressions, then all assignments.
+fn set_taken(
+    alloc: Global,
+    call: &Call<'_>,
+    desk: &mut Desk,
+    session: &mut Session,
+    refusal: Option<SqlError>,
+    targets: &List<Target>,
+    expressions: List<Expr>,
+) -> Result<Answer, NodeFault>
+    ensures { IfOk result (λ answer. IsTurn desk.old desk.new session.new answer (set_parts (called call.now) refusal targets.now (view_trees expressions) (shared_of desk.old) session.old)) }
+{
+    let statement = Stmt::Do(expressions);
+    let text = print(alloc, &statement)?;
+    if text.len() > LONGEST {
+        return Ok(refused(alloc, TOO_LONG));
+    }
+    if let Some(code) = refusal {
+        return Ok(refused(alloc, code));
+    }
+    if let Some(answer) = lock_refusal(alloc, desk, call.number, &statement) {
+        return Ok(answer);
+    }
+    match &statement {
+        Stmt::Do(expressions) => set_values(
+            alloc,
+            call,
+            desk,
+            session,
+            &text,
+            targets,
+            &statement,
+            expressions,
+        ),
+        _ => Err(NodeFault::NoMemory),
+    }
+}
+
+/// SET. The refusal is that of the catalog's checks. Given is the answer, where desk and session stand as the machine's SET
+/// leaves them, or memory is short.
+pub fn set(
+    alloc: Global,
+    call: &Call<'_>,
+    desk: &mut Desk,
+    session: &mut Session,
+    refusal: Option<SqlError>,
+    assignments: List<Assignment>,
+) -> Result<Answer, NodeFault>
+    requires { refusal ≡ statement_refusal ((shared_of desk.old).base.catalog) session_scope (set_all (view_assignments assignments)) }
+    ensures { IfOk result (λ answer. IsTurn desk.old desk.new session.new answer (set_turn (called call.now) (view_assignments assignments) (shared_of desk.old) session.old)) }
+{
+    let (targets, expressions) = taken_apart(alloc, assignments)?;
+    set_taken(alloc, call, desk, session, refusal, &targets, expressions)
+}
