@@ -9,7 +9,7 @@ use Rattle.value_rules.specs.Operators.{truth_of, with_value}
 use Rattle.value_rules.specs.Functions.{is_known_true}
 use Rattle.proc_model.specs.Talk.{Rules}
 use Rattle.proc_parts.specs.declared.runner.RunRefusal.{RunRefusal}
-use Rattle.proc_model.specs.Procedures.{Action, Held, ◌>>=◌, pure, answered, first_value, checked_values, preset_value, declare, carried_on, assign_one, set_step, plain_step, argument_values, call_step, step}
+use Rattle.proc_model.specs.Procedures.{Action, Held, ◌>>=◌, pure, answered, first_value, checked_values, preset_value, declare, carried_on, assign_one, plain_step, argument_values, step}
 use Rattle.proc_parts.specs.declared.world.World.{World}
 use Rattle.proc_parts.specs.Calls.{world_of, EndsBy, always, expressions_of}
 
@@ -34,17 +34,11 @@ declared_at w locals d = declare (world_of w) locals d
 unfoldable pub all_declared_at : World → List Local → List Declared → Action (List Local)
 all_declared_at w locals ds = carried_on (declare (world_of w)) locals ds
 
-unfoldable pub set_at : World → List Local → List (Target × Tree) → Action (List Local)
-set_at w locals as' = set_step (world_of w) locals as'
-
 unfoldable pub plain_at : World → List Local → Statement → Action (List Local)
 plain_at w locals s = plain_step (world_of w) locals s
 
 unfoldable pub arguments_at : World → List Local → Trees → Action (List Value)
 arguments_at w locals ts = argument_values (world_of w) locals ts
-
-unfoldable pub call_step_at : World → List Local → List ℕ → Trees → Action (List Local)
-call_step_at w locals n ts = call_step (world_of w) locals n ts
 
 unfoldable pub step_at : World → List Local → Statement → Action (List Local)
 step_at w locals s = step (world_of w) locals s

@@ -9,7 +9,6 @@ ghost use Rattle.session_steps.specs.Calls.{called};
 ghost use Rattle.session_desk.specs.Desk.{shared_of};
 ghost use Rattle.session_steps.specs.Turned.{IsTurn, not_begun};
 
-use crate::transactions::commit_open;
 use crate::writing::{definition_refusal, writing_refusal};
 use answer_text::Answer;
 use logged_items::encode_definition;
@@ -19,6 +18,7 @@ use prog_run::{Outcome, run_stmt};
 use session_ctx::Ctx;
 use session_desk::{Call, Desk, Session};
 use session_steps::full;
+use session_transactions::commit_open;
 use sql_tree::Stmt;
 use std::alloc::Global;
 use val_types::SqlRefusal;

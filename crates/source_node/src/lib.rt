@@ -6,14 +6,13 @@
 //!
 //! - `source`: [`SourceNode`], with [`SourceNode::open`], [`SourceNode::exec`] and [`SourceNode::log_bytes`]
 //! - `command`: a command of a session; `working`: a session at its command
-//! - `statements`: which command a statement is; `transactions`, `savepoints`, `calling`, `definitions`, `plain`: the commands,
-//!   one function each
+//! - `statements`: which command a statement is; `calling`, `definitions`, `plain`: commands, one function each
 //! - `writing`: what refuses statements before they run
 //!
 //! What its sessions share and how one statement runs on it, also of a procedure, stands in `session_steps`, SET in
-//! `session_sets`; items and the bytes of entries are made in `logged_items`, which also cuts the bytes of the log that are
-//! served. The definitions in specs/ say for which runs a node stands (`Standing`), and what commands leave by their parts
-//! (`Other`).
+//! `session_sets`, BEGIN, COMMIT, ROLLBACK and savepoints in `session_transactions`; items and the bytes of entries are made in
+//! `logged_items`, which also cuts the bytes of the log that are served. The definitions in specs/ say for which runs a node
+//! stands (`Standing`), and what commands leave by their parts (`Other`).
 //!
 //! # Proved
 //! - [`SourceNode::exec`]: for each run of the machine that began with nothing and for which the node stands, the answer is
@@ -32,10 +31,8 @@ mod calling;
 mod command;
 mod definitions;
 mod plain;
-mod savepoints;
 mod source;
 mod statements;
-mod transactions;
 mod working;
 mod writing;
 

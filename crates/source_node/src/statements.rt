@@ -15,13 +15,12 @@ ghost use Rattle.session_steps.specs.Turned.{IsTurn};
 use crate::calling::run_call;
 use crate::definitions::define;
 use crate::plain::run_plain;
-use crate::savepoints::{back, release, save};
-use crate::transactions::{begin, commit, rollback};
 use crate::writing::{is_definition, refused_here};
 use answer_text::Answer;
 use node_answers::{NodeFault, refused};
 use session_desk::{Call, Desk, Session};
 use session_sets::{lock_refusal, set};
+use session_transactions::{begin, commit, release_savepoint, rollback, rollback_to, savepoint};
 use sql_tree::{Assignment, Expr, Stmt};
 use std::alloc::Global;
 use std::mem;
@@ -127,9 +126,9 @@ fn of_transaction(
         Stmt::Begin => Ok(begin(alloc, call, desk, session)?),
         Stmt::Commit => Ok(commit(alloc, call, desk, session)?),
         Stmt::Rollback => Ok(rollback(alloc, call, desk, session)),
-        Stmt::Savepoint(name) => Ok(save(alloc, call, desk, session, name)?),
-        Stmt::RollbackTo(name) => Ok(back(alloc, call, desk, session, name)),
-        Stmt::ReleaseSavepoint(name) => Ok(release(alloc, desk, session, name)),
+        Stmt::Savepoint(name) => Ok(savepoint(alloc, call, desk, session, name)?),
+        Stmt::RollbackTo(name) => Ok(rollback_to(alloc, call, desk, session, name)),
+        Stmt::ReleaseSavepoint(name) => Ok(release_savepoint(alloc, desk, session, name)),
         _ => Err(NodeFault::NoMemory),
     }
 }

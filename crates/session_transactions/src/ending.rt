@@ -1,7 +1,7 @@
-//! BEGIN, COMMIT and ROLLBACK.
+//! COMMIT and ROLLBACK.
 ghost use Rattle.std.specs.Prelude.{◌≡◌, IfOk, OnOk};
 ghost use Rattle.session_model.specs.Running.{commit_entries, commit_open, commit_shared, items_of};
-ghost use Rattle.session_model.specs.Commands.{begin_turn, commit_turn, rollback_turn};
+ghost use Rattle.session_model.specs.Commands.{commit_turn, rollback_turn};
 ghost use Rattle.session_steps.specs.Calls.{called};
 ghost use Rattle.session_desk.specs.Desk.{shared_of};
 ghost use Rattle.session_desk.specs.Logging.{Logs};
@@ -36,7 +36,7 @@ fn commit_items(
 }
 
 /// Ends the open transaction of a session, with its changes.
-pub(crate) fn commit_open(
+pub fn commit_open(
     alloc: Global,
     call: &Call<'_>,
     desk: &mut Desk,
@@ -50,22 +50,8 @@ pub(crate) fn commit_open(
     Ok(())
 }
 
-/// BEGIN: commits the open transaction, and opens one.
-pub(crate) fn begin(
-    alloc: Global,
-    call: &Call<'_>,
-    desk: &mut Desk,
-    session: &mut Session,
-) -> Result<Answer, NoMemory>
-    ensures { IfOk result (λ answer. IsTurn desk.old desk.new session.new answer (begin_turn (called call.now) (shared_of desk.old) session.old)) }
-{
-    commit_open(alloc, call, desk, session)?;
-    session.transaction = Some(Open::new(alloc));
-    Ok(ok(alloc, 0))
-}
-
 /// COMMIT.
-pub(crate) fn commit(
+pub fn commit(
     alloc: Global,
     call: &Call<'_>,
     desk: &mut Desk,
@@ -78,12 +64,7 @@ pub(crate) fn commit(
 }
 
 /// ROLLBACK.
-pub(crate) fn rollback(
-    alloc: Global,
-    call: &Call<'_>,
-    desk: &mut Desk,
-    session: &mut Session,
-) -> Answer
+pub fn rollback(alloc: Global, call: &Call<'_>, desk: &mut Desk, session: &mut Session) -> Answer
     ensures { IsTurn desk.old desk.new session.new result (rollback_turn (called call.now) (shared_of desk.old) session.old) }
 {
     session.transaction = None;

@@ -16,7 +16,7 @@ use val_types::{Bytes, NoMemory};
 const NO_SUCH_SAVEPOINT: u16 = 1305;
 
 /// SAVEPOINT: one of the name moves; outside a transaction it does nothing.
-pub(crate) fn save(
+pub fn savepoint(
     alloc: Global,
     call: &Call<'_>,
     desk: &Desk,
@@ -35,7 +35,7 @@ pub(crate) fn save(
 
 /// ROLLBACK TO: what was done behind the savepoint is taken back, and it stays. 1305 outside a transaction, and
 /// where there is no savepoint of the name.
-pub(crate) fn back(
+pub fn rollback_to(
     alloc: Global,
     call: &Call<'_>,
     desk: &mut Desk,
@@ -59,7 +59,7 @@ pub(crate) fn back(
 }
 
 /// RELEASE SAVEPOINT: drops that of the name alone. 1305 as above.
-pub(crate) fn release(alloc: Global, desk: &Desk, session: &mut Session, name: &Bytes) -> Answer
+pub fn release_savepoint(alloc: Global, desk: &Desk, session: &mut Session, name: &Bytes) -> Answer
     ensures { IsTurn desk.now desk.now session.new result (release_in {I = LoggedItem} name.now (session.old.transaction) (shared_of desk.now) session.old) }
 {
     let Some(mut open) = session.transaction.take() else {

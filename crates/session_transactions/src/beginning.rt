@@ -1,0 +1,27 @@
+//! BEGIN.
+ghost use Rattle.std.specs.Prelude.{◌≡◌, IfOk};
+ghost use Rattle.session_model.specs.Commands.{begin_turn};
+ghost use Rattle.session_steps.specs.Calls.{called};
+ghost use Rattle.session_desk.specs.Desk.{shared_of};
+ghost use Rattle.session_steps.specs.Turned.{IsTurn};
+
+use crate::ending::commit_open;
+use answer_text::Answer;
+use node_answers::ok;
+use session_desk::{Call, Desk, Open, Session};
+use std::alloc::Global;
+use val_types::NoMemory;
+
+/// BEGIN: commits the open transaction, and opens one.
+pub fn begin(
+    alloc: Global,
+    call: &Call<'_>,
+    desk: &mut Desk,
+    session: &mut Session,
+) -> Result<Answer, NoMemory>
+    ensures { IfOk result (λ answer. IsTurn desk.old desk.new session.new answer (begin_turn (called call.now) (shared_of desk.old) session.old)) }
+{
+    commit_open(alloc, call, desk, session)?;
+    session.transaction = Some(Open::new(alloc));
+    Ok(ok(alloc, 0))
+}
