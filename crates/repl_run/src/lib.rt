@@ -4,6 +4,7 @@
 //! ends (`script_run`, in specs/Ran), and how a log that is shown (`print_log`) or replayed (`replay_log`) ends.
 //!
 //! - `program`: [`top`], which asks which word it is
+//! - [`write_log`] of `script_run`: a script carried out as `run` has it, and the source's log behind it
 //!
 //! It stands on `run_streams`, on `script_run` for the word that is given a script, and on `print_log` and `replay_log` for the
 //! words that are given a log; the programs give it the real edges.
@@ -35,3 +36,4 @@
 mod program;
 
 pub use program::top;
+pub use script_run::write_log;

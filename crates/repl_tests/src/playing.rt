@@ -5,9 +5,8 @@
 
 use answer_text::{Report, Status, status_line};
 use port_traits::{Draw, Identity, MemEnv, MemSink, MemSource};
-use repl_run::top;
+use repl_run::{top, write_log};
 use run_streams::empty_report;
-use script_run::write_log;
 use std::alloc::Global;
 use std::process::Abort;
 use val_types::{Bytes, List, NoMemory};
