@@ -3,9 +3,10 @@
 //! In them `t` has the columns id and v, `l` the columns id AUTO_INCREMENT and w, `u` the columns id and a BIGINT v.
 ghost use Rattle.std.specs.Prelude.{◌≡◌, [], ◌∷◌, codes, false, map, pos, true, None, Some};
 ghost use Rattle.val_types.specs.declared.ops.BinOp.TheVariants as ops;
-ghost use Rattle.val_types.specs.declared.ops.Func.{Func};
+ghost use Rattle.val_types.specs.declared.ops.FuncN.{FuncN};
 ghost use Rattle.val_types.specs.declared.value.Value.TheVariants.{Int, Null, Text};
-ghost use Rattle.sql_tree.specs.Tree.{all_columns, binary, built_in, call, from_table, items, literal, name, new_column, no_order, no_origin, no_part, no_tree, old_column, part, query, user_variable};
+ghost use Rattle.sql_tree.specs.BuiltIns.{on_many};
+ghost use Rattle.sql_tree.specs.Tree.{all_columns, binary, call, from_table, items, literal, name, new_column, no_order, no_origin, no_part, no_tree, old_column, part, query, user_variable};
 ghost use Rattle.sql_tree.specs.Statement.{block, delete_rows, evaluate, if_steps, no_else, program, return_value, set_all, trigger, update_rows, while_steps};
 ghost use Rattle.sql_tree.specs.View.{trees_of};
 ghost use Rattle.sql_tree.specs.StatementView.{branches_of, statements_of};
@@ -27,7 +28,7 @@ pub fn functions_called()
     ensures row_stays { rows_after (run_in (table t_def ∷ function adding_nine ∷ []) (selecting (call (codes "f") no_tree ∷ [])) (t_of [])) ≡ (r (9 ∷ 9 ∷ []) ∷ []) ∷ [] }
     ensures own_table { code_of (run_in (table t_def ∷ function adding_nine ∷ []) (update_rows (codes "t") ((v, call (codes "f") no_tree) ∷ []) no_part no_order None) (t_of (r (1 ∷ 1 ∷ []) ∷ []))) ≡ 1442 }
     ensures read_below { code_of (run_in (table t_def ∷ function adding_nine ∷ []) (inserting (codes "t") None ((n 1 ∷ call (codes "f") no_tree ∷ []) ∷ [])) (t_of [])) ≡ 1442 }
-    ensures variable { rows_after (effect (setting_in (record context { variables = (codes "x", Int (pos 3)) ∷ [] }) (table t_def ∷ function (giving (codes "g") (return_value (built_in Func.Coalesce (trees_of (user_variable (codes "x") ∷ n 7 ∷ []))))) ∷ [])) 16 [] (inserting (codes "t") None ((n 2 ∷ call (codes "g") no_tree ∷ []) ∷ [])) (t_of [])) ≡ (r (2 ∷ 3 ∷ []) ∷ []) ∷ [] }
+    ensures variable { rows_after (effect (setting_in (record context { variables = (codes "x", Int (pos 3)) ∷ [] }) (table t_def ∷ function (giving (codes "g") (return_value (on_many FuncN.Coalesce (trees_of (user_variable (codes "x") ∷ n 7 ∷ []))))) ∷ [])) 16 [] (inserting (codes "t") None ((n 2 ∷ call (codes "g") no_tree ∷ []) ∷ [])) (t_of [])) ≡ (r (2 ∷ 3 ∷ []) ∷ []) ∷ [] }
     ensures without_return { code_of (run_in (function (giving (codes "g") (evaluate (trees_of (n 1 ∷ [])))) ∷ []) (selecting (call (codes "g") no_tree ∷ [])) (t_of [])) ≡ 1321 }
     ensures running { code_of (run_in (function (giving (codes "g") (return_value (call (codes "g") no_tree))) ∷ []) (selecting (call (codes "g") no_tree ∷ [])) (t_of [])) ≡ 1424 }
     ensures too_large { code_of (run_in (function (giving (codes "g") (return_value (n 2147483648))) ∷ []) (selecting (call (codes "g") no_tree ∷ [])) (t_of [])) ≡ 1264 }

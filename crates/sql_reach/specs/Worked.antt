@@ -2,8 +2,9 @@
 use Rattle.std.specs.Prelude.{ℕ, codes, pos, neg_ℤ, List, [], ◌∷◌, Some}
 use Rattle.val_types.specs.declared.value.Value.{Value}
 use Rattle.val_types.specs.declared.value.Value.TheVariants.{Int, Text}
-use Rattle.val_types.specs.declared.ops.Func.{Func}
-use Rattle.sql_tree.specs.Tree.{built_in, no_tree, new_column, call}
+use Rattle.val_types.specs.declared.ops.Func0.{Func0}
+use Rattle.sql_tree.specs.BuiltIns.{on_none}
+use Rattle.sql_tree.specs.Tree.{no_tree, new_column, call}
 use Rattle.sql_tree.specs.Statement.{trigger, return_value}
 use Rattle.sql_locals.specs.declared.locals.Local.{Local}
 use Rattle.sql_tree.specs.declared.statements.Cause.TheVariants as causes
@@ -22,7 +23,7 @@ two_locals = local_of (codes "v") (Int (neg_ℤ (pos 5))) ∷ local_of (codes "b
 
 -- UUID() as a function `u`, called by a function `w`
 abbrev pub u_and_w : List Object
-u_and_w = function (giving (codes "w") (return_value (call (codes "u") no_tree))) ∷ function (giving (codes "u") (return_value (built_in Func.Uuid no_tree))) ∷ []
+u_and_w = function (giving (codes "w") (return_value (call (codes "u") no_tree))) ∷ function (giving (codes "u") (return_value (on_none Func0.Uuid))) ∷ []
 
 -- t with a trigger that inserts into l, which has AUTO_INCREMENT
 abbrev pub with_trigger : List Object

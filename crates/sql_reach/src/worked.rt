@@ -1,9 +1,10 @@
 //! Worked examples: what is reached, unsafe, carried and closed, which the checker computes.
 ghost use Rattle.std.specs.Prelude.{◌≡◌, [], ◌∷◌, codes, false, map, neg_ℤ, pos, true, None, Some};
 ghost use Rattle.val_types.specs.declared.ops.BinOp.TheVariants as ops;
-ghost use Rattle.val_types.specs.declared.ops.Func.{Func};
+ghost use Rattle.val_types.specs.declared.ops.Func0.{Func0};
 ghost use Rattle.val_types.specs.declared.value.Value.TheVariants.{Int, Null, Text};
-ghost use Rattle.sql_tree.specs.Tree.{all_columns, binary, built_in, call, floor_rand, from_table, items, name, name_const, no_order, no_origin, no_part, no_tree, part, query, system_variable, user_variable};
+ghost use Rattle.sql_tree.specs.BuiltIns.{on_none};
+ghost use Rattle.sql_tree.specs.Tree.{all_columns, binary, call, floor_rand, from_table, items, name, name_const, no_order, no_origin, no_part, no_tree, part, query, system_variable, user_variable};
 ghost use Rattle.sql_tree.specs.Statement.{delete_rows, drop_table, insert_into, replace_into, rows, rows_of, select, update_rows};
 ghost use Rattle.sql_tree.specs.View.{trees_of};
 ghost use Rattle.sql_tree.specs.Worked.{row_of};
@@ -26,7 +27,7 @@ pub fn writing_statements()
 /// Reasons: those of the statement itself, of a function behind a function, of a trigger; a trigger for another event
 /// is none.
 pub fn unsafe_statements()
-    ensures safe { reasons (table t_def ∷ []) (inserting (codes "t") None ((built_in Func.Now no_tree ∷ built_in Func.LastInsertId no_tree ∷ user_variable (codes "x") ∷ []) ∷ [])) ≡ [] }
+    ensures safe { reasons (table t_def ∷ []) (inserting (codes "t") None ((on_none Func0.Now ∷ on_none Func0.LastInsertId ∷ user_variable (codes "x") ∷ []) ∷ [])) ≡ [] }
     ensures reached { reasons u_and_w (selecting (call (codes "w") no_tree ∷ [])) ≡ a_function ∷ [] }
     ensures drawn { reasons [] (selecting (floor_rand (n 2) ∷ system_variable (codes "server_id") ∷ [])) ≡ a_function ∷ a_variable ∷ [] }
     ensures by_trigger { reasons with_trigger (inserting (codes "t") None ((n 1 ∷ n 1 ∷ []) ∷ [])) ≡ a_counted_program ∷ [] }
@@ -41,7 +42,7 @@ pub fn unsafe_statements()
 /// never set.
 pub fn carried_parts()
     ensures nothing { carried [] (selecting (n 1 ∷ [])) context None ≡ record { stamp = 1700000000; connection = 1; inc = 1; off = 1; last_id = None; first = None; seeds = None; vars = [] } }
-    ensures all { carried [] (selecting (user_variable (codes "y") ∷ user_variable (codes "b") ∷ user_variable (codes "y") ∷ built_in Func.LastInsertId no_tree ∷ floor_rand (n 2) ∷ [])) (record context { variables = (codes "b", Int (pos 3)) ∷ [] }) (Some (pos 7)) ≡ record { stamp = 1700000000; connection = 1; inc = 1; off = 1; last_id = Some (pos 0); first = Some (pos 7); seeds = Some (1, 2); vars = (codes "b", Int (pos 3)) ∷ (codes "y", Null) ∷ [] } }
+    ensures all { carried [] (selecting (user_variable (codes "y") ∷ user_variable (codes "b") ∷ user_variable (codes "y") ∷ on_none Func0.LastInsertId ∷ floor_rand (n 2) ∷ [])) (record context { variables = (codes "b", Int (pos 3)) ∷ [] }) (Some (pos 7)) ≡ record { stamp = 1700000000; connection = 1; inc = 1; off = 1; last_id = Some (pos 0); first = Some (pos 7); seeds = Some (1, 2); vars = (codes "b", Int (pos 3)) ∷ (codes "y", Null) ∷ [] } }
 {}
 
 /// Locals closed in: `INSERT INTO n VALUES (1, 7, b)`, `UPDATE n SET v = v + 1 WHERE id = 1 LIMIT v` with v = -5 and b = X'0027';

@@ -1,11 +1,10 @@
 -- The plain tree that a tree of the code stands for.
 use Rattle.std.specs.Prelude.{Bool, List, [], ◌∷◌, Option, Some, None, map}
-use Rattle.val_types.specs.declared.ops.Func.{Func}
 use Rattle.val_types.specs.declared.ops.Agg.{Agg}
-use Rattle.sql_tree.specs.Tree.{Tree, literal, name, column, new_column, old_column, user_variable, system_variable, unary, binary, is_in, choice, subquery, exists, call, values_of, name_const, floor_rand, built_in}
+use Rattle.sql_tree.specs.Tree.{Tree, literal, name, column, new_column, old_column, user_variable, system_variable, unary, binary, is_in, choice, subquery, exists, call, values_of, name_const, floor_rand}
 use Rattle.sql_tree.specs.Tree.{Trees, no_tree, tree, Arms, no_arm, arm, Part, no_part, part, Query, query, Selected, items, all_columns, aggregates}
 use Rattle.sql_tree.specs.Tree.{Aggregates, no_aggregate, count_all, aggregate, Origin, no_origin, from_table, Orders, no_order, order_by}
-use Rattle.sql_tree.specs.BuiltIns.{on_one, on_two, on_three}
+use Rattle.sql_tree.specs.BuiltIns.{on_none, on_one, on_two, on_three, on_many}
 use Rattle.sql_tree.specs.declared.expressions.Aggregate.TheOpen.{Aggregate-F, Expr-F, Selection-F, Arm-F, FromClause-F, OrderItem-F, Select-F}
 use Rattle.sql_tree.specs.declared.expressions.Expr.{Expr, fold-Expr}
 use Rattle.sql_tree.specs.declared.expressions.Arm.{Arm, fold-Arm}
@@ -70,21 +69,11 @@ tree_step (Expr-F.Call n ts) = call n (trees_of ts)
 tree_step (Expr-F.Values c) = values_of c
 tree_step (Expr-F.NameConst n v) = name_const n v
 tree_step (Expr-F.FloorRand a) = floor_rand a
-tree_step (Expr-F.Abs a) = on_one Func.Abs a
-tree_step (Expr-F.Coalesce ts) = built_in Func.Coalesce (trees_of ts)
-tree_step (Expr-F.If a b c) = on_three Func.If a b c
-tree_step (Expr-F.IfNull a b) = on_two Func.IfNull a b
-tree_step (Expr-F.Concat ts) = built_in Func.Concat (trees_of ts)
-tree_step (Expr-F.Length a) = on_one Func.Length a
-tree_step (Expr-F.Substring a b c) = on_three Func.Substring a b c
-tree_step Expr-F.Now = built_in Func.Now no_tree
-tree_step Expr-F.UnixTimestamp = built_in Func.UnixTimestamp no_tree
-tree_step Expr-F.SysDate = built_in Func.SysDate no_tree
-tree_step Expr-F.User = built_in Func.User no_tree
-tree_step Expr-F.Uuid = built_in Func.Uuid no_tree
-tree_step Expr-F.ConnectionId = built_in Func.ConnectionId no_tree
-tree_step Expr-F.LastInsertId = built_in Func.LastInsertId no_tree
-tree_step Expr-F.RowCount = built_in Func.RowCount no_tree
+tree_step (Expr-F.Func0 f) = on_none f
+tree_step (Expr-F.Func1 f a) = on_one f a
+tree_step (Expr-F.Func2 f a b) = on_two f a b
+tree_step (Expr-F.Func3 f a b c) = on_three f a b c
+tree_step (Expr-F.FuncN f ts) = on_many f (trees_of ts)
 
 abbrev pub selected_step : Selection-F (Option (Agg × Tree)) Tree Selected (Tree × Tree) Origin (Tree × Bool) Query → Selected
 selected_step (Selection-F.Items ts) = items (trees_of ts)

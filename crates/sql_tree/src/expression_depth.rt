@@ -15,17 +15,16 @@ pub fn expr_depth(expr: &Expr) -> u32
         Expr::Literal(_) | Expr::Name(_) | Expr::NameConst(_, _) => 1,
         Expr::Column(_, _) | Expr::NewColumn(_) | Expr::OldColumn(_) | Expr::Values(_) => 1,
         Expr::UserVariable(_) | Expr::SystemVariable(_) => 1,
-        Expr::Now | Expr::UnixTimestamp | Expr::SysDate | Expr::User | Expr::Uuid => 1,
-        Expr::ConnectionId | Expr::LastInsertId | Expr::RowCount => 1,
-        Expr::Unary(_, a) | Expr::FloorRand(a) | Expr::Abs(a) | Expr::Length(a) => {
+        Expr::Func0(_) => 1,
+        Expr::Unary(_, a) | Expr::FloorRand(a) | Expr::Func1(_, a) => {
             expr_depth(a.get()).saturating_add(1)
         }
-        Expr::Binary(_, a, b) | Expr::IfNull(a, b) => {
+        Expr::Binary(_, a, b) | Expr::Func2(_, a, b) => {
             expr_depth(a.get())
                 .max(expr_depth(b.get()))
                 .saturating_add(1)
         }
-        Expr::If(a, b, c) | Expr::Substring(a, b, c) => expr_depth(a.get())
+        Expr::Func3(_, a, b, c) => expr_depth(a.get())
             .max(expr_depth(b.get()))
             .max(expr_depth(c.get()))
             .saturating_add(1),
@@ -41,7 +40,7 @@ pub fn expr_depth(expr: &Expr) -> u32
         }
         Expr::Subquery(select) => select_depth(select.get()),
         Expr::Exists(select) => select_depth(select.get()).saturating_add(1),
-        Expr::Call { arguments, .. } | Expr::Coalesce(arguments) | Expr::Concat(arguments) => {
+        Expr::Call { arguments, .. } | Expr::FuncN(_, arguments) => {
             list_depth(arguments).saturating_add(1)
         }
     }

@@ -85,11 +85,9 @@ pub fn well_expr(expr: &Expr) -> bool
         Expr::Values(name) => is_name(name),
         Expr::Column(table, column) => is_name(table) && is_name(column),
         Expr::NameConst(text, value) => is_text(text) && is_literal(value),
-        Expr::Unary(_, a) | Expr::FloorRand(a) | Expr::Abs(a) | Expr::Length(a) => {
-            well_expr(a.get())
-        }
-        Expr::Binary(_, a, b) | Expr::IfNull(a, b) => well_expr(a.get()) && well_expr(b.get()),
-        Expr::If(a, b, c) | Expr::Substring(a, b, c) => {
+        Expr::Unary(_, a) | Expr::FloorRand(a) | Expr::Func1(_, a) => well_expr(a.get()),
+        Expr::Binary(_, a, b) | Expr::Func2(_, a, b) => well_expr(a.get()) && well_expr(b.get()),
+        Expr::Func3(_, a, b, c) => {
             well_expr(a.get()) && well_expr(b.get()) && well_expr(c.get())
         }
         Expr::In { left, items, .. } => {
@@ -101,11 +99,10 @@ pub fn well_expr(expr: &Expr) -> bool
         Expr::Subquery(select) => gives_one(select.get()) && well_select(select.get()),
         Expr::Exists(select) => well_select(select.get()),
         Expr::Call { name, arguments } => is_name(name) && well_exprs(arguments),
-        Expr::Coalesce(arguments) | Expr::Concat(arguments) => {
+        Expr::FuncN(_, arguments) => {
             has_expr(arguments) && well_exprs(arguments)
         }
-        Expr::Now | Expr::UnixTimestamp | Expr::SysDate | Expr::User | Expr::Uuid => true,
-        Expr::ConnectionId | Expr::LastInsertId | Expr::RowCount => true,
+        Expr::Func0(_) => true,
     }
 }
 

@@ -1,5 +1,7 @@
 //! Expressions and the SELECTs that stand in them.
-use val_types::{Agg, BinOp, Boxed, Bytes, List, UnOp, Value};
+use val_types::{
+    Agg, BinOp, Boxed, Bytes, Func0, Func1, Func2, Func3, FuncN, List, UnOp, Value,
+};
 
 /// An expression. Names are folded to lower case and stand without quotes.
 #[cycle(expression)]
@@ -46,22 +48,16 @@ pub enum Expr {
     NameConst(Bytes, Value),
     /// `FLOOR(RAND() * n)`, the one form in which RAND is read.
     FloorRand(Boxed<Expr>),
-    Abs(Boxed<Expr>),
-    Coalesce(List<Expr>),
-    If(Boxed<Expr>, Boxed<Expr>, Boxed<Expr>),
-    IfNull(Boxed<Expr>, Boxed<Expr>),
-    Concat(List<Expr>),
-    Length(Boxed<Expr>),
-    /// The text, the place counted from 1, and how many bytes.
-    Substring(Boxed<Expr>, Boxed<Expr>, Boxed<Expr>),
-    Now,
-    UnixTimestamp,
-    SysDate,
-    User,
-    Uuid,
-    ConnectionId,
-    LastInsertId,
-    RowCount,
+    /// A built-in without arguments.
+    Func0(Func0),
+    /// A built-in of one argument.
+    Func1(Func1, Boxed<Expr>),
+    /// A built-in of two arguments.
+    Func2(Func2, Boxed<Expr>, Boxed<Expr>),
+    /// A built-in of three arguments.
+    Func3(Func3, Boxed<Expr>, Boxed<Expr>, Boxed<Expr>),
+    /// A built-in of one argument or more.
+    FuncN(FuncN, List<Expr>),
 }
 
 /// `WHEN condition THEN value` of a CASE.

@@ -6,6 +6,7 @@
 //! `specs/StatementView.antt`.
 //!
 //! - `expressions`: [`Expr`], [`Select`] and their parts
+//! - `built_ins`: the table of built-in functions
 //! - `statements`: [`Stmt`], with [`Routine`] and [`TriggerDef`] for stored programs
 //! - `expression_depth`, `statement_depth`: [`depth`], how many nodes lie one in the other
 //! - `names`, `expression_rules`, `statement_rules`: [`well`], what the parser can give
@@ -18,9 +19,12 @@
 //! - [`well`], [`well_step`], [`well_expr`], [`well_select`], [`is_name`] answer just what their
 //!   definitions say: which statements the parser can give, at most 200 deep, which stand inside a
 //!   stored program, and which parts stand in them.
+//! - [`function_name`], [`function_named`], [`is_unsafe`], [`reads_last_id`] answer what the table of
+//!   built-in functions says, in `specs/BuiltIns.antt`.
 //! - Copies of tables, LIMITs and numbers of rows are equal to the original, or memory is short.
 #![tactic(auto)]
 
+mod built_ins;
 mod expression_depth;
 mod expression_rules;
 mod expressions;
@@ -31,6 +35,7 @@ mod statement_rules;
 mod statements;
 mod worked;
 
+pub use built_ins::{function_name, function_named, is_unsafe, reads_last_id};
 pub use expression_depth::{expr_depth, select_depth};
 pub use expression_rules::{well_expr, well_select};
 pub use expressions::{

@@ -7,7 +7,7 @@ use crate::value::Value;
 use std::alloc::Global;
 
 /// The type of a column, a parameter, a result or a local variable.
-#[derive(Clone, Copy, PartialEq, Eq, Debug)]
+#[derive(Clone, Copy, PartialEq, Eq)]
 pub enum ColType {
     /// A signed number of 32 bits.
     Int,

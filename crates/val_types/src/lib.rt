@@ -54,7 +54,7 @@ pub use duplicate::Duplicate;
 pub use fitting::{fits, greatest, row_fits, type_fits};
 pub use keys::{key_of, value_at};
 pub use list::{Bytes, List, NoMemory};
-pub use ops::{Agg, BinOp, Func, UnOp};
+pub use ops::{Agg, BinOp, Func, Func0, Func1, Func2, Func3, FuncN, UnOp};
 pub use refusal::{
     DIVISION_BY_ZERO, KINDS_MIXED, NUMBER_OVERFLOW, OUT_OF_RANGE, SqlError, SqlRefusal,
     TEXT_TOO_LONG, TOO_LONG_FOR_COLUMN,
