@@ -1,129 +1,124 @@
 -- The words of the grammar.
-use Rattle.std.specs.Prelude.{ℕ, Bool, true, false, List, [], ◌∷◌, codes, Option}
+use Rattle.std.specs.Prelude.{ℕ, Bool, nat_le, List, [], ◌∷◌, codes, Option}
 use Rattle.std.specs.List.{find}
 use Rattle.std.specs.Str.{bytes_eq}
 use Rattle.sql_lex.specs.declared.keyword.Keyword.{Keyword}
-use Rattle.sql_lex.specs.declared.keyword.Keyword.TheVariants.{Alter, And, As, Asc, Before, Between, Bigint, By, Call, Case, Create, Declare, Default, Delete, Desc, Deterministic, Distinct, Div, Drop, Each, Else, Elseif, Exists, For, From, Group, If, Ignore, In, Insert, Int, Integer, Into, Is, Join, Key, Limit, Mod, Modifies, Not, Null, On, Or, Order, Primary, Procedure, Reads, Release, Replace, Return, Select, Set, Sql, Table, Then, To, Trigger, Union, Unique, Update, Values, Varchar, When, Where, While, After, AutoIncrement, Begin, Commit, Contains, Data, Do, Duplicate, End, Engine, Function, Index, Innodb, Mixed, New, No, Offset, Old, Returns, Rollback, Row, Savepoint, Session, Start, Statement, Transaction, Truncate, Value, Work, Abs, Coalesce, Concat, ConnectionId, Count, Floor, Ifnull, LastInsertId, Length, Max, Min, NameConst, Now, Rand, RowCount, Substring, Sum, Sysdate, UnixTimestamp, User, Uuid}
+use Rattle.sql_lex.specs.declared.keyword.Keyword.TheVariants.{Alter, And, As, Asc, Before, Between, Bigint, By, Call, Case, Create, Declare, Default, Delete, Desc, Deterministic, Distinct, Div, Drop, Each, Else, Elseif, Exists, For, From, Group, If, Ignore, In, Insert, Int, Integer, Into, Is, Join, Key, Limit, Mod, Modifies, Not, Null, On, Or, Order, Primary, Procedure, Reads, Release, Replace, Return, Select, Set, Sql, Table, Then, To, Trigger, Union, Unique, Update, Values, Varchar, When, Where, While, After, AutoIncrement, Begin, Commit, Contains, Data, Do, Duplicate, End, Engine, Function, Index, Innodb, Mixed, New, No, Offset, Old, Returns, Rollback, Row, Savepoint, Session, Start, Statement, Transaction, Truncate, Value, Work, Count, Floor, Max, Min, NameConst, Rand, Sum}
+
+-- The table of keywords: each with its word in lower case and its place among them, from 0. Reserved words stand up to WHILE,
+-- behind them words that may be names, and from COUNT on those that take part in a call.
+abbrev pub entry : Keyword → List ℕ × ℕ
+entry Alter = (codes "alter", 0)
+entry And = (codes "and", 1)
+entry As = (codes "as", 2)
+entry Asc = (codes "asc", 3)
+entry Before = (codes "before", 4)
+entry Between = (codes "between", 5)
+entry Bigint = (codes "bigint", 6)
+entry By = (codes "by", 7)
+entry Call = (codes "call", 8)
+entry Case = (codes "case", 9)
+entry Create = (codes "create", 10)
+entry Declare = (codes "declare", 11)
+entry Default = (codes "default", 12)
+entry Delete = (codes "delete", 13)
+entry Desc = (codes "desc", 14)
+entry Deterministic = (codes "deterministic", 15)
+entry Distinct = (codes "distinct", 16)
+entry Div = (codes "div", 17)
+entry Drop = (codes "drop", 18)
+entry Each = (codes "each", 19)
+entry Else = (codes "else", 20)
+entry Elseif = (codes "elseif", 21)
+entry Exists = (codes "exists", 22)
+entry For = (codes "for", 23)
+entry From = (codes "from", 24)
+entry Group = (codes "group", 25)
+entry If = (codes "if", 26)
+entry Ignore = (codes "ignore", 27)
+entry In = (codes "in", 28)
+entry Insert = (codes "insert", 29)
+entry Int = (codes "int", 30)
+entry Integer = (codes "integer", 31)
+entry Into = (codes "into", 32)
+entry Is = (codes "is", 33)
+entry Join = (codes "join", 34)
+entry Key = (codes "key", 35)
+entry Limit = (codes "limit", 36)
+entry Mod = (codes "mod", 37)
+entry Modifies = (codes "modifies", 38)
+entry Not = (codes "not", 39)
+entry Null = (codes "null", 40)
+entry On = (codes "on", 41)
+entry Or = (codes "or", 42)
+entry Order = (codes "order", 43)
+entry Primary = (codes "primary", 44)
+entry Procedure = (codes "procedure", 45)
+entry Reads = (codes "reads", 46)
+entry Release = (codes "release", 47)
+entry Replace = (codes "replace", 48)
+entry Return = (codes "return", 49)
+entry Select = (codes "select", 50)
+entry Set = (codes "set", 51)
+entry Sql = (codes "sql", 52)
+entry Table = (codes "table", 53)
+entry Then = (codes "then", 54)
+entry To = (codes "to", 55)
+entry Trigger = (codes "trigger", 56)
+entry Union = (codes "union", 57)
+entry Unique = (codes "unique", 58)
+entry Update = (codes "update", 59)
+entry Values = (codes "values", 60)
+entry Varchar = (codes "varchar", 61)
+entry When = (codes "when", 62)
+entry Where = (codes "where", 63)
+entry While = (codes "while", 64)
+entry After = (codes "after", 65)
+entry AutoIncrement = (codes "auto_increment", 66)
+entry Begin = (codes "begin", 67)
+entry Commit = (codes "commit", 68)
+entry Contains = (codes "contains", 69)
+entry Data = (codes "data", 70)
+entry Do = (codes "do", 71)
+entry Duplicate = (codes "duplicate", 72)
+entry End = (codes "end", 73)
+entry Engine = (codes "engine", 74)
+entry Function = (codes "function", 75)
+entry Index = (codes "index", 76)
+entry Innodb = (codes "innodb", 77)
+entry Mixed = (codes "mixed", 78)
+entry New = (codes "new", 79)
+entry No = (codes "no", 80)
+entry Offset = (codes "offset", 81)
+entry Old = (codes "old", 82)
+entry Returns = (codes "returns", 83)
+entry Rollback = (codes "rollback", 84)
+entry Row = (codes "row", 85)
+entry Savepoint = (codes "savepoint", 86)
+entry Session = (codes "session", 87)
+entry Start = (codes "start", 88)
+entry Statement = (codes "statement", 89)
+entry Transaction = (codes "transaction", 90)
+entry Truncate = (codes "truncate", 91)
+entry Value = (codes "value", 92)
+entry Work = (codes "work", 93)
+entry Count = (codes "count", 94)
+entry Floor = (codes "floor", 95)
+entry Max = (codes "max", 96)
+entry Min = (codes "min", 97)
+entry NameConst = (codes "name_const", 98)
+entry Rand = (codes "rand", 99)
+entry Sum = (codes "sum", 100)
 
 -- a keyword in lower case
 abbrev pub word_of : Keyword → List ℕ
-word_of Alter = codes "alter"
-word_of And = codes "and"
-word_of As = codes "as"
-word_of Asc = codes "asc"
-word_of Before = codes "before"
-word_of Between = codes "between"
-word_of Bigint = codes "bigint"
-word_of By = codes "by"
-word_of Call = codes "call"
-word_of Case = codes "case"
-word_of Create = codes "create"
-word_of Declare = codes "declare"
-word_of Default = codes "default"
-word_of Delete = codes "delete"
-word_of Desc = codes "desc"
-word_of Deterministic = codes "deterministic"
-word_of Distinct = codes "distinct"
-word_of Div = codes "div"
-word_of Drop = codes "drop"
-word_of Each = codes "each"
-word_of Else = codes "else"
-word_of Elseif = codes "elseif"
-word_of Exists = codes "exists"
-word_of For = codes "for"
-word_of From = codes "from"
-word_of Group = codes "group"
-word_of If = codes "if"
-word_of Ignore = codes "ignore"
-word_of In = codes "in"
-word_of Insert = codes "insert"
-word_of Int = codes "int"
-word_of Integer = codes "integer"
-word_of Into = codes "into"
-word_of Is = codes "is"
-word_of Join = codes "join"
-word_of Key = codes "key"
-word_of Limit = codes "limit"
-word_of Mod = codes "mod"
-word_of Modifies = codes "modifies"
-word_of Not = codes "not"
-word_of Null = codes "null"
-word_of On = codes "on"
-word_of Or = codes "or"
-word_of Order = codes "order"
-word_of Primary = codes "primary"
-word_of Procedure = codes "procedure"
-word_of Reads = codes "reads"
-word_of Release = codes "release"
-word_of Replace = codes "replace"
-word_of Return = codes "return"
-word_of Select = codes "select"
-word_of Set = codes "set"
-word_of Sql = codes "sql"
-word_of Table = codes "table"
-word_of Then = codes "then"
-word_of To = codes "to"
-word_of Trigger = codes "trigger"
-word_of Union = codes "union"
-word_of Unique = codes "unique"
-word_of Update = codes "update"
-word_of Values = codes "values"
-word_of Varchar = codes "varchar"
-word_of When = codes "when"
-word_of Where = codes "where"
-word_of While = codes "while"
-word_of After = codes "after"
-word_of AutoIncrement = codes "auto_increment"
-word_of Begin = codes "begin"
-word_of Commit = codes "commit"
-word_of Contains = codes "contains"
-word_of Data = codes "data"
-word_of Do = codes "do"
-word_of Duplicate = codes "duplicate"
-word_of End = codes "end"
-word_of Engine = codes "engine"
-word_of Function = codes "function"
-word_of Index = codes "index"
-word_of Innodb = codes "innodb"
-word_of Mixed = codes "mixed"
-word_of New = codes "new"
-word_of No = codes "no"
-word_of Offset = codes "offset"
-word_of Old = codes "old"
-word_of Returns = codes "returns"
-word_of Rollback = codes "rollback"
-word_of Row = codes "row"
-word_of Savepoint = codes "savepoint"
-word_of Session = codes "session"
-word_of Start = codes "start"
-word_of Statement = codes "statement"
-word_of Transaction = codes "transaction"
-word_of Truncate = codes "truncate"
-word_of Value = codes "value"
-word_of Work = codes "work"
-word_of Abs = codes "abs"
-word_of Coalesce = codes "coalesce"
-word_of Concat = codes "concat"
-word_of ConnectionId = codes "connection_id"
-word_of Count = codes "count"
-word_of Floor = codes "floor"
-word_of Ifnull = codes "ifnull"
-word_of LastInsertId = codes "last_insert_id"
-word_of Length = codes "length"
-word_of Max = codes "max"
-word_of Min = codes "min"
-word_of NameConst = codes "name_const"
-word_of Now = codes "now"
-word_of Rand = codes "rand"
-word_of RowCount = codes "row_count"
-word_of Substring = codes "substring"
-word_of Sum = codes "sum"
-word_of Sysdate = codes "sysdate"
-word_of UnixTimestamp = codes "unix_timestamp"
-word_of User = codes "user"
-word_of Uuid = codes "uuid"
+word_of k = (entry k).0
 
--- every keyword
+-- the place of a keyword among them
+abbrev pub place_of : Keyword → ℕ
+place_of k = (entry k).1
+
+-- every keyword, in order
 abbrev pub keywords : List Keyword
 keywords =
     Alter ∷ And ∷ As ∷ Asc ∷ Before ∷ Between ∷ Bigint ∷ By ∷
@@ -137,10 +132,8 @@ keywords =
     While ∷ After ∷ AutoIncrement ∷ Begin ∷ Commit ∷ Contains ∷ Data ∷ Do ∷
     Duplicate ∷ End ∷ Engine ∷ Function ∷ Index ∷ Innodb ∷ Mixed ∷ New ∷
     No ∷ Offset ∷ Old ∷ Returns ∷ Rollback ∷ Row ∷ Savepoint ∷ Session ∷
-    Start ∷ Statement ∷ Transaction ∷ Truncate ∷ Value ∷ Work ∷ Abs ∷ Coalesce ∷
-    Concat ∷ ConnectionId ∷ Count ∷ Floor ∷ Ifnull ∷ LastInsertId ∷ Length ∷ Max ∷
-    Min ∷ NameConst ∷ Now ∷ Rand ∷ RowCount ∷ Substring ∷ Sum ∷ Sysdate ∷
-    UnixTimestamp ∷ User ∷ Uuid ∷
+    Start ∷ Statement ∷ Transaction ∷ Truncate ∷ Value ∷ Work ∷ Count ∷ Floor ∷
+    Max ∷ Min ∷ NameConst ∷ Rand ∷ Sum ∷
     []
 
 -- the first of some keywords that a word in lower case is
@@ -153,118 +146,4 @@ keyword_of word = keyword_among keywords word
 
 -- whether a keyword is no name without backquotes
 abbrev pub is_reserved : Keyword → Bool
-is_reserved Alter = true
-is_reserved And = true
-is_reserved As = true
-is_reserved Asc = true
-is_reserved Before = true
-is_reserved Between = true
-is_reserved Bigint = true
-is_reserved By = true
-is_reserved Call = true
-is_reserved Case = true
-is_reserved Create = true
-is_reserved Declare = true
-is_reserved Default = true
-is_reserved Delete = true
-is_reserved Desc = true
-is_reserved Deterministic = true
-is_reserved Distinct = true
-is_reserved Div = true
-is_reserved Drop = true
-is_reserved Each = true
-is_reserved Else = true
-is_reserved Elseif = true
-is_reserved Exists = true
-is_reserved For = true
-is_reserved From = true
-is_reserved Group = true
-is_reserved If = true
-is_reserved Ignore = true
-is_reserved In = true
-is_reserved Insert = true
-is_reserved Int = true
-is_reserved Integer = true
-is_reserved Into = true
-is_reserved Is = true
-is_reserved Join = true
-is_reserved Key = true
-is_reserved Limit = true
-is_reserved Mod = true
-is_reserved Modifies = true
-is_reserved Not = true
-is_reserved Null = true
-is_reserved On = true
-is_reserved Or = true
-is_reserved Order = true
-is_reserved Primary = true
-is_reserved Procedure = true
-is_reserved Reads = true
-is_reserved Release = true
-is_reserved Replace = true
-is_reserved Return = true
-is_reserved Select = true
-is_reserved Set = true
-is_reserved Sql = true
-is_reserved Table = true
-is_reserved Then = true
-is_reserved To = true
-is_reserved Trigger = true
-is_reserved Union = true
-is_reserved Unique = true
-is_reserved Update = true
-is_reserved Values = true
-is_reserved Varchar = true
-is_reserved When = true
-is_reserved Where = true
-is_reserved While = true
-is_reserved After = false
-is_reserved AutoIncrement = false
-is_reserved Begin = false
-is_reserved Commit = false
-is_reserved Contains = false
-is_reserved Data = false
-is_reserved Do = false
-is_reserved Duplicate = false
-is_reserved End = false
-is_reserved Engine = false
-is_reserved Function = false
-is_reserved Index = false
-is_reserved Innodb = false
-is_reserved Mixed = false
-is_reserved New = false
-is_reserved No = false
-is_reserved Offset = false
-is_reserved Old = false
-is_reserved Returns = false
-is_reserved Rollback = false
-is_reserved Row = false
-is_reserved Savepoint = false
-is_reserved Session = false
-is_reserved Start = false
-is_reserved Statement = false
-is_reserved Transaction = false
-is_reserved Truncate = false
-is_reserved Value = false
-is_reserved Work = false
-is_reserved Abs = false
-is_reserved Coalesce = false
-is_reserved Concat = false
-is_reserved ConnectionId = false
-is_reserved Count = false
-is_reserved Floor = false
-is_reserved Ifnull = false
-is_reserved LastInsertId = false
-is_reserved Length = false
-is_reserved Max = false
-is_reserved Min = false
-is_reserved NameConst = false
-is_reserved Now = false
-is_reserved Rand = false
-is_reserved RowCount = false
-is_reserved Substring = false
-is_reserved Sum = false
-is_reserved Sysdate = false
-is_reserved UnixTimestamp = false
-is_reserved User = false
-is_reserved Uuid = false
+is_reserved k = nat_le (place_of k) (place_of While)

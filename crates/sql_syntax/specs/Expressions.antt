@@ -2,18 +2,18 @@
 use Rattle.std.specs.Prelude.{ℕ, zero, suc, pred, Bool, true, false, List, [], ◌∷◌, ◌++◌, Option, Some}
 use Rattle.val_types.specs.declared.ops.UnOp.{UnOp}
 use Rattle.val_types.specs.declared.ops.UnOp.TheVariants.{Negate, Not, IsNull, IsNotNull}
-use Rattle.val_types.specs.declared.ops.Func.{Func}
+use Rattle.val_types.specs.declared.ops.Func3.{Func3}
 use Rattle.val_types.specs.declared.ops.BinOp.{BinOp}
 use Rattle.val_types.specs.declared.ops.BinOp.TheVariants as ops
 use Rattle.sql_lex.specs.declared.keyword.Keyword.{Keyword}
 use Rattle.sql_lex.specs.declared.keyword.Keyword.TheVariants as words
 use Rattle.sql_lex.specs.declared.token.Symbol.TheVariants as signs
-use Rattle.sql_tree.specs.Tree.{Tree, literal, name, column, new_column, old_column, user_variable, system_variable, unary, binary, is_in, choice, subquery, exists, call, built_in, values_of, name_const, floor_rand}
+use Rattle.sql_tree.specs.Tree.{Tree, literal, name, column, new_column, old_column, user_variable, system_variable, unary, binary, is_in, choice, subquery, exists, call, values_of, name_const, floor_rand}
 use Rattle.sql_tree.specs.Tree.{Trees, no_tree, Part, no_part, part, Query}
-use Rattle.sql_tree.specs.BuiltIns.{on_one, on_two, on_three}
+use Rattle.sql_tree.specs.BuiltIns.{on_none, on_one, on_two, on_three, on_many}
 use Rattle.sql_tree.specs.View.{arms_of}
 use Rattle.sql_grammar.specs.Rule.{Rule, token, any_of, both, either, pure, refused, mapped, opened, chain, optional, paired, behind, before, alone as single_one, then_one}
-use Rattle.sql_syntax.specs.Tokens.{Tok, mark, keyword_said, kind, code, sign_code, number_code, text_code, tight_code, broken_code, keyword, sign, name_said}
+use Rattle.sql_syntax.specs.Tokens.{Tok, mark, keyword_said, kind, code, sign_code, number_code, text_code, tight_code, broken_code, none_code, one_code, two_code, three_code, many_code, function_names, own_names, none_said, one_said, two_said, three_said, many_said, keyword, sign, name_said}
 use Rattle.sql_syntax.specs.Parts.{a_name, system_name, exprs, arguments, closed, in_parentheses, a_text, plain_value, negative_value, a_value}
 use Rattle.sql_syntax.specs.Selects.{select_by, single_by}
 
@@ -52,11 +52,6 @@ column_tail = either kind (sign_code signs.Dot ∷ []) (mapped of_column (behind
 abbrev pub name_tail : ℕ → Rule Tok Tree → Rule Tok Tail
 name_tail n r = either kind (sign_code signs.Open ∷ []) (mapped called (in_parentheses n (arguments r))) column_tail
 
--- names that call a stored function before a parenthesis
-abbrev pub own_names : List ℕ
-own_names =
-    65 ∷ 66 ∷ 67 ∷ 68 ∷ 69 ∷ 70 ∷ 71 ∷ 72 ∷ 73 ∷ 74 ∷ 75 ∷ 76 ∷ 77 ∷ 78 ∷ 79 ∷ 80 ∷ 81 ∷ 82 ∷ 83 ∷ 84 ∷ 85 ∷ 86 ∷ 87 ∷ 88 ∷ 89 ∷ 90 ∷ 91 ∷ 92 ∷ 93 ∷ 140 ∷ 141 ∷ []
-
 -- aggregates, and RAND: names that no expression calls
 abbrev pub uncalled_names : List ℕ
 uncalled_names = code words.Count ∷ code words.Sum ∷ code words.Min ∷ code words.Max ∷ code words.Rand ∷ []
@@ -78,39 +73,6 @@ built_or_named set make n r =
     either kind (sign_code signs.Open ∷ []) (mapped with_arguments (in_parentheses n r)) (mapped with_tail column_tail))
 
 -- ---- built-ins by their number of arguments
-abbrev pub with_none : List ℕ
-with_none =
-    code words.Now ∷ code words.UnixTimestamp ∷ code words.Sysdate ∷ code words.User ∷ code words.Uuid ∷ code words.ConnectionId ∷ code words.LastInsertId ∷ code words.RowCount ∷ []
-
--- built-ins of one argument
-abbrev pub with_one : List ℕ
-with_one = code words.Abs ∷ code words.Length ∷ []
-
--- built-ins of one argument or more
-abbrev pub with_some : List ℕ
-with_some = code words.Coalesce ∷ code words.Concat ∷ []
-
--- the call of a built-in without arguments
-abbrev pub none_of : Option Keyword → Tree
-none_of (Some words.UnixTimestamp) = built_in Func.UnixTimestamp no_tree
-none_of (Some words.Sysdate) = built_in Func.SysDate no_tree
-none_of (Some words.User) = built_in Func.User no_tree
-none_of (Some words.Uuid) = built_in Func.Uuid no_tree
-none_of (Some words.ConnectionId) = built_in Func.ConnectionId no_tree
-none_of (Some words.LastInsertId) = built_in Func.LastInsertId no_tree
-none_of (Some words.RowCount) = built_in Func.RowCount no_tree
-none_of o = built_in Func.Now no_tree
-
--- the call of a built-in of one argument
-abbrev pub one_of : Option Keyword → Tree → Tree
-one_of (Some words.Length) a = on_one Func.Length a
-one_of o a = on_one Func.Abs a
-
--- the call of a built-in of one argument or more
-abbrev pub many_of : Option Keyword → Trees → Tree
-many_of (Some words.Concat) a = built_in Func.Concat a
-many_of o a = built_in Func.Coalesce a
-
 -- two expressions and the closing parenthesis
 abbrev pub two_arguments : {A : Type 0} → (Tree → Tree → A) → Rule Tok Tree → Rule Tok A
 two_arguments f r = both f r (behind (sign signs.Comma) (closed r))
@@ -131,29 +93,29 @@ constant = both name_const a_text (behind (sign signs.Comma) (closed a_value))
 abbrev pub random : ℕ → Rule Tok Tree → Rule Tok Tree
 random m prefix = behind (keyword words.Rand) (behind (in_parentheses m (sign signs.Close)) (behind (sign signs.Star) (mapped floor_rand (closed prefix))))
 
--- all of them
+-- the names of all of them, and those that have a rule of their own
 abbrev pub built_in_names : List ℕ
-built_in_names = with_one ++ (with_some ++ (with_none ++ (code words.Ifnull ∷ code words.Substring ∷ code words.NameConst ∷ code words.Floor ∷ [])))
-
--- ABS and LENGTH
-abbrev pub of_one : ℕ → Rule Tok Tree → Rule Tok Tree
-of_one n r = built_or_named with_one (λ t a. one_of (keyword_said t) a) n (closed r)
-
--- COALESCE and CONCAT
-abbrev pub of_some : ℕ → Rule Tok Tree → Rule Tok Tree
-of_some n r = built_or_named with_some (λ t a. many_of (keyword_said t) a) n (closed (exprs r))
+built_in_names = function_names ++ (code words.NameConst ∷ code words.Floor ∷ [])
 
 -- those without arguments
 abbrev pub of_none : ℕ → Rule Tok Tree
-of_none n = built_or_named with_none (λ t u. none_of (keyword_said t)) n (sign signs.Close)
+of_none n = built_or_named (none_code ∷ []) (λ t u. on_none (none_said t)) n (sign signs.Close)
 
--- IFNULL
-abbrev pub of_ifnull : ℕ → Rule Tok Tree → Rule Tok Tree
-of_ifnull n r = built_or_named (code words.Ifnull ∷ []) (λ t a. a) n (two_arguments (on_two Func.IfNull) r)
+-- those of one argument
+abbrev pub of_one : ℕ → Rule Tok Tree → Rule Tok Tree
+of_one n r = built_or_named (one_code ∷ []) (λ t a. on_one (one_said t) a) n (closed r)
 
--- SUBSTRING
-abbrev pub of_substring : ℕ → Rule Tok Tree → Rule Tok Tree
-of_substring n r = built_or_named (code words.Substring ∷ []) (λ t a. a) n (three_arguments (on_three Func.Substring) r)
+-- those of two arguments
+abbrev pub of_two : ℕ → Rule Tok Tree → Rule Tok Tree
+of_two n r = built_or_named (two_code ∷ []) (λ t ab. on_two (two_said t) ab.0 ab.1) n (two_arguments paired r)
+
+-- those of three arguments
+abbrev pub of_three : ℕ → Rule Tok Tree → Rule Tok Tree
+of_three n r = built_or_named (three_code ∷ []) (λ t abc. on_three (three_said t) abc.0 abc.1.0 abc.1.1) n (three_arguments as_three r)
+
+-- those of one argument or more
+abbrev pub of_many : ℕ → Rule Tok Tree → Rule Tok Tree
+of_many n r = built_or_named (many_code ∷ []) (λ t ts. on_many (many_said t) ts) n (closed (exprs r))
 
 -- NAME_CONST
 abbrev pub of_name_const : ℕ → Rule Tok Tree
@@ -166,11 +128,11 @@ of_floor n prefix = built_or_named (code words.Floor ∷ []) (λ t a. a) n (rand
 -- a built-in with its arguments, or its name as a column or a table
 abbrev pub built_ins : ℕ → Nested → Rule Tok Tree
 built_ins n inner =
-    either kind with_one (of_one n inner.whole) (
-    either kind with_some (of_some n inner.whole) (
-    either kind with_none (of_none n) (
-    either kind (code words.Ifnull ∷ []) (of_ifnull n inner.whole) (
-    either kind (code words.Substring ∷ []) (of_substring n inner.whole) (
+    either kind (none_code ∷ []) (of_none n) (
+    either kind (one_code ∷ []) (of_one n inner.whole) (
+    either kind (two_code ∷ []) (of_two n inner.whole) (
+    either kind (three_code ∷ []) (of_three n inner.whole) (
+    either kind (many_code ∷ []) (of_many n inner.whole) (
     either kind (code words.NameConst ∷ []) (of_name_const n) (
     of_floor n inner.prefix))))))
 
@@ -211,7 +173,7 @@ by_name n inner =
 abbrev pub primary : ℕ → Nested → Rule Tok Tree
 primary n inner =
     either kind (sign_code signs.Open ∷ []) (in_parentheses n (grouped inner)) (
-    either kind (code words.If ∷ []) (behind (keyword words.If) (in_parentheses n (three_arguments (on_three Func.If) inner.whole))) (
+    either kind (code words.If ∷ []) (behind (keyword words.If) (in_parentheses n (three_arguments (on_three Func3.If) inner.whole))) (
     either kind (code words.Values ∷ []) (behind (keyword words.Values) (in_parentheses n (mapped values_of (closed a_name)))) (
     either kind (code words.Case ∷ []) (opened n (any_of kind (code words.Case)) (λ u a. a) (case_body inner.whole)) (
     either kind (code words.Exists ∷ []) (behind (keyword words.Exists) (in_parentheses n (mapped exists (closed inner.select)))) (

@@ -1,6 +1,7 @@
 -- Texts of bytes: which statement a text is, and where else it is refused.
 use Rattle.std.specs.Prelude.{◌≡◌, ◌<◌, ◌≤◌, ℕ, ◌⊎◌, Bool, true, false, if◌then◌else◌, List, [], ◌∷◌, ◌++◌, length, drop, Option, Some, None}
 use Rattle.std.specs.Char.{is_ascii_digit}
+use Rattle.val_types.specs.declared.ops.Func.{Func}
 use Rattle.sql_lex.specs.declared.token.Symbol.TheVariants as signs
 use Rattle.sql_lex.specs.declared.token.Token.{Token}
 use Rattle.sql_lex.specs.Lexes.{is_minus, IsFront, Lexes}
@@ -8,11 +9,12 @@ use Rattle.sql_lex.specs.Plain.{Plain, plain_token}
 use Rattle.sql_lex.specs.Plain as plain
 use Rattle.sql_lex.specs.declared.keyword.Keyword.{Keyword}
 use Rattle.sql_lex.specs.Keywords.{keyword_of}
+use Rattle.sql_tree.specs.BuiltIns.{function_named}
 use Rattle.sql_tree.specs.Statement.{Statement}
 use Rattle.sql_grammar.specs.Reader.{Fault, Syntax, Deep}
 use Rattle.sql_grammar.specs.Rule.{Rule}
 use Rattle.sql_grammar.specs.Whole.{IsPlaced}
-use Rattle.sql_syntax.specs.Tokens.{Tok, key, plain_name, quoted_name, digits, least_digits, literal_text, mark, tight_minus, broken_minus}
+use Rattle.sql_syntax.specs.Tokens.{Tok, key, function_word, plain_name, quoted_name, digits, least_digits, literal_text, mark, tight_minus, broken_minus}
 use Rattle.sql_syntax.specs.Statements.{statement}
 use Rattle.sql_tree.specs.Depth.{depth_of}
 
@@ -29,10 +31,15 @@ minus_by false ts = mark signs.Minus
 minus_by true [] = broken_minus
 minus_by true (t ∷ ts) = tight_minus
 
--- a word: the keyword that it is, or a name
+-- a word that is no keyword: the built-in function that it names, or a name
+abbrev pub name_by : Option Func → List ℕ → Tok
+name_by (Some f) w = function_word f
+name_by None w = plain_name w
+
+-- a word: the keyword that it is, or what it names
 abbrev pub word_by : Option Keyword → List ℕ → Tok
 word_by (Some k) w = key k
-word_by None w = plain_name w
+word_by None w = name_by (function_named w) w
 
 -- what a token says that is no minus
 abbrev pub said_by : Plain → Tok

@@ -1,18 +1,28 @@
 -- Tokens as the grammar sees them, and their kinds.
-use Rattle.std.specs.Prelude.{ℕ, if◌then◌else◌, List, [], ◌∷◌, Option, Some, None}
+use Rattle.std.specs.Prelude.{ℕ, suc, ◌+◌, ◌-◌, if◌then◌else◌, List, [], ◌∷◌, ◌++◌, map, take, drop, Option, Some, None}
+use Rattle.val_types.specs.declared.ops.Func.{Func}
+use Rattle.val_types.specs.declared.ops.Func0.{Func0}
+use Rattle.val_types.specs.declared.ops.Func1.{Func1}
+use Rattle.val_types.specs.declared.ops.Func2.{Func2}
+use Rattle.val_types.specs.declared.ops.Func3.{Func3}
+use Rattle.val_types.specs.declared.ops.FuncN.{FuncN}
 use Rattle.sql_lex.specs.declared.keyword.Keyword.{Keyword}
-use Rattle.sql_lex.specs.declared.keyword.Keyword.TheVariants.{Alter, And, As, Asc, Before, Between, Bigint, By, Call, Case, Create, Declare, Default, Delete, Desc, Deterministic, Distinct, Div, Drop, Each, Else, Elseif, Exists, For, From, Group, If, Ignore, In, Insert, Int, Integer, Into, Is, Join, Key, Limit, Mod, Modifies, Not, Null, On, Or, Order, Primary, Procedure, Reads, Release, Replace, Return, Select, Set, Sql, Table, Then, To, Trigger, Union, Unique, Update, Values, Varchar, When, Where, While, After, AutoIncrement, Begin, Commit, Contains, Data, Do, Duplicate, End, Engine, Function, Index, Innodb, Mixed, New, No, Offset, Old, Returns, Rollback, Row, Savepoint, Session, Start, Statement, Transaction, Truncate, Value, Work, Abs, Coalesce, Concat, ConnectionId, Count, Floor, Ifnull, LastInsertId, Length, Max, Min, NameConst, Now, Rand, RowCount, Substring, Sum, Sysdate, UnixTimestamp, User, Uuid}
+use Rattle.sql_lex.specs.declared.keyword.Keyword.TheVariants.{While, Work}
 use Rattle.sql_lex.specs.declared.token.Symbol.{Symbol}
 use Rattle.sql_lex.specs.declared.token.Symbol.TheVariants as signs
-use Rattle.sql_lex.specs.Keywords.{word_of}
+use Rattle.sql_lex.specs.Keywords.{word_of, place_of, keywords}
+use Rattle.sql_tree.specs.BuiltIns.{lower_name}
 use Rattle.sql_grammar.specs.Sets.{member}
 use Rattle.sql_grammar.specs.Rule.{Rule, word}
 
--- A token as the grammar sees it. A word without quotes that is a keyword is that keyword. A minus that stands directly
--- before a digit is told from another: before a number, or before digits that are no number.
+-- A token as the grammar sees it. A word without quotes that is a keyword is that keyword, and another one that names a built-in
+-- function is that function. A minus that stands directly before a digit is told from another: before a number, or before digits
+-- that are no number.
 pub data Tok : Type 0 where
   key : Keyword → Tok
-  -- a word that is no keyword, in lower case
+  -- a word that names a built-in function
+  function_word : Func → Tok
+  -- another word, in lower case
   plain_name : List ℕ → Tok
   -- a name in backquotes, in lower case
   quoted_name : List ℕ → Tok
@@ -25,177 +35,92 @@ pub data Tok : Type 0 where
   tight_minus : Tok
   broken_minus : Tok
 
--- the kind of a keyword
-abbrev pub code : Keyword → ℕ
-code Alter = 0
-code And = 1
-code As = 2
-code Asc = 3
-code Before = 4
-code Between = 5
-code Bigint = 6
-code By = 7
-code Call = 8
-code Case = 9
-code Create = 10
-code Declare = 11
-code Default = 12
-code Delete = 13
-code Desc = 14
-code Deterministic = 15
-code Distinct = 16
-code Div = 17
-code Drop = 18
-code Each = 19
-code Else = 20
-code Elseif = 21
-code Exists = 22
-code For = 23
-code From = 24
-code Group = 25
-code If = 26
-code Ignore = 27
-code In = 28
-code Insert = 29
-code Int = 30
-code Integer = 31
-code Into = 32
-code Is = 33
-code Join = 34
-code Key = 35
-code Limit = 36
-code Mod = 37
-code Modifies = 38
-code Not = 39
-code Null = 40
-code On = 41
-code Or = 42
-code Order = 43
-code Primary = 44
-code Procedure = 45
-code Reads = 46
-code Release = 47
-code Replace = 48
-code Return = 49
-code Select = 50
-code Set = 51
-code Sql = 52
-code Table = 53
-code Then = 54
-code To = 55
-code Trigger = 56
-code Union = 57
-code Unique = 58
-code Update = 59
-code Values = 60
-code Varchar = 61
-code When = 62
-code Where = 63
-code While = 64
-code After = 65
-code AutoIncrement = 66
-code Begin = 67
-code Commit = 68
-code Contains = 69
-code Data = 70
-code Do = 71
-code Duplicate = 72
-code End = 73
-code Engine = 74
-code Function = 75
-code Index = 76
-code Innodb = 77
-code Mixed = 78
-code New = 79
-code No = 80
-code Offset = 81
-code Old = 82
-code Returns = 83
-code Rollback = 84
-code Row = 85
-code Savepoint = 86
-code Session = 87
-code Start = 88
-code Statement = 89
-code Transaction = 90
-code Truncate = 91
-code Value = 92
-code Work = 93
-code Abs = 94
-code Coalesce = 95
-code Concat = 96
-code ConnectionId = 97
-code Count = 98
-code Floor = 99
-code Ifnull = 100
-code LastInsertId = 101
-code Length = 102
-code Max = 103
-code Min = 104
-code NameConst = 105
-code Now = 106
-code Rand = 107
-code RowCount = 108
-code Substring = 109
-code Sum = 110
-code Sysdate = 111
-code UnixTimestamp = 112
-code User = 113
-code Uuid = 114
-
 -- the kind of a symbol
 abbrev pub sign_code : Symbol → ℕ
-sign_code signs.Open = 120
-sign_code signs.Close = 121
-sign_code signs.Comma = 122
-sign_code signs.Semicolon = 123
-sign_code signs.Dot = 124
-sign_code signs.At = 125
-sign_code signs.AtAt = 126
-sign_code signs.Equal = 127
-sign_code signs.Assign = 128
-sign_code signs.NullSafeEqual = 129
-sign_code signs.NotEqual = 130
-sign_code signs.Less = 131
-sign_code signs.LessEqual = 132
-sign_code signs.Greater = 133
-sign_code signs.GreaterEqual = 134
-sign_code signs.Plus = 135
-sign_code signs.Minus = 136
-sign_code signs.Star = 137
-sign_code signs.Percent = 138
-
--- a word that is no keyword
-abbrev pub name_code : ℕ
-name_code = 140
-
--- a name in backquotes
-abbrev pub quoted_code : ℕ
-quoted_code = 141
+sign_code signs.Open = 0
+sign_code signs.Close = 1
+sign_code signs.Comma = 2
+sign_code signs.Semicolon = 3
+sign_code signs.Dot = 4
+sign_code signs.At = 5
+sign_code signs.AtAt = 6
+sign_code signs.Equal = 7
+sign_code signs.Assign = 8
+sign_code signs.NullSafeEqual = 9
+sign_code signs.NotEqual = 10
+sign_code signs.Less = 11
+sign_code signs.LessEqual = 12
+sign_code signs.Greater = 13
+sign_code signs.GreaterEqual = 14
+sign_code signs.Plus = 15
+sign_code signs.Minus = 16
+sign_code signs.Star = 17
+sign_code signs.Percent = 18
 
 -- a number
 abbrev pub number_code : ℕ
-number_code = 142
+number_code = 20
 
 -- 9223372036854775808 behind a minus
 abbrev pub least_code : ℕ
-least_code = 143
+least_code = 21
 
 -- a text
 abbrev pub text_code : ℕ
-text_code = 144
+text_code = 22
 
 -- a minus directly before a number
 abbrev pub tight_code : ℕ
-tight_code = 145
+tight_code = 23
 
 -- a minus directly before digits that are no number
 abbrev pub broken_code : ℕ
-broken_code = 146
+broken_code = 24
+
+-- a word that is neither a keyword nor the name of a built-in function
+abbrev pub name_code : ℕ
+name_code = 25
+
+-- a name in backquotes
+abbrev pub quoted_code : ℕ
+quoted_code = 26
+
+-- the names of built-in functions, by their number of arguments
+abbrev pub none_code : ℕ
+none_code = 27
+
+-- of one argument
+abbrev pub one_code : ℕ
+one_code = 28
+
+-- of two arguments
+abbrev pub two_code : ℕ
+two_code = 29
+
+-- of three arguments
+abbrev pub three_code : ℕ
+three_code = 30
+
+-- of one argument or more
+abbrev pub many_code : ℕ
+many_code = 31
+
+-- the kind of a built-in function's name
+abbrev pub function_code : Func → ℕ
+function_code (Func.Zero f) = none_code
+function_code (Func.One f) = one_code
+function_code (Func.Two f) = two_code
+function_code (Func.Three f) = three_code
+function_code (Func.Many f) = many_code
+
+-- The kind of a keyword: its place among them, behind all other kinds.
+abbrev pub code : Keyword → ℕ
+code k = 64 + place_of k
 
 -- the kind of a token
 unfoldable pub kind : Tok → ℕ
 kind (key k) = code k
+kind (function_word f) = function_code f
 kind (plain_name w) = name_code
 kind (quoted_name w) = quoted_code
 kind (digits n) = number_code
@@ -205,13 +130,30 @@ kind (mark s) = sign_code s
 kind tight_minus = tight_code
 kind broken_minus = broken_code
 
+-- the names of built-in functions
+abbrev pub function_names : List ℕ
+function_names = none_code ∷ one_code ∷ two_code ∷ three_code ∷ many_code ∷ []
+
+-- the keywords behind one
+abbrev pub words_behind : Keyword → List Keyword
+words_behind k = drop (suc (place_of k)) keywords
+
+-- the keywords behind one, up to another
+abbrev pub words_between : Keyword → Keyword → List Keyword
+words_between k last = take (place_of last - place_of k) (words_behind k)
+
+-- the words that call a stored function before a parenthesis: those that are neither reserved nor take part in a call, and names
+abbrev pub own_names : List ℕ
+own_names = name_code ∷ (quoted_code ∷ map code (words_between While Work))
+
 -- the words that may be names, and names
 abbrev pub names : List ℕ
-names = 65 ∷ 66 ∷ 67 ∷ 68 ∷ 69 ∷ 70 ∷ 71 ∷ 72 ∷ 73 ∷ 74 ∷ 75 ∷ 76 ∷ 77 ∷ 78 ∷ 79 ∷ 80 ∷ 81 ∷ 82 ∷ 83 ∷ 84 ∷ 85 ∷ 86 ∷ 87 ∷ 88 ∷ 89 ∷ 90 ∷ 91 ∷ 92 ∷ 93 ∷ 94 ∷ 95 ∷ 96 ∷ 97 ∷ 98 ∷ 99 ∷ 100 ∷ 101 ∷ 102 ∷ 103 ∷ 104 ∷ 105 ∷ 106 ∷ 107 ∷ 108 ∷ 109 ∷ 110 ∷ 111 ∷ 112 ∷ 113 ∷ 114 ∷ 140 ∷ 141 ∷ []
+names = name_code ∷ (quoted_code ∷ (function_names ++ map code (words_behind While)))
 
 -- the name that a token may be; empty for a token that is none
 abbrev pub name_said : Tok → List ℕ
 name_said (key k) = word_of k
+name_said (function_word f) = lower_name f
 name_said (plain_name w) = w
 name_said (quoted_name w) = w
 name_said t = []
@@ -225,6 +167,28 @@ keyword_said t = None
 abbrev pub first_keyword : List Tok → Option Keyword
 first_keyword [] = None
 first_keyword (t ∷ ts) = keyword_said t
+
+-- the built-in function of so many arguments that a word names; another one's word names the first of them
+
+abbrev pub none_said : Tok → Func0
+none_said (function_word (Func.Zero f)) = f
+none_said t = Func0.Now
+
+abbrev pub one_said : Tok → Func1
+one_said (function_word (Func.One f)) = f
+one_said t = Func1.Abs
+
+abbrev pub two_said : Tok → Func2
+two_said (function_word (Func.Two f)) = f
+two_said t = Func2.IfNull
+
+abbrev pub three_said : Tok → Func3
+three_said (function_word (Func.Three f)) = f
+three_said t = Func3.If
+
+abbrev pub many_said : Tok → FuncN
+many_said (function_word (Func.Many f)) = f
+many_said t = FuncN.Coalesce
 
 -- the sign that a token is, where it is one; a minus directly before digits is none
 abbrev pub mark_said : Tok → Option Symbol

@@ -18,7 +18,7 @@ pub enum ColType {
 }
 
 /// A column of a table.
-#[derive(PartialEq, Eq, Debug, Drop)]
+#[derive(PartialEq, Eq, Drop)]
 pub struct ColumnDef {
     pub name: Bytes,
     pub kind: ColType,
@@ -29,7 +29,7 @@ pub struct ColumnDef {
 }
 
 /// A unique key beside the primary one.
-#[derive(PartialEq, Eq, Debug, Drop)]
+#[derive(PartialEq, Eq, Drop)]
 pub struct KeyDef {
     pub name: Bytes,
     /// The key's columns in its own order, counted from 0.
@@ -37,7 +37,7 @@ pub struct KeyDef {
 }
 
 /// A table: its columns and keys.
-#[derive(PartialEq, Eq, Debug, Drop)]
+#[derive(PartialEq, Eq, Drop)]
 pub struct TableDef {
     pub name: Bytes,
     pub columns: List<ColumnDef>,
