@@ -4,7 +4,7 @@ use Rattle.std.proofs.lemmas.Bool.{and_parts, eqb-true}
 use Rattle.std.specs.Prelude.{nat_eq}
 use Rattle.std.specs.List.{list_all}
 use Rattle.sql_lex.specs.declared.keyword.Keyword.{Keyword}
-use Rattle.sql_lex.specs.declared.keyword.Keyword.TheVariants.{Alter, And, As, Asc, Before, Between, Bigint, By, Call, Case, Create, Declare, Default, Delete, Desc, Deterministic, Distinct, Div, Drop, Each, Else, Elseif, Exists, For, From, Group, If, Ignore, In, Insert, Int, Integer, Into, Is, Join, Key, Limit, Mod, Modifies, Not, Null, On, Or, Order, Primary, Procedure, Reads, Release, Replace, Return, Select, Set, Sql, Table, Then, To, Trigger, Union, Unique, Update, Values, Varchar, When, Where, While, After, AutoIncrement, Begin, Commit, Contains, Data, Do, Duplicate, End, Engine, Function, Index, Innodb, Mixed, New, No, Offset, Old, Returns, Rollback, Row, Savepoint, Session, Start, Statement, Transaction, Truncate, Value, Work, Count, Floor, Max, Min, NameConst, Rand, Sum}
+use Rattle.sql_lex.specs.declared.keyword.Keyword.TheVariants.{Alter}
 use Rattle.sql_lex.specs.Keywords.{word_of, place_of, keywords, keyword_of}
 
 -- numbers from one on, as many as the second says
@@ -30,110 +30,11 @@ all_at P [] n k h e = cc
 all_at P (x ∷ ks) zero k h e = let p = and_parts (P x) (list_all P ks) h in cc
 all_at P (x ∷ ks) (suc n) k h e = let p = and_parts (P x) (list_all P ks) h in all_at P ks n k p.1 e
 
--- each keyword stands at its place
+-- each keyword stands at its place: the first line splits the keywords, and the second is checked for each of the others
 placed : (k : Keyword) → at_place keywords (place_of k) ≡ Some k
 unfolding at_place
 placed Alter = refl
-placed And = refl
-placed As = refl
-placed Asc = refl
-placed Before = refl
-placed Between = refl
-placed Bigint = refl
-placed By = refl
-placed Call = refl
-placed Case = refl
-placed Create = refl
-placed Declare = refl
-placed Default = refl
-placed Delete = refl
-placed Desc = refl
-placed Deterministic = refl
-placed Distinct = refl
-placed Div = refl
-placed Drop = refl
-placed Each = refl
-placed Else = refl
-placed Elseif = refl
-placed Exists = refl
-placed For = refl
-placed From = refl
-placed Group = refl
-placed If = refl
-placed Ignore = refl
-placed In = refl
-placed Insert = refl
-placed Int = refl
-placed Integer = refl
-placed Into = refl
-placed Is = refl
-placed Join = refl
-placed Key = refl
-placed Limit = refl
-placed Mod = refl
-placed Modifies = refl
-placed Not = refl
-placed Null = refl
-placed On = refl
-placed Or = refl
-placed Order = refl
-placed Primary = refl
-placed Procedure = refl
-placed Reads = refl
-placed Release = refl
-placed Replace = refl
-placed Return = refl
-placed Select = refl
-placed Set = refl
-placed Sql = refl
-placed Table = refl
-placed Then = refl
-placed To = refl
-placed Trigger = refl
-placed Union = refl
-placed Unique = refl
-placed Update = refl
-placed Values = refl
-placed Varchar = refl
-placed When = refl
-placed Where = refl
-placed While = refl
-placed After = refl
-placed AutoIncrement = refl
-placed Begin = refl
-placed Commit = refl
-placed Contains = refl
-placed Data = refl
-placed Do = refl
-placed Duplicate = refl
-placed End = refl
-placed Engine = refl
-placed Function = refl
-placed Index = refl
-placed Innodb = refl
-placed Mixed = refl
-placed New = refl
-placed No = refl
-placed Offset = refl
-placed Old = refl
-placed Returns = refl
-placed Rollback = refl
-placed Row = refl
-placed Savepoint = refl
-placed Session = refl
-placed Start = refl
-placed Statement = refl
-placed Transaction = refl
-placed Truncate = refl
-placed Value = refl
-placed Work = refl
-placed Count = refl
-placed Floor = refl
-placed Max = refl
-placed Min = refl
-placed NameConst = refl
-placed Rand = refl
-placed Sum = refl
+placed k = refl
 
 -- what is computed of the whole table holds of each keyword
 pub all_keywords : (P : Keyword → Bool) → list_all P keywords ≡ true → (k : Keyword) → P k ≡ true
