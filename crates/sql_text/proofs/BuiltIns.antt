@@ -14,13 +14,13 @@ use Rattle.sql_lex.specs.declared.token.Symbol.TheVariants as signs
 use Rattle.sql_grammar.specs.Rule.{Rule, of_kinds, paired}
 use Rattle.sql_tree.specs.Tree.{Tree, built_in, name_const, floor_rand}
 use Rattle.sql_tree.specs.Tree.{Trees, no_tree, tree}
-use Rattle.sql_tree.specs.BuiltIns.{on_none, on_one, on_two, on_three, on_many, arity}
+use Rattle.sql_tree.specs.BuiltIns.{on_none, on_one, on_two, on_three, on_many, about, arity}
 use Rattle.sql_tree.specs.Well.{is_literal, are_as_many}
 use Rattle.sql_print.specs.Spelling.{function_of, tree_text, trees_text}
 use Rattle.sql_syntax.specs.Tokens.{Tok, function_word, kind, code, none_code, one_code, two_code, three_code, many_code, sign}
 use Rattle.sql_syntax.specs.Parts.{exprs, closed}
 use Rattle.sql_syntax.specs.Expressions.{Nested, built, built_or_named, built_ins, as_three, call_none, call_one, call_two, call_three, call_many, two_arguments, three_arguments, constant, random, prefix_by}
-use Rattle.sql_text.proofs.Lines.{group5, arguments_line}
+use Rattle.sql_text.proofs.Lines.{group4, group5, arguments_line}
 use Rattle.sql_text.proofs.Reading.{Said, Reading, via, written, spaced, one, then'}
 use Rattle.sql_text.proofs.Written.{say_close, say_times}
 use Rattle.sql_text.proofs.Words.{say_name_const, say_floor, say_rand, say_if}
@@ -74,24 +74,27 @@ module _ (k : ℕ) (inner : Nested) (l : 0 < k) where
       as_built (via (λ us rest g. inr (inr (inr (inr (inl g))))) (built_by (many_code ∷ []) call_many (closed (exprs inner.whole)) ts k l r refl (closing rs)))
 
   -- each built-in with as many arguments as it takes
-  pub function_read : (f : Func) (ts : Trees) → are_as_many (arity f) ts ≡ true → AreRead inner.whole ts → Reading (prefix_by k inner).texts (built_in f ts) (function_of f ++ codes "(" ++ trees_text ts ++ codes ")")
-  function_read (Func.Zero f) no_tree h r = none_read f (called_said (Func.Zero f) refl)
-  function_read (Func.Zero f) (tree x ts) h r = cc
-  function_read (Func.One f) (tree a no_tree) h r = one_read f (called_said (Func.One f) refl) r.0
-  function_read (Func.One f) no_tree h r = cc
-  function_read (Func.One f) (tree a (tree x ts)) h r = cc
-  function_read (Func.Two f) (tree a (tree b no_tree)) h r = two_read f (called_said (Func.Two f) refl) r.0 r.1.0
-  function_read (Func.Two f) no_tree h r = cc
-  function_read (Func.Two f) (tree a no_tree) h r = cc
-  function_read (Func.Two f) (tree a (tree b (tree x ts))) h r = cc
-  function_read (Func.Three Func3.If) (tree a (tree b (tree c no_tree))) h r =
+  called_read : (f : Func) (ts : Trees) → are_as_many (arity f) ts ≡ true → AreRead inner.whole ts → Reading (prefix_by k inner).texts (built_in f ts) ((about f).name ++ 40 ∷ (trees_text ts ++ 41 ∷ []))
+  called_read (Func.Zero f) no_tree h r = none_read f (called_said (Func.Zero f) refl)
+  called_read (Func.Zero f) (tree x ts) h r = cc
+  called_read (Func.One f) (tree a no_tree) h r = one_read f (called_said (Func.One f) refl) r.0
+  called_read (Func.One f) no_tree h r = cc
+  called_read (Func.One f) (tree a (tree x ts)) h r = cc
+  called_read (Func.Two f) (tree a (tree b no_tree)) h r = two_read f (called_said (Func.Two f) refl) r.0 r.1.0
+  called_read (Func.Two f) no_tree h r = cc
+  called_read (Func.Two f) (tree a no_tree) h r = cc
+  called_read (Func.Two f) (tree a (tree b (tree x ts))) h r = cc
+  called_read (Func.Three Func3.If) (tree a (tree b (tree c no_tree))) h r =
       as_primary k inner (λ us rest g. inr (inl g)) (key_before say_if (in_parens (three_arguments (on_three Func3.If) inner.whole) k l (three_given (on_three Func3.If) r.0 r.1.0 r.1.1.0)) refl)
-  function_read (Func.Three f) (tree a (tree b (tree c no_tree))) h r = three_read f (called_said (Func.Three f) refl) r.0 r.1.0 r.1.1.0
-  function_read (Func.Three f) no_tree h r = cc
-  function_read (Func.Three f) (tree a no_tree) h r = cc
-  function_read (Func.Three f) (tree a (tree b no_tree)) h r = cc
-  function_read (Func.Three f) (tree a (tree b (tree c (tree x ts)))) h r = cc
-  function_read (Func.Many f) ts h r = many_read f (called_said (Func.Many f) refl) (exprs_read inner.whole ts h r)
+  called_read (Func.Three f) (tree a (tree b (tree c no_tree))) h r = three_read f (called_said (Func.Three f) refl) r.0 r.1.0 r.1.1.0
+  called_read (Func.Three f) no_tree h r = cc
+  called_read (Func.Three f) (tree a no_tree) h r = cc
+  called_read (Func.Three f) (tree a (tree b no_tree)) h r = cc
+  called_read (Func.Three f) (tree a (tree b (tree c (tree x ts)))) h r = cc
+  called_read (Func.Many f) ts h r = many_read f (called_said (Func.Many f) refl) (exprs_read inner.whole ts h r)
+
+  pub function_read : (f : Func) (ts : Trees) → are_as_many (arity f) ts ≡ true → AreRead inner.whole ts → Reading (prefix_by k inner).texts (built_in f ts) (function_of f ++ codes "(" ++ trees_text ts ++ codes ")")
+  function_read f ts h r = written (called_read f ts h r) (group4 (about f).name (codes "(") (trees_text ts) (codes ")"))
 
   pub constant_read : (n : List ℕ) (x : Value) → is_literal (Text n) ≡ true → is_literal x ≡ true → Reading (prefix_by k inner).texts (name_const n x) (codes "NAME_CONST(" ++ text_of (Text n) ++ codes ", " ++ text_of x ++ codes ")")
   unfolding kind

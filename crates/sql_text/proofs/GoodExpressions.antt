@@ -194,7 +194,7 @@ module _ (n : ℕ) (x : Nested) (i : WellRules x) where
       either_gives (built_or_named_well (none_code ∷ []) refl call_none (λ t u p. refl) n (sign signs.Close) (sign_gives signs.Close)) (
       either_gives (built_or_named_well (one_code ∷ []) refl call_one one_good n (closed x.whole) (closed_well x.whole i.whole)) (
       either_gives (built_or_named_well (two_code ∷ []) refl call_two two_good n (two_arguments paired x.whole) (two_well x.whole i.whole)) (
-      either_gives (built_or_named_well (three_code ∷ []) refl call_three (λ t abc p. p) n (three_arguments as_three x.whole) (three_well {P = ThreeWell} x.whole i.whole as_three three_good)) (
+      either_gives (built_or_named_well (three_code ∷ []) refl call_three (λ t abc p. p) n (three_arguments as_three x.whole) (three_well x.whole i.whole {P = ThreeWell} as_three three_good)) (
       either_gives (built_or_named_well (many_code ∷ []) refl call_many many_good n (closed (exprs x.whole)) (closed_well (exprs x.whole) (exprs_well x.whole i.whole))) (
       either_gives (built_or_named_well (code words.NameConst ∷ []) refl (λ t a. a) (λ t a p. p) n constant constant_well) (
       built_or_named_well (code words.Floor ∷ []) refl (λ t a. a) (λ t a p. p) n (random (pred n) x.prefix) (random_well x.prefix i.prefix (pred n))))))))
@@ -206,7 +206,7 @@ module _ (n : ℕ) (x : Nested) (i : WellRules x) where
   primary_well : Gives Well (primary n x).texts
   primary_well =
       either_gives (parens_well n (grouped x) grouped_well) (
-      either_gives (key_gives (parens_well n (three_arguments (on_three Func3.If) x.whole) (three_well {P = Well} x.whole i.whole (on_three Func3.If) three_good)) words.If) (
+      either_gives (key_gives (parens_well n (three_arguments (on_three Func3.If) x.whole) (three_well x.whole i.whole {P = Well} (on_three Func3.If) three_good)) words.If) (
       either_gives (key_gives (parens_well n (mapped values_of (closed a_name)) (mapped_gives values_of (λ c p. p) (closed_well a_name name_well))) words.Values) (
       either_gives (opened_gives n (code words.Case) (λ u a. a) (case_body x.whole) (λ a p. p) (case_well x.whole i.whole)) (
       either_gives (key_gives (parens_well n (mapped exists (closed x.select)) (mapped_gives exists (λ s p. p) (closed_well x.select i.select))) words.Exists) (
