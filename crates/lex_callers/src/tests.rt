@@ -196,11 +196,12 @@ static NAMES: [(&[u8], &[u8]); 5] = [
     (b"5", b""),
 ];
 
-static WORDS: [(&[u8], Option<Keyword>); 7] = [
+static WORDS: [(&[u8], Option<Keyword>); 8] = [
     (b"SELECT", Some(Keyword::Select)),
     (b"elseIf", Some(Keyword::Elseif)),
     (b"Auto_Increment", Some(Keyword::AutoIncrement)),
-    (b"uuid", Some(Keyword::Uuid)),
+    (b"rand", Some(Keyword::Rand)),
+    (b"uuid", None),
     (b"selects", None),
     (b"`select`", None),
     (b"'select'", None),
@@ -364,7 +365,7 @@ fn texts_and_tokens(rt: HostRuntime) {
     expect_all(&rt, "texts refused at their place", held_refused(alloc), 34);
     expect_all(&rt, "literals", held_literals(alloc), 8);
     expect_all(&rt, "names", held_names(alloc), 5);
-    expect_all(&rt, "words", held_words(alloc), 7);
+    expect_all(&rt, "words", held_words(alloc), 8);
     assert!(rt; Keyword::Select.is_reserved() && !Keyword::Count.is_reserved());
-    assert!(rt; Keyword::LastInsertId.word() == b"last_insert_id".as_slice());
+    assert!(rt; Keyword::NameConst.word() == b"name_const".as_slice());
 }

@@ -5,10 +5,9 @@ use Rattle.sql_lex.specs.Folded.{folded}
 use Rattle.std.specs.Str.{bytes_eq}
 use Rattle.std.proofs.lemmas.Slice.Eq.{bytes_eq-Decides}
 use Rattle.sql_lex.specs.declared.keyword.Keyword.{Keyword}
-use Rattle.sql_lex.specs.declared.keyword.Keyword.TheVariants.{Alter, And, As, Asc, Before, Between, Bigint, By, Call, Case, Create, Declare, Default, Delete, Desc, Deterministic, Distinct, Div, Drop, Each, Else, Elseif, Exists, For, From, Group, If, Ignore, In, Insert, Int, Integer, Into, Is, Join, Key, Limit, Mod, Modifies, Not, Null, On, Or, Order, Primary, Procedure, Reads, Release, Replace, Return, Select, Set, Sql, Table, Then, To, Trigger, Union, Unique, Update, Values, Varchar, When, Where, While, After, AutoIncrement, Begin, Commit, Contains, Data, Do, Duplicate, End, Engine, Function, Index, Innodb, Mixed, New, No, Offset, Old, Returns, Rollback, Row, Savepoint, Session, Start, Statement, Transaction, Truncate, Value, Work, Abs, Coalesce, Concat, ConnectionId, Count, Floor, Ifnull, LastInsertId, Length, Max, Min, NameConst, Now, Rand, RowCount, Substring, Sum, Sysdate, UnixTimestamp, User, Uuid}
 use Rattle.sql_lex.specs.Keywords.{word_of, keywords, keyword_among, keyword_of}
 use Rattle.sql_lex.specs.ByLetter.{row_at, beginning_with}
-use Rattle.sql_lex.proofs.KeywordLaws.{word_found}
+use Rattle.sql_lex.proofs.KeywordLaws.{all_keywords, is_found, found_is, word_found}
 
 -- the keyword that a word is among those of its first letter
 among_letter : List ℕ → Option Keyword
@@ -18,121 +17,7 @@ among_letter (b ∷ bs) = keyword_among (beginning_with b) (b ∷ bs)
 -- each keyword stands in the row of its first letter
 listed : (k : Keyword) → among_letter (word_of k) ≡ Some k
 unfolding among_letter
-listed Alter = refl
-listed And = refl
-listed As = refl
-listed Asc = refl
-listed Before = refl
-listed Between = refl
-listed Bigint = refl
-listed By = refl
-listed Call = refl
-listed Case = refl
-listed Create = refl
-listed Declare = refl
-listed Default = refl
-listed Delete = refl
-listed Desc = refl
-listed Deterministic = refl
-listed Distinct = refl
-listed Div = refl
-listed Drop = refl
-listed Each = refl
-listed Else = refl
-listed Elseif = refl
-listed Exists = refl
-listed For = refl
-listed From = refl
-listed Group = refl
-listed If = refl
-listed Ignore = refl
-listed In = refl
-listed Insert = refl
-listed Int = refl
-listed Integer = refl
-listed Into = refl
-listed Is = refl
-listed Join = refl
-listed Key = refl
-listed Limit = refl
-listed Mod = refl
-listed Modifies = refl
-listed Not = refl
-listed Null = refl
-listed On = refl
-listed Or = refl
-listed Order = refl
-listed Primary = refl
-listed Procedure = refl
-listed Reads = refl
-listed Release = refl
-listed Replace = refl
-listed Return = refl
-listed Select = refl
-listed Set = refl
-listed Sql = refl
-listed Table = refl
-listed Then = refl
-listed To = refl
-listed Trigger = refl
-listed Union = refl
-listed Unique = refl
-listed Update = refl
-listed Values = refl
-listed Varchar = refl
-listed When = refl
-listed Where = refl
-listed While = refl
-listed After = refl
-listed AutoIncrement = refl
-listed Begin = refl
-listed Commit = refl
-listed Contains = refl
-listed Data = refl
-listed Do = refl
-listed Duplicate = refl
-listed End = refl
-listed Engine = refl
-listed Function = refl
-listed Index = refl
-listed Innodb = refl
-listed Mixed = refl
-listed New = refl
-listed No = refl
-listed Offset = refl
-listed Old = refl
-listed Returns = refl
-listed Rollback = refl
-listed Row = refl
-listed Savepoint = refl
-listed Session = refl
-listed Start = refl
-listed Statement = refl
-listed Transaction = refl
-listed Truncate = refl
-listed Value = refl
-listed Work = refl
-listed Abs = refl
-listed Coalesce = refl
-listed Concat = refl
-listed ConnectionId = refl
-listed Count = refl
-listed Floor = refl
-listed Ifnull = refl
-listed LastInsertId = refl
-listed Length = refl
-listed Max = refl
-listed Min = refl
-listed NameConst = refl
-listed Now = refl
-listed Rand = refl
-listed RowCount = refl
-listed Substring = refl
-listed Sum = refl
-listed Sysdate = refl
-listed UnixTimestamp = refl
-listed User = refl
-listed Uuid = refl
+listed k = found_is (among_letter (word_of k)) k (all_keywords (λ j. is_found (among_letter (word_of j)) j) refl k)
 
 -- a keyword that is found has the word
 first_has : (x : Keyword) (r : Option Keyword) (word : List ℕ) (k : Keyword) (b : Bool) → bytes_eq (word_of x) word ≡ b → (r ≡ Some k → word_of k ≡ word)

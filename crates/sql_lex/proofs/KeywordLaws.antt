@@ -1,122 +1,59 @@
--- Each keyword is the one that its word names.
-use Rattle.std.proofs.Common.{◌≡◌, refl, Some}
+-- The table of keywords, pinned: each keyword stands at its place, so that what is computed of the whole table holds of each.
+use Rattle.std.proofs.Common.{◌≡◌, refl, sym, ap, ◌∙◌, ℕ, zero, suc, Bool, true, false, List, [], ◌∷◌, length, map, Option, Some, None}
+use Rattle.std.proofs.lemmas.Bool.{and_parts, eqb-true}
+use Rattle.std.specs.Prelude.{nat_eq}
+use Rattle.std.specs.List.{list_all}
 use Rattle.sql_lex.specs.declared.keyword.Keyword.{Keyword}
-use Rattle.sql_lex.specs.declared.keyword.Keyword.TheVariants.{Alter, And, As, Asc, Before, Between, Bigint, By, Call, Case, Create, Declare, Default, Delete, Desc, Deterministic, Distinct, Div, Drop, Each, Else, Elseif, Exists, For, From, Group, If, Ignore, In, Insert, Int, Integer, Into, Is, Join, Key, Limit, Mod, Modifies, Not, Null, On, Or, Order, Primary, Procedure, Reads, Release, Replace, Return, Select, Set, Sql, Table, Then, To, Trigger, Union, Unique, Update, Values, Varchar, When, Where, While, After, AutoIncrement, Begin, Commit, Contains, Data, Do, Duplicate, End, Engine, Function, Index, Innodb, Mixed, New, No, Offset, Old, Returns, Rollback, Row, Savepoint, Session, Start, Statement, Transaction, Truncate, Value, Work, Abs, Coalesce, Concat, ConnectionId, Count, Floor, Ifnull, LastInsertId, Length, Max, Min, NameConst, Now, Rand, RowCount, Substring, Sum, Sysdate, UnixTimestamp, User, Uuid}
-use Rattle.sql_lex.specs.Keywords.{word_of, keyword_of}
+use Rattle.sql_lex.specs.declared.keyword.Keyword.TheVariants.{Alter}
+use Rattle.sql_lex.specs.Keywords.{word_of, place_of, keywords, keyword_of}
 
+-- numbers from one on, as many as the second says
+counted : ℕ → ℕ → List ℕ
+counted n zero = []
+counted n (suc more) = n ∷ counted (suc n) more
+
+-- the places count up from 0, in the order of the table
+in_order : map place_of keywords ≡ counted 0 (length keywords)
+unfolding counted
+in_order = refl
+
+-- the keyword at a place of a list
+at_place : List Keyword → ℕ → Option Keyword
+at_place [] n = None
+at_place (k ∷ ks) zero = Some k
+at_place (k ∷ ks) (suc n) = at_place ks n
+
+-- what is computed of each in a list holds of the one at a place
+all_at : (P : Keyword → Bool) (ks : List Keyword) (n : ℕ) (k : Keyword) → list_all P ks ≡ true → at_place ks n ≡ Some k → P k ≡ true
+unfolding at_place
+all_at P [] n k h e = cc
+all_at P (x ∷ ks) zero k h e = let p = and_parts (P x) (list_all P ks) h in cc
+all_at P (x ∷ ks) (suc n) k h e = let p = and_parts (P x) (list_all P ks) h in all_at P ks n k p.1 e
+
+-- each keyword stands at its place: the first line splits the keywords, and the second is checked for each of the others
+placed : (k : Keyword) → at_place keywords (place_of k) ≡ Some k
+unfolding at_place
+placed Alter = refl
+placed k = refl
+
+-- what is computed of the whole table holds of each keyword
+pub all_keywords : (P : Keyword → Bool) → list_all P keywords ≡ true → (k : Keyword) → P k ≡ true
+all_keywords P h k = all_at P keywords (place_of k) k h (placed k)
+
+-- whether a keyword was found, by its place
+abbrev pub is_found : Option Keyword → Keyword → Bool
+is_found None k = false
+is_found (Some j) k = nat_eq (place_of j) (place_of k)
+
+-- a keyword is told by its place
+same_place : (j k : Keyword) → place_of j ≡ place_of k → j ≡ k
+same_place j k e =
+    let found : Some j ≡ Some k = sym (placed j) ∙ (ap (at_place keywords) e ∙ placed k) in cc
+
+pub found_is : (o : Option Keyword) (k : Keyword) → is_found o k ≡ true → o ≡ Some k
+found_is None k h = cc
+found_is (Some j) k h = ap Some (same_place j k (eqb-true (place_of j) (place_of k) h))
+
+-- each keyword is the one that its word names
 pub word_found : (k : Keyword) → keyword_of (word_of k) ≡ Some k
-word_found Alter = refl
-word_found And = refl
-word_found As = refl
-word_found Asc = refl
-word_found Before = refl
-word_found Between = refl
-word_found Bigint = refl
-word_found By = refl
-word_found Call = refl
-word_found Case = refl
-word_found Create = refl
-word_found Declare = refl
-word_found Default = refl
-word_found Delete = refl
-word_found Desc = refl
-word_found Deterministic = refl
-word_found Distinct = refl
-word_found Div = refl
-word_found Drop = refl
-word_found Each = refl
-word_found Else = refl
-word_found Elseif = refl
-word_found Exists = refl
-word_found For = refl
-word_found From = refl
-word_found Group = refl
-word_found If = refl
-word_found Ignore = refl
-word_found In = refl
-word_found Insert = refl
-word_found Int = refl
-word_found Integer = refl
-word_found Into = refl
-word_found Is = refl
-word_found Join = refl
-word_found Key = refl
-word_found Limit = refl
-word_found Mod = refl
-word_found Modifies = refl
-word_found Not = refl
-word_found Null = refl
-word_found On = refl
-word_found Or = refl
-word_found Order = refl
-word_found Primary = refl
-word_found Procedure = refl
-word_found Reads = refl
-word_found Release = refl
-word_found Replace = refl
-word_found Return = refl
-word_found Select = refl
-word_found Set = refl
-word_found Sql = refl
-word_found Table = refl
-word_found Then = refl
-word_found To = refl
-word_found Trigger = refl
-word_found Union = refl
-word_found Unique = refl
-word_found Update = refl
-word_found Values = refl
-word_found Varchar = refl
-word_found When = refl
-word_found Where = refl
-word_found While = refl
-word_found After = refl
-word_found AutoIncrement = refl
-word_found Begin = refl
-word_found Commit = refl
-word_found Contains = refl
-word_found Data = refl
-word_found Do = refl
-word_found Duplicate = refl
-word_found End = refl
-word_found Engine = refl
-word_found Function = refl
-word_found Index = refl
-word_found Innodb = refl
-word_found Mixed = refl
-word_found New = refl
-word_found No = refl
-word_found Offset = refl
-word_found Old = refl
-word_found Returns = refl
-word_found Rollback = refl
-word_found Row = refl
-word_found Savepoint = refl
-word_found Session = refl
-word_found Start = refl
-word_found Statement = refl
-word_found Transaction = refl
-word_found Truncate = refl
-word_found Value = refl
-word_found Work = refl
-word_found Abs = refl
-word_found Coalesce = refl
-word_found Concat = refl
-word_found ConnectionId = refl
-word_found Count = refl
-word_found Floor = refl
-word_found Ifnull = refl
-word_found LastInsertId = refl
-word_found Length = refl
-word_found Max = refl
-word_found Min = refl
-word_found NameConst = refl
-word_found Now = refl
-word_found Rand = refl
-word_found RowCount = refl
-word_found Substring = refl
-word_found Sum = refl
-word_found Sysdate = refl
-word_found UnixTimestamp = refl
-word_found User = refl
-word_found Uuid = refl
+word_found k = found_is (keyword_of (word_of k)) k (all_keywords (λ j. is_found (keyword_of (word_of j)) j) refl k)

@@ -1,4 +1,4 @@
-mod KeywordLaws
+pub mod KeywordLaws
 mod Steps
 pub mod Fronts
 mod BlankLaws

@@ -8,7 +8,7 @@ ghost use Rattle.sql_lex.specs.ByLetter.{row_at, beginning_with};
 use crate::words::{BY_LETTER, WORDS};
 
 /// A word that the grammar knows, in the order: reserved words, which are no names without
-/// backquotes; words that may be names too; names of built-in functions and aggregates.
+/// backquotes; words that may be names too; of those last the ones that take part in a call.
 #[derive(Clone, Copy, PartialEq, Eq)]
 pub enum Keyword {
     Alter,
@@ -105,27 +105,13 @@ pub enum Keyword {
     Truncate,
     Value,
     Work,
-    Abs,
-    Coalesce,
-    Concat,
-    ConnectionId,
     Count,
     Floor,
-    Ifnull,
-    LastInsertId,
-    Length,
     Max,
     Min,
     NameConst,
-    Now,
     Rand,
-    RowCount,
-    Substring,
     Sum,
-    Sysdate,
-    UnixTimestamp,
-    User,
-    Uuid,
 }
 
 impl Keyword {

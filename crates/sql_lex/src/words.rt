@@ -2,7 +2,7 @@
 use crate::keyword::Keyword::{self, *};
 
 /// The words of the keywords, in lower case, in the order of [`Keyword`].
-pub static WORDS: [&[u8]; 115] = [
+pub static WORDS: [&[u8]; 101] = [
     b"alter",
     b"and",
     b"as",
@@ -97,44 +97,20 @@ pub static WORDS: [&[u8]; 115] = [
     b"truncate",
     b"value",
     b"work",
-    b"abs",
-    b"coalesce",
-    b"concat",
-    b"connection_id",
     b"count",
     b"floor",
-    b"ifnull",
-    b"last_insert_id",
-    b"length",
     b"max",
     b"min",
     b"name_const",
-    b"now",
     b"rand",
-    b"row_count",
-    b"substring",
     b"sum",
-    b"sysdate",
-    b"unix_timestamp",
-    b"user",
-    b"uuid",
 ];
 
 /// The keywords by the first letter of their words, from `a` to `z`.
 pub static BY_LETTER: [&[Keyword]; 26] = [
-    &[Alter, And, As, Asc, After, AutoIncrement, Abs],
+    &[Alter, And, As, Asc, After, AutoIncrement],
     &[Before, Between, Bigint, By, Begin],
-    &[
-        Call,
-        Case,
-        Create,
-        Commit,
-        Contains,
-        Coalesce,
-        Concat,
-        ConnectionId,
-        Count,
-    ],
+    &[Call, Case, Create, Commit, Contains, Count],
     &[
         Declare,
         Default,
@@ -153,24 +129,22 @@ pub static BY_LETTER: [&[Keyword]; 26] = [
     &[Group],
     &[],
     &[
-        If, Ignore, In, Insert, Int, Integer, Into, Is, Index, Innodb, Ifnull,
+        If, Ignore, In, Insert, Int, Integer, Into, Is, Index, Innodb,
     ],
     &[Join],
     &[Key],
-    &[Limit, LastInsertId, Length],
+    &[Limit],
     &[Mod, Modifies, Mixed, Max, Min],
-    &[Not, Null, New, No, NameConst, Now],
+    &[Not, Null, New, No, NameConst],
     &[On, Or, Order, Offset, Old],
     &[Primary, Procedure],
     &[],
     &[
-        Reads, Release, Replace, Return, Returns, Rollback, Row, Rand, RowCount,
+        Reads, Release, Replace, Return, Returns, Rollback, Row, Rand,
     ],
-    &[
-        Select, Set, Sql, Savepoint, Session, Start, Statement, Substring, Sum, Sysdate,
-    ],
+    &[Select, Set, Sql, Savepoint, Session, Start, Statement, Sum],
     &[Table, Then, To, Trigger, Transaction, Truncate],
-    &[Union, Unique, Update, UnixTimestamp, User, Uuid],
+    &[Union, Unique, Update],
     &[Values, Varchar, Value],
     &[When, Where, While, Work],
     &[],

@@ -3,11 +3,16 @@ use Rattle.std.proofs.Common.{◌≡◌, ℕ, zero, suc, pred, pos, Bool, true, 
 use Rattle.val_types.specs.declared.value.Value.TheVariants.{Int}
 use Rattle.val_types.specs.declared.ops.UnOp.TheVariants.{Negate, Not, IsNull, IsNotNull}
 use Rattle.val_types.specs.declared.ops.Func.{Func}
+use Rattle.val_types.specs.declared.ops.Func0.{Func0}
+use Rattle.val_types.specs.declared.ops.Func1.{Func1}
+use Rattle.val_types.specs.declared.ops.Func2.{Func2}
+use Rattle.val_types.specs.declared.ops.Func3.{Func3}
+use Rattle.val_types.specs.declared.ops.FuncN.{FuncN}
 use Rattle.val_types.specs.declared.ops.BinOp.TheVariants as ops
 use Rattle.sql_lex.specs.declared.keyword.Keyword.TheVariants as words
 use Rattle.sql_lex.specs.declared.token.Symbol.TheVariants as signs
 use Rattle.sql_tree.specs.Tree.{Tree, literal, name, unary, binary, user_variable, system_variable, values_of, name_const, floor_rand, subquery, exists, choice, no_part, part}
-use Rattle.sql_tree.specs.BuiltIns.{on_two, on_three}
+use Rattle.sql_tree.specs.BuiltIns.{on_three}
 use Rattle.sql_tree.specs.View.{arms_of}
 use Rattle.sql_grammar.specs.Grammar.{first}
 use Rattle.sql_grammar.specs.Rule.{Rule, token, of_kinds, both, either, pure, mapped, chain, paired, behind, alone as single_one, then_one}
@@ -23,11 +28,11 @@ use Rattle.sql_grammar.proofs.Chains.{chain_lawful}
 use Rattle.sql_grammar.proofs.Alive.{one_alive, pure_alive, both_alive, other_alive, mapped_alive, chain_alive}
 use Rattle.sql_grammar.proofs.TwoTokens.{Starts, starts_one, starts_both, starts_mapped, starts_opened, starts_either, never_first, never_pair, never_either, never_wider, never_chain}
 use Rattle.sql_grammar.proofs.Top.{is_exact}
-use Rattle.sql_syntax.specs.Tokens.{Tok, quoted_name, mark, keyword_said, tight_minus, kind, code, sign_code, number_code, text_code, tight_code, names, name_said, keyword, sign}
+use Rattle.sql_syntax.specs.Tokens.{Tok, quoted_name, mark, tight_minus, kind, code, sign_code, number_code, text_code, tight_code, none_code, one_code, two_code, three_code, many_code, names, own_names, name_said, keyword, sign}
 use Rattle.sql_syntax.specs.Parts.{system_name, a_name, exprs, arguments, closed, in_parentheses, a_text, plain_value, negative_value, a_value}
 use Rattle.sql_syntax.specs.Selects.{aggregate_words, select_by, single_by}
-use Rattle.sql_syntax.specs.Expressions.{Nested, alone, of_column, called, named, column_tail, name_tail, own_names, uncalled_names, with_tail, with_arguments, built, built_or_named, with_none, with_one, with_some, none_of, one_of, many_of, two_arguments, three_arguments, constant, random, built_in_names, built_ins, when_arm, else_part, case_body, grouped, primary, prefix_by, applied, is_percent, product_ops, product, sum_ops, sum_op, sum, comparison_ops, comparison_op, compared, null_test, among, tested, membership, nullness, test_kinds, test, comparison, negation_by, conjunction, disjunction, whole_by, nested_by, nested, expression, select}
-use Rattle.sql_syntax.proofs.Words.{spelled, takes_keyword, takes_sign, keyword_lawful, sign_lawful, keyword_alive, sign_alive}
+use Rattle.sql_syntax.specs.Expressions.{Nested, alone, of_column, called, named, column_tail, name_tail, uncalled_names, with_tail, with_arguments, built, built_or_named, as_three, call_none, call_one, call_two, call_three, call_many, two_arguments, three_arguments, constant, random, built_in_names, built_ins, when_arm, else_part, case_body, grouped, primary, prefix_by, applied, is_percent, product_ops, product, sum_ops, sum_op, sum, comparison_ops, comparison_op, compared, null_test, among, tested, membership, nullness, test_kinds, test, comparison, negation_by, conjunction, disjunction, whole_by, nested_by, nested, expression, select}
+use Rattle.sql_syntax.proofs.Words.{spelled, takes_keyword, takes_function, takes_sign, keyword_lawful, sign_lawful, keyword_alive, sign_alive}
 use Rattle.sql_syntax.proofs.Shapes.{primaries, operands, starts, behind_operands, behind_sums, behind_comparisons, behind_expressions, wholes, negations, prefixes, selects}
 use Rattle.sql_syntax.proofs.PartLaws.{takes_name, name_lawful, but_lawful, word_name_lawful, takes_number, takes_text, text_lawful, plain_value_lawful, negative_value_lawful, value_lawful, keyword_then, sign_then, closed_lawful, one_closed_lawful, exprs_closed_lawful, arguments_lawful, in_parentheses_lawful, closed_alive, keyword_then_alive, sign_then_alive, exprs_closed_alive, arguments_alive}
 use Rattle.sql_syntax.proofs.SelectLaws.{select_lawful, single_lawful, select_alive, single_alive}
@@ -40,26 +45,6 @@ takes_own = takes_kinds kind own_names (λ t. Some t) (quoted_name []) (quoted_n
 takes_uncalled : Takes kind (of_kinds kind uncalled_names (λ t. Some t)) uncalled_names
 unfolding kind
 takes_uncalled = let t = spelled words.Count in takes_kinds kind uncalled_names (λ u. Some u) t t refl refl
-
-takes_with_none : Takes kind (of_kinds kind with_none (λ t. Some t)) with_none
-unfolding kind
-takes_with_none = let t = spelled words.Now in takes_kinds kind with_none (λ u. Some u) t t refl refl
-
-takes_with_one : Takes kind (of_kinds kind with_one (λ t. Some t)) with_one
-unfolding kind
-takes_with_one = let t = spelled words.Abs in takes_kinds kind with_one (λ u. Some u) t t refl refl
-
-takes_with_some : Takes kind (of_kinds kind with_some (λ t. Some t)) with_some
-unfolding kind
-takes_with_some = let t = spelled words.Concat in takes_kinds kind with_some (λ u. Some u) t t refl refl
-
-takes_ifnull : Takes kind (of_kinds kind (code words.Ifnull ∷ []) (λ t. Some t)) (code words.Ifnull ∷ [])
-unfolding kind
-takes_ifnull = let t = spelled words.Ifnull in takes_kinds kind (code words.Ifnull ∷ []) (λ u. Some u) t t refl refl
-
-takes_substring : Takes kind (of_kinds kind (code words.Substring ∷ []) (λ t. Some t)) (code words.Substring ∷ [])
-unfolding kind
-takes_substring = let t = spelled words.Substring in takes_kinds kind (code words.Substring ∷ []) (λ u. Some u) t t refl refl
 
 takes_constant : Takes kind (of_kinds kind (code words.NameConst ∷ []) (λ t. Some t)) (code words.NameConst ∷ [])
 unfolding kind
@@ -77,10 +62,10 @@ module _ (W : ℕ → Rule Tok Tree) (alive : GoesOn W []) where
   comma_closed_alive : GoesOn (λ e. behind (sign signs.Comma) (closed (W e))) []
   comma_closed_alive = sign_then_alive (λ e. closed (W e)) (closed_alive W alive) signs.Comma
 
-  two_alive : (f : Tree → Tree → Tree) → GoesOn (λ e. two_arguments f (W e)) []
+  two_alive : {A : Type 0} (f : Tree → Tree → A) → GoesOn (λ e. two_arguments f (W e)) []
   two_alive f = both_alive f W (λ e. behind (sign signs.Comma) (closed (W e))) alive comma_closed_alive
 
-  three_alive : (f : Tree → Tree → Tree → Tree) → GoesOn (λ e. three_arguments f (W e)) []
+  three_alive : {A : Type 0} (f : Tree → Tree → Tree → A) → GoesOn (λ e. three_arguments f (W e)) []
   three_alive f =
       both_alive (λ a bc. f a bc.0 bc.1) W (λ e. behind (sign signs.Comma) (both paired (W e) (behind (sign signs.Comma) (closed (W e))))) alive
       (sign_then_alive (λ e. both paired (W e) (behind (sign signs.Comma) (closed (W e))))
@@ -99,10 +84,10 @@ module _ (W : ℕ → Rule Tok Tree) (alive : GoesOn W []) where
       (other_alive (next_in kind (code words.Else ∷ [])) (λ e. mapped part (behind (keyword words.Else) (W e))) (λ e. pure no_part) (pure_alive no_part))) (keyword_alive words.End)
 
 module _ {R : ℕ → Rule Tok Tree} {d : ℕ} (l : Lawful kind wholes R d) where
-  two_lawful : (f : Tree → Tree → Tree) → Lawful kind (shape starts false [] true) (λ e. two_arguments f (R e)) d
+  two_lawful : {A : Type 0} (f : Tree → Tree → A) → Lawful kind (shape starts false [] true) (λ e. two_arguments f (R e)) d
   two_lawful f = both_lawful f l (sign_then (one_closed_lawful l) refl signs.Comma) refl refl
 
-  three_lawful : (f : Tree → Tree → Tree → Tree) → Lawful kind (shape starts false [] true) (λ e. three_arguments f (R e)) d
+  three_lawful : {A : Type 0} (f : Tree → Tree → Tree → A) → Lawful kind (shape starts false [] true) (λ e. three_arguments f (R e)) d
   three_lawful f =
       both_lawful (λ a bc. f a bc.0 bc.1) l (sign_then (both_lawful paired l (sign_then (one_closed_lawful l) refl signs.Comma) refl refl) refl signs.Comma) refl refl
 
@@ -164,19 +149,19 @@ module _ (I : ℕ → Nested) (g : Going I) (d : ℕ) (l : (k : ℕ) → d ≡ s
 
   built_ins_lawful : Lawful kind (shape built_in_names false behind_operands true) (λ e. built_ins e (I (pred e))) d
   built_ins_lawful =
-      let one = built_lawful (λ t a. one_of (keyword_said t) a) takes_with_one (λ e. closed ((I e).whole)) (closed_alive (λ e. (I e).whole) g.0) d (λ k e. one_closed_lawful (l k e).0) in
-      let some = built_lawful (λ t a. many_of (keyword_said t) a) takes_with_some (λ e. closed (exprs ((I e).whole))) (exprs_closed_alive (λ e. (I e).whole) g.0) d (λ k e. exprs_closed_lawful (l k e).0) in
-      let none = built_lawful (λ t u. none_of (keyword_said t)) takes_with_none (λ e. sign signs.Close) (sign_alive signs.Close) d (λ k e. sign_lawful signs.Close k) in
-      let two = built_lawful (λ t a. a) takes_ifnull (λ e. two_arguments (on_two Func.IfNull) ((I e).whole)) (two_alive (λ e. (I e).whole) g.0 (on_two Func.IfNull)) d (λ k e. two_lawful (l k e).0 (on_two Func.IfNull)) in
-      let three = built_lawful (λ t a. a) takes_substring (λ e. three_arguments (on_three Func.Substring) ((I e).whole)) (three_alive (λ e. (I e).whole) g.0 (on_three Func.Substring)) d (λ k e. three_lawful (l k e).0 (on_three Func.Substring)) in
+      let none = built_lawful call_none (takes_function (Func.Zero Func0.Now)) (λ e. sign signs.Close) (sign_alive signs.Close) d (λ k e. sign_lawful signs.Close k) in
+      let one = built_lawful call_one (takes_function (Func.One Func1.Abs)) (λ e. closed ((I e).whole)) (closed_alive (λ e. (I e).whole) g.0) d (λ k e. one_closed_lawful (l k e).0) in
+      let two = built_lawful call_two (takes_function (Func.Two Func2.IfNull)) (λ e. two_arguments paired ((I e).whole)) (two_alive (λ e. (I e).whole) g.0 paired) d (λ k e. two_lawful (l k e).0 paired) in
+      let three = built_lawful call_three (takes_function (Func.Three Func3.Substring)) (λ e. three_arguments as_three ((I e).whole)) (three_alive (λ e. (I e).whole) g.0 as_three) d (λ k e. three_lawful (l k e).0 as_three) in
+      let many = built_lawful call_many (takes_function (Func.Many FuncN.Concat)) (λ e. closed (exprs ((I e).whole))) (exprs_closed_alive (λ e. (I e).whole) g.0) d (λ k e. exprs_closed_lawful (l k e).0) in
       let const = built_lawful (λ t a. a) takes_constant (λ e. constant) constant_alive d (λ k e. constant_lawful k) in
       let floor = built_lawful (λ t a. a) takes_floor (λ e. random e ((I e).prefix)) random_alive d random_lawful in
       let a1 = either_lawful (code words.NameConst ∷ []) const floor refl refl refl in
-      let a2 = either_lawful (code words.Substring ∷ []) three a1 refl refl refl in
-      let a3 = either_lawful (code words.Ifnull ∷ []) two a2 refl refl refl in
-      let a4 = either_lawful with_none none a3 refl refl refl in
-      let a5 = either_lawful with_some some a4 refl refl refl in
-      widened (either_lawful with_one one a5 refl refl refl) (shape built_in_names false behind_operands true) refl
+      let a2 = either_lawful (many_code ∷ []) many a1 refl refl refl in
+      let a3 = either_lawful (three_code ∷ []) three a2 refl refl refl in
+      let a4 = either_lawful (two_code ∷ []) two a3 refl refl refl in
+      let a5 = either_lawful (one_code ∷ []) one a4 refl refl refl in
+      widened (either_lawful (none_code ∷ []) none a5 refl refl refl) (shape built_in_names false behind_operands true) refl
 
   name_tail_lawful : Lawful kind (shape behind_operands true behind_operands true) (λ e. name_tail e ((I (pred e)).whole)) d
   name_tail_lawful =
@@ -208,7 +193,7 @@ module _ (I : ℕ → Nested) (g : Going I) (d : ℕ) (l : (k : ℕ) → d ≡ s
       let system = mapped_lawful system_variable (sign_then (system_name_lawful d) refl signs.AtAt) in
       let variable = mapped_lawful user_variable (sign_then (name_lawful d) refl signs.At) in
       let choices = opened_lawful (takes_keyword words.Case) (λ u a. a) (λ e. case_body ((I e).whole)) (case_alive (λ e. (I e).whole) g.0) d (λ k e. case_lawful (l k e).0) refl in
-      let if' = keyword_then (in_parentheses_lawful (λ e. three_arguments (on_three Func.If) ((I e).whole)) (three_alive (λ e. (I e).whole) g.0 (on_three Func.If)) d (λ k e. three_lawful (l k e).0 (on_three Func.If)) refl) refl words.If in
+      let if' = keyword_then (in_parentheses_lawful (λ e. three_arguments (on_three Func3.If) ((I e).whole)) (three_alive (λ e. (I e).whole) g.0 (on_three Func3.If)) d (λ k e. three_lawful (l k e).0 (on_three Func3.If)) refl) refl words.If in
       let group = in_parentheses_lawful (λ e. grouped (I e)) grouped_alive d grouped_lawful refl in
       let a0 = either_lawful (number_code ∷ text_code ∷ code words.Null ∷ []) (mapped_lawful literal (plain_value_lawful d)) own refl refl refl in
       let a1 = either_lawful uncalled_names some a0 refl refl refl in
@@ -292,11 +277,11 @@ never_built make t R out =
 module _ (I : ℕ → Nested) where
   built_ins_never : Never kind aggregate_words opening behind_operands (λ e. built_ins e (I (pred e)))
   built_ins_never =
-      never_either (next_in kind with_one) (never_built (λ t a. one_of (keyword_said t) a) takes_with_one (λ e. closed ((I (pred e)).whole)) refl) (
-      never_either (next_in kind with_some) (never_built (λ t a. many_of (keyword_said t) a) takes_with_some (λ e. closed (exprs ((I (pred e)).whole))) refl) (
-      never_either (next_in kind with_none) (never_built (λ t u. none_of (keyword_said t)) takes_with_none (λ e. sign signs.Close) refl) (
-      never_either (next_in kind (code words.Ifnull ∷ [])) (never_built (λ t a. a) takes_ifnull (λ e. two_arguments (on_two Func.IfNull) ((I (pred e)).whole)) refl) (
-      never_either (next_in kind (code words.Substring ∷ [])) (never_built (λ t a. a) takes_substring (λ e. three_arguments (on_three Func.Substring) ((I (pred e)).whole)) refl) (
+      never_either (next_in kind (none_code ∷ [])) (never_built call_none (takes_function (Func.Zero Func0.Now)) (λ e. sign signs.Close) refl) (
+      never_either (next_in kind (one_code ∷ [])) (never_built call_one (takes_function (Func.One Func1.Abs)) (λ e. closed ((I (pred e)).whole)) refl) (
+      never_either (next_in kind (two_code ∷ [])) (never_built call_two (takes_function (Func.Two Func2.IfNull)) (λ e. two_arguments paired ((I (pred e)).whole)) refl) (
+      never_either (next_in kind (three_code ∷ [])) (never_built call_three (takes_function (Func.Three Func3.Substring)) (λ e. three_arguments as_three ((I (pred e)).whole)) refl) (
+      never_either (next_in kind (many_code ∷ [])) (never_built call_many (takes_function (Func.Many FuncN.Concat)) (λ e. closed (exprs ((I (pred e)).whole))) refl) (
       never_either (next_in kind (code words.NameConst ∷ [])) (never_built (λ t a. a) takes_constant (λ e. constant) refl) (
       never_built (λ t a. a) takes_floor (λ e. random (pred e) ((I (pred e)).prefix)) refl))))))
 
@@ -309,7 +294,7 @@ module _ (I : ℕ → Nested) where
   primary_never : Never kind aggregate_words opening behind_operands (λ e. primary e (I (pred e)))
   primary_never =
       let group = starts_opened (takes_sign signs.Open) (λ u a. a) (λ e. grouped (I (pred e))) in
-      let if' = starts_both (λ u a. a) (λ e. in_parentheses e (three_arguments (on_three Func.If) ((I (pred e)).whole))) (starts_one (takes_keyword words.If)) in
+      let if' = starts_both (λ u a. a) (λ e. in_parentheses e (three_arguments (on_three Func3.If) ((I (pred e)).whole))) (starts_one (takes_keyword words.If)) in
       let values' = starts_both (λ u a. a) (λ e. in_parentheses e (mapped values_of (closed a_name))) (starts_one (takes_keyword words.Values)) in
       let choices = starts_opened (takes_keyword words.Case) (λ u a. a) (λ e. case_body ((I (pred e)).whole)) in
       let exists' = starts_both (λ u a. a) (λ e. in_parentheses e (mapped exists (closed ((I (pred e)).select)))) (starts_one (takes_keyword words.Exists)) in

@@ -3,8 +3,8 @@ use Rattle.std.proofs.Common.{ℕ, true, false, List, [], ◌∷◌, ◌++◌}
 use Rattle.sql_lex.specs.declared.keyword.Keyword.TheVariants as words
 use Rattle.sql_lex.specs.declared.token.Symbol.TheVariants as signs
 use Rattle.sql_grammar.proofs.Lawful.{Shape, shape}
-use Rattle.sql_syntax.specs.Tokens.{code, sign_code, number_code, text_code, tight_code, names}
-use Rattle.sql_syntax.specs.Expressions.{built_in_names, uncalled_names, own_names, product_ops, sum_ops, test_kinds}
+use Rattle.sql_syntax.specs.Tokens.{code, sign_code, number_code, text_code, tight_code, names, own_names}
+use Rattle.sql_syntax.specs.Expressions.{built_in_names, uncalled_names, product_ops, sum_ops, test_kinds}
 
 abbrev pub comma : List ℕ
 comma = sign_code signs.Comma ∷ []

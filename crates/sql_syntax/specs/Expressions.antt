@@ -97,25 +97,42 @@ random m prefix = behind (keyword words.Rand) (behind (in_parentheses m (sign si
 abbrev pub built_in_names : List ℕ
 built_in_names = function_names ++ (code words.NameConst ∷ code words.Floor ∷ [])
 
+-- the call of a built-in that a word names, by its number of arguments
+
+abbrev pub call_none : Tok → Unit {0} → Tree
+call_none t u = on_none (none_said t)
+
+abbrev pub call_one : Tok → Tree → Tree
+call_one t a = on_one (one_said t) a
+
+abbrev pub call_two : Tok → Tree × Tree → Tree
+call_two t ab = on_two (two_said t) ab.0 ab.1
+
+abbrev pub call_three : Tok → Tree × (Tree × Tree) → Tree
+call_three t abc = on_three (three_said t) abc.0 abc.1.0 abc.1.1
+
+abbrev pub call_many : Tok → Trees → Tree
+call_many t ts = on_many (many_said t) ts
+
 -- those without arguments
 abbrev pub of_none : ℕ → Rule Tok Tree
-of_none n = built_or_named (none_code ∷ []) (λ t u. on_none (none_said t)) n (sign signs.Close)
+of_none n = built_or_named (none_code ∷ []) call_none n (sign signs.Close)
 
 -- those of one argument
 abbrev pub of_one : ℕ → Rule Tok Tree → Rule Tok Tree
-of_one n r = built_or_named (one_code ∷ []) (λ t a. on_one (one_said t) a) n (closed r)
+of_one n r = built_or_named (one_code ∷ []) call_one n (closed r)
 
 -- those of two arguments
 abbrev pub of_two : ℕ → Rule Tok Tree → Rule Tok Tree
-of_two n r = built_or_named (two_code ∷ []) (λ t ab. on_two (two_said t) ab.0 ab.1) n (two_arguments paired r)
+of_two n r = built_or_named (two_code ∷ []) call_two n (two_arguments paired r)
 
 -- those of three arguments
 abbrev pub of_three : ℕ → Rule Tok Tree → Rule Tok Tree
-of_three n r = built_or_named (three_code ∷ []) (λ t abc. on_three (three_said t) abc.0 abc.1.0 abc.1.1) n (three_arguments as_three r)
+of_three n r = built_or_named (three_code ∷ []) call_three n (three_arguments as_three r)
 
 -- those of one argument or more
 abbrev pub of_many : ℕ → Rule Tok Tree → Rule Tok Tree
-of_many n r = built_or_named (many_code ∷ []) (λ t ts. on_many (many_said t) ts) n (closed (exprs r))
+of_many n r = built_or_named (many_code ∷ []) call_many n (closed (exprs r))
 
 -- NAME_CONST
 abbrev pub of_name_const : ℕ → Rule Tok Tree

@@ -1,14 +1,19 @@
 -- Tokens by what they say, for worked texts.
 use Rattle.std.specs.Prelude.{ℕ, zero, suc, List, [], ◌∷◌}
+use Rattle.val_types.specs.declared.ops.Func.{Func}
 use Rattle.sql_lex.specs.declared.keyword.Keyword.{Keyword}
 use Rattle.sql_lex.specs.declared.token.Symbol.{Symbol}
 use Rattle.sql_lex.specs.declared.token.Symbol.TheVariants as signs
 use Rattle.sql_tree.specs.Statement.{Statement, Statements, statement}
-use Rattle.sql_syntax.specs.Tokens.{Tok, key, plain_name, digits, literal_text, mark}
+use Rattle.sql_syntax.specs.Tokens.{Tok, key, function_word, plain_name, digits, literal_text, mark}
 
 -- a keyword
 abbrev pub kw : Keyword → Tok
 kw k = key k
+
+-- the name of a built-in function
+abbrev pub fw : Func → Tok
+fw f = function_word f
 
 -- a sign
 abbrev pub sg : Symbol → Tok

@@ -1,126 +1,22 @@
--- Each keyword is reserved or a name.
+-- Each keyword is reserved or a name, and the name of each built-in function is a name.
 use Rattle.std.proofs.Common.{◌≡◌, true, ◌||◌, [], ◌∷◌, refl}
+use Rattle.val_types.specs.declared.ops.Func.{Func}
 use Rattle.sql_lex.specs.declared.keyword.Keyword.{Keyword}
-use Rattle.sql_lex.specs.declared.keyword.Keyword.TheVariants.{Alter, And, As, Asc, Before, Between, Bigint, By, Call, Case, Create, Declare, Default, Delete, Desc, Deterministic, Distinct, Div, Drop, Each, Else, Elseif, Exists, For, From, Group, If, Ignore, In, Insert, Int, Integer, Into, Is, Join, Key, Limit, Mod, Modifies, Not, Null, On, Or, Order, Primary, Procedure, Reads, Release, Replace, Return, Select, Set, Sql, Table, Then, To, Trigger, Union, Unique, Update, Values, Varchar, When, Where, While, After, AutoIncrement, Begin, Commit, Contains, Data, Do, Duplicate, End, Engine, Function, Index, Innodb, Mixed, New, No, Offset, Old, Returns, Rollback, Row, Savepoint, Session, Start, Statement, Transaction, Truncate, Value, Work, Abs, Coalesce, Concat, ConnectionId, Count, Floor, Ifnull, LastInsertId, Length, Max, Min, NameConst, Now, Rand, RowCount, Substring, Sum, Sysdate, UnixTimestamp, User, Uuid}
+use Rattle.sql_lex.specs.declared.keyword.Keyword.TheVariants.{Session}
 use Rattle.sql_lex.specs.Keywords.{word_of}
+use Rattle.sql_lex.proofs.KeywordLaws.{all_keywords}
 use Rattle.sql_grammar.specs.Sets.{member}
-use Rattle.sql_syntax.specs.Tokens.{code, names, but}
+use Rattle.sql_syntax.specs.Tokens.{code, function_code, names, but}
 use Rattle.sql_print.specs.Names.{is_reserved}
 
 -- the word is reserved, or SESSION, or another name
 pub reserved_or_name : (k : Keyword) → (is_reserved (word_of k) || (member (code k) (code Session ∷ []) || member (code k) (but names (code Session ∷ [])))) ≡ true
-reserved_or_name Alter = refl
-reserved_or_name And = refl
-reserved_or_name As = refl
-reserved_or_name Asc = refl
-reserved_or_name Before = refl
-reserved_or_name Between = refl
-reserved_or_name Bigint = refl
-reserved_or_name By = refl
-reserved_or_name Call = refl
-reserved_or_name Case = refl
-reserved_or_name Create = refl
-reserved_or_name Declare = refl
-reserved_or_name Default = refl
-reserved_or_name Delete = refl
-reserved_or_name Desc = refl
-reserved_or_name Deterministic = refl
-reserved_or_name Distinct = refl
-reserved_or_name Div = refl
-reserved_or_name Drop = refl
-reserved_or_name Each = refl
-reserved_or_name Else = refl
-reserved_or_name Elseif = refl
-reserved_or_name Exists = refl
-reserved_or_name For = refl
-reserved_or_name From = refl
-reserved_or_name Group = refl
-reserved_or_name If = refl
-reserved_or_name Ignore = refl
-reserved_or_name In = refl
-reserved_or_name Insert = refl
-reserved_or_name Int = refl
-reserved_or_name Integer = refl
-reserved_or_name Into = refl
-reserved_or_name Is = refl
-reserved_or_name Join = refl
-reserved_or_name Key = refl
-reserved_or_name Limit = refl
-reserved_or_name Mod = refl
-reserved_or_name Modifies = refl
-reserved_or_name Not = refl
-reserved_or_name Null = refl
-reserved_or_name On = refl
-reserved_or_name Or = refl
-reserved_or_name Order = refl
-reserved_or_name Primary = refl
-reserved_or_name Procedure = refl
-reserved_or_name Reads = refl
-reserved_or_name Release = refl
-reserved_or_name Replace = refl
-reserved_or_name Return = refl
-reserved_or_name Select = refl
-reserved_or_name Set = refl
-reserved_or_name Sql = refl
-reserved_or_name Table = refl
-reserved_or_name Then = refl
-reserved_or_name To = refl
-reserved_or_name Trigger = refl
-reserved_or_name Union = refl
-reserved_or_name Unique = refl
-reserved_or_name Update = refl
-reserved_or_name Values = refl
-reserved_or_name Varchar = refl
-reserved_or_name When = refl
-reserved_or_name Where = refl
-reserved_or_name While = refl
-reserved_or_name After = refl
-reserved_or_name AutoIncrement = refl
-reserved_or_name Begin = refl
-reserved_or_name Commit = refl
-reserved_or_name Contains = refl
-reserved_or_name Data = refl
-reserved_or_name Do = refl
-reserved_or_name Duplicate = refl
-reserved_or_name End = refl
-reserved_or_name Engine = refl
-reserved_or_name Function = refl
-reserved_or_name Index = refl
-reserved_or_name Innodb = refl
-reserved_or_name Mixed = refl
-reserved_or_name New = refl
-reserved_or_name No = refl
-reserved_or_name Offset = refl
-reserved_or_name Old = refl
-reserved_or_name Returns = refl
-reserved_or_name Rollback = refl
-reserved_or_name Row = refl
-reserved_or_name Savepoint = refl
-reserved_or_name Session = refl
-reserved_or_name Start = refl
-reserved_or_name Statement = refl
-reserved_or_name Transaction = refl
-reserved_or_name Truncate = refl
-reserved_or_name Value = refl
-reserved_or_name Work = refl
-reserved_or_name Abs = refl
-reserved_or_name Coalesce = refl
-reserved_or_name Concat = refl
-reserved_or_name ConnectionId = refl
-reserved_or_name Count = refl
-reserved_or_name Floor = refl
-reserved_or_name Ifnull = refl
-reserved_or_name LastInsertId = refl
-reserved_or_name Length = refl
-reserved_or_name Max = refl
-reserved_or_name Min = refl
-reserved_or_name NameConst = refl
-reserved_or_name Now = refl
-reserved_or_name Rand = refl
-reserved_or_name RowCount = refl
-reserved_or_name Substring = refl
-reserved_or_name Sum = refl
-reserved_or_name Sysdate = refl
-reserved_or_name UnixTimestamp = refl
-reserved_or_name User = refl
-reserved_or_name Uuid = refl
+reserved_or_name = all_keywords (λ k. is_reserved (word_of k) || (member (code k) (code Session ∷ []) || member (code k) (but names (code Session ∷ [])))) refl
+
+-- so is the name of each built-in function
+pub function_is_name : (f : Func) → (member (function_code f) (code Session ∷ []) || member (function_code f) (but names (code Session ∷ []))) ≡ true
+function_is_name (Func.Zero f) = refl
+function_is_name (Func.One f) = refl
+function_is_name (Func.Two f) = refl
+function_is_name (Func.Three f) = refl
+function_is_name (Func.Many f) = refl

@@ -8,12 +8,14 @@ use Rattle.sql_lex.specs.declared.token.Symbol.{Symbol}
 use Rattle.sql_grammar.specs.Sets.{member}
 use Rattle.sql_grammar.specs.Grammar.{Grammar, One, Both, Pure, Mapped, WithTokens, Chain, first, next}
 use Rattle.sql_grammar.specs.Rule.{Rule, only_then, of_kinds, any_of, only_if, opened, paired, then_one, alone}
+use Rattle.sql_tree.specs.BuiltIns.{lower_name}
 use Rattle.sql_tree.specs.Well.{is_name, is_number, is_literal}
-use Rattle.sql_syntax.specs.Tokens.{Tok, key, plain_name, quoted_name, digits, least_digits, literal_text, mark, tight_minus, broken_minus, kind, code, sign_code, keyword, sign}
+use Rattle.sql_syntax.specs.Tokens.{Tok, key, function_word, plain_name, quoted_name, digits, least_digits, literal_text, mark, tight_minus, broken_minus, kind, code, sign_code, keyword, sign}
 
 -- what the token says may stand in a statement
 abbrev pub is_good : Tok → Bool
 is_good (key k) = true
+is_good (function_word f) = is_name (lower_name f)
 is_good (plain_name w) = is_name w
 is_good (quoted_name w) = is_name w
 is_good (digits n) = is_number n

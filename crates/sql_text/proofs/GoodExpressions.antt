@@ -5,22 +5,22 @@ use Rattle.std.specs.Prelude.{◌&&◌, unwrap_or}
 use Rattle.val_types.specs.declared.value.Value.{Value}
 use Rattle.val_types.specs.declared.value.Value.TheVariants.{Text}
 use Rattle.val_types.specs.declared.ops.UnOp.TheVariants.{Negate, Not, IsNull, IsNotNull}
-use Rattle.val_types.specs.declared.ops.Func.{Func}
+use Rattle.val_types.specs.declared.ops.Func3.{Func3}
 use Rattle.val_types.specs.declared.ops.BinOp.{BinOp}
 use Rattle.val_types.specs.declared.ops.BinOp.TheVariants as ops
 use Rattle.sql_lex.specs.declared.keyword.Keyword.{Keyword}
 use Rattle.sql_lex.specs.declared.keyword.Keyword.TheVariants as words
 use Rattle.sql_lex.specs.declared.token.Symbol.TheVariants as signs
 use Rattle.sql_grammar.specs.Sets.{within}
-use Rattle.sql_grammar.specs.Rule.{Rule, token, mapped, refused}
+use Rattle.sql_grammar.specs.Rule.{Rule, token, mapped, refused, paired}
 use Rattle.sql_tree.specs.Tree.{Tree, literal, user_variable, system_variable, unary, binary, choice, subquery, exists, values_of, name_const, floor_rand}
 use Rattle.sql_tree.specs.Tree.{Trees, Part, no_part, part}
-use Rattle.sql_tree.specs.BuiltIns.{on_two, on_three}
+use Rattle.sql_tree.specs.BuiltIns.{on_three}
 use Rattle.sql_tree.specs.View.{arms_of}
 use Rattle.sql_tree.specs.Well.{is_name, is_literal, has_tree, gives_one, is_well_tree, are_well_trees, are_well_arms, is_well_part, is_well_query}
-use Rattle.sql_syntax.specs.Tokens.{Tok, keyword_said, name_said, kind, code, sign_code, names, sign}
+use Rattle.sql_syntax.specs.Tokens.{Tok, keyword_said, name_said, kind, code, sign_code, none_code, one_code, two_code, three_code, many_code, names, own_names, sign}
 use Rattle.sql_syntax.specs.Parts.{system_name, a_name, exprs, closed, arguments, a_value}
-use Rattle.sql_syntax.specs.Expressions.{Nested, Tail, alone, of_column, called, column_by, named, column_tail, name_tail, own_names, uncalled_names, Following, with_tail, with_arguments, built, built_or_named, with_none, with_one, with_some, none_of, one_of, many_of, two_arguments, three_arguments, constant, random, built_ins, when_arm, else_part, case_body, grouped, primary, prefix_by, applied, product_ops, is_percent, product, sum_ops, sum_op, sum, comparison_ops, comparison_op, Test, compared, null_test, among, tested, membership, nullness, test, comparison, negation_by, conjunction, disjunction, whole_by, nested_by, nested, expression, select}
+use Rattle.sql_syntax.specs.Expressions.{Nested, Tail, alone, of_column, called, column_by, named, column_tail, name_tail, uncalled_names, Following, with_tail, with_arguments, built, built_or_named, as_three, call_none, call_one, call_two, call_three, call_many, two_arguments, three_arguments, constant, random, built_ins, when_arm, else_part, case_body, grouped, primary, prefix_by, applied, product_ops, is_percent, product, sum_ops, sum_op, sum, comparison_ops, comparison_op, Test, compared, null_test, among, tested, membership, nullness, test, comparison, negation_by, conjunction, disjunction, whole_by, nested_by, nested, expression, select}
 use Rattle.sql_text.proofs.Good.{Gives, Any, Pair, Each, Some', IfSome, either_gives, pure_gives, optional_gives, mapped_gives, paired_gives, both_gives, behind_gives, before_gives, chain_gives, rows_give, said_gives, keyword_gives, sign_gives, key_gives, mark_gives, opened_gives}
 use Rattle.sql_text.proofs.GoodParts.{Name, Lit, Well, Wells, name_well, but_well, word_name_well, named_within, text_well, plain_well, negative_well, value_well, closed_well, parens_well, exprs_well, arguments_well}
 use Rattle.sql_text.proofs.GoodSelects.{WellPart, WellQuery, OneQuery, select_by_well, single_by_well}
@@ -65,23 +65,22 @@ built_or_named_well : {A : Type 0} {P : A → Type 0} (set : List ℕ) → withi
 built_or_named_well {P = P} set w make h n r q =
     both_gives {Q = Follows P} (built make) (built_good P make h) (named_token set w) (either_gives (mapped_gives with_arguments (λ a p. p) (parens_well n r q)) (mapped_gives {P = TailWell} with_tail (λ x p. p) column_tail_well))
 
-none_good : (o : Option Keyword) → Well (none_of o)
-none_good (Some words.UnixTimestamp) = refl
-none_good (Some words.Sysdate) = refl
-none_good (Some words.User) = refl
-none_good (Some words.Uuid) = refl
-none_good (Some words.ConnectionId) = refl
-none_good (Some words.LastInsertId) = refl
-none_good (Some words.RowCount) = refl
-none_good o = refl
+one_good : (t : Tok) (a : Tree) → Well a → Well (call_one t a)
+one_good t a p = and_from (is_well_tree a) true p refl
 
-one_good : (o : Option Keyword) (a : Tree) → Well a → Well (one_of o a)
-one_good (Some words.Length) a p = and_from (is_well_tree a) true p refl
-one_good o a p = and_from (is_well_tree a) true p refl
+two_good : (t : Tok) (ab : Tree × Tree) → Pair Well Well ab → Well (call_two t ab)
+two_good t ab p = and_from (is_well_tree ab.0) (is_well_tree ab.1 && true) p.0 (and_from (is_well_tree ab.1) true p.1 refl)
 
-many_good : (o : Option Keyword) (a : Trees) → Wells a → Well (many_of o a)
-many_good (Some words.Concat) a p = and_from (has_tree a) (are_well_trees a) p.0 p.1
-many_good o a p = and_from (has_tree a) (are_well_trees a) p.0 p.1
+-- three good arguments
+abbrev ThreeWell : Tree × (Tree × Tree) → Type 0
+ThreeWell abc = (is_well_tree abc.0 && (is_well_tree abc.1.0 && (is_well_tree abc.1.1 && true))) ≡ true
+
+three_good : (a : Tree) (x : Tree × Tree) → Well a → Pair Well Well x → (is_well_tree a && (is_well_tree x.0 && (is_well_tree x.1 && true))) ≡ true
+three_good a x p q =
+    and_from (is_well_tree a) (is_well_tree x.0 && (is_well_tree x.1 && true)) p (and_from (is_well_tree x.0) (is_well_tree x.1 && true) q.0 (and_from (is_well_tree x.1) true q.1 refl))
+
+many_good : (t : Tok) (ts : Trees) → Wells ts → Well (call_many t ts)
+many_good t ts p = and_from (has_tree ts) (are_well_trees ts) p.0 p.1
 
 constant_good : (n : List ℕ) (v : Value) → is_literal (Text n) ≡ true → Lit v → Well (name_const n v)
 constant_good n v p q = and_from (is_literal (Text n)) (is_literal v) p q
@@ -89,16 +88,8 @@ constant_good n v p q = and_from (is_literal (Text n)) (is_literal v) p q
 constant_well : Gives Well constant.texts
 constant_well = both_gives name_const constant_good text_well (mark_gives (closed_well a_value value_well) signs.Comma)
 
-two_good : (a b : Tree) → Well a → Well b → (is_well_tree a && is_well_tree b) ≡ true
-two_good a b p q = and_from (is_well_tree a) (is_well_tree b) p q
-
-ifnull_good : (a b : Tree) → Well a → Well b → Well (on_two Func.IfNull a b)
-ifnull_good a b p q = and_from (is_well_tree a) (is_well_tree b && true) p (and_from (is_well_tree b) true q refl)
-
--- three arguments
-three_good : (a : Tree) (x : Tree × Tree) → Well a → Pair Well Well x → (is_well_tree a && (is_well_tree x.0 && (is_well_tree x.1 && true))) ≡ true
-three_good a x p q =
-    and_from (is_well_tree a) (is_well_tree x.0 && (is_well_tree x.1 && true)) p (and_from (is_well_tree x.0) (is_well_tree x.1 && true) q.0 (and_from (is_well_tree x.1) true q.1 refl))
+both_good : (a b : Tree) → Well a → Well b → (is_well_tree a && is_well_tree b) ≡ true
+both_good a b p q = and_from (is_well_tree a) (is_well_tree b) p q
 
 pub name_or : (s : List ℕ) (o : Option (List ℕ)) → Name s → IfSome Name o → Name (unwrap_or o s)
 name_or s None p q = p
@@ -143,10 +134,10 @@ module _ (r : Rule Tok Tree) (q : Gives Well r.texts) where
   name_tail_well : (n : ℕ) → Gives TailWell (name_tail n r).texts
   name_tail_well n = either_gives (mapped_gives called (λ ts p. p) (parens_well n (arguments r) (arguments_well r q))) column_tail_well
 
-  two_well : (f : Tree → Tree → Tree) → ((a b : Tree) → Well a → Well b → Well (f a b)) → Gives Well (two_arguments f r).texts
-  two_well f h = both_gives f h q (mark_gives (closed_well r q) signs.Comma)
+  two_well : Gives (Pair Well Well) (two_arguments paired r).texts
+  two_well = paired_gives q (mark_gives (closed_well r q) signs.Comma)
 
-  three_well : (f : Tree → Tree → Tree → Tree) → ((a : Tree) (x : Tree × Tree) → Well a → Pair Well Well x → Well (f a x.0 x.1)) → Gives Well (three_arguments f r).texts
+  three_well : {A : Type 0} {P : A → Type 0} (f : Tree → Tree → Tree → A) → ((a : Tree) (x : Tree × Tree) → Well a → Pair Well Well x → P (f a x.0 x.1)) → Gives P (three_arguments f r).texts
   three_well f h = both_gives (λ a bc. f a bc.0 bc.1) h q (mark_gives (paired_gives q (mark_gives (closed_well r q) signs.Comma)) signs.Comma)
 
   random_well : (m : ℕ) → Gives Well (random m r).texts
@@ -165,14 +156,14 @@ module _ (r : Rule Tok Tree) (q : Gives Well r.texts) where
   product_well = chain_gives applied operated_good q (λ a. paired_gives (op_gives product_ops is_percent) q)
 
   conjunction_well : Gives Well (conjunction r).texts
-  conjunction_well = chain_gives (binary ops.And) two_good q (λ a. key_gives q words.And)
+  conjunction_well = chain_gives (binary ops.And) both_good q (λ a. key_gives q words.And)
 
 module _ (r : Rule Tok Tree) (q : Gives Well r.texts) where
   sum_well : Gives Well (sum r).texts
   sum_well = chain_gives applied operated_good (product_well r q) (λ a. paired_gives (op_gives sum_ops sum_op) (product_well r q))
 
   disjunction_well : Gives Well (disjunction r).texts
-  disjunction_well = chain_gives (binary ops.Or) two_good (conjunction_well r q) (λ a. key_gives (conjunction_well r q) words.Or)
+  disjunction_well = chain_gives (binary ops.Or) both_good (conjunction_well r q) (λ a. key_gives (conjunction_well r q) words.Or)
 
   membership_well : (negated : Bool) (n : ℕ) → Gives TestWell (membership negated n r).texts
   membership_well negated n = key_gives (mapped_gives (among negated) (λ ts p. p) (parens_well n (closed (exprs r)) (closed_well (exprs r) (exprs_well r q)))) words.In
@@ -200,11 +191,11 @@ pub record WellRules (x : Nested) : Type 0 where
 module _ (n : ℕ) (x : Nested) (i : WellRules x) where
   built_ins_well : Gives Well (built_ins n x).texts
   built_ins_well =
-      either_gives (built_or_named_well with_one refl (λ t a. one_of (keyword_said t) a) (λ t a p. one_good (keyword_said t) a p) n (closed x.whole) (closed_well x.whole i.whole)) (
-      either_gives (built_or_named_well with_some refl (λ t a. many_of (keyword_said t) a) (λ t a p. many_good (keyword_said t) a p) n (closed (exprs x.whole)) (closed_well (exprs x.whole) (exprs_well x.whole i.whole))) (
-      either_gives (built_or_named_well with_none refl (λ t u. none_of (keyword_said t)) (λ t u p. none_good (keyword_said t)) n (sign signs.Close) (sign_gives signs.Close)) (
-      either_gives (built_or_named_well (code words.Ifnull ∷ []) refl (λ t a. a) (λ t a p. p) n (two_arguments (on_two Func.IfNull) x.whole) (two_well x.whole i.whole (on_two Func.IfNull) ifnull_good)) (
-      either_gives (built_or_named_well (code words.Substring ∷ []) refl (λ t a. a) (λ t a p. p) n (three_arguments (on_three Func.Substring) x.whole) (three_well x.whole i.whole (on_three Func.Substring) three_good)) (
+      either_gives (built_or_named_well (none_code ∷ []) refl call_none (λ t u p. refl) n (sign signs.Close) (sign_gives signs.Close)) (
+      either_gives (built_or_named_well (one_code ∷ []) refl call_one one_good n (closed x.whole) (closed_well x.whole i.whole)) (
+      either_gives (built_or_named_well (two_code ∷ []) refl call_two two_good n (two_arguments paired x.whole) (two_well x.whole i.whole)) (
+      either_gives (built_or_named_well (three_code ∷ []) refl call_three (λ t abc p. p) n (three_arguments as_three x.whole) (three_well x.whole i.whole {P = ThreeWell} as_three three_good)) (
+      either_gives (built_or_named_well (many_code ∷ []) refl call_many many_good n (closed (exprs x.whole)) (closed_well (exprs x.whole) (exprs_well x.whole i.whole))) (
       either_gives (built_or_named_well (code words.NameConst ∷ []) refl (λ t a. a) (λ t a p. p) n constant constant_well) (
       built_or_named_well (code words.Floor ∷ []) refl (λ t a. a) (λ t a p. p) n (random (pred n) x.prefix) (random_well x.prefix i.prefix (pred n))))))))
 
@@ -215,7 +206,7 @@ module _ (n : ℕ) (x : Nested) (i : WellRules x) where
   primary_well : Gives Well (primary n x).texts
   primary_well =
       either_gives (parens_well n (grouped x) grouped_well) (
-      either_gives (key_gives (parens_well n (three_arguments (on_three Func.If) x.whole) (three_well x.whole i.whole (on_three Func.If) three_good)) words.If) (
+      either_gives (key_gives (parens_well n (three_arguments (on_three Func3.If) x.whole) (three_well x.whole i.whole {P = Well} (on_three Func3.If) three_good)) words.If) (
       either_gives (key_gives (parens_well n (mapped values_of (closed a_name)) (mapped_gives values_of (λ c p. p) (closed_well a_name name_well))) words.Values) (
       either_gives (opened_gives n (code words.Case) (λ u a. a) (case_body x.whole) (λ a p. p) (case_well x.whole i.whole)) (
       either_gives (key_gives (parens_well n (mapped exists (closed x.select)) (mapped_gives exists (λ s p. p) (closed_well x.select i.select))) words.Exists) (

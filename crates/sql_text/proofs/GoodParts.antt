@@ -10,13 +10,14 @@ use Rattle.sql_lex.specs.declared.keyword.Keyword.TheVariants as words
 use Rattle.sql_lex.specs.declared.token.Symbol.{Symbol}
 use Rattle.sql_lex.specs.declared.token.Symbol.TheVariants as signs
 use Rattle.sql_lex.specs.Keywords.{word_of}
+use Rattle.sql_lex.proofs.KeywordLaws.{all_keywords}
 use Rattle.sql_grammar.specs.Sets.{member, within}
 use Rattle.sql_grammar.specs.Rule.{Rule}
 use Rattle.sql_grammar.proofs.Lists.{within_member}
 use Rattle.sql_tree.specs.Tree.{Tree, Trees, no_tree}
 use Rattle.sql_tree.specs.View.{trees_of}
 use Rattle.sql_tree.specs.Well.{is_name, are_names, is_number, is_literal, has_tree, is_well_tree, are_well_trees}
-use Rattle.sql_syntax.specs.Tokens.{Tok, key, plain_name, quoted_name, digits, least_digits, literal_text, mark, tight_minus, broken_minus, kind, code, sign_code, number_code, least_code, text_code, tight_code, names, but, name_said, text_said, number_said}
+use Rattle.sql_syntax.specs.Tokens.{Tok, key, function_word, plain_name, quoted_name, digits, least_digits, literal_text, mark, tight_minus, broken_minus, kind, code, sign_code, number_code, least_code, text_code, tight_code, names, but, name_said, text_said, number_said}
 use Rattle.sql_syntax.specs.Parts.{a_name, name_but, word_name, list_of, exprs, closed, arguments, in_parentheses, names_in, a_text, a_number, plain_value, negative_value, a_value}
 use Rattle.sql_text.proofs.Good.{is_good, Gives, Each, Some', each_all, weaker, either_gives, mapped_gives, behind_gives, before_gives, rows_give, said_gives, any_gives, keyword_gives, sign_gives, mark_gives, opened_gives}
 
@@ -37,121 +38,7 @@ Wells ts = (has_tree ts ≡ true) × (are_well_trees ts ≡ true)
 -- ---- names
 -- a keyword may be a name
 pub word_is_name : (k : Keyword) → is_name (word_of k) ≡ true
-word_is_name words.Alter = refl
-word_is_name words.And = refl
-word_is_name words.As = refl
-word_is_name words.Asc = refl
-word_is_name words.Before = refl
-word_is_name words.Between = refl
-word_is_name words.Bigint = refl
-word_is_name words.By = refl
-word_is_name words.Call = refl
-word_is_name words.Case = refl
-word_is_name words.Create = refl
-word_is_name words.Declare = refl
-word_is_name words.Default = refl
-word_is_name words.Delete = refl
-word_is_name words.Desc = refl
-word_is_name words.Deterministic = refl
-word_is_name words.Distinct = refl
-word_is_name words.Div = refl
-word_is_name words.Drop = refl
-word_is_name words.Each = refl
-word_is_name words.Else = refl
-word_is_name words.Elseif = refl
-word_is_name words.Exists = refl
-word_is_name words.For = refl
-word_is_name words.From = refl
-word_is_name words.Group = refl
-word_is_name words.If = refl
-word_is_name words.Ignore = refl
-word_is_name words.In = refl
-word_is_name words.Insert = refl
-word_is_name words.Int = refl
-word_is_name words.Integer = refl
-word_is_name words.Into = refl
-word_is_name words.Is = refl
-word_is_name words.Join = refl
-word_is_name words.Key = refl
-word_is_name words.Limit = refl
-word_is_name words.Mod = refl
-word_is_name words.Modifies = refl
-word_is_name words.Not = refl
-word_is_name words.Null = refl
-word_is_name words.On = refl
-word_is_name words.Or = refl
-word_is_name words.Order = refl
-word_is_name words.Primary = refl
-word_is_name words.Procedure = refl
-word_is_name words.Reads = refl
-word_is_name words.Release = refl
-word_is_name words.Replace = refl
-word_is_name words.Return = refl
-word_is_name words.Select = refl
-word_is_name words.Set = refl
-word_is_name words.Sql = refl
-word_is_name words.Table = refl
-word_is_name words.Then = refl
-word_is_name words.To = refl
-word_is_name words.Trigger = refl
-word_is_name words.Union = refl
-word_is_name words.Unique = refl
-word_is_name words.Update = refl
-word_is_name words.Values = refl
-word_is_name words.Varchar = refl
-word_is_name words.When = refl
-word_is_name words.Where = refl
-word_is_name words.While = refl
-word_is_name words.After = refl
-word_is_name words.AutoIncrement = refl
-word_is_name words.Begin = refl
-word_is_name words.Commit = refl
-word_is_name words.Contains = refl
-word_is_name words.Data = refl
-word_is_name words.Do = refl
-word_is_name words.Duplicate = refl
-word_is_name words.End = refl
-word_is_name words.Engine = refl
-word_is_name words.Function = refl
-word_is_name words.Index = refl
-word_is_name words.Innodb = refl
-word_is_name words.Mixed = refl
-word_is_name words.New = refl
-word_is_name words.No = refl
-word_is_name words.Offset = refl
-word_is_name words.Old = refl
-word_is_name words.Returns = refl
-word_is_name words.Rollback = refl
-word_is_name words.Row = refl
-word_is_name words.Savepoint = refl
-word_is_name words.Session = refl
-word_is_name words.Start = refl
-word_is_name words.Statement = refl
-word_is_name words.Transaction = refl
-word_is_name words.Truncate = refl
-word_is_name words.Value = refl
-word_is_name words.Work = refl
-word_is_name words.Abs = refl
-word_is_name words.Coalesce = refl
-word_is_name words.Concat = refl
-word_is_name words.ConnectionId = refl
-word_is_name words.Count = refl
-word_is_name words.Floor = refl
-word_is_name words.Ifnull = refl
-word_is_name words.LastInsertId = refl
-word_is_name words.Length = refl
-word_is_name words.Max = refl
-word_is_name words.Min = refl
-word_is_name words.NameConst = refl
-word_is_name words.Now = refl
-word_is_name words.Rand = refl
-word_is_name words.RowCount = refl
-word_is_name words.Substring = refl
-word_is_name words.Sum = refl
-word_is_name words.Sysdate = refl
-word_is_name words.UnixTimestamp = refl
-word_is_name words.User = refl
-word_is_name words.Uuid = refl
+word_is_name = all_keywords (λ k. is_name (word_of k)) refl
 
 no_sign_is_name : (s : Symbol) → member (sign_code s) names ≡ true → ⊥
 no_sign_is_name signs.Open m = absurd (false≢true m)
@@ -177,6 +64,7 @@ no_sign_is_name signs.Percent m = absurd (false≢true m)
 pub name_good : (t : Tok) → is_good t ≡ true → member (kind t) names ≡ true → is_name (name_said t) ≡ true
 unfolding kind
 name_good (key k) g m = word_is_name k
+name_good (function_word f) g m = g
 name_good (plain_name w) g m = g
 name_good (quoted_name w) g m = g
 name_good (digits n) g m = absurd (false≢true m)
@@ -201,6 +89,7 @@ word_name_well k w = said_gives (code k ∷ []) name_said (named_within (code k 
 -- ---- numbers and texts
 text_good : (t : Tok) → is_good t ≡ true → is_literal (Text (text_said t)) ≡ true
 text_good (key k) g = refl
+text_good (function_word f) g = refl
 text_good (plain_name w) g = refl
 text_good (quoted_name w) g = refl
 text_good (digits n) g = refl
@@ -213,6 +102,7 @@ text_good broken_minus g = refl
 number_good : (t : Tok) → is_good t ≡ true → member (kind t) (number_code ∷ []) ≡ true → is_number (number_said t) ≡ true
 unfolding kind
 number_good (key k) g m = refl
+number_good (function_word f) g m = refl
 number_good (plain_name w) g m = refl
 number_good (quoted_name w) g m = refl
 number_good (digits n) g m = g
@@ -224,6 +114,7 @@ number_good broken_minus g m = refl
 
 number_small : (t : Tok) → is_good t ≡ true → number_said t ≤ 9223372036854775808
 number_small (key k) g = omega arith
+number_small (function_word f) g = omega arith
 number_small (plain_name w) g = omega arith
 number_small (quoted_name w) g = omega arith
 number_small (digits n) g = let l = leb-true n 9223372036854775807 g in omega (arith, l)

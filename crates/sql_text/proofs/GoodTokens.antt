@@ -10,6 +10,7 @@ use Rattle.std.specs.Result.{result_ok}
 use Rattle.hex.specs.Hex.{IsBytes, decode_of, is_hex_digit}
 use Rattle.hex.specs.declared.error.FromHexError.{FromHexError}
 use Rattle.hex.proofs.HexLemmas.{decode_of-ok}
+use Rattle.val_types.specs.declared.ops.Func.{Func}
 use Rattle.sql_lex.specs.declared.keyword.Keyword.{Keyword}
 use Rattle.sql_lex.specs.declared.pieces.Piece.{Piece}
 use Rattle.sql_lex.specs.declared.pieces.Piece.TheVariants as pieces
@@ -27,9 +28,11 @@ use Rattle.sql_lex.specs.Pieces.{piece_of, piece_by}
 use Rattle.sql_lex.specs.Plain.{plain_by, inside, hex_bytes, literal_bytes}
 use Rattle.sql_lex.specs.Quotes.{begins, closing, leads, escaped_byte, escaped, stands_for, meant_from, meant, is_printable}
 use Rattle.sql_lex.specs.Quotes.{is_name as is_short}
+use Rattle.sql_tree.specs.BuiltIns.{function_named}
 use Rattle.sql_tree.specs.Well.{is_name_byte, is_name}
-use Rattle.sql_syntax.specs.Texts.{begins_with_digit, minus_by, word_by, said_by, tok_before, toks}
+use Rattle.sql_syntax.specs.Texts.{begins_with_digit, minus_by, name_by, word_by, said_by, tok_before, toks}
 use Rattle.sql_text.proofs.Good.{is_good, AllGood, Each}
+use Rattle.sql_text.proofs.Written.{function_same}
 
 -- ---- bytes
 abbrev Bytes : List ℕ → Type 0
@@ -160,8 +163,12 @@ abbrev GoodBy : List ℕ → Option (TokenKind × ℕ) → Type 0
 GoodBy us None = Unit {0}
 GoodBy us (Some t) = t.1 ≤ length us → is_good (said_by (plain_by t.0 (take t.1 us))) ≡ true
 
+function_good : (o : Option Func) (w : List ℕ) → function_named w ≡ o → is_name w ≡ true → is_good (name_by o w) ≡ true
+function_good None w e g = g
+function_good (Some f) w e g = subst (λ (n : List ℕ). is_name n ≡ true) (sym (function_same w f e)) g
+
 named_good : (o : Option Keyword) (w : List ℕ) → is_name w ≡ true → is_good (word_by o w) ≡ true
-named_good None w g = g
+named_good None w g = function_good (function_named w) w refl g
 named_good (Some k) w g = refl
 
 word_said : (b : ℕ) (bs : List ℕ) (k : ℕ) → Bytes (b ∷ bs) → is_letter b ≡ true → k ≡ prefix_len is_word_byte bs → nat_le (1 + k) 64 ≡ true → is_name (folded (take (1 + k) (b ∷ bs))) ≡ true

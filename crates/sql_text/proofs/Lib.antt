@@ -4,6 +4,7 @@ mod Reading
 mod BareWords
 mod Written
 mod Words
+mod FunctionNames
 mod Parts
 mod Operands
 mod TreeLists

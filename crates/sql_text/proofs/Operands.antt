@@ -18,9 +18,9 @@ use Rattle.sql_tree.specs.View.{arms_of}
 use Rattle.sql_tree.specs.Well.{is_name, is_literal}
 use Rattle.sql_print.specs.Names.{quoted_name as name_text, bare_name, is_bare}
 use Rattle.sql_print.specs.Spelling.{operator_of, in_of}
-use Rattle.sql_syntax.specs.Tokens.{Tok, mark, kind, code, names, but, name_said}
+use Rattle.sql_syntax.specs.Tokens.{Tok, own_names, mark, kind, code, names, but, name_said}
 use Rattle.sql_syntax.specs.Parts.{system_name, a_name, exprs, arguments, closed}
-use Rattle.sql_syntax.specs.Expressions.{Nested, Tail, alone as no_tail, of_column, named, name_tail, own_names, when_arm, else_part, case_body, grouped, primary, prefix_by, product, sum, comparison, comparison_ops, comparison_op, compared, among, membership, negation_by, conjunction, whole_by}
+use Rattle.sql_syntax.specs.Expressions.{Nested, Tail, alone as no_tail, of_column, named, name_tail, when_arm, else_part, case_body, grouped, primary, prefix_by, product, sum, comparison, comparison_ops, comparison_op, compared, among, membership, negation_by, conjunction, whole_by}
 use Rattle.sql_text.proofs.Saying.{soft, soft_on}
 use Rattle.sql_text.proofs.Reading.{Said, Firm, Reading, via, written, valued, spaced, one, nothing, then', then_nothing, token_then, last_step, chained}
 use Rattle.sql_text.proofs.Written.{name_written, Bare, bare_written, kw, say_dot, say_at_at, say_equal, say_same, say_other, say_less, say_less_equal, say_greater, say_greater_equal, say_plus, say_times, say_minus}

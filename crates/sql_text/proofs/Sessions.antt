@@ -15,9 +15,9 @@ use Rattle.sql_tree.specs.declared.statements.Target.{Target}
 use Rattle.sql_print.specs.Names.{quoted_name as name_text, more_of}
 use Rattle.sql_print.specs.Spelling.{tree_text, trees_text}
 use Rattle.sql_print.specs.StatementSpelling.{target_text, assignment_text, assignments_text}
-use Rattle.sql_syntax.specs.Tokens.{Tok, key, quoted_name, kind, name_said, keyword_said}
+use Rattle.sql_syntax.specs.Tokens.{Tok, own_names, key, quoted_name, kind, name_said, keyword_said}
 use Rattle.sql_syntax.specs.Parts.{arguments}
-use Rattle.sql_syntax.specs.Expressions.{Nested, prefix_by, whole_by, own_names, alone as no_tail, nested, expression}
+use Rattle.sql_syntax.specs.Expressions.{Nested, prefix_by, whole_by, alone as no_tail, nested, expression}
 use Rattle.sql_syntax.specs.Sessions.{new_by, target, format_said, format_word, format_or, is_format, assigned, assigning, assignment, set, do_exprs, call, drop, truncated, transaction, begun}
 use Rattle.sql_syntax.proofs.ExpressionLaws.{expression_lawful, expression_exact}
 use Rattle.sql_text.proofs.Lines.{group5}

@@ -9,6 +9,7 @@ use Rattle.std.specs.List.{list_all, find}
 use Rattle.std.specs.Str.{bytes_eq}
 use Rattle.hex.specs.Hex.{IsBytes}
 use Rattle.val_types.specs.Text.{is_plain, quoted_of}
+use Rattle.val_types.specs.declared.ops.Func.{Func}
 use Rattle.sql_lex.specs.declared.keyword.Keyword.{Keyword}
 use Rattle.sql_lex.specs.declared.keyword.Keyword.TheVariants as words
 use Rattle.sql_lex.specs.declared.pieces.Piece.TheVariants as pieces
@@ -26,15 +27,16 @@ use Rattle.sql_lex.specs.Spelled.{AllOf, is_simple, doubled}
 use Rattle.sql_lex.proofs.Spelled.{quoted_slice, name_read, name_said, Digits, decimal_digits, number_read, least_read, word_read, string_slice, text_read, text_said, hex_slice, hex_read, hex_said}
 use Rattle.sql_grammar.specs.Sets.{member}
 use Rattle.sql_grammar.specs.Rule.{only_then}
+use Rattle.sql_tree.specs.BuiltIns.{about, functions, lower_name, function_named}
 use Rattle.sql_tree.specs.Well.{is_name, is_name_byte, is_number}
 use Rattle.sql_print.specs.Names as print
 use Rattle.sql_print.specs.Names.{doubled as doubled_text, quoted_name as name_text}
-use Rattle.sql_syntax.specs.Tokens.{Tok, key, quoted_name, digits, least_digits, literal_text, mark, tight_minus, kind, code, names, but, name_said as name_of, keyword}
-use Rattle.sql_syntax.specs.Texts.{minus_by, word_by}
+use Rattle.sql_syntax.specs.Tokens.{Tok, key, function_word, quoted_name, digits, least_digits, literal_text, mark, tight_minus, kind, code, names, but, name_said as name_of, keyword}
+use Rattle.sql_syntax.specs.Texts.{minus_by, name_by, word_by}
 use Rattle.sql_syntax.proofs.Words.{keyword_kind}
 use Rattle.sql_text.proofs.Saying.{Says, say', soft, soft_word, soft_digit, soft_quote, soft_backquote, says_slice, space_says}
 use Rattle.sql_text.proofs.Reading.{Said, Firm, Reading, one}
-use Rattle.sql_text.proofs.BareWords.{reserved_or_name}
+use Rattle.sql_text.proofs.BareWords.{reserved_or_name, function_is_name}
 
 all_of : (class : ℕ → Bool) (w : List ℕ) → list_all class w ≡ true → AllOf class w
 all_of class [] e = tt
@@ -110,20 +112,38 @@ pub keyword_said : (k : Keyword) (b : ℕ) (bs : List ℕ) → is_letter b ≡ t
 keyword_said k b bs e all l q =
     subst (λ (o : Option Keyword). Said (word_by o (folded (b ∷ bs))) (b ∷ bs)) q (word_written b bs e (all_of is_word_byte bs all) (leb-true (length (b ∷ bs)) 64 l))
 
+-- a word: a letter and what may follow it, 64 bytes at most
+abbrev pub is_spelled : List ℕ → Bool
+is_spelled [] = false
+is_spelled (b ∷ bs) = is_letter b && (list_all is_word_byte bs && nat_le (length (b ∷ bs)) 64)
+
+-- a word that is no keyword and names a built-in function
+pub function_said : (f : Func) (w : List ℕ) → is_spelled w ≡ true → keyword_of (folded w) ≡ None → function_named (folded w) ≡ Some f → Said (function_word f) w
+function_said f [] s none e = cc
+function_said f (b ∷ bs) s none e =
+    let p = and_parts (is_letter b) (list_all is_word_byte bs && nat_le (length (b ∷ bs)) 64) s in
+    let q = and_parts (list_all is_word_byte bs) (nat_le (length (b ∷ bs)) 64) p.1 in
+    let r = word_written b bs p.0 (all_of is_word_byte bs q.0) (leb-true (length (b ∷ bs)) 64 q.1) in
+    let n = subst (λ (o : Option Keyword). Said (word_by o (folded (b ∷ bs))) (b ∷ bs)) none r in
+    subst (λ (o : Option Func). Said (name_by o (folded (b ∷ bs))) (b ∷ bs)) e n
+
 pub kw : {k : Keyword} {w : List ℕ} → Said (key k) w → Reading (keyword k).texts tt w
 kw {k = k} r = one r (ap (λ b. only_then b (Some tt)) (keyword_kind k))
 
 -- ---- words without quotes that are names
-found_by : (test : Keyword → Bool) (j k : Keyword) (o : Option Keyword) → (o ≡ Some k → test k ≡ true) → (b : Bool) → test j ≡ b → cond b (Some j) o ≡ Some k → test k ≡ true
-found_by test j k o more true p q = let same : j ≡ k = cc in subst (λ (i : Keyword). test i ≡ true) same p
+found_by : {A : Type 0} (test : A → Bool) (j k : A) (o : Option A) → (o ≡ Some k → test k ≡ true) → (b : Bool) → test j ≡ b → cond b (Some j) o ≡ Some k → test k ≡ true
+found_by {A = A} test j k o more true p q = let same : j ≡ k = cc in subst (λ (i : A). test i ≡ true) same p
 found_by test j k o more false p q = more q
 
-found_true : (test : Keyword → Bool) (ks : List Keyword) (k : Keyword) → find test ks ≡ Some k → test k ≡ true
+found_true : {A : Type 0} (test : A → Bool) (ks : List A) (k : A) → find test ks ≡ Some k → test k ≡ true
 found_true test [] k e = cc
 found_true test (j ∷ ks) k e = found_by test j k (find test ks) (λ q. found_true test ks k q) (test j) refl e
 
 word_same : (w : List ℕ) (k : Keyword) → keyword_of w ≡ Some k → word_of k ≡ w
 word_same w k e = (bytes_eq-Decides (word_of k) w).0 (found_true (λ j. bytes_eq (word_of j) w) keywords k e)
+
+pub function_same : (w : List ℕ) (f : Func) → function_named w ≡ Some f → lower_name f ≡ w
+function_same w f e = (bytes_eq-Decides (lower_name f) w).0 (found_true (λ j. bytes_eq (lower_name j) w) functions f e)
 
 -- a name without quotes is SESSION or another one
 abbrev pub Bare : List ℕ → Tok → Type 0
@@ -137,9 +157,14 @@ or_else : (a b : Bool) → a ≡ false → (a || b) ≡ true → b ≡ true
 or_else true b e f = cc
 or_else false b e f = f
 
+bare_named : (n : List ℕ) (o : Option Func) → function_named n ≡ o → Bare n (name_by o n)
+unfolding kind
+bare_named n None e = (refl, refl)
+bare_named n (Some f) e = (function_same n f e, function_is_name f)
+
 bare_by : (n : List ℕ) → print.is_reserved n ≡ false → (o : Option Keyword) → keyword_of n ≡ o → Bare n (word_by o n)
 unfolding kind
-bare_by n free None e = (refl, refl)
+bare_by n free None e = bare_named n (function_named n) refl
 bare_by n free (Some k) e =
     let same : word_of k ≡ n = word_same n k e in
     (same, or_else (print.is_reserved (word_of k)) (member (code k) (code words.Session ∷ []) || member (code k) (but names (code words.Session ∷ []))) (ap print.is_reserved same ∙ free) (reserved_or_name k))
