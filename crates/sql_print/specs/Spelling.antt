@@ -6,6 +6,7 @@ use Rattle.val_types.specs.declared.ops.UnOp.{UnOp}
 use Rattle.val_types.specs.declared.ops.BinOp.{BinOp}
 use Rattle.val_types.specs.declared.ops.Func.{Func}
 use Rattle.val_types.specs.declared.ops.Agg.{Agg}
+use Rattle.sql_tree.specs.BuiltIns.{about}
 use Rattle.sql_tree.specs.Tree.{Tree, literal, name, column, new_column, old_column, user_variable, system_variable, unary, binary, is_in, choice, subquery, exists, call, built_in, values_of, name_const, floor_rand}
 use Rattle.sql_tree.specs.Tree.{Trees, no_tree, tree, Arms, no_arm, arm, Part, no_part, part, Query, query, Selected, items, all_columns, aggregates}
 use Rattle.sql_tree.specs.Tree.{Aggregates, no_aggregate, count_all, aggregate, Origin, no_origin, from_table, Orders, no_order, order_by}
@@ -56,21 +57,7 @@ aggregate_of Agg.Max = codes "MAX("
 
 -- the name of a built-in function
 abbrev pub function_of : Func → List ℕ
-function_of Func.Abs = codes "ABS"
-function_of Func.Coalesce = codes "COALESCE"
-function_of Func.If = codes "IF"
-function_of Func.IfNull = codes "IFNULL"
-function_of Func.Concat = codes "CONCAT"
-function_of Func.Length = codes "LENGTH"
-function_of Func.Substring = codes "SUBSTRING"
-function_of Func.Now = codes "NOW"
-function_of Func.UnixTimestamp = codes "UNIX_TIMESTAMP"
-function_of Func.SysDate = codes "SYSDATE"
-function_of Func.User = codes "USER"
-function_of Func.Uuid = codes "UUID"
-function_of Func.ConnectionId = codes "CONNECTION_ID"
-function_of Func.LastInsertId = codes "LAST_INSERT_ID"
-function_of Func.RowCount = codes "ROW_COUNT"
+function_of f = (about f).name
 
 -- DESC
 abbrev pub direction_of : Bool → List ℕ
