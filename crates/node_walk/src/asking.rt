@@ -27,7 +27,7 @@ pub enum Ask<'a> {
     Change,
     /// Whether it reaches anything, where that is there: a call of any function, or a statement that changes rows.
     Cause,
-    /// Whether it is a built-in whose value differs on a replica: UUID(), SYSDATE(), USER(), ROW_COUNT() or RAND().
+    /// Whether it is a built-in whose value may differ on a replica, or RAND().
     UnsafeFunction,
     /// Whether it is @@server_id.
     ServerId,

@@ -17,6 +17,7 @@ use Rattle.log_entries.specs.declared.carried.Carried.{Carried}
 use Rattle.sql_meaning.specs.Frames.{Context}
 use Rattle.sql_reach.specs.Reach.{reached_nodes}
 
+-- a built-in that reads the last insert id of the session
 abbrev pub is_last_insert_id : Func → Bool
 is_last_insert_id f = (about f).reads_last_id
 

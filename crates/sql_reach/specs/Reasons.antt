@@ -28,11 +28,11 @@ all_reasons =
     a_function ∷ a_variable ∷ a_limited ∷ a_counted_select ∷ a_counted_program ∷ two_keys ∷ ignored_select ∷ replaced_select
     ∷ updated_select ∷ []
 
--- UUID(), SYSDATE(), USER(), ROW_COUNT()
+-- a built-in whose value may differ on a replica
 abbrev pub is_unsafe_function : Func → Bool
 is_unsafe_function f = (about f).is_unsafe
 
--- one of these, or RAND()
+-- a call of one, or RAND()
 abbrev pub names_unsafe_function : Node → Bool
 names_unsafe_function (a_built_in f) = is_unsafe_function f
 names_unsafe_function a_random_number = true
