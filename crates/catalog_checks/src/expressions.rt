@@ -24,8 +24,7 @@ pub(crate) fn expr(checks: &Checks<'_>, e: &Expr, sight: &Sight<'_>) -> u8
 {
     match e {
         Expr::Literal(_) | Expr::UserVariable(_) | Expr::NameConst(_, _) => NOTHING,
-        Expr::Now | Expr::UnixTimestamp | Expr::SysDate | Expr::User | Expr::Uuid => NOTHING,
-        Expr::ConnectionId | Expr::LastInsertId | Expr::RowCount => NOTHING,
+        Expr::Func0(_) => NOTHING,
         Expr::Name(name) => unless(checks.is_known(name, sight), NO_COLUMN),
         Expr::Column(table, column) => unless(
             is_known_column(checks.objects, sight, table, column),
@@ -37,11 +36,11 @@ pub(crate) fn expr(checks: &Checks<'_>, e: &Expr, sight: &Sight<'_>) -> u8
         Expr::SystemVariable(name) => unless(is_readable(name), NO_VARIABLE),
         Expr::Unary(_, a) | Expr::FloorRand(a) => expr(checks, a.get(), sight),
         Expr::Binary(_, a, b) => expr(checks, a.get(), sight).min(expr(checks, b.get(), sight)),
-        Expr::Abs(a) | Expr::Length(a) => only(expr(checks, a.get(), sight)),
-        Expr::IfNull(a, b) => {
+        Expr::Func1(_, a) => only(expr(checks, a.get(), sight)),
+        Expr::Func2(_, a, b) => {
             expr(checks, a.get(), sight).min(only(expr(checks, b.get(), sight)))
         }
-        Expr::If(a, b, c) | Expr::Substring(a, b, c) => {
+        Expr::Func3(_, a, b, c) => {
             let rest = expr(checks, b.get(), sight).min(only(expr(checks, c.get(), sight)));
             expr(checks, a.get(), sight).min(rest)
         }
@@ -56,7 +55,7 @@ pub(crate) fn expr(checks: &Checks<'_>, e: &Expr, sight: &Sight<'_>) -> u8
         Expr::Call { name, arguments } => checks
             .function(name, count_of(arguments))
             .min(exprs(checks, arguments, sight)),
-        Expr::Coalesce(arguments) | Expr::Concat(arguments) => exprs(checks, arguments, sight),
+        Expr::FuncN(_, arguments) => exprs(checks, arguments, sight),
     }
 }
 

@@ -1,7 +1,6 @@
 //! Expressions and SELECTs with locals closed in, at the end of a length.
 ghost use Rattle.std.specs.Prelude.{◌≡◌, ◌++◌, codes};
-ghost use Rattle.sql_tree.specs.BuiltIns.{on_one, on_three, on_two};
-ghost use Rattle.sql_tree.specs.Tree.{built_in, no_tree};
+ghost use Rattle.sql_tree.specs.BuiltIns.{on_many, on_none, on_one, on_three, on_two};
 ghost use Rattle.sql_tree.specs.View.{view_aggregate, view_aggregates, view_arm, view_arms, view_from, view_order, view_orders, view_origin, view_part, view_query, view_selected, view_tree, view_trees};
 ghost use Rattle.sql_print.specs.Names.{quoted_name};
 ghost use Rattle.sql_print.specs.Spelling.{aggregate_of, aggregates_text, arms_text, before_operand, behind_operand, direction_of, else_text, factor_text, function_of, in_of, is_choice, operator_of, orders_text, origin_text, query_text, selected_text, tree_text, trees_text, where_text};
@@ -15,8 +14,8 @@ use crate::lengths::{
 };
 use crate::words::add_system_name;
 use sql_locals::Locals;
-use sql_tree::{Aggregate, Arm, Expr, FromClause, OrderItem, Select, Selection};
-use val_types::{Agg, BinOp, Boxed, Bytes, Func, List, UnOp};
+use sql_tree::{Aggregate, Arm, Expr, FromClause, OrderItem, Select, Selection, function_name};
+use val_types::{Agg, BinOp, Boxed, Bytes, Func, Func0, Func1, Func2, Func3, FuncN, List, UnOp};
 
 fn add_operator(total: &mut u64, op: BinOp)
     ensures { total.new ≡ grown total.old (operator_of op) }
@@ -84,23 +83,8 @@ fn add_aggregate_name(total: &mut u64, function: Agg)
 fn add_function(total: &mut u64, function: Func)
     ensures { total.new ≡ grown total.old ((function_of function ++ codes "(")) }
 {
-    match function {
-        Func::Abs => add(total, b"ABS("),
-        Func::Coalesce => add(total, b"COALESCE("),
-        Func::If => add(total, b"IF("),
-        Func::IfNull => add(total, b"IFNULL("),
-        Func::Concat => add(total, b"CONCAT("),
-        Func::Length => add(total, b"LENGTH("),
-        Func::Substring => add(total, b"SUBSTRING("),
-        Func::Now => add(total, b"NOW("),
-        Func::UnixTimestamp => add(total, b"UNIX_TIMESTAMP("),
-        Func::SysDate => add(total, b"SYSDATE("),
-        Func::User => add(total, b"USER("),
-        Func::Uuid => add(total, b"UUID("),
-        Func::ConnectionId => add(total, b"CONNECTION_ID("),
-        Func::LastInsertId => add(total, b"LAST_INSERT_ID("),
-        Func::RowCount => add(total, b"ROW_COUNT("),
-    }
+    add(total, function_name(function));
+    add(total, b"(");
 }
 
 /// ORDER BY before the first item, a comma and a space before the others.
@@ -115,10 +99,10 @@ fn add_order_words(total: &mut u64, first: bool)
 }
 
 /// A built-in function without arguments.
-fn add_on_none(total: &mut u64, function: Func)
-    ensures { total.new ≡ grown total.old (tree_text (built_in function no_tree)) }
+fn add_on_none(total: &mut u64, function: Func0)
+    ensures { total.new ≡ grown total.old (tree_text (on_none function)) }
 {
-    add_function(total, function);
+    add_function(total, Func::Zero(function));
     add(total, b")");
 }
 
@@ -179,21 +163,11 @@ pub fn add_expr(total: &mut u64, locals: &Locals, expr: &Expr)
         Expr::Values(column) => add_values(total, column),
         Expr::NameConst(name, value) => add_name_const(total, name, value),
         Expr::FloorRand(a) => add_floor_rand(total, locals, a),
-        Expr::Abs(a) => add_on_one(total, locals, Func::Abs, a),
-        Expr::Length(a) => add_on_one(total, locals, Func::Length, a),
-        Expr::Coalesce(arguments) => add_on_some(total, locals, Func::Coalesce, arguments),
-        Expr::Concat(arguments) => add_on_some(total, locals, Func::Concat, arguments),
-        Expr::If(a, b, c) => add_on_three(total, locals, Func::If, a, b, c),
-        Expr::IfNull(a, b) => add_on_two(total, locals, Func::IfNull, a, b),
-        Expr::Substring(a, b, c) => add_on_three(total, locals, Func::Substring, a, b, c),
-        Expr::Now => add_on_none(total, Func::Now),
-        Expr::UnixTimestamp => add_on_none(total, Func::UnixTimestamp),
-        Expr::SysDate => add_on_none(total, Func::SysDate),
-        Expr::User => add_on_none(total, Func::User),
-        Expr::Uuid => add_on_none(total, Func::Uuid),
-        Expr::ConnectionId => add_on_none(total, Func::ConnectionId),
-        Expr::LastInsertId => add_on_none(total, Func::LastInsertId),
-        Expr::RowCount => add_on_none(total, Func::RowCount),
+        Expr::Func0(function) => add_on_none(total, *function),
+        Expr::Func1(function, a) => add_on_one(total, locals, *function, a),
+        Expr::Func2(function, a, b) => add_on_two(total, locals, *function, a, b),
+        Expr::Func3(function, a, b, c) => add_on_three(total, locals, *function, a, b, c),
+        Expr::FuncN(function, arguments) => add_on_many(total, locals, *function, arguments),
     }
 }
 
@@ -278,28 +252,28 @@ fn add_floor_rand(total: &mut u64, locals: &Locals, a: &Boxed<Expr>)
 
 /// A built-in function of one argument or more.
 #[cycle(add)]
-fn add_on_some(total: &mut u64, locals: &Locals, function: Func, arguments: &List<Expr>)
-    ensures { total.new ≡ grown total.old (tree_text (built_in function (closed_trees locals.now (view_trees arguments.now)))) }
+fn add_on_many(total: &mut u64, locals: &Locals, function: FuncN, arguments: &List<Expr>)
+    ensures { total.new ≡ grown total.old (tree_text (on_many function (closed_trees locals.now (view_trees arguments.now)))) }
 {
-    add_function(total, function);
+    add_function(total, Func::Many(function));
     add_exprs(total, locals, arguments);
     add(total, b")");
 }
 
 #[cycle(add)]
-fn add_on_one(total: &mut u64, locals: &Locals, function: Func, a: &Boxed<Expr>)
+fn add_on_one(total: &mut u64, locals: &Locals, function: Func1, a: &Boxed<Expr>)
     ensures { total.new ≡ grown total.old (tree_text (on_one function (closed_tree locals.now (view_tree a.now)))) }
 {
-    add_function(total, function);
+    add_function(total, Func::One(function));
     add_expr(total, locals, a.get());
     add(total, b")");
 }
 
 #[cycle(add)]
-fn add_on_two(total: &mut u64, locals: &Locals, function: Func, a: &Boxed<Expr>, b: &Boxed<Expr>)
+fn add_on_two(total: &mut u64, locals: &Locals, function: Func2, a: &Boxed<Expr>, b: &Boxed<Expr>)
     ensures { total.new ≡ grown total.old (tree_text (on_two function (closed_tree locals.now (view_tree a.now)) (closed_tree locals.now (view_tree b.now)))) }
 {
-    add_function(total, function);
+    add_function(total, Func::Two(function));
     add_expr(total, locals, a.get());
     add_next(total, locals, b);
     add(total, b")");
@@ -309,14 +283,14 @@ fn add_on_two(total: &mut u64, locals: &Locals, function: Func, a: &Boxed<Expr>,
 fn add_on_three(
     total: &mut u64,
     locals: &Locals,
-    function: Func,
+    function: Func3,
     a: &Boxed<Expr>,
     b: &Boxed<Expr>,
     c: &Boxed<Expr>,
 )
     ensures { total.new ≡ grown total.old (tree_text (on_three function (closed_tree locals.now (view_tree a.now)) (closed_tree locals.now (view_tree b.now)) (closed_tree locals.now (view_tree c.now)))) }
 {
-    add_function(total, function);
+    add_function(total, Func::Three(function));
     add_expr(total, locals, a.get());
     add_next(total, locals, b);
     add_next(total, locals, c);

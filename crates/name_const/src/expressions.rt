@@ -49,23 +49,18 @@ pub fn close_expr(alloc: Global, locals: &Locals, expr: &Expr) -> Result<Expr, N
             Ok(Expr::Call { name, arguments })
         }
         Expr::FloorRand(a) => Ok(Expr::FloorRand(close_boxed(alloc, locals, a)?)),
-        Expr::Abs(a) => Ok(Expr::Abs(close_boxed(alloc, locals, a)?)),
-        Expr::Coalesce(arguments) => Ok(Expr::Coalesce(close_exprs(alloc, locals, arguments)?)),
-        Expr::If(a, b, c) => {
+        Expr::Func1(function, a) => Ok(Expr::Func1(*function, close_boxed(alloc, locals, a)?)),
+        Expr::Func2(function, a, b) => {
+            let a = close_boxed(alloc, locals, a)?;
+            Ok(Expr::Func2(*function, a, close_boxed(alloc, locals, b)?))
+        }
+        Expr::Func3(function, a, b, c) => {
             let a = close_boxed(alloc, locals, a)?;
             let b = close_boxed(alloc, locals, b)?;
-            Ok(Expr::If(a, b, close_boxed(alloc, locals, c)?))
+            Ok(Expr::Func3(*function, a, b, close_boxed(alloc, locals, c)?))
         }
-        Expr::IfNull(a, b) => {
-            let a = close_boxed(alloc, locals, a)?;
-            Ok(Expr::IfNull(a, close_boxed(alloc, locals, b)?))
-        }
-        Expr::Concat(arguments) => Ok(Expr::Concat(close_exprs(alloc, locals, arguments)?)),
-        Expr::Length(a) => Ok(Expr::Length(close_boxed(alloc, locals, a)?)),
-        Expr::Substring(a, b, c) => {
-            let a = close_boxed(alloc, locals, a)?;
-            let b = close_boxed(alloc, locals, b)?;
-            Ok(Expr::Substring(a, b, close_boxed(alloc, locals, c)?))
+        Expr::FuncN(function, arguments) => {
+            Ok(Expr::FuncN(*function, close_exprs(alloc, locals, arguments)?))
         }
         _ => copy_expr(alloc, expr),
     }

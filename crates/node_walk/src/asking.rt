@@ -8,12 +8,12 @@ ghost use Rattle.sql_meaning.specs.Frames.{number_or_none};
 ghost use Rattle.sql_meaning.specs.Running.{is_ill_count};
 ghost use Rattle.sql_tree.specs.StatementView.{view, view_supply, view_trigger};
 ghost use Rattle.sql_reach.specs.Reach.{causes_event, is_change};
-ghost use Rattle.sql_reach.specs.Reasons.{comes_from_select, has_unique, ignores_select, inserts_counted, is_counted, is_unsafe_function, replaces_select, selects_counted, updates_by_two_keys, updates_select};
+ghost use Rattle.sql_reach.specs.Reasons.{comes_from_select, has_unique, ignores_select, inserts_counted, is_counted, replaces_select, selects_counted, updates_by_two_keys, updates_select};
 ghost use Rattle.node_walk.specs.Asking.{asks_built_in, asks_call, asks_limit, asks_random_number, asks_statement, asks_system_variable, asks_table};
 
 use catalog_objects::Objects;
 use sql_locals::Locals;
-use sql_tree::{Cause, Count, Source, Stmt, TriggerDef};
+use sql_tree::{Cause, Count, Source, Stmt, TriggerDef, is_unsafe, reads_last_id};
 use val_types::{Bytes, Func, Value};
 
 /// What is asked of each node.
@@ -27,7 +27,7 @@ pub enum Ask<'a> {
     Change,
     /// Whether it reaches anything, where that is there: a call of any function, or a statement that changes rows.
     Cause,
-    /// Whether it is a built-in whose value differs on a replica: UUID(), SYSDATE(), USER(), ROW_COUNT() or RAND().
+    /// Whether it is a built-in whose value may differ on a replica, or RAND().
     UnsafeFunction,
     /// Whether it is @@server_id.
     ServerId,
@@ -66,20 +66,13 @@ pub(crate) fn asks_call(ask: &Ask<'_>, called: &Bytes) -> bool
     }
 }
 
-/// Whether the value of a built-in function differs on a replica.
-fn is_unsafe_function(f: Func) -> bool
-    ensures { result ≡ is_unsafe_function f }
-{
-    matches!(f, Func::Uuid | Func::SysDate | Func::User | Func::RowCount)
-}
-
 /// Whether a built-in function is asked for.
 pub(crate) fn asks_built_in(ask: &Ask<'_>, f: Func) -> bool
     ensures { result ≡ asks_built_in ask.now f }
 {
     match ask {
-        Ask::UnsafeFunction => is_unsafe_function(f),
-        Ask::LastInsertId => matches!(f, Func::LastInsertId),
+        Ask::UnsafeFunction => is_unsafe(f),
+        Ask::LastInsertId => reads_last_id(f),
         _ => false,
     }
 }

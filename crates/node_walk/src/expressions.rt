@@ -48,29 +48,16 @@ pub(crate) fn in_expr(ask: &Ask<'_>, e: &Expr) -> bool
         Expr::Subquery(query) | Expr::Exists(query) => in_select(ask, query.get()),
         Expr::Call { name, arguments } => asks_call(ask, name) || in_exprs(ask, arguments),
         Expr::FloorRand(a) => asks_random_number(ask) || in_expr(ask, a.get()),
-        Expr::Abs(a) => asks_built_in(ask, Func::Abs) || in_expr(ask, a.get()),
-        Expr::Length(a) => asks_built_in(ask, Func::Length) || in_expr(ask, a.get()),
-        Expr::IfNull(a, b) => asks_built_in(ask, Func::IfNull)
+        Expr::Func0(f) => asks_built_in(ask, Func::Zero(*f)),
+        Expr::Func1(f, a) => asks_built_in(ask, Func::One(*f)) || in_expr(ask, a.get()),
+        Expr::Func2(f, a, b) => asks_built_in(ask, Func::Two(*f))
             || in_expr(ask, a.get())
             || in_expr(ask, b.get()),
-        Expr::If(a, b, c) => asks_built_in(ask, Func::If)
+        Expr::Func3(f, a, b, c) => asks_built_in(ask, Func::Three(*f))
             || in_expr(ask, a.get())
             || in_expr(ask, b.get())
             || in_expr(ask, c.get()),
-        Expr::Substring(a, b, c) => asks_built_in(ask, Func::Substring)
-            || in_expr(ask, a.get())
-            || in_expr(ask, b.get())
-            || in_expr(ask, c.get()),
-        Expr::Coalesce(arguments) => asks_built_in(ask, Func::Coalesce) || in_exprs(ask, arguments),
-        Expr::Concat(arguments) => asks_built_in(ask, Func::Concat) || in_exprs(ask, arguments),
-        Expr::Now => asks_built_in(ask, Func::Now),
-        Expr::UnixTimestamp => asks_built_in(ask, Func::UnixTimestamp),
-        Expr::SysDate => asks_built_in(ask, Func::SysDate),
-        Expr::User => asks_built_in(ask, Func::User),
-        Expr::Uuid => asks_built_in(ask, Func::Uuid),
-        Expr::ConnectionId => asks_built_in(ask, Func::ConnectionId),
-        Expr::LastInsertId => asks_built_in(ask, Func::LastInsertId),
-        Expr::RowCount => asks_built_in(ask, Func::RowCount),
+        Expr::FuncN(f, arguments) => asks_built_in(ask, Func::Many(*f)) || in_exprs(ask, arguments),
     }
 }
 

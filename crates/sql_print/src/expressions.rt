@@ -1,18 +1,18 @@
 //! Expressions and SELECTs, at the end of a text.
 ghost use Rattle.std.specs.Prelude.{◌≡◌, ◌++◌, codes, OnOk};
 ghost use Rattle.val_types.specs.Text.{text_of};
-ghost use Rattle.sql_tree.specs.BuiltIns.{on_one, on_two, on_three};
-ghost use Rattle.sql_tree.specs.Tree.{built_in, no_tree};
+ghost use Rattle.sql_tree.specs.BuiltIns.{on_none, on_one, on_two, on_three, on_many};
 ghost use Rattle.sql_tree.specs.View.{view_tree, view_trees, view_arms, view_part, view_query, view_selected, view_aggregates, view_origin, view_orders};
 ghost use Rattle.val_types.specs.declared.value.Value.TheVariants.{Text};
 ghost use Rattle.sql_print.specs.Names.{quoted_name};
 ghost use Rattle.sql_print.specs.Spelling.{operator_of, before_operand, behind_operand, in_of, aggregate_of, function_of, direction_of, is_choice, tree_text, factor_text, trees_text, arms_text, else_text, where_text, query_text, selected_text, aggregates_text, origin_text, orders_text};
 
 use crate::names::{write_limit_if, write_name, write_prefixed, write_system_name};
-use sql_tree::{Aggregate, Arm, Expr, FromClause, OrderItem, Select, Selection};
+use sql_tree::{Aggregate, Arm, Expr, FromClause, OrderItem, Select, Selection, function_name};
 use std::alloc::Global;
 use val_types::{
-    Agg, BinOp, Boxed, Bytes, Duplicate, Func, List, NoMemory, UnOp, Value, value_text,
+    Agg, BinOp, Boxed, Bytes, Duplicate, Func, Func0, Func1, Func2, Func3, FuncN, List, NoMemory,
+    UnOp, Value, value_text,
 };
 
 fn write_operator(out: &mut Bytes, op: BinOp) -> Result<(), NoMemory>
@@ -81,30 +81,15 @@ fn write_aggregate_name(out: &mut Bytes, function: Agg) -> Result<(), NoMemory>
 fn write_function(out: &mut Bytes, function: Func) -> Result<(), NoMemory>
     ensures { OnOk result (out.new ≡ out.old ++ (function_of function ++ codes "(")) }
 {
-    match function {
-        Func::Abs => out.extend_from_slice(b"ABS("),
-        Func::Coalesce => out.extend_from_slice(b"COALESCE("),
-        Func::If => out.extend_from_slice(b"IF("),
-        Func::IfNull => out.extend_from_slice(b"IFNULL("),
-        Func::Concat => out.extend_from_slice(b"CONCAT("),
-        Func::Length => out.extend_from_slice(b"LENGTH("),
-        Func::Substring => out.extend_from_slice(b"SUBSTRING("),
-        Func::Now => out.extend_from_slice(b"NOW("),
-        Func::UnixTimestamp => out.extend_from_slice(b"UNIX_TIMESTAMP("),
-        Func::SysDate => out.extend_from_slice(b"SYSDATE("),
-        Func::User => out.extend_from_slice(b"USER("),
-        Func::Uuid => out.extend_from_slice(b"UUID("),
-        Func::ConnectionId => out.extend_from_slice(b"CONNECTION_ID("),
-        Func::LastInsertId => out.extend_from_slice(b"LAST_INSERT_ID("),
-        Func::RowCount => out.extend_from_slice(b"ROW_COUNT("),
-    }
+    out.extend_from_slice(function_name(function))?;
+    out.extend_from_slice(b"(")
 }
 
 /// A built-in function without arguments.
-fn write_on_none(out: &mut Bytes, function: Func) -> Result<(), NoMemory>
-    ensures { OnOk result (out.new ≡ out.old ++ tree_text (built_in function no_tree)) }
+fn write_on_none(out: &mut Bytes, function: Func0) -> Result<(), NoMemory>
+    ensures { OnOk result (out.new ≡ out.old ++ tree_text (on_none function)) }
 {
-    write_function(out, function)?;
+    write_function(out, Func::Zero(function))?;
     out.extend_from_slice(b")")
 }
 
@@ -205,21 +190,11 @@ pub fn write_expr(alloc: Global, out: &mut Bytes, expr: &Expr) -> Result<(), NoM
             write_factor(alloc, out, a)?;
             out.extend_from_slice(b")")
         }
-        Expr::Abs(a) => write_on_one(alloc, out, Func::Abs, a),
-        Expr::Length(a) => write_on_one(alloc, out, Func::Length, a),
-        Expr::Coalesce(arguments) => write_on_some(alloc, out, Func::Coalesce, arguments),
-        Expr::Concat(arguments) => write_on_some(alloc, out, Func::Concat, arguments),
-        Expr::If(a, b, c) => write_on_three(alloc, out, Func::If, a, b, c),
-        Expr::IfNull(a, b) => write_on_two(alloc, out, Func::IfNull, a, b),
-        Expr::Substring(a, b, c) => write_on_three(alloc, out, Func::Substring, a, b, c),
-        Expr::Now => write_on_none(out, Func::Now),
-        Expr::UnixTimestamp => write_on_none(out, Func::UnixTimestamp),
-        Expr::SysDate => write_on_none(out, Func::SysDate),
-        Expr::User => write_on_none(out, Func::User),
-        Expr::Uuid => write_on_none(out, Func::Uuid),
-        Expr::ConnectionId => write_on_none(out, Func::ConnectionId),
-        Expr::LastInsertId => write_on_none(out, Func::LastInsertId),
-        Expr::RowCount => write_on_none(out, Func::RowCount),
+        Expr::Func0(function) => write_on_none(out, *function),
+        Expr::Func1(function, a) => write_on_one(alloc, out, *function, a),
+        Expr::Func2(function, a, b) => write_on_two(alloc, out, *function, a, b),
+        Expr::Func3(function, a, b, c) => write_on_three(alloc, out, *function, a, b, c),
+        Expr::FuncN(function, arguments) => write_on_many(alloc, out, *function, arguments),
     }
 }
 
@@ -309,15 +284,15 @@ fn write_arguments(alloc: Global, out: &mut Bytes, arguments: &List<Expr>) -> Re
 
 /// A built-in function of one argument or more.
 #[cycle(write)]
-fn write_on_some(
+fn write_on_many(
     alloc: Global,
     out: &mut Bytes,
-    function: Func,
+    function: FuncN,
     arguments: &List<Expr>,
 ) -> Result<(), NoMemory>
-    ensures { OnOk result (out.new ≡ out.old ++ tree_text (built_in function (view_trees arguments.now))) }
+    ensures { OnOk result (out.new ≡ out.old ++ tree_text (on_many function (view_trees arguments.now))) }
 {
-    write_function(out, function)?;
+    write_function(out, Func::Many(function))?;
     write_exprs(alloc, out, arguments)?;
     out.extend_from_slice(b")")
 }
@@ -326,12 +301,12 @@ fn write_on_some(
 fn write_on_one(
     alloc: Global,
     out: &mut Bytes,
-    function: Func,
+    function: Func1,
     a: &Boxed<Expr>,
 ) -> Result<(), NoMemory>
     ensures { OnOk result (out.new ≡ out.old ++ tree_text (on_one function (view_tree a.now))) }
 {
-    write_function(out, function)?;
+    write_function(out, Func::One(function))?;
     write_expr(alloc, out, a.get())?;
     out.extend_from_slice(b")")
 }
@@ -340,13 +315,13 @@ fn write_on_one(
 fn write_on_two(
     alloc: Global,
     out: &mut Bytes,
-    function: Func,
+    function: Func2,
     a: &Boxed<Expr>,
     b: &Boxed<Expr>,
 ) -> Result<(), NoMemory>
     ensures { OnOk result (out.new ≡ out.old ++ tree_text (on_two function (view_tree a.now) (view_tree b.now))) }
 {
-    write_function(out, function)?;
+    write_function(out, Func::Two(function))?;
     write_expr(alloc, out, a.get())?;
     write_next(alloc, out, b)?;
     out.extend_from_slice(b")")
@@ -356,14 +331,14 @@ fn write_on_two(
 fn write_on_three(
     alloc: Global,
     out: &mut Bytes,
-    function: Func,
+    function: Func3,
     a: &Boxed<Expr>,
     b: &Boxed<Expr>,
     c: &Boxed<Expr>,
 ) -> Result<(), NoMemory>
     ensures { OnOk result (out.new ≡ out.old ++ tree_text (on_three function (view_tree a.now) (view_tree b.now) (view_tree c.now))) }
 {
-    write_function(out, function)?;
+    write_function(out, Func::Three(function))?;
     write_expr(alloc, out, a.get())?;
     write_next(alloc, out, b)?;
     write_next(alloc, out, c)?;

@@ -10,15 +10,16 @@ use Rattle.val_types.specs.declared.ops.Func.{Func}
 use Rattle.catalog_rules.specs.Names.{same_name}
 use Rattle.catalog_rules.specs.Objects.{Object}
 use Rattle.catalog_rules.specs.Nodes.{Node, a_built_in, a_random_number, a_system_variable, a_user_variable, nodes_of}
+use Rattle.sql_tree.specs.BuiltIns.{about}
 use Rattle.sql_tree.specs.Statement.{Statement}
 use Rattle.log_entries.specs.Variables.{variable_value}
 use Rattle.log_entries.specs.declared.carried.Carried.{Carried}
 use Rattle.sql_meaning.specs.Frames.{Context}
 use Rattle.sql_reach.specs.Reach.{reached_nodes}
 
+-- a built-in that reads the last insert id of the session
 abbrev pub is_last_insert_id : Func → Bool
-is_last_insert_id Func.LastInsertId = true
-is_last_insert_id f = false
+is_last_insert_id f = (about f).reads_last_id
 
 -- LAST_INSERT_ID() or @@last_insert_id
 abbrev pub asks_last_id : Node → Bool

@@ -4,6 +4,7 @@ use Rattle.std.specs.List.{list_any}
 use Rattle.std.specs.Option.{option_map_or}
 use Rattle.val_types.specs.declared.definitions.TableDef.{TableDef}
 use Rattle.val_types.specs.declared.ops.Func.{Func}
+use Rattle.sql_tree.specs.BuiltIns.{about}
 use Rattle.sql_tree.specs.Statement.{Statement, insert_into, replace_into, Supply, rows, rows_of}
 use Rattle.catalog_rules.specs.Names.{same_name}
 use Rattle.catalog_rules.specs.Objects.{Object, table_in}
@@ -27,15 +28,11 @@ all_reasons =
     a_function ∷ a_variable ∷ a_limited ∷ a_counted_select ∷ a_counted_program ∷ two_keys ∷ ignored_select ∷ replaced_select
     ∷ updated_select ∷ []
 
--- UUID(), SYSDATE(), USER(), ROW_COUNT()
+-- a built-in whose value may differ on a replica
 abbrev pub is_unsafe_function : Func → Bool
-is_unsafe_function Func.Uuid = true
-is_unsafe_function Func.SysDate = true
-is_unsafe_function Func.User = true
-is_unsafe_function Func.RowCount = true
-is_unsafe_function f = false
+is_unsafe_function f = (about f).is_unsafe
 
--- one of these, or RAND()
+-- a call of one, or RAND()
 abbrev pub names_unsafe_function : Node → Bool
 names_unsafe_function (a_built_in f) = is_unsafe_function f
 names_unsafe_function a_random_number = true

@@ -14,18 +14,14 @@ pub(crate) fn visit_expr<V: NameVisitor>(visitor: &mut V, e: &Expr) -> Result<()
     match e {
         Expr::Literal(_) | Expr::SystemVariable(_) | Expr::NameConst(_, _) => Ok(()),
         Expr::Name(_) | Expr::Column(_, _) | Expr::NewColumn(_) | Expr::OldColumn(_) => Ok(()),
-        Expr::Values(_) | Expr::Now | Expr::UnixTimestamp | Expr::SysDate => Ok(()),
-        Expr::User | Expr::Uuid | Expr::ConnectionId | Expr::LastInsertId => Ok(()),
-        Expr::RowCount => Ok(()),
+        Expr::Values(_) | Expr::Func0(_) => Ok(()),
         Expr::UserVariable(name) => visitor.visit_variable(name),
-        Expr::Unary(_, a) | Expr::FloorRand(a) | Expr::Abs(a) | Expr::Length(a) => {
-            visit_expr(visitor, a.get())
-        }
-        Expr::Binary(_, a, b) | Expr::IfNull(a, b) => {
+        Expr::Unary(_, a) | Expr::FloorRand(a) | Expr::Func1(_, a) => visit_expr(visitor, a.get()),
+        Expr::Binary(_, a, b) | Expr::Func2(_, a, b) => {
             visit_expr(visitor, a.get())?;
             visit_expr(visitor, b.get())
         }
-        Expr::If(a, b, c) | Expr::Substring(a, b, c) => {
+        Expr::Func3(_, a, b, c) => {
             visit_expr(visitor, a.get())?;
             visit_expr(visitor, b.get())?;
             visit_expr(visitor, c.get())
@@ -39,8 +35,7 @@ pub(crate) fn visit_expr<V: NameVisitor>(visitor: &mut V, e: &Expr) -> Result<()
             visit_boxed(visitor, otherwise)
         }
         Expr::Subquery(query) | Expr::Exists(query) => visit_select(visitor, query.get()),
-        Expr::Call { arguments, .. } => visit_exprs(visitor, arguments),
-        Expr::Coalesce(arguments) | Expr::Concat(arguments) => visit_exprs(visitor, arguments),
+        Expr::Call { arguments, .. } | Expr::FuncN(_, arguments) => visit_exprs(visitor, arguments),
     }
 }
 

@@ -48,29 +48,20 @@ pub fn copy_expr(alloc: Global, expr: &Expr) -> Result<Expr, NoMemory>
             Expr::NameConst(name.duplicate(alloc)?, value.duplicate(alloc)?)
         }
         Expr::FloorRand(a) => Expr::FloorRand(copy_boxed(alloc, a)?),
-        Expr::Abs(a) => Expr::Abs(copy_boxed(alloc, a)?),
-        Expr::Coalesce(arguments) => Expr::Coalesce(copy_exprs(alloc, arguments)?),
-        Expr::If(a, b, c) => Expr::If(
+        Expr::Func0(function) => Expr::Func0(*function),
+        Expr::Func1(function, a) => Expr::Func1(*function, copy_boxed(alloc, a)?),
+        Expr::Func2(function, a, b) => {
+            Expr::Func2(*function, copy_boxed(alloc, a)?, copy_boxed(alloc, b)?)
+        }
+        Expr::Func3(function, a, b, c) => Expr::Func3(
+            *function,
             copy_boxed(alloc, a)?,
             copy_boxed(alloc, b)?,
             copy_boxed(alloc, c)?,
         ),
-        Expr::IfNull(a, b) => Expr::IfNull(copy_boxed(alloc, a)?, copy_boxed(alloc, b)?),
-        Expr::Concat(arguments) => Expr::Concat(copy_exprs(alloc, arguments)?),
-        Expr::Length(a) => Expr::Length(copy_boxed(alloc, a)?),
-        Expr::Substring(a, b, c) => Expr::Substring(
-            copy_boxed(alloc, a)?,
-            copy_boxed(alloc, b)?,
-            copy_boxed(alloc, c)?,
-        ),
-        Expr::Now => Expr::Now,
-        Expr::UnixTimestamp => Expr::UnixTimestamp,
-        Expr::SysDate => Expr::SysDate,
-        Expr::User => Expr::User,
-        Expr::Uuid => Expr::Uuid,
-        Expr::ConnectionId => Expr::ConnectionId,
-        Expr::LastInsertId => Expr::LastInsertId,
-        Expr::RowCount => Expr::RowCount,
+        Expr::FuncN(function, arguments) => {
+            Expr::FuncN(*function, copy_exprs(alloc, arguments)?)
+        }
     })
 }
 

@@ -1,5 +1,5 @@
 use Rattle.std.proofs.Common.{◌≡◌, ◌+◌, ◌*◌, drop, cond}
-use Rattle.sql_tree.specs.declared.expressions.Expr.{Binary, In, Case, If, IfNull}
+use Rattle.sql_tree.specs.declared.expressions.Expr.{Binary, In, Case, Func2, Func3}
 use Rattle.sql_tree.proofs.expressions.Expr.TheLaws.{the_size}
 use Rattle.sql_tree.specs.View.{view_trees, view_arms, view_aggregates, view_orders}
 use Rattle.sql_print.specs.Spelling.{trees_text, more_trees_text, arms_text, aggregates_text, more_aggregates_text, orders_text, more_orders_text}
@@ -43,8 +43,8 @@ decreases-add_item l = 10 * goal.size-add_item l + 3
 abbrev pub decreases-add_clause : goal.decreases-add_clause
 decreases-add_clause l = 10 * goal.size-add_clause l + 6
 
-abbrev pub decreases-add_on_some : goal.decreases-add_on_some
-decreases-add_on_some l = 10 * goal.size-add_on_some l + 5
+abbrev pub decreases-add_on_many : goal.decreases-add_on_many
+decreases-add_on_many l = 10 * goal.size-add_on_many l + 5
 
 abbrev pub decreases-add_exprs : goal.decreases-add_exprs
 decreases-add_exprs l = 10 * goal.size-add_exprs l + 4
@@ -86,10 +86,10 @@ abbrev pub decreases-add_case : goal.decreases-add_case
 decreases-add_case l = 10 * the_size (Case l.arms.now l.otherwise.now)
 
 abbrev pub decreases-add_on_two : goal.decreases-add_on_two
-decreases-add_on_two l = 10 * the_size (IfNull l.a.now l.b.now)
+decreases-add_on_two l = 10 * the_size (Func2 l.function l.a.now l.b.now)
 
 abbrev pub decreases-add_on_three : goal.decreases-add_on_three
-decreases-add_on_three l = 10 * the_size (If l.a.now l.b.now l.c.now)
+decreases-add_on_three l = 10 * the_size (Func3 l.function l.a.now l.b.now l.c.now)
 
 abbrev pub invariant-add_exprs-loop-expr : goal.invariant-add_exprs-loop-expr
 invariant-add_exprs-loop-expr l =

@@ -1,5 +1,5 @@
 use Rattle.std.proofs.Common.{◌≡◌, ◌+◌, ◌*◌, ◌++◌, drop, cond}
-use Rattle.sql_tree.specs.declared.expressions.Expr.{Binary, In, Case, If, IfNull}
+use Rattle.sql_tree.specs.declared.expressions.Expr.{Binary, In, Case, Func2, Func3}
 use Rattle.sql_tree.proofs.expressions.Expr.TheLaws.{the_size}
 use Rattle.sql_tree.specs.View.{view_trees, view_arms, view_aggregates, view_orders}
 use Rattle.sql_print.specs.Spelling.{trees_text, more_trees_text, arms_text, aggregates_text, more_aggregates_text, orders_text, more_orders_text}
@@ -26,8 +26,8 @@ decreases-write_aggregates l = 10 * goal.size-write_aggregates l + 6
 abbrev pub decreases-write_arguments : goal.decreases-write_arguments
 decreases-write_arguments l = 10 * goal.size-write_arguments l + 5
 
-abbrev pub decreases-write_on_some : goal.decreases-write_on_some
-decreases-write_on_some l = 10 * goal.size-write_on_some l + 5
+abbrev pub decreases-write_on_many : goal.decreases-write_on_many
+decreases-write_on_many l = 10 * goal.size-write_on_many l + 5
 
 abbrev pub decreases-write_exprs : goal.decreases-write_exprs
 decreases-write_exprs l = 10 * goal.size-write_exprs l + 4
@@ -69,10 +69,10 @@ abbrev pub decreases-write_case : goal.decreases-write_case
 decreases-write_case l = 10 * the_size (Case l.arms.now l.otherwise.now)
 
 abbrev pub decreases-write_on_two : goal.decreases-write_on_two
-decreases-write_on_two l = 10 * the_size (IfNull l.a.now l.b.now)
+decreases-write_on_two l = 10 * the_size (Func2 l.function l.a.now l.b.now)
 
 abbrev pub decreases-write_on_three : goal.decreases-write_on_three
-decreases-write_on_three l = 10 * the_size (If l.a.now l.b.now l.c.now)
+decreases-write_on_three l = 10 * the_size (Func3 l.function l.a.now l.b.now l.c.now)
 
 abbrev pub invariant-write_exprs-loop-expr : goal.invariant-write_exprs-loop-expr
 invariant-write_exprs-loop-expr l =
