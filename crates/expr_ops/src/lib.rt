@@ -9,7 +9,8 @@
 //!   who leave out operands that do not count, [`truth_value`] and [`value_of_truth`] for EXISTS and IN
 //! - `comparing`: comparisons; [`compare`] and [`equal`] are for IN
 //! - `arithmetic`: numbers of 64 bits with their overflow
-//! - `functions`: [`builtin`], the built-in functions that depend on their arguments alone
+//! - `functions`: [`builtin`], the built-in functions that depend on their arguments alone, and by their
+//!   number of arguments [`value_of_one`], [`value_of_two`], [`value_of_three`] and [`value_of_many`]
 //! - `texts`: CONCAT, LENGTH and SUBSTRING
 //! - `moments`: [`time_text`], date and time of a second
 //! - `identifiers`: [`uuid_text`]
@@ -19,8 +20,8 @@
 //! - [`binary`], [`unary`], [`compare`], [`equal`], [`truth`], [`holds`], [`truth_value`], [`value_of_truth`],
 //!   [`decided`], [`rand_step`] and [`floor_rand`] give exactly the value or the error number of their
 //!   definitions, on all values and without memory
-//! - [`builtin`] the same, or wants memory, for the seven functions of values with just their number of
-//!   arguments
+//! - [`builtin`] the same, or wants memory, for each function of values with just its number of
+//!   arguments; [`value_of_one`], [`value_of_two`], [`value_of_three`] and [`value_of_many`] for all values
 //! - [`time_text`] and [`uuid_text`] give exactly the text of the definition, for every u32 and u128, or
 //!   want memory
 //!
@@ -40,7 +41,7 @@ mod truths;
 
 pub use arithmetic::absolute;
 pub use comparing::{compare, equal};
-pub use functions::builtin;
+pub use functions::{builtin, value_of_many, value_of_one, value_of_three, value_of_two};
 pub use identifiers::uuid_text;
 pub use moments::time_text;
 pub use operators::{binary, unary};

@@ -6,6 +6,7 @@ use Rattle.val_types.specs.declared.value.Value.{Value}
 use Rattle.val_types.specs.declared.value.Value.TheVariants.{Null, Int, Text}
 use Rattle.val_types.specs.declared.definitions.TableDef.{TableDef}
 use Rattle.val_types.specs.declared.ops.Func.{Func}
+use Rattle.val_types.specs.declared.ops.Func0.{Func0}
 use Rattle.val_types.specs.declared.ops.Agg.{Agg}
 use Rattle.value_rules.specs.Functions.{builtin_value}
 use Rattle.value_rules.specs.Random.{scaled}
@@ -13,9 +14,10 @@ use Rattle.log_entries.specs.Variables.{variable_value}
 use Rattle.sql_tree.specs.Tree.{Tree, literal, name, column, new_column, old_column, user_variable, system_variable, unary, binary, is_in, choice, subquery, exists, call, built_in, values_of, name_const, floor_rand}
 use Rattle.sql_tree.specs.Tree.{Trees, no_tree, tree, Arms, no_arm, arm, Part, no_part, part, Query, query, Selected, items, all_columns, aggregates}
 use Rattle.sql_tree.specs.Tree.{Aggregates, no_aggregate, count_all, aggregate, no_origin, from_table, Orders, no_order, order_by}
+use Rattle.sql_tree.specs.BuiltIns.{Manner, all_arguments, first_known, chosen, about}
 use Rattle.sql_meaning.specs.Scenes.{Action, ◌>>=◌, pure, answered, each, kept_by, table_now, draw, fail}
 use Rattle.sql_meaning.specs.Frames.{Running, Below, World, Frame, sees, capped, Setting}
-use Rattle.sql_meaning.specs.Values.{function_value, holds, unless_known, found_or, only_value, formed, functions_of, value, values, found_among, value_of_arms, value_of_part, value_of_if, value_at, first_known_of, is_kept, order_values, argument_values, shown_rows, row_alone, rows_of_query}
+use Rattle.sql_meaning.specs.Values.{session_value, function_value, holds, unless_known, found_or, only_value, formed, functions_of, value, value_by, values, found_among, value_of_arms, value_of_part, value_of_if, value_at, first_known_of, is_kept, order_values, argument_values, shown_rows, row_alone, rows_of_query}
 use Rattle.sql_meaning.proofs.Again.{Again, bind_again, pure_again, fail_again, answered_again, needed_again, if_again, each_again, kept_again, table_again, draw_again, uuid_again}
 
 -- what programs do one level further down is done again
@@ -57,22 +59,22 @@ module _ (extra : ℕ) where
   -- ---- expressions
 
   module _ (setting : Setting) (running : Running) (below below' : Below) (h : AgainBelow extra below below') where
+    session_again : (f : Func0) → Again extra (session_value (around setting below running) f) (session_value (around setting below' running) f)
+    session_again Func0.Now = pure_again extra _
+    session_again Func0.UnixTimestamp = pure_again extra _
+    session_again Func0.SysDate = pure_again extra _
+    session_again Func0.User = capped_again (Text setting.context.user)
+    session_again Func0.Uuid = uuid_again extra _
+    session_again Func0.ConnectionId = pure_again extra _
+    session_again Func0.LastInsertId = pure_again extra _
+    session_again Func0.RowCount = pure_again extra _
+
     function_again : (f : Func) (vs : List Value) → Again extra (function_value (around setting below running) f vs) (function_value (around setting below' running) f vs)
-    function_again Func.Now vs = pure_again extra _
-    function_again Func.UnixTimestamp vs = pure_again extra _
-    function_again Func.SysDate vs = pure_again extra _
-    function_again Func.User vs = capped_again (Text setting.context.user)
-    function_again Func.Uuid vs = uuid_again extra _
-    function_again Func.ConnectionId vs = pure_again extra _
-    function_again Func.LastInsertId vs = pure_again extra _
-    function_again Func.RowCount vs = pure_again extra _
-    function_again Func.Abs vs = answered_again extra (builtin_value Func.Abs vs)
-    function_again Func.Coalesce vs = answered_again extra (builtin_value Func.Coalesce vs)
-    function_again Func.If vs = answered_again extra (builtin_value Func.If vs)
-    function_again Func.IfNull vs = answered_again extra (builtin_value Func.IfNull vs)
-    function_again Func.Concat vs = answered_again extra (builtin_value Func.Concat vs)
-    function_again Func.Length vs = answered_again extra (builtin_value Func.Length vs)
-    function_again Func.Substring vs = answered_again extra (builtin_value Func.Substring vs)
+    function_again (Func.Zero f) vs = session_again f
+    function_again (Func.One f) vs = answered_again extra (builtin_value (Func.One f) vs)
+    function_again (Func.Two f) vs = answered_again extra (builtin_value (Func.Two f) vs)
+    function_again (Func.Three f) vs = answered_again extra (builtin_value (Func.Three f) vs)
+    function_again (Func.Many f) vs = answered_again extra (builtin_value (Func.Many f) vs)
 
     mutual
       pub value_again : (frame : Frame) (t : Tree) → Again extra (value (around setting below running) frame t) (value (around setting below' running) frame t)
@@ -97,21 +99,12 @@ module _ (extra : ℕ) where
       value_again frame (values_of c) = needed_again extra 1054 _
       value_again frame (name_const n v) = capped_again v
       value_again frame (floor_rand a) = bind_again extra draw draw _ _ (draw_again extra) (λ s1. bind_again extra (value (around setting below running) frame a) (value (around setting below' running) frame a) _ _ (value_again frame a) (λ n. answered_again extra (scaled s1 n)))
-      value_again frame (built_in Func.If ts) = if_function_again frame ts
-      value_again frame (built_in Func.IfNull ts) = first_again frame ts
-      value_again frame (built_in Func.Coalesce ts) = first_again frame ts
-      value_again frame (built_in Func.Abs ts) = bind_again extra (values (around setting below running) frame ts) (values (around setting below' running) frame ts) _ _ (values_again frame ts) (function_again Func.Abs)
-      value_again frame (built_in Func.Concat ts) = bind_again extra (values (around setting below running) frame ts) (values (around setting below' running) frame ts) _ _ (values_again frame ts) (function_again Func.Concat)
-      value_again frame (built_in Func.Length ts) = bind_again extra (values (around setting below running) frame ts) (values (around setting below' running) frame ts) _ _ (values_again frame ts) (function_again Func.Length)
-      value_again frame (built_in Func.Substring ts) = bind_again extra (values (around setting below running) frame ts) (values (around setting below' running) frame ts) _ _ (values_again frame ts) (function_again Func.Substring)
-      value_again frame (built_in Func.Now ts) = bind_again extra (values (around setting below running) frame ts) (values (around setting below' running) frame ts) _ _ (values_again frame ts) (function_again Func.Now)
-      value_again frame (built_in Func.UnixTimestamp ts) = bind_again extra (values (around setting below running) frame ts) (values (around setting below' running) frame ts) _ _ (values_again frame ts) (function_again Func.UnixTimestamp)
-      value_again frame (built_in Func.SysDate ts) = bind_again extra (values (around setting below running) frame ts) (values (around setting below' running) frame ts) _ _ (values_again frame ts) (function_again Func.SysDate)
-      value_again frame (built_in Func.User ts) = bind_again extra (values (around setting below running) frame ts) (values (around setting below' running) frame ts) _ _ (values_again frame ts) (function_again Func.User)
-      value_again frame (built_in Func.Uuid ts) = bind_again extra (values (around setting below running) frame ts) (values (around setting below' running) frame ts) _ _ (values_again frame ts) (function_again Func.Uuid)
-      value_again frame (built_in Func.ConnectionId ts) = bind_again extra (values (around setting below running) frame ts) (values (around setting below' running) frame ts) _ _ (values_again frame ts) (function_again Func.ConnectionId)
-      value_again frame (built_in Func.LastInsertId ts) = bind_again extra (values (around setting below running) frame ts) (values (around setting below' running) frame ts) _ _ (values_again frame ts) (function_again Func.LastInsertId)
-      value_again frame (built_in Func.RowCount ts) = bind_again extra (values (around setting below running) frame ts) (values (around setting below' running) frame ts) _ _ (values_again frame ts) (function_again Func.RowCount)
+      value_again frame (built_in f ts) = by_again frame (about f).manner f ts
+
+      by_again : (frame : Frame) (m : Manner) (f : Func) (ts : Trees) → Again extra (value_by (around setting below running) frame m f ts) (value_by (around setting below' running) frame m f ts)
+      by_again frame all_arguments f ts = bind_again extra (values (around setting below running) frame ts) (values (around setting below' running) frame ts) _ _ (values_again frame ts) (function_again f)
+      by_again frame first_known f ts = first_again frame ts
+      by_again frame chosen f ts = if_function_again frame ts
 
       pub values_again : (frame : Frame) (ts : Trees) → Again extra (values (around setting below running) frame ts) (values (around setting below' running) frame ts)
       values_again frame no_tree = pure_again extra []

@@ -6,6 +6,7 @@ use Rattle.val_types.specs.declared.value.Value.{Value}
 use Rattle.val_types.specs.declared.value.Value.TheVariants.{Null, Int, Text}
 use Rattle.val_types.specs.declared.definitions.TableDef.{TableDef}
 use Rattle.val_types.specs.declared.ops.Func.{Func}
+use Rattle.val_types.specs.declared.ops.Func0.{Func0}
 use Rattle.val_types.specs.declared.ops.Agg.{Agg}
 use Rattle.value_rules.specs.Functions.{builtin_value}
 use Rattle.value_rules.specs.Random.{scaled}
@@ -13,9 +14,10 @@ use Rattle.log_entries.specs.Variables.{variable_value}
 use Rattle.sql_tree.specs.Tree.{Tree, literal, name, column, new_column, old_column, user_variable, system_variable, unary, binary, is_in, choice, subquery, exists, call, built_in, values_of, name_const, floor_rand}
 use Rattle.sql_tree.specs.Tree.{Trees, no_tree, tree, Arms, no_arm, arm, Part, no_part, part, Query, query, Selected, items, all_columns, aggregates}
 use Rattle.sql_tree.specs.Tree.{Aggregates, no_aggregate, count_all, aggregate, no_origin, from_table, Orders, no_order, order_by}
+use Rattle.sql_tree.specs.BuiltIns.{Manner, all_arguments, first_known, chosen, about}
 use Rattle.sql_meaning.specs.Scenes.{Scene, Action, ◌>>=◌, pure, answered, each, kept_by, table_now, draw}
 use Rattle.sql_meaning.specs.Frames.{Running, Below, World, Frame, sees, capped}
-use Rattle.sql_meaning.specs.Values.{function_value, holds, unless_known, found_or, only_value, formed, functions_of, value, values, found_among, value_of_arms, value_of_part, value_of_if, value_at, first_known_of, is_kept, order_values, argument_values, shown_rows, row_alone, rows_of_query}
+use Rattle.sql_meaning.specs.Values.{session_value, function_value, holds, unless_known, found_or, only_value, formed, functions_of, value, value_by, values, found_among, value_of_arms, value_of_part, value_of_if, value_at, first_known_of, is_kept, order_values, argument_values, shown_rows, row_alone, rows_of_query}
 use Rattle.sql_meaning.proofs.Steps.{IsMove, IsMoved, bind_moved, pure_moved, fail_moved, answered_moved, needed_moved, if_moved, each_moved, kept_moved, table_moved, draw_moved, uuid_moved}
 
 -- so it is with what functions do one level further down
@@ -30,22 +32,22 @@ module _ {R : Scene → Scene → Type 0} (law : IsMove R) where
   capped_moved (Int n) = pure_moved law (Int n)
   capped_moved (Text t) = answered_moved law _
 
+  session_moved : (world : World) (f : Func0) → IsMoved R (session_value world f)
+  session_moved world Func0.Now = pure_moved law _
+  session_moved world Func0.UnixTimestamp = pure_moved law _
+  session_moved world Func0.SysDate = pure_moved law _
+  session_moved world Func0.User = capped_moved (Text world.setting.context.user)
+  session_moved world Func0.Uuid = uuid_moved law _
+  session_moved world Func0.ConnectionId = pure_moved law _
+  session_moved world Func0.LastInsertId = pure_moved law _
+  session_moved world Func0.RowCount = pure_moved law _
+
   function_moved : (world : World) (f : Func) (vs : List Value) → IsMoved R (function_value world f vs)
-  function_moved world Func.Now vs = pure_moved law _
-  function_moved world Func.UnixTimestamp vs = pure_moved law _
-  function_moved world Func.SysDate vs = pure_moved law _
-  function_moved world Func.User vs = capped_moved (Text world.setting.context.user)
-  function_moved world Func.Uuid vs = uuid_moved law _
-  function_moved world Func.ConnectionId vs = pure_moved law _
-  function_moved world Func.LastInsertId vs = pure_moved law _
-  function_moved world Func.RowCount vs = pure_moved law _
-  function_moved world Func.Abs vs = answered_moved law (builtin_value Func.Abs vs)
-  function_moved world Func.Coalesce vs = answered_moved law (builtin_value Func.Coalesce vs)
-  function_moved world Func.If vs = answered_moved law (builtin_value Func.If vs)
-  function_moved world Func.IfNull vs = answered_moved law (builtin_value Func.IfNull vs)
-  function_moved world Func.Concat vs = answered_moved law (builtin_value Func.Concat vs)
-  function_moved world Func.Length vs = answered_moved law (builtin_value Func.Length vs)
-  function_moved world Func.Substring vs = answered_moved law (builtin_value Func.Substring vs)
+  function_moved world (Func.Zero f) vs = session_moved world f
+  function_moved world (Func.One f) vs = answered_moved law (builtin_value (Func.One f) vs)
+  function_moved world (Func.Two f) vs = answered_moved law (builtin_value (Func.Two f) vs)
+  function_moved world (Func.Three f) vs = answered_moved law (builtin_value (Func.Three f) vs)
+  function_moved world (Func.Many f) vs = answered_moved law (builtin_value (Func.Many f) vs)
 
   pub holds_moved : (v : Value) → IsMoved R (holds v)
   holds_moved v = bind_moved law (answered _) _ (answered_moved law _) (λ t. pure_moved law _)
@@ -93,21 +95,12 @@ module _ {R : Scene → Scene → Type 0} (law : IsMove R) (world : World) (belo
     value_moved frame (values_of c) = needed_moved law 1054 _
     value_moved frame (name_const n v) = capped_moved law v
     value_moved frame (floor_rand a) = bind_moved law draw _ (draw_moved law) (λ s1. bind_moved law (value world frame a) _ (value_moved frame a) (λ n. answered_moved law (scaled s1 n)))
-    value_moved frame (built_in Func.If ts) = if_function_moved frame ts
-    value_moved frame (built_in Func.IfNull ts) = first_moved frame ts
-    value_moved frame (built_in Func.Coalesce ts) = first_moved frame ts
-    value_moved frame (built_in Func.Abs ts) = bind_moved law (values world frame ts) _ (values_moved frame ts) (function_moved law world Func.Abs)
-    value_moved frame (built_in Func.Concat ts) = bind_moved law (values world frame ts) _ (values_moved frame ts) (function_moved law world Func.Concat)
-    value_moved frame (built_in Func.Length ts) = bind_moved law (values world frame ts) _ (values_moved frame ts) (function_moved law world Func.Length)
-    value_moved frame (built_in Func.Substring ts) = bind_moved law (values world frame ts) _ (values_moved frame ts) (function_moved law world Func.Substring)
-    value_moved frame (built_in Func.Now ts) = bind_moved law (values world frame ts) _ (values_moved frame ts) (function_moved law world Func.Now)
-    value_moved frame (built_in Func.UnixTimestamp ts) = bind_moved law (values world frame ts) _ (values_moved frame ts) (function_moved law world Func.UnixTimestamp)
-    value_moved frame (built_in Func.SysDate ts) = bind_moved law (values world frame ts) _ (values_moved frame ts) (function_moved law world Func.SysDate)
-    value_moved frame (built_in Func.User ts) = bind_moved law (values world frame ts) _ (values_moved frame ts) (function_moved law world Func.User)
-    value_moved frame (built_in Func.Uuid ts) = bind_moved law (values world frame ts) _ (values_moved frame ts) (function_moved law world Func.Uuid)
-    value_moved frame (built_in Func.ConnectionId ts) = bind_moved law (values world frame ts) _ (values_moved frame ts) (function_moved law world Func.ConnectionId)
-    value_moved frame (built_in Func.LastInsertId ts) = bind_moved law (values world frame ts) _ (values_moved frame ts) (function_moved law world Func.LastInsertId)
-    value_moved frame (built_in Func.RowCount ts) = bind_moved law (values world frame ts) _ (values_moved frame ts) (function_moved law world Func.RowCount)
+    value_moved frame (built_in f ts) = by_moved frame (about f).manner f ts
+
+    by_moved : (frame : Frame) (m : Manner) (f : Func) (ts : Trees) → IsMoved R (value_by world frame m f ts)
+    by_moved frame all_arguments f ts = bind_moved law (values world frame ts) _ (values_moved frame ts) (function_moved law world f)
+    by_moved frame first_known f ts = first_moved frame ts
+    by_moved frame chosen f ts = if_function_moved frame ts
 
     pub values_moved : (frame : Frame) (ts : Trees) → IsMoved R (values world frame ts)
     values_moved frame no_tree = pure_moved law []

@@ -7,6 +7,7 @@ use Rattle.val_types.specs.declared.value.Value.{Value}
 use Rattle.val_types.specs.declared.value.Value.TheVariants.{Null, Int, Text}
 use Rattle.val_types.specs.declared.definitions.TableDef.{TableDef}
 use Rattle.val_types.specs.declared.ops.Func.{Func}
+use Rattle.val_types.specs.declared.ops.Func0.{Func0}
 use Rattle.val_types.specs.declared.ops.Agg.{Agg}
 use Rattle.val_types.specs.Fitting.{is_null}
 use Rattle.value_rules.specs.Operators.{truth_value, value_of_truth, truth_of, comparison, decided, binary_value, unary_value}
@@ -17,6 +18,7 @@ use Rattle.value_rules.specs.Selecting.{first_value, by_items, in_order, aggrega
 use Rattle.sql_tree.specs.Tree.{Tree, literal, name, column, new_column, old_column, user_variable, system_variable, unary, binary, is_in, choice, subquery, exists, call, built_in, values_of, name_const, floor_rand}
 use Rattle.sql_tree.specs.Tree.{Trees, no_tree, tree, Arms, no_arm, arm, Part, no_part, part, Query, query, Selected, items, all_columns, aggregates}
 use Rattle.sql_tree.specs.Tree.{Aggregates, no_aggregate, count_all, aggregate, no_origin, from_table, Orders, no_order, order_by}
+use Rattle.sql_tree.specs.BuiltIns.{Manner, all_arguments, first_known, chosen, about}
 use Rattle.catalog_rules.specs.Names.{same_name}
 use Rattle.log_entries.specs.Variables.{variable_value}
 use Rattle.sql_meaning.specs.Scenes.{Action, ◌>>=◌, pure, fail, answered, needed, each, kept_by, table_now, draw, next_uuid}
@@ -34,16 +36,20 @@ system_value context n =
     else if same_name n (codes "server_id") then Some (Int (pos context.server_id))
     else None
 
--- a built-in function on the values of its arguments; those of the session ask its context
+-- a built-in function without arguments, which asks the context of the session
+abbrev pub session_value : World → Func0 → Action Value
+session_value world Func0.Now = pure (Text (moment_text world.setting.context.stamp))
+session_value world Func0.UnixTimestamp = pure (Int (pos world.setting.context.stamp))
+session_value world Func0.SysDate = pure (Text (moment_text world.setting.context.sys))
+session_value world Func0.User = capped (Text world.setting.context.user)
+session_value world Func0.Uuid = next_uuid world.setting.uuid
+session_value world Func0.ConnectionId = pure (Int (pos world.setting.context.connection))
+session_value world Func0.LastInsertId = pure (Int world.setting.context.last_id)
+session_value world Func0.RowCount = pure (Int world.setting.context.row_count)
+
+-- a built-in function on the values of its arguments
 abbrev pub function_value : World → Func → List Value → Action Value
-function_value world Func.Now vs = pure (Text (moment_text world.setting.context.stamp))
-function_value world Func.UnixTimestamp vs = pure (Int (pos world.setting.context.stamp))
-function_value world Func.SysDate vs = pure (Text (moment_text world.setting.context.sys))
-function_value world Func.User vs = capped (Text world.setting.context.user)
-function_value world Func.Uuid vs = next_uuid world.setting.uuid
-function_value world Func.ConnectionId vs = pure (Int (pos world.setting.context.connection))
-function_value world Func.LastInsertId vs = pure (Int world.setting.context.last_id)
-function_value world Func.RowCount vs = pure (Int world.setting.context.row_count)
+function_value world (Func.Zero f) vs = session_value world f
 function_value world f vs = answered (builtin_value f vs)
 
 -- whether a condition is true; unknown is not
@@ -119,10 +125,13 @@ abbrev mutual
   value world frame (values_of c) = needed 1054 (column_if c frame.inserted)
   value world frame (name_const n v) = capped v
   value world frame (floor_rand a) = draw >>= λ s1. value world frame a >>= λ n. answered (scaled s1 n)
-  value world frame (built_in Func.If ts) = value_of_if world frame ts
-  value world frame (built_in Func.IfNull ts) = first_known_of world frame ts
-  value world frame (built_in Func.Coalesce ts) = first_known_of world frame ts
-  value world frame (built_in f ts) = values world frame ts >>= function_value world f
+  value world frame (built_in f ts) = value_by world frame (about f).manner f ts
+
+  -- the value of a built-in function, by how it evaluates its arguments
+  pub value_by : World → Frame → Manner → Func → Trees → Action Value
+  value_by world frame all_arguments f ts = values world frame ts >>= function_value world f
+  value_by world frame first_known f ts = first_known_of world frame ts
+  value_by world frame chosen f ts = value_of_if world frame ts
 
   -- the values of expressions, left to right
   pub values : World → Frame → Trees → Action (List Value)

@@ -5,7 +5,10 @@ use Rattle.std.specs.Fmt.{signed_decimal}
 use Rattle.val_types.specs.declared.value.Value.{Value}
 use Rattle.val_types.specs.declared.value.Value.TheVariants.{Null, Int, Text}
 use Rattle.val_types.specs.declared.ops.Func.{Func}
-use Rattle.val_types.specs.declared.ops.Func.TheVariants.{Abs, Coalesce, If, IfNull, Concat, Length, Substring}
+use Rattle.val_types.specs.declared.ops.Func1.{Func1}
+use Rattle.val_types.specs.declared.ops.Func2.{Func2}
+use Rattle.val_types.specs.declared.ops.Func3.{Func3}
+use Rattle.val_types.specs.declared.ops.FuncN.{FuncN}
 use Rattle.val_types.specs.Errors.{kinds_mixed, text_too_long}
 use Rattle.val_types.specs.Fitting.{is_null}
 use Rattle.value_rules.specs.Operators.{number, truth_of, with_value}
@@ -82,22 +85,35 @@ argument vs place = slice_index_or vs place Null
 
 -- whether a built-in function depends on its arguments alone, and takes so many of them
 abbrev pub takes : Func → ℕ → Bool
-takes Abs count = count == 1
-takes Coalesce count = nat_le 1 count
-takes If count = count == 3
-takes IfNull count = count == 2
-takes Concat count = nat_le 1 count
-takes Length count = count == 1
-takes Substring count = count == 3
-takes f count = false
+takes (Func.Zero f) count = false
+takes (Func.One f) count = count == 1
+takes (Func.Two f) count = count == 2
+takes (Func.Three f) count = count == 3
+takes (Func.Many f) count = nat_le 1 count
 
--- such a function on the values of its arguments; NULL for the others, which ask the session
+-- a built-in function of one argument on its value
+abbrev pub value_of_one : Func1 → Value → Result Value ℕ
+value_of_one Func1.Abs a = absolute a
+value_of_one Func1.Length a = length_value a
+
+-- one of two arguments
+abbrev pub value_of_two : Func2 → Value → Value → Result Value ℕ
+value_of_two Func2.IfNull a b = Ok (if is_null a then b else a)
+
+-- one of three arguments
+abbrev pub value_of_three : Func3 → Value → Value → Value → Result Value ℕ
+value_of_three Func3.If c a b = chosen c a b
+value_of_three Func3.Substring t p n = substring t p n
+
+-- one of one argument or more
+abbrev pub value_of_many : FuncN → List Value → Result Value ℕ
+value_of_many FuncN.Coalesce vs = Ok (first_known vs)
+value_of_many FuncN.Concat vs = concatenated vs
+
+-- a built-in function on the values of its arguments; NULL for those without arguments, which ask the session
 abbrev pub builtin_value : Func → List Value → Result Value ℕ
-builtin_value Abs vs = absolute (argument vs 0)
-builtin_value Coalesce vs = Ok (first_known vs)
-builtin_value If vs = chosen (argument vs 0) (argument vs 1) (argument vs 2)
-builtin_value IfNull vs = Ok (first_known vs)
-builtin_value Concat vs = concatenated vs
-builtin_value Length vs = length_value (argument vs 0)
-builtin_value Substring vs = substring (argument vs 0) (argument vs 1) (argument vs 2)
-builtin_value f vs = Ok Null
+builtin_value (Func.Zero f) vs = Ok Null
+builtin_value (Func.One f) vs = value_of_one f (argument vs 0)
+builtin_value (Func.Two f) vs = value_of_two f (argument vs 0) (argument vs 1)
+builtin_value (Func.Three f) vs = value_of_three f (argument vs 0) (argument vs 1) (argument vs 2)
+builtin_value (Func.Many f) vs = value_of_many f vs

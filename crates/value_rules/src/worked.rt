@@ -5,7 +5,11 @@ ghost use Rattle.val_types.specs.declared.value.Value.{Value};
 ghost use Rattle.val_types.specs.declared.value.Value.TheVariants.{Int, Null, Text};
 ghost use Rattle.val_types.specs.declared.ops.Agg.TheVariants.{Count, Max, Min, Sum};
 ghost use Rattle.val_types.specs.declared.ops.BinOp.TheVariants.{Add, And, Divide, Equal, Less, Modulo, Multiply, NullSafeEqual, Or, Subtract};
-ghost use Rattle.val_types.specs.declared.ops.Func.TheVariants.{Abs, Coalesce, Concat, If, IfNull, Length, Substring};
+ghost use Rattle.val_types.specs.declared.ops.Func.{Func};
+ghost use Rattle.val_types.specs.declared.ops.Func1.{Func1};
+ghost use Rattle.val_types.specs.declared.ops.Func2.{Func2};
+ghost use Rattle.val_types.specs.declared.ops.Func3.{Func3};
+ghost use Rattle.val_types.specs.declared.ops.FuncN.{FuncN};
 ghost use Rattle.val_types.specs.declared.ops.UnOp.TheVariants.{IsNotNull, IsNull, Negate, Not};
 ghost use Rattle.value_rules.specs.Functions.{builtin_value, takes};
 ghost use Rattle.value_rules.specs.Identifiers.{uuid_text};
@@ -45,18 +49,18 @@ pub fn comparisons_and_conditions()
 
 /// Built-in functions: NULL comes before kinds, places count from 1 and from the end.
 pub fn built_in_functions()
-    ensures joined_texts { builtin_value Concat (Text (codes "left ") ∷ Text [] ∷ Text (codes "over") ∷ []) ≡ Ok (Text (codes "left over")) }
-    ensures joined_with_null { builtin_value Concat (Text (codes "a") ∷ Null ∷ []) ≡ Ok Null }
-    ensures from_the_end { builtin_value Substring (Text (codes "journal") ∷ Int (neg_ℤ (pos 3)) ∷ Int (pos 2) ∷ []) ≡ Ok (Text (codes "na")) }
-    ensures from_zero { builtin_value Substring (Text (codes "journal") ∷ Int (pos 0) ∷ Int (pos 2) ∷ []) ≡ Ok (Text []) }
-    ensures from_nothing { builtin_value Substring (Null ∷ Text (codes "x") ∷ Int (pos 1) ∷ []) ≡ Ok Null }
-    ensures of_a_number { builtin_value Length (Int (pos 5) ∷ []) ≡ Err 30002 }
-    ensures absolute_least { builtin_value Abs (Int (neg_ℤ (pos 9223372036854775808)) ∷ []) ≡ Err 1690 }
-    ensures chosen_by_null { builtin_value If (Null ∷ Int (pos 1) ∷ Int (pos 2) ∷ []) ≡ Ok (Int (pos 2)) }
-    ensures first_known { builtin_value Coalesce (Null ∷ Int (pos 3) ∷ Null ∷ []) ≡ Ok (Int (pos 3)) }
-    ensures known_first { builtin_value IfNull (Null ∷ Null ∷ []) ≡ Ok Null }
-    ensures none_at_all { takes Coalesce 0 ≡ false }
-    ensures two_of_three { takes Substring 2 ≡ false }
+    ensures joined_texts { builtin_value (Func.Many FuncN.Concat) (Text (codes "left ") ∷ Text [] ∷ Text (codes "over") ∷ []) ≡ Ok (Text (codes "left over")) }
+    ensures joined_with_null { builtin_value (Func.Many FuncN.Concat) (Text (codes "a") ∷ Null ∷ []) ≡ Ok Null }
+    ensures from_the_end { builtin_value (Func.Three Func3.Substring) (Text (codes "journal") ∷ Int (neg_ℤ (pos 3)) ∷ Int (pos 2) ∷ []) ≡ Ok (Text (codes "na")) }
+    ensures from_zero { builtin_value (Func.Three Func3.Substring) (Text (codes "journal") ∷ Int (pos 0) ∷ Int (pos 2) ∷ []) ≡ Ok (Text []) }
+    ensures from_nothing { builtin_value (Func.Three Func3.Substring) (Null ∷ Text (codes "x") ∷ Int (pos 1) ∷ []) ≡ Ok Null }
+    ensures of_a_number { builtin_value (Func.One Func1.Length) (Int (pos 5) ∷ []) ≡ Err 30002 }
+    ensures absolute_least { builtin_value (Func.One Func1.Abs) (Int (neg_ℤ (pos 9223372036854775808)) ∷ []) ≡ Err 1690 }
+    ensures chosen_by_null { builtin_value (Func.Three Func3.If) (Null ∷ Int (pos 1) ∷ Int (pos 2) ∷ []) ≡ Ok (Int (pos 2)) }
+    ensures first_known { builtin_value (Func.Many FuncN.Coalesce) (Null ∷ Int (pos 3) ∷ Null ∷ []) ≡ Ok (Int (pos 3)) }
+    ensures known_first { builtin_value (Func.Two Func2.IfNull) (Null ∷ Null ∷ []) ≡ Ok Null }
+    ensures none_at_all { takes (Func.Many FuncN.Coalesce) 0 ≡ false }
+    ensures two_of_three { takes (Func.Three Func3.Substring) 2 ≡ false }
 {}
 
 /// RAND(): with the seeds 1 and 2 the draws for n = 1073741823 give 5 and 55; the floor of a negative
