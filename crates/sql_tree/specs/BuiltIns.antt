@@ -112,6 +112,10 @@ functions =
 abbrev pub lower_name : Func → List ℕ
 lower_name f = map to_ascii_lowercase (about f).name
 
+-- the first of some built-in functions that a word in lower case names
+abbrev pub named_among : List Func → List ℕ → Option Func
+named_among fs word = find (λ f. bytes_eq (lower_name f) word) fs
+
 -- the built-in function that a word in lower case names
 abbrev pub function_named : List ℕ → Option Func
-function_named word = find (λ f. bytes_eq (lower_name f) word) functions
+function_named word = named_among functions word

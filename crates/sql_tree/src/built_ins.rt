@@ -1,7 +1,8 @@
 //! The table of built-in functions: their names, and what of them an item's safety and its context ask.
 ghost use Rattle.std.specs.Prelude.{◌≡◌, map};
 ghost use Rattle.std.specs.Char.{to_ascii_lowercase};
-ghost use Rattle.sql_tree.specs.BuiltIns.{about, function_named};
+ghost use Rattle.std.specs.Str.{bytes_eq};
+ghost use Rattle.sql_tree.specs.BuiltIns.{about, function_named, lower_name, named_among};
 
 use val_types::{Func, Func0, Func1, Func2, Func3, FuncN};
 
@@ -46,16 +47,30 @@ pub fn function_name(function: Func) -> &'static [u8]
     }
 }
 
-/// The built-in function that a word names, in any case of its letters.
-pub fn function_named(word: &[u8]) -> Option<Func>
-    ensures { result ≡ function_named (map to_ascii_lowercase word.now) }
+/// Whether a word is the name of a built-in function, in any case of its letters.
+fn is_named(function: Func, word: &[u8]) -> bool
+    ensures { result ≡ bytes_eq (lower_name function) (map to_ascii_lowercase word.now) }
 {
-    for function in FUNCTIONS.iter() {
-        if word.eq_ignore_ascii_case(function_name(*function)) {
+    function_name(function).eq_ignore_ascii_case(word)
+}
+
+/// The first of some built-in functions that a word names.
+fn named_among(functions: &[Func], word: &[u8]) -> Option<Func>
+    ensures { result ≡ named_among functions.now (map to_ascii_lowercase word.now) }
+{
+    for function in functions {
+        if is_named(*function, word) {
             return Some(*function);
         }
     }
     None
+}
+
+/// The built-in function that a word names, in any case of its letters.
+pub fn function_named(word: &[u8]) -> Option<Func>
+    ensures { result ≡ function_named (map to_ascii_lowercase word.now) }
+{
+    named_among(&FUNCTIONS, word)
 }
 
 /// Whether the value of a built-in function may differ on a replica.
