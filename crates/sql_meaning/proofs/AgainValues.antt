@@ -17,7 +17,7 @@ use Rattle.sql_tree.specs.Tree.{Aggregates, no_aggregate, count_all, aggregate, 
 use Rattle.sql_tree.specs.BuiltIns.{Manner, all_arguments, first_known, chosen, about}
 use Rattle.sql_meaning.specs.Scenes.{Action, ◌>>=◌, pure, answered, each, kept_by, table_now, draw, fail}
 use Rattle.sql_meaning.specs.Frames.{Running, Below, World, Frame, sees, capped, Setting}
-use Rattle.sql_meaning.specs.Values.{session_value, function_value, holds, unless_known, found_or, only_value, formed, functions_of, value, value_by, values, found_among, value_of_arms, value_of_part, value_of_if, value_at, first_known_of, is_kept, order_values, argument_values, shown_rows, row_alone, rows_of_query}
+use Rattle.sql_meaning.specs.Values.{session_value, function_value, by_manner, holds, unless_known, found_or, only_value, formed, functions_of, value, values, found_among, value_of_arms, value_of_part, value_of_if, value_at, first_known_of, is_kept, order_values, argument_values, shown_rows, row_alone, rows_of_query}
 use Rattle.sql_meaning.proofs.Again.{Again, bind_again, pure_again, fail_again, answered_again, needed_again, if_again, each_again, kept_again, table_again, draw_again, uuid_again}
 
 -- what programs do one level further down is done again
@@ -38,6 +38,12 @@ module _ (extra : ℕ) where
 
   pub holds_again : (v : Value) → Again extra (holds v) (holds v)
   holds_again v = bind_again extra (answered _) (answered _) _ _ (answered_again extra _) (λ t. pure_again extra _)
+
+  manner_again : (m : Manner) (of_all of_all' known known' choosing choosing' : Action Value) → Again extra of_all of_all' → Again extra known known' → Again extra choosing choosing'
+      → Again extra (by_manner m of_all known choosing) (by_manner m of_all' known' choosing')
+  manner_again all_arguments of_all of_all' known known' choosing choosing' p q r = p
+  manner_again first_known of_all of_all' known known' choosing choosing' p q r = q
+  manner_again chosen of_all of_all' known known' choosing choosing' p q r = r
 
   known_again : (known : Option Value) (next next' : Action Value) → Again extra next next' → Again extra (unless_known known next) (unless_known known next')
   known_again None next next' again = again
@@ -99,12 +105,8 @@ module _ (extra : ℕ) where
       value_again frame (values_of c) = needed_again extra 1054 _
       value_again frame (name_const n v) = capped_again v
       value_again frame (floor_rand a) = bind_again extra draw draw _ _ (draw_again extra) (λ s1. bind_again extra (value (around setting below running) frame a) (value (around setting below' running) frame a) _ _ (value_again frame a) (λ n. answered_again extra (scaled s1 n)))
-      value_again frame (built_in f ts) = by_again frame (about f).manner f ts
-
-      by_again : (frame : Frame) (m : Manner) (f : Func) (ts : Trees) → Again extra (value_by (around setting below running) frame m f ts) (value_by (around setting below' running) frame m f ts)
-      by_again frame all_arguments f ts = bind_again extra (values (around setting below running) frame ts) (values (around setting below' running) frame ts) _ _ (values_again frame ts) (function_again f)
-      by_again frame first_known f ts = first_again frame ts
-      by_again frame chosen f ts = if_function_again frame ts
+      value_again frame (built_in f ts) =
+          manner_again (about f).manner _ _ _ _ _ _ (bind_again extra (values (around setting below running) frame ts) (values (around setting below' running) frame ts) _ _ (values_again frame ts) (function_again f)) (first_again frame ts) (if_function_again frame ts)
 
       pub values_again : (frame : Frame) (ts : Trees) → Again extra (values (around setting below running) frame ts) (values (around setting below' running) frame ts)
       values_again frame no_tree = pure_again extra []

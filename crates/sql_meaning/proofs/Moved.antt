@@ -17,7 +17,7 @@ use Rattle.sql_tree.specs.Tree.{Aggregates, no_aggregate, count_all, aggregate, 
 use Rattle.sql_tree.specs.BuiltIns.{Manner, all_arguments, first_known, chosen, about}
 use Rattle.sql_meaning.specs.Scenes.{Scene, Action, ◌>>=◌, pure, answered, each, kept_by, table_now, draw}
 use Rattle.sql_meaning.specs.Frames.{Running, Below, World, Frame, sees, capped}
-use Rattle.sql_meaning.specs.Values.{session_value, function_value, holds, unless_known, found_or, only_value, formed, functions_of, value, value_by, values, found_among, value_of_arms, value_of_part, value_of_if, value_at, first_known_of, is_kept, order_values, argument_values, shown_rows, row_alone, rows_of_query}
+use Rattle.sql_meaning.specs.Values.{session_value, function_value, by_manner, holds, unless_known, found_or, only_value, formed, functions_of, value, values, found_among, value_of_arms, value_of_part, value_of_if, value_at, first_known_of, is_kept, order_values, argument_values, shown_rows, row_alone, rows_of_query}
 use Rattle.sql_meaning.proofs.Steps.{IsMove, IsMoved, bind_moved, pure_moved, fail_moved, answered_moved, needed_moved, if_moved, each_moved, kept_moved, table_moved, draw_moved, uuid_moved}
 
 -- so it is with what functions do one level further down
@@ -48,6 +48,11 @@ module _ {R : Scene → Scene → Type 0} (law : IsMove R) where
   function_moved world (Func.Two f) vs = answered_moved law (builtin_value (Func.Two f) vs)
   function_moved world (Func.Three f) vs = answered_moved law (builtin_value (Func.Three f) vs)
   function_moved world (Func.Many f) vs = answered_moved law (builtin_value (Func.Many f) vs)
+
+  manner_moved : (m : Manner) (of_all known choosing : Action Value) → IsMoved R of_all → IsMoved R known → IsMoved R choosing → IsMoved R (by_manner m of_all known choosing)
+  manner_moved all_arguments of_all known choosing p q r = p
+  manner_moved first_known of_all known choosing p q r = q
+  manner_moved chosen of_all known choosing p q r = r
 
   pub holds_moved : (v : Value) → IsMoved R (holds v)
   holds_moved v = bind_moved law (answered _) _ (answered_moved law _) (λ t. pure_moved law _)
@@ -95,12 +100,8 @@ module _ {R : Scene → Scene → Type 0} (law : IsMove R) (world : World) (belo
     value_moved frame (values_of c) = needed_moved law 1054 _
     value_moved frame (name_const n v) = capped_moved law v
     value_moved frame (floor_rand a) = bind_moved law draw _ (draw_moved law) (λ s1. bind_moved law (value world frame a) _ (value_moved frame a) (λ n. answered_moved law (scaled s1 n)))
-    value_moved frame (built_in f ts) = by_moved frame (about f).manner f ts
-
-    by_moved : (frame : Frame) (m : Manner) (f : Func) (ts : Trees) → IsMoved R (value_by world frame m f ts)
-    by_moved frame all_arguments f ts = bind_moved law (values world frame ts) _ (values_moved frame ts) (function_moved law world f)
-    by_moved frame first_known f ts = first_moved frame ts
-    by_moved frame chosen f ts = if_function_moved frame ts
+    value_moved frame (built_in f ts) =
+        manner_moved law (about f).manner _ _ _ (bind_moved law (values world frame ts) _ (values_moved frame ts) (function_moved law world f)) (first_moved frame ts) (if_function_moved frame ts)
 
     pub values_moved : (frame : Frame) (ts : Trees) → IsMoved R (values world frame ts)
     values_moved frame no_tree = pure_moved law []

@@ -52,6 +52,13 @@ abbrev pub function_value : World → Func → List Value → Action Value
 function_value world (Func.Zero f) vs = session_value world f
 function_value world f vs = answered (builtin_value f vs)
 
+-- the value of a built-in function, by how it evaluates its arguments: that of all their values, the first known one of
+-- them, or the one that the first chooses
+abbrev pub by_manner : Manner → Action Value → Action Value → Action Value → Action Value
+by_manner all_arguments of_all known choosing = of_all
+by_manner first_known of_all known choosing = known
+by_manner chosen of_all known choosing = choosing
+
 -- whether a condition is true; unknown is not
 abbrev pub holds : Value → Action Bool
 holds v = answered (truth_of v) >>= λ t. pure (is_known_true t)
@@ -125,13 +132,8 @@ abbrev mutual
   value world frame (values_of c) = needed 1054 (column_if c frame.inserted)
   value world frame (name_const n v) = capped v
   value world frame (floor_rand a) = draw >>= λ s1. value world frame a >>= λ n. answered (scaled s1 n)
-  value world frame (built_in f ts) = value_by world frame (about f).manner f ts
-
-  -- the value of a built-in function, by how it evaluates its arguments
-  pub value_by : World → Frame → Manner → Func → Trees → Action Value
-  value_by world frame all_arguments f ts = values world frame ts >>= function_value world f
-  value_by world frame first_known f ts = first_known_of world frame ts
-  value_by world frame chosen f ts = value_of_if world frame ts
+  value world frame (built_in f ts) =
+      by_manner (about f).manner (values world frame ts >>= function_value world f) (first_known_of world frame ts) (value_of_if world frame ts)
 
   -- the values of expressions, left to right
   pub values : World → Frame → Trees → Action (List Value)

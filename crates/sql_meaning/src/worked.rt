@@ -3,12 +3,12 @@ ghost use Rattle.std.specs.Prelude.{◌≡◌, [], ◌∷◌, codes, false, map,
 ghost use Rattle.val_types.specs.declared.change.Change.TheVariants.{Insert};
 ghost use Rattle.val_types.specs.declared.ops.Agg.TheVariants as aggs;
 ghost use Rattle.val_types.specs.declared.ops.BinOp.TheVariants as ops;
-ghost use Rattle.val_types.specs.declared.ops.Func.{Func};
 ghost use Rattle.val_types.specs.declared.ops.Func0.{Func0};
+ghost use Rattle.val_types.specs.declared.ops.Func3.{Func3};
 ghost use Rattle.val_types.specs.declared.ops.FuncN.{FuncN};
 ghost use Rattle.val_types.specs.declared.value.Value.TheVariants.{Int, Null, Text};
-ghost use Rattle.sql_tree.specs.BuiltIns.{on_none, on_many};
-ghost use Rattle.sql_tree.specs.Tree.{aggregate, aggregates, all_columns, binary, built_in, call, choice, count_all, exists, floor_rand, from_table, is_in, items, literal, name, new_column, no_aggregate, no_order, no_origin, no_part, no_tree, old_column, order_by, part, query, subquery, user_variable, values_of};
+ghost use Rattle.sql_tree.specs.BuiltIns.{on_many, on_none, on_three};
+ghost use Rattle.sql_tree.specs.Tree.{aggregate, aggregates, all_columns, binary, call, choice, count_all, exists, floor_rand, from_table, is_in, items, literal, name, new_column, no_aggregate, no_order, no_origin, no_part, old_column, order_by, part, query, subquery, user_variable, values_of};
 ghost use Rattle.sql_tree.specs.Statement.{block, delete_rows, evaluate, if_steps, insert_into, no_else, program, replace_into, return_value, rows, rows_of, select, set_all, trigger, update_rows, while_steps};
 ghost use Rattle.sql_tree.specs.View.{arms_of, trees_of};
 ghost use Rattle.sql_tree.specs.StatementView.{statements_of};
@@ -33,7 +33,7 @@ pub fn expressions()
     ensures mixed { code_of (run_in [] (selecting (binary ops.Add (literal (Text (codes "a"))) (n 1) ∷ [])) (t_of [])) ≡ 30002 }
     ensures stops { shown (run_in [] (selecting (is_in false (n 1) (trees_of (n 1 ∷ literal (Text (codes "a")) ∷ [])) ∷ [])) (t_of [])) ≡ Some (r (1 ∷ []) ∷ []) }
     ensures goes_on { shown (run_in [] (selecting (is_in false (n 1) (trees_of (nothing ∷ n 1 ∷ [])) ∷ is_in true (n 1) (trees_of (nothing ∷ n 2 ∷ [])) ∷ is_in true (n 1) (trees_of (n 2 ∷ [])) ∷ [])) (t_of [])) ≡ Some ((Int (pos 1) ∷ Null ∷ Int (pos 1) ∷ []) ∷ []) }
-    ensures left_out { shown (run_in [] (selecting (choice (arms_of ((n 0, binary ops.Divide (n 1) (n 0)) ∷ (n 1, n 7) ∷ [])) (part (binary ops.Divide (n 1) (n 0))) ∷ built_in Func.If (trees_of (nothing ∷ binary ops.Divide (n 1) (n 0) ∷ n 8 ∷ [])) ∷ on_many FuncN.Coalesce (trees_of (nothing ∷ n 9 ∷ binary ops.Divide (n 1) (n 0) ∷ [])) ∷ [])) (t_of [])) ≡ Some (r (7 ∷ 8 ∷ 9 ∷ []) ∷ []) }
+    ensures left_out { shown (run_in [] (selecting (choice (arms_of ((n 0, binary ops.Divide (n 1) (n 0)) ∷ (n 1, n 7) ∷ [])) (part (binary ops.Divide (n 1) (n 0))) ∷ on_three Func3.If nothing (binary ops.Divide (n 1) (n 0)) (n 8) ∷ on_many FuncN.Coalesce (trees_of (nothing ∷ n 9 ∷ binary ops.Divide (n 1) (n 0) ∷ [])) ∷ [])) (t_of [])) ≡ Some (r (7 ∷ 8 ∷ 9 ∷ []) ∷ []) }
     ensures drawn { shown (run_in [] (selecting (floor_rand (n 1073741823) ∷ floor_rand (n 1073741823) ∷ [])) (t_of [])) ≡ Some (r (5 ∷ 55 ∷ []) ∷ []) }
     ensures session { shown (run_in [] (selecting (on_none Func0.UnixTimestamp ∷ on_none Func0.ConnectionId ∷ on_none Func0.LastInsertId ∷ user_variable (codes "x") ∷ [])) (t_of [])) ≡ Some ((Int (pos 1700000000) ∷ Int (pos 1) ∷ Int (pos 0) ∷ Null ∷ []) ∷ []) }
 {}
