@@ -22,10 +22,10 @@ use Rattle.sql_tree.specs.declared.expressions.Count.TheVariants as counts
 use Rattle.sql_tree.specs.declared.expressions.Limit.{Limit}
 use Rattle.sql_locals.specs.Locals.{find_from, find_local}
 use Rattle.sql_locals.specs.declared.locals.Local.{Local}
-use Rattle.sql_tree.specs.BuiltIns.{Manner, all_arguments, first_known, chosen, about}
+use Rattle.sql_tree.specs.BuiltIns.{about}
 use Rattle.sql_meaning.specs.Scenes.{Action, ◌>>=◌, pure, answered, needed, each, kept_by, table_now, draw}
 use Rattle.sql_meaning.specs.Frames.{World, Frame, sees, column_in_view, number_or_none, count_value, limited, limited_to, capped}
-use Rattle.sql_meaning.specs.Values.{function_value, holds, unless_known, found_or, membership, only_value, has_rows, sorted, directions, functions_of, formed, value, value_by, values, found_among, value_of_arms, value_of_part, value_of_if, value_at, first_known_of, is_kept, order_values, argument_values, shown_rows, row_alone, rows_of_query}
+use Rattle.sql_meaning.specs.Values.{function_value, by_manner, holds, unless_known, found_or, membership, only_value, has_rows, sorted, directions, functions_of, formed, value, values, found_among, value_of_arms, value_of_part, value_of_if, value_at, first_known_of, is_kept, order_values, argument_values, shown_rows, row_alone, rows_of_query}
 use Rattle.sql_reach.specs.Closing.{limit_mapped, tree_mapped, trees_mapped, arms_mapped, part_mapped, query_mapped, selected_mapped, aggregates_mapped, orders_mapped, const_if, closed_name, number_if, closed_by, closed_count}
 use Rattle.closing_laws.specs.Laws.{is_short, holds_short}
 
@@ -131,12 +131,8 @@ module _ (locals : List Local) (short : list_all holds_short locals ≡ true) wh
     value_closed world frame (values_of c) = refl
     value_closed world frame (name_const n v) = refl
     value_closed world frame (floor_rand a) = λ i. draw >>= λ s1. value_closed world frame a i >>= λ n. answered (scaled s1 n)
-    value_closed world frame (built_in f ts) = by_closed world frame (about f).manner f ts
-
-    by_closed : (world : World) (frame : Frame) (m : Manner) (f : Func) (ts : Trees) → value_by world (with_locals [] frame) m f (closed_trees ts) ≡ value_by world (with_locals locals frame) m f ts
-    by_closed world frame all_arguments f ts = λ i. values_closed world frame ts i >>= function_value world f
-    by_closed world frame first_known f ts = first_closed world frame ts
-    by_closed world frame chosen f ts = if_closed world frame ts
+    value_closed world frame (built_in f ts) =
+        λ i. by_manner (about f).manner (values_closed world frame ts i >>= function_value world f) (first_closed world frame ts i) (if_closed world frame ts i)
 
     pub values_closed : (world : World) (frame : Frame) (ts : Trees) → values world (with_locals [] frame) (closed_trees ts) ≡ values world (with_locals locals frame) ts
     values_closed world frame no_tree = refl
