@@ -9,7 +9,7 @@ use Rattle.sql_lex.specs.declared.keyword.Keyword.{Keyword}
 use Rattle.sql_lex.specs.declared.keyword.Keyword.TheVariants as words
 use Rattle.sql_lex.specs.declared.token.Symbol.TheVariants as signs
 use Rattle.sql_tree.specs.Tree.{Tree, literal, name, column, new_column, old_column, user_variable, system_variable, unary, binary, is_in, choice, subquery, exists, call, values_of, name_const, floor_rand}
-use Rattle.sql_tree.specs.Tree.{Trees, no_tree, Part, no_part, part, Query}
+use Rattle.sql_tree.specs.Tree.{Trees, Part, no_part, part, Query}
 use Rattle.sql_tree.specs.BuiltIns.{on_none, on_one, on_two, on_three, on_many}
 use Rattle.sql_tree.specs.View.{arms_of}
 use Rattle.sql_grammar.specs.Rule.{Rule, token, any_of, both, either, pure, refused, mapped, opened, chain, optional, paired, behind, before, alone as single_one, then_one}

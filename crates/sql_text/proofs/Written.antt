@@ -27,7 +27,7 @@ use Rattle.sql_lex.specs.Spelled.{AllOf, is_simple, doubled}
 use Rattle.sql_lex.proofs.Spelled.{quoted_slice, name_read, name_said, Digits, decimal_digits, number_read, least_read, word_read, string_slice, text_read, text_said, hex_slice, hex_read, hex_said}
 use Rattle.sql_grammar.specs.Sets.{member}
 use Rattle.sql_grammar.specs.Rule.{only_then}
-use Rattle.sql_tree.specs.BuiltIns.{about, functions, lower_name, function_named}
+use Rattle.sql_tree.specs.BuiltIns.{functions, lower_name, function_named}
 use Rattle.sql_tree.specs.Well.{is_name, is_name_byte, is_number}
 use Rattle.sql_print.specs.Names as print
 use Rattle.sql_print.specs.Names.{doubled as doubled_text, quoted_name as name_text}

@@ -10,6 +10,10 @@ pub returns-clause-names : goal.returns-clause-names
 unfolding kind steps nested inner created_within spoken_from
 returns-clause-names c = refl
 
+pub returns-clause-called : goal.returns-clause-called
+unfolding kind steps nested inner created_within spoken_from
+returns-clause-called c = refl
+
 pub returns-clause-texts : goal.returns-clause-texts
 unfolding kind steps nested inner created_within spoken_from
 returns-clause-texts c = refl
