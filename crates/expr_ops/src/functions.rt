@@ -96,11 +96,7 @@ pub fn value_of_three(
 /// A built-in function of one argument or more on their values.
 ///
 /// CONCAT with a NULL is NULL, and one of more than 65,535 bytes is 1153.
-pub fn value_of_many(
-    alloc: Global,
-    f: FuncN,
-    arguments: &List<Value>,
-) -> Result<Value, SqlRefusal>
+pub fn value_of_many(alloc: Global, f: FuncN, arguments: &List<Value>) -> Result<Value, SqlRefusal>
     ensures { Gives result (value_of_many f arguments.now) }
 {
     match f {
@@ -118,12 +114,7 @@ pub fn builtin(alloc: Global, f: Func, arguments: &List<Value>) -> Result<Value,
     match f {
         Func::Zero(_) => Ok(Value::Null),
         Func::One(f) => Ok(value_of_one(f, argument(arguments, 0))?),
-        Func::Two(f) => Ok(value_of_two(
-            alloc,
-            f,
-            argument(arguments, 0),
-            argument(arguments, 1),
-        )?),
+        Func::Two(f) => Ok(value_of_two(alloc, f, argument(arguments, 0), argument(arguments, 1))?),
         Func::Three(f) => value_of_three(
             alloc,
             f,

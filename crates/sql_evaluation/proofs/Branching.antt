@@ -5,14 +5,16 @@ use Rattle.std.specs.Ordering.{is_eq}
 use Rattle.std.proofs.lemmas.List.{drop_all}
 use Rattle.val_types.specs.declared.value.Value.{Value}
 use Rattle.val_types.specs.declared.value.Value.TheVariants.{Null}
-use Rattle.val_types.specs.declared.ops.Func.TheVariants as functions
+use Rattle.val_types.specs.declared.ops.Func2.{Func2}
+use Rattle.val_types.specs.declared.ops.Func3.{Func3}
+use Rattle.val_types.specs.declared.ops.FuncN.{FuncN}
 use Rattle.val_types.specs.Fitting.{is_null}
 use Rattle.sql_tree.specs.declared.expressions.Expr.{Expr}
 use Rattle.sql_tree.specs.declared.expressions.Arm.{Arm, out-Arm}
 use Rattle.sql_tree.specs.declared.expressions.Aggregate.TheFolds.{fold_out-Arm}
 use Rattle.sql_tree.specs.Tree.{Tree, Trees, Arms, Part, arm, tree, no_tree, Query, Selected, Origin}
 use Rattle.val_types.specs.declared.ops.Agg.{Agg}
-use Rattle.sql_tree.specs.BuiltIns.{on_two, on_three}
+use Rattle.sql_tree.specs.BuiltIns.{on_many, on_two, on_three}
 use Rattle.sql_tree.specs.View.{view_tree, view_trees, view_arms, view_arm, view_part, aggregate_step, tree_step, selected_step, arm_step, origin_step, order_step, query_step}
 use Rattle.value_rules.specs.Operators.{truth_of, comparison}
 use Rattle.value_rules.specs.Functions.{is_known_true}
@@ -182,19 +184,19 @@ pub ruleset arms = (arms_start, arms_skip, arms_take_ends, arms_fail, arms_end, 
 -- ---- IF
 
 if_is : (a : Around) (vs : List Shown) (c t u : Tree) (scene : Scene)
-    → value_in a vs (on_three functions.If c t u) scene ≡ then_do (holds_in a vs c scene) (λ is_true. value_at (world_of a) (frame_of a vs) (tree t (tree u no_tree)) (cond is_true 0 1))
+    → value_in a vs (on_three Func3.If c t u) scene ≡ then_do (holds_in a vs c scene) (λ is_true. value_at (world_of a) (frame_of a vs) (tree t (tree u no_tree)) (cond is_true 0 1))
 if_is a vs c t u scene = sym (then_then (value_in a vs c scene) holds (λ is_true. value_at (world_of a) (frame_of a vs) (tree t (tree u no_tree)) (cond is_true 0 1)))
 
 pub if_then : (a : Around) (vs : List Shown) (c t u : Tree) (scene next : Scene) (z : Ending Value)
-    → holds_in a vs c scene ≡ done true next → value_in a vs t next ≡ z → value_in a vs (on_three functions.If c t u) scene ≡ z
+    → holds_in a vs c scene ≡ done true next → value_in a vs t next ≡ z → value_in a vs (on_three Func3.If c t u) scene ≡ z
 if_then a vs c t u scene next z h given = if_is a vs c t u scene ∙ (rw h given)
 
 pub if_else : (a : Around) (vs : List Shown) (c t u : Tree) (scene next : Scene) (z : Ending Value)
-    → holds_in a vs c scene ≡ done false next → value_in a vs u next ≡ z → value_in a vs (on_three functions.If c t u) scene ≡ z
+    → holds_in a vs c scene ≡ done false next → value_in a vs u next ≡ z → value_in a vs (on_three Func3.If c t u) scene ≡ z
 if_else a vs c t u scene next z h given = if_is a vs c t u scene ∙ (rw h given)
 
 pub if_fails : (a : Around) (vs : List Shown) (c t u : Tree) (code : ℕ) (scene next : Scene)
-    → holds_in a vs c scene ≡ failed code next → value_in a vs (on_three functions.If c t u) scene ≡ failed code next
+    → holds_in a vs c scene ≡ failed code next → value_in a vs (on_three Func3.If c t u) scene ≡ failed code next
 if_fails a vs c t u code scene next h = if_is a vs c t u scene ∙ (rw h refl)
 
 -- the same of answers
@@ -202,17 +204,17 @@ pub ends_through : {A : Type 0} (r : Result A SqlRefusal) (scene : Scene) (o z :
 ends_through r scene o z e given = subst (λ (y : Ending _). EndsAs r scene y) (sym e) given
 
 pub if_then_ends : (a : Around) (vs : List Shown) (c t u : Tree) (r : Result Value SqlRefusal) (scene next last : Scene)
-    → holds_in a vs c scene ≡ done true next → EndsAs r last (value_in a vs t next) → EndsAs r last (value_in a vs (on_three functions.If c t u) scene)
+    → holds_in a vs c scene ≡ done true next → EndsAs r last (value_in a vs t next) → EndsAs r last (value_in a vs (on_three Func3.If c t u) scene)
 if_then_ends a vs c t u r scene next last h given =
-    ends_through r last (value_in a vs (on_three functions.If c t u) scene) (value_in a vs t next) (if_then a vs c t u scene next (value_in a vs t next) h refl) given
+    ends_through r last (value_in a vs (on_three Func3.If c t u) scene) (value_in a vs t next) (if_then a vs c t u scene next (value_in a vs t next) h refl) given
 
 pub if_else_ends : (a : Around) (vs : List Shown) (c t u : Tree) (r : Result Value SqlRefusal) (scene next last : Scene)
-    → holds_in a vs c scene ≡ done false next → EndsAs r last (value_in a vs u next) → EndsAs r last (value_in a vs (on_three functions.If c t u) scene)
+    → holds_in a vs c scene ≡ done false next → EndsAs r last (value_in a vs u next) → EndsAs r last (value_in a vs (on_three Func3.If c t u) scene)
 if_else_ends a vs c t u r scene next last h given =
-    ends_through r last (value_in a vs (on_three functions.If c t u) scene) (value_in a vs u next) (if_else a vs c t u scene next (value_in a vs u next) h refl) given
+    ends_through r last (value_in a vs (on_three Func3.If c t u) scene) (value_in a vs u next) (if_else a vs c t u scene next (value_in a vs u next) h refl) given
 
 pub if_fails_at : (a : Around) (vs : List Shown) (c t u : Tree) (e : SqlRefusal) (scene next : Scene)
-    → EndsAs {A = Bool} (Err e) next (holds_in a vs c scene) → EndsAs {A = Value} (Err e) next (value_in a vs (on_three functions.If c t u) scene)
+    → EndsAs {A = Bool} (Err e) next (holds_in a vs c scene) → EndsAs {A = Value} (Err e) next (value_in a vs (on_three Func3.If c t u) scene)
 if_fails_at a vs c t u (Sql code) scene next h = if_fails a vs c t u code scene next h
 if_fails_at a vs c t u NoMemory scene next h = tt
 
@@ -227,7 +229,7 @@ known_next : (a : Around) (vs : List Shown) (es : List Expr) (i : ℕ) (e : Expr
 unfolding known_left
 known_next a vs es i e scene within is = ap (λ (ys : List Expr). first_known_of (world_of a) (frame_of a vs) (view_trees ys) scene) (rest_is es i e within is)
 
-pub known_start : (a : Around) (vs : List Shown) (ts : Trees) (scene : Scene) → known_left a vs ts scene ≡ value_in a vs (Rattle.sql_tree.specs.Tree.built_in functions.Coalesce ts) scene
+pub known_start : (a : Around) (vs : List Shown) (ts : Trees) (scene : Scene) → known_left a vs ts scene ≡ value_in a vs (on_many FuncN.Coalesce ts) scene
 unfolding known_left
 known_start a vs ts scene = refl
 
@@ -265,15 +267,15 @@ two_last a vs u v scene next h = rw h (null_or v)
     null_or (Rattle.val_types.specs.declared.value.Value.TheVariants.Text t) = refl
 
 pub two_first : (a : Around) (vs : List Shown) (t u : Tree) (v : Value) (scene next : Scene)
-    → value_in a vs t scene ≡ done v next → is_null v ≡ false → value_in a vs (on_two functions.IfNull t u) scene ≡ done v next
+    → value_in a vs t scene ≡ done v next → is_null v ≡ false → value_in a vs (on_two Func2.IfNull t u) scene ≡ done v next
 two_first a vs t u v scene next h known = rw (h, known) refl
 
 pub two_second : (a : Around) (vs : List Shown) (t u : Tree) (v w : Value) (scene next last : Scene)
-    → value_in a vs t scene ≡ done v next → is_null v ≡ true → value_in a vs u next ≡ done w last → value_in a vs (on_two functions.IfNull t u) scene ≡ done w last
+    → value_in a vs t scene ≡ done v next → is_null v ≡ true → value_in a vs u next ≡ done w last → value_in a vs (on_two Func2.IfNull t u) scene ≡ done w last
 two_second a vs t u v w scene next last h null given = rw (h, null) (two_last a vs u w next last given)
 
 pub two_fails : (a : Around) (vs : List Shown) (t u : Tree) (v : Value) (code : ℕ) (scene next last : Scene)
-    → value_in a vs t scene ≡ done v next → is_null v ≡ true → value_in a vs u next ≡ failed code last → value_in a vs (on_two functions.IfNull t u) scene ≡ failed code last
+    → value_in a vs t scene ≡ done v next → is_null v ≡ true → value_in a vs u next ≡ failed code last → value_in a vs (on_two Func2.IfNull t u) scene ≡ failed code last
 two_fails a vs t u v code scene next last h null given = rw (h, null, given) refl
 
 pub ruleset two = (two_first, two_second, two_fails)

@@ -1,5 +1,6 @@
 pub mod Steps
 pub mod Viewed
+pub mod BuiltIns
 pub mod Meanings
 pub mod Loops
 pub mod Branching

@@ -1,8 +1,10 @@
 //! CASE, IF, IFNULL and COALESCE, and conditions.
 ghost use Rattle.std.specs.Prelude.{◌≡◌};
-ghost use Rattle.val_types.specs.declared.ops.Func.TheVariants as functions;
-ghost use Rattle.sql_tree.specs.Tree.{built_in, choice};
-ghost use Rattle.sql_tree.specs.BuiltIns.{on_two, on_three};
+ghost use Rattle.val_types.specs.declared.ops.Func2.{Func2};
+ghost use Rattle.val_types.specs.declared.ops.Func3.{Func3};
+ghost use Rattle.val_types.specs.declared.ops.FuncN.{FuncN};
+ghost use Rattle.sql_tree.specs.Tree.{choice};
+ghost use Rattle.sql_tree.specs.BuiltIns.{on_many, on_three, on_two};
 ghost use Rattle.sql_tree.specs.View.{view_arms, view_part, view_tree, view_trees};
 ghost use Rattle.sql_stage.specs.Stage.{EndsAs, LeadsOn, scene_of};
 ghost use Rattle.sql_evaluation.specs.Seen.{Evaluates, LeadsAlways, holds_in, is_true, part_in, value_in};
@@ -103,7 +105,7 @@ pub fn if_value<V: Fn(&mut Stage, &Expr, &Views) -> Result<Value, SqlRefusal>>(
     requires callable { V.IsAlwaysCallable evaluate.now }
     requires gives { Evaluates (V.post evaluate.now) around.now }
     requires leads { LeadsAlways (V.post evaluate.now) }
-    ensures gives { EndsAs result (scene_of stage.new) (value_in around.now views.now (on_three functions.If (view_tree condition.now) (view_tree a.now) (view_tree b.now)) (scene_of stage.old)) }
+    ensures gives { EndsAs result (scene_of stage.new) (value_in around.now views.now (on_three Func3.If (view_tree condition.now) (view_tree a.now) (view_tree b.now)) (scene_of stage.old)) }
     ensures leads { LeadsOn stage.old stage.new }
 {
     if holds(evaluate, around, stage, condition, views)? {
@@ -125,7 +127,7 @@ pub fn first_known<V: Fn(&mut Stage, &Expr, &Views) -> Result<Value, SqlRefusal>
     requires callable { V.IsAlwaysCallable evaluate.now }
     requires gives { Evaluates (V.post evaluate.now) around.now }
     requires leads { LeadsAlways (V.post evaluate.now) }
-    ensures gives { EndsAs result (scene_of stage.new) (value_in around.now views.now (built_in functions.Coalesce (view_trees exprs.now)) (scene_of stage.old)) }
+    ensures gives { EndsAs result (scene_of stage.new) (value_in around.now views.now (on_many FuncN.Coalesce (view_trees exprs.now)) (scene_of stage.old)) }
     ensures leads { LeadsOn stage.old stage.new }
 {
     for e in exprs.as_slice() {
@@ -150,7 +152,7 @@ pub fn first_of_two<V: Fn(&mut Stage, &Expr, &Views) -> Result<Value, SqlRefusal
     requires callable { V.IsAlwaysCallable evaluate.now }
     requires gives { Evaluates (V.post evaluate.now) around.now }
     requires leads { LeadsAlways (V.post evaluate.now) }
-    ensures gives { EndsAs result (scene_of stage.new) (value_in around.now views.now (on_two functions.IfNull (view_tree a.now) (view_tree b.now)) (scene_of stage.old)) }
+    ensures gives { EndsAs result (scene_of stage.new) (value_in around.now views.now (on_two Func2.IfNull (view_tree a.now) (view_tree b.now)) (scene_of stage.old)) }
     ensures leads { LeadsOn stage.old stage.new }
 {
     let x = evaluate(stage, a, views)?;

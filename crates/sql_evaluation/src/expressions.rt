@@ -4,17 +4,13 @@ ghost use Rattle.sql_tree.specs.View.{view_tree};
 ghost use Rattle.sql_stage.specs.Stage.{EndsAs, LeadsOn, scene_of};
 ghost use Rattle.sql_evaluation.specs.Seen.{Calls, CallsLead, value_in};
 
-use crate::choices::{case_value, first_known, first_of_two, if_value};
-use crate::functions::{
-    abs_value, call_value, concat_value, floor_rand_value, length_value, substring_value,
-};
+use crate::built_ins::{of_many, of_none, of_one, of_three, of_two};
+use crate::choices::case_value;
+use crate::functions::{call_value, floor_rand_value};
 use crate::lookup::copied;
 use crate::operators::{binary_value, membership, unary_value};
 use crate::queries::{exists_value, subquery_value};
-use crate::session_values::{
-    capped, connection_id, last_insert_id, now, row_count, sys_date, system_variable,
-    unix_timestamp, user, user_variable, uuid,
-};
+use crate::session_values::{capped, system_variable, user_variable};
 use crate::views::Views;
 use crate::world::Around;
 use sql_stage::{Running, Stage};
@@ -81,35 +77,24 @@ pub fn value<F: Fn(&mut Stage, &Running<'_>, &Bytes, List<Value>) -> Result<Valu
             call_value(alloc, run, &evaluate, around, stage, name, arguments, views)
         }
         Expr::FloorRand(a) => floor_rand_value(&evaluate, around, stage, a.get(), views),
-        Expr::Abs(a) => abs_value(&evaluate, around, stage, a.get(), views),
-        Expr::Coalesce(arguments) => first_known(&evaluate, around, stage, arguments, views),
-        Expr::If(c, a, b) => {
-            if_value(&evaluate, around, stage, c.get(), a.get(), b.get(), views)
-        }
-        Expr::IfNull(a, b) => first_of_two(&evaluate, around, stage, a.get(), b.get(), views),
-        Expr::Concat(arguments) => {
-            concat_value(alloc, &evaluate, around, stage, arguments, views)
-        }
-        Expr::Length(a) => length_value(&evaluate, around, stage, a.get(), views),
-        Expr::Substring(a, b, c) => {
-            substring_value(
+        Expr::Func0(f) => of_none(alloc, around, stage, *f),
+        Expr::Func1(f, a) => of_one(&evaluate, around, stage, *f, a.get(), views),
+        Expr::Func2(f, a, b) => of_two(&evaluate, around, stage, *f, a.get(), b.get(), views),
+        Expr::Func3(f, a, b, c) => {
+            of_three(
                 alloc,
                 &evaluate,
                 around,
                 stage,
+                *f,
                 a.get(),
                 b.get(),
                 c.get(),
                 views,
             )
         }
-        Expr::Now => now(alloc, around),
-        Expr::UnixTimestamp => unix_timestamp(around),
-        Expr::SysDate => sys_date(alloc, around),
-        Expr::User => user(alloc, around),
-        Expr::Uuid => uuid(alloc, around, stage),
-        Expr::ConnectionId => connection_id(around),
-        Expr::LastInsertId => last_insert_id(around),
-        Expr::RowCount => row_count(around),
+        Expr::FuncN(f, arguments) => {
+            of_many(alloc, &evaluate, around, stage, *f, arguments, views)
+        }
     }
 }

@@ -1,17 +1,14 @@
-//! Functions on the values of their arguments, and calls of stored ones.
+//! Calls of stored functions, and FLOOR(RAND() * n).
 ghost use Rattle.std.specs.Prelude.{◌≡◌};
-ghost use Rattle.val_types.specs.declared.ops.Func.TheVariants as functions;
-ghost use Rattle.sql_tree.specs.Tree.{built_in, call, floor_rand};
-ghost use Rattle.sql_tree.specs.BuiltIns.{on_one, on_three};
+ghost use Rattle.sql_tree.specs.Tree.{call, floor_rand};
 ghost use Rattle.sql_tree.specs.View.{view_tree, view_trees};
 ghost use Rattle.sql_stage.specs.Stage.{EndsAs, LeadsOn, scene_of};
 ghost use Rattle.sql_evaluation.specs.Seen.{Calls, CallsLead, Evaluates, LeadsAlways, value_in};
 
-use crate::lookup::standing;
 use crate::value_lists::values;
 use crate::views::Views;
 use crate::world::Around;
-use expr_ops::{absolute, concat, floor_rand, length, substring};
+use expr_ops::floor_rand;
 use sql_stage::{Running, Stage};
 use sql_tree::Expr;
 use std::alloc::Global;
@@ -62,86 +59,4 @@ pub fn floor_rand_value<V: Fn(&mut Stage, &Expr, &Views) -> Result<Value, SqlRef
     let _ = around;
     let drawn = stage.draw();
     Ok(floor_rand(drawn, &evaluate(stage, a, views)?)?)
-}
-
-/// ABS
-pub fn abs_value<V: Fn(&mut Stage, &Expr, &Views) -> Result<Value, SqlRefusal>>(
-    evaluate: &V,
-    around: &Around<'_>,
-    stage: &mut Stage,
-    a: &Expr,
-    views: &Views,
-) -> Result<Value, SqlRefusal>
-    requires callable { V.IsAlwaysCallable evaluate.now }
-    requires gives { Evaluates (V.post evaluate.now) around.now }
-    requires leads { LeadsAlways (V.post evaluate.now) }
-    ensures gives { EndsAs result (scene_of stage.new) (value_in around.now views.now (on_one functions.Abs (view_tree a.now)) (scene_of stage.old)) }
-    ensures leads { LeadsOn stage.old stage.new }
-{
-    let _ = around;
-    Ok(absolute(&evaluate(stage, a, views)?)?)
-}
-
-/// LENGTH
-pub fn length_value<V: Fn(&mut Stage, &Expr, &Views) -> Result<Value, SqlRefusal>>(
-    evaluate: &V,
-    around: &Around<'_>,
-    stage: &mut Stage,
-    a: &Expr,
-    views: &Views,
-) -> Result<Value, SqlRefusal>
-    requires callable { V.IsAlwaysCallable evaluate.now }
-    requires gives { Evaluates (V.post evaluate.now) around.now }
-    requires leads { LeadsAlways (V.post evaluate.now) }
-    ensures gives { EndsAs result (scene_of stage.new) (value_in around.now views.now (on_one functions.Length (view_tree a.now)) (scene_of stage.old)) }
-    ensures leads { LeadsOn stage.old stage.new }
-{
-    match standing(&*around, &*views, &*a) {
-        Some(x) => Ok(length(x)?),
-        None => Ok(length(&evaluate(stage, a, views)?)?),
-    }
-}
-
-/// CONCAT
-pub fn concat_value<V: Fn(&mut Stage, &Expr, &Views) -> Result<Value, SqlRefusal>>(
-    alloc: Global,
-    evaluate: &V,
-    around: &Around<'_>,
-    stage: &mut Stage,
-    arguments: &List<Expr>,
-    views: &Views,
-) -> Result<Value, SqlRefusal>
-    requires callable { V.IsAlwaysCallable evaluate.now }
-    requires gives { Evaluates (V.post evaluate.now) around.now }
-    requires leads { LeadsAlways (V.post evaluate.now) }
-    ensures gives { EndsAs result (scene_of stage.new) (value_in around.now views.now (built_in functions.Concat (view_trees arguments.now)) (scene_of stage.old)) }
-    ensures leads { LeadsOn stage.old stage.new }
-{
-    let arguments = values(alloc, evaluate, around, stage, arguments, views)?;
-    concat(alloc, &arguments)
-}
-
-/// SUBSTRING(t, p, n)
-#[tactic(auto, using(crate::proofs::Steps::steps, crate::proofs::Steps::stage_on_twice))]
-pub fn substring_value<V: Fn(&mut Stage, &Expr, &Views) -> Result<Value, SqlRefusal>>(
-    alloc: Global,
-    evaluate: &V,
-    around: &Around<'_>,
-    stage: &mut Stage,
-    text: &Expr,
-    place: &Expr,
-    count: &Expr,
-    views: &Views,
-) -> Result<Value, SqlRefusal>
-    requires callable { V.IsAlwaysCallable evaluate.now }
-    requires gives { Evaluates (V.post evaluate.now) around.now }
-    requires leads { LeadsAlways (V.post evaluate.now) }
-    ensures gives { EndsAs result (scene_of stage.new) (value_in around.now views.now (on_three functions.Substring (view_tree text.now) (view_tree place.now) (view_tree count.now)) (scene_of stage.old)) }
-    ensures leads { LeadsOn stage.old stage.new }
-{
-    let _ = around;
-    let text = evaluate(stage, text, views)?;
-    let place = evaluate(stage, place, views)?;
-    let count = evaluate(stage, count, views)?;
-    substring(alloc, &text, &place, &count)
 }

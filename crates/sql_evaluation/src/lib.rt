@@ -8,7 +8,8 @@
 //! - `world`, `views`: what is round an expression, and the rows that it sees
 //! - `expressions`: [`value`]
 //! - `operators`: unary and binary operators, IN; `choices`: CASE, IF, IFNULL, COALESCE, conditions
-//! - `functions`: the other built-in functions, and calls of stored ones; `session_values`: what the session gives
+//! - `built_ins`: built-in functions, by their number of arguments; `session_values`: what the session gives
+//! - `functions`: calls of stored functions, and RAND()
 //! - `lookup`: what names mean; `value_lists`: lists of expressions
 //! - `queries`: SELECT with WHERE, EXISTS and scalar subqueries; `sorting`: ORDER BY and LIMIT; `aggregates`
 //!
@@ -27,6 +28,7 @@
 #![tactic(auto, using(crate::proofs::Steps::steps))]
 
 mod aggregates;
+mod built_ins;
 mod choices;
 mod expressions;
 mod functions;
@@ -39,11 +41,10 @@ mod value_lists;
 mod views;
 mod world;
 
+pub use built_ins::{of_many, of_none, of_one, of_three, of_two};
 pub use choices::{case_value, first_known, first_of_two, if_value};
 pub use expressions::value;
-pub use functions::{
-    abs_value, call_value, concat_value, floor_rand_value, length_value, substring_value,
-};
+pub use functions::{call_value, floor_rand_value};
 pub use lookup::copied;
 pub use operators::{binary_value, membership, unary_value};
 pub use queries::{exists_value, kept_rows, ordered_rows, rows_of_query, subquery_value};

@@ -1,13 +1,13 @@
 //! What the session gives: its variables, moments and numbers.
 #![tactic(auto, using(crate::proofs::Meanings::answers), unfolding(crate::specs::Seen::world_of))]
 
-ghost use Rattle.std.specs.Prelude.{◌≡◌, []};
+ghost use Rattle.std.specs.Prelude.{◌≡◌};
 ghost use Rattle.catalog_rules.specs.Names.{same_name};
-ghost use Rattle.val_types.specs.declared.ops.Func.TheVariants as functions;
+ghost use Rattle.val_types.specs.declared.ops.Func0.{Func0};
 ghost use Rattle.log_entries.specs.Variables.{variable_value};
 ghost use Rattle.sql_meaning.specs.Scenes.{needed, next_uuid};
 ghost use Rattle.sql_meaning.specs.Frames.{capped};
-ghost use Rattle.sql_meaning.specs.Values.{function_value, system_value};
+ghost use Rattle.sql_meaning.specs.Values.{session_value, system_value};
 ghost use Rattle.sql_stage.specs.Stage.{EndsAs, LeadsOn, scene_of};
 ghost use Rattle.sql_evaluation.specs.Seen.{Anywhere, is_capped, world_of};
 
@@ -40,56 +40,56 @@ pub fn capped(alloc: Global, value: &Value) -> Result<Value, SqlRefusal>
 
 /// NOW()
 pub fn now(alloc: Global, around: &Around<'_>) -> Result<Value, SqlRefusal>
-    ensures { Anywhere result (function_value (world_of around.now) functions.Now []) }
+    ensures { Anywhere result (session_value (world_of around.now) Func0.Now) }
 {
     Ok(Value::Text(time_text(alloc, around.context.stamp())?))
 }
 
 /// SYSDATE()
 pub fn sys_date(alloc: Global, around: &Around<'_>) -> Result<Value, SqlRefusal>
-    ensures { Anywhere result (function_value (world_of around.now) functions.SysDate []) }
+    ensures { Anywhere result (session_value (world_of around.now) Func0.SysDate) }
 {
     Ok(Value::Text(time_text(alloc, around.context.sys())?))
 }
 
 /// USER()
 pub fn user(alloc: Global, around: &Around<'_>) -> Result<Value, SqlRefusal>
-    ensures { Anywhere result (function_value (world_of around.now) functions.User []) }
+    ensures { Anywhere result (session_value (world_of around.now) Func0.User) }
 {
     capped(alloc, &Value::Text(around.context.user().duplicate(alloc)?))
 }
 
 /// UNIX_TIMESTAMP()
 pub fn unix_timestamp(around: &Around<'_>) -> Result<Value, SqlRefusal>
-    ensures { Anywhere result (function_value (world_of around.now) functions.UnixTimestamp []) }
+    ensures { Anywhere result (session_value (world_of around.now) Func0.UnixTimestamp) }
 {
     Ok(Value::Int(i64::from(around.context.stamp())))
 }
 
 /// CONNECTION_ID()
 pub fn connection_id(around: &Around<'_>) -> Result<Value, SqlRefusal>
-    ensures { Anywhere result (function_value (world_of around.now) functions.ConnectionId []) }
+    ensures { Anywhere result (session_value (world_of around.now) Func0.ConnectionId) }
 {
     Ok(Value::Int(i64::from(around.context.connection())))
 }
 
 /// LAST_INSERT_ID()
 pub fn last_insert_id(around: &Around<'_>) -> Result<Value, SqlRefusal>
-    ensures { Anywhere result (function_value (world_of around.now) functions.LastInsertId []) }
+    ensures { Anywhere result (session_value (world_of around.now) Func0.LastInsertId) }
 {
     Ok(Value::Int(around.context.last_id()))
 }
 
 /// ROW_COUNT()
 pub fn row_count(around: &Around<'_>) -> Result<Value, SqlRefusal>
-    ensures { Anywhere result (function_value (world_of around.now) functions.RowCount []) }
+    ensures { Anywhere result (session_value (world_of around.now) Func0.RowCount) }
 {
     Ok(Value::Int(around.context.row_count()))
 }
 
 /// UUID()
 pub fn uuid(alloc: Global, around: &Around<'_>, stage: &mut Stage) -> Result<Value, SqlRefusal>
-    ensures gives { EndsAs result (scene_of stage.new) (function_value (world_of around.now) functions.Uuid [] (scene_of stage.old)) }
+    ensures gives { EndsAs result (scene_of stage.new) (session_value (world_of around.now) Func0.Uuid (scene_of stage.old)) }
     ensures leads { LeadsOn stage.old stage.new }
 {
     stage.next_uuid(alloc, around.uuid)

@@ -6,225 +6,224 @@ ghost use Rattle.value_rules.specs.Functions.{takes};
 use super::{Part, expect_all, is_answer, is_outcome, is_value, value, values};
 use expr_ops::{builtin, floor_rand, rand_step, time_text, uuid_text};
 use std::alloc::Global;
-use val_types::{Bytes, Func, List, NoMemory, SqlRefusal, Value};
+use val_types::{Bytes, Func, Func1, Func2, Func3, FuncN, List, NoMemory, SqlRefusal, Value};
+
+// Built-in functions, as the table names them.
+const ABS: Func = Func::One(Func1::Abs);
+
+const LENGTH: Func = Func::One(Func1::Length);
+
+const IFNULL: Func = Func::Two(Func2::IfNull);
+
+const IF: Func = Func::Three(Func3::If);
+
+const SUBSTRING: Func = Func::Three(Func3::Substring);
+
+const COALESCE: Func = Func::Many(FuncN::Coalesce);
+
+const CONCAT: Func = Func::Many(FuncN::Concat);
 
 /// Built-in functions with their arguments and results.
 static BUILT_IN: [(Func, &[Part], Part); 58] = [
-    (Func::Abs, &[Part::Null], Part::Null),
-    (Func::Abs, &[Part::Int(5)], Part::Int(5)),
-    (Func::Abs, &[Part::Int(-5)], Part::Int(5)),
-    (Func::Abs, &[Part::Int(i64::MIN)], Part::Error(1690)),
+    (ABS, &[Part::Null], Part::Null),
+    (ABS, &[Part::Int(5)], Part::Int(5)),
+    (ABS, &[Part::Int(-5)], Part::Int(5)),
+    (ABS, &[Part::Int(i64::MIN)], Part::Error(1690)),
     (
-        Func::Abs,
+        ABS,
         &[Part::Int(-9_223_372_036_854_775_807)],
         Part::Int(i64::MAX),
     ),
-    (Func::Abs, &[Part::Text(b"5")], Part::Error(30002)),
-    (Func::Coalesce, &[Part::Null], Part::Null),
-    (Func::Coalesce, &[Part::Int(7)], Part::Int(7)),
+    (ABS, &[Part::Text(b"5")], Part::Error(30002)),
+    (COALESCE, &[Part::Null], Part::Null),
+    (COALESCE, &[Part::Int(7)], Part::Int(7)),
     (
-        Func::Coalesce,
+        COALESCE,
         &[Part::Null, Part::Null, Part::Int(0)],
         Part::Int(0),
     ),
     (
-        Func::Coalesce,
+        COALESCE,
         &[Part::Null, Part::Text(b"x"), Part::Int(5)],
         Part::Text(b"x"),
     ),
+    (COALESCE, &[Part::Text(b""), Part::Null], Part::Text(b"")),
     (
-        Func::Coalesce,
-        &[Part::Text(b""), Part::Null],
-        Part::Text(b""),
-    ),
-    (
-        Func::If,
+        IF,
         &[Part::Int(1), Part::Int(2), Part::Int(3)],
         Part::Int(2),
     ),
     (
-        Func::If,
+        IF,
         &[Part::Int(0), Part::Int(2), Part::Text(b"c")],
         Part::Text(b"c"),
     ),
+    (IF, &[Part::Null, Part::Int(2), Part::Int(3)], Part::Int(3)),
+    (IF, &[Part::Int(-1), Part::Null, Part::Int(3)], Part::Null),
     (
-        Func::If,
-        &[Part::Null, Part::Int(2), Part::Int(3)],
-        Part::Int(3),
-    ),
-    (
-        Func::If,
-        &[Part::Int(-1), Part::Null, Part::Int(3)],
-        Part::Null,
-    ),
-    (
-        Func::If,
+        IF,
         &[Part::Text(b"a"), Part::Int(2), Part::Int(3)],
         Part::Error(30002),
     ),
-    (Func::IfNull, &[Part::Null, Part::Int(2)], Part::Int(2)),
-    (Func::IfNull, &[Part::Int(0), Part::Int(2)], Part::Int(0)),
-    (Func::IfNull, &[Part::Null, Part::Null], Part::Null),
+    (IFNULL, &[Part::Null, Part::Int(2)], Part::Int(2)),
+    (IFNULL, &[Part::Int(0), Part::Int(2)], Part::Int(0)),
+    (IFNULL, &[Part::Null, Part::Null], Part::Null),
+    (IFNULL, &[Part::Text(b""), Part::Int(1)], Part::Text(b"")),
+    (CONCAT, &[Part::Null], Part::Null),
+    (CONCAT, &[Part::Text(b"a"), Part::Null], Part::Null),
+    (CONCAT, &[Part::Int(1)], Part::Text(b"1")),
     (
-        Func::IfNull,
-        &[Part::Text(b""), Part::Int(1)],
-        Part::Text(b""),
-    ),
-    (Func::Concat, &[Part::Null], Part::Null),
-    (Func::Concat, &[Part::Text(b"a"), Part::Null], Part::Null),
-    (Func::Concat, &[Part::Int(1)], Part::Text(b"1")),
-    (
-        Func::Concat,
+        CONCAT,
         &[Part::Int(i64::MIN), Part::Text(b"x")],
         Part::Text(b"-9223372036854775808x"),
     ),
     (
-        Func::Concat,
+        CONCAT,
         &[Part::Text(b"a"), Part::Text(b""), Part::Text(b"b")],
         Part::Text(b"ab"),
     ),
     (
-        Func::Concat,
+        CONCAT,
         &[Part::Text(b"left "), Part::Int(-6)],
         Part::Text(b"left -6"),
     ),
-    (Func::Length, &[Part::Null], Part::Null),
-    (Func::Length, &[Part::Text(b"")], Part::Int(0)),
-    (Func::Length, &[Part::Text(b"abc")], Part::Int(3)),
-    (Func::Length, &[Part::Text(b"\x00\xff")], Part::Int(2)),
-    (Func::Length, &[Part::Int(5)], Part::Error(30002)),
+    (LENGTH, &[Part::Null], Part::Null),
+    (LENGTH, &[Part::Text(b"")], Part::Int(0)),
+    (LENGTH, &[Part::Text(b"abc")], Part::Int(3)),
+    (LENGTH, &[Part::Text(b"\x00\xff")], Part::Int(2)),
+    (LENGTH, &[Part::Int(5)], Part::Error(30002)),
     (
-        Func::Substring,
+        SUBSTRING,
         &[Part::Text(b"journal"), Part::Int(1), Part::Int(3)],
         Part::Text(b"jou"),
     ),
     (
-        Func::Substring,
+        SUBSTRING,
         &[Part::Text(b"journal"), Part::Int(3), Part::Int(2)],
         Part::Text(b"ur"),
     ),
     (
-        Func::Substring,
+        SUBSTRING,
         &[Part::Text(b"journal"), Part::Int(-3), Part::Int(2)],
         Part::Text(b"na"),
     ),
     (
-        Func::Substring,
+        SUBSTRING,
         &[Part::Text(b"journal"), Part::Int(-7), Part::Int(1)],
         Part::Text(b"j"),
     ),
     (
-        Func::Substring,
+        SUBSTRING,
         &[Part::Text(b"journal"), Part::Int(-8), Part::Int(1)],
         Part::Text(b""),
     ),
     (
-        Func::Substring,
+        SUBSTRING,
         &[Part::Text(b"journal"), Part::Int(0), Part::Int(5)],
         Part::Text(b""),
     ),
     (
-        Func::Substring,
+        SUBSTRING,
         &[Part::Text(b"journal"), Part::Int(8), Part::Int(1)],
         Part::Text(b""),
     ),
     (
-        Func::Substring,
+        SUBSTRING,
         &[Part::Text(b"journal"), Part::Int(7), Part::Int(1)],
         Part::Text(b"l"),
     ),
     (
-        Func::Substring,
+        SUBSTRING,
         &[Part::Text(b"journal"), Part::Int(7), Part::Int(5)],
         Part::Text(b"l"),
     ),
     (
-        Func::Substring,
+        SUBSTRING,
         &[Part::Text(b"journal"), Part::Int(1), Part::Int(0)],
         Part::Text(b""),
     ),
     (
-        Func::Substring,
+        SUBSTRING,
         &[Part::Text(b"journal"), Part::Int(1), Part::Int(-1)],
         Part::Text(b""),
     ),
     (
-        Func::Substring,
+        SUBSTRING,
         &[Part::Text(b"journal"), Part::Int(1), Part::Int(i64::MIN)],
         Part::Text(b""),
     ),
     (
-        Func::Substring,
+        SUBSTRING,
         &[Part::Text(b"journal"), Part::Int(1), Part::Int(i64::MAX)],
         Part::Text(b"journal"),
     ),
     (
-        Func::Substring,
+        SUBSTRING,
         &[Part::Text(b"journal"), Part::Int(-3), Part::Int(i64::MAX)],
         Part::Text(b"nal"),
     ),
     (
-        Func::Substring,
+        SUBSTRING,
         &[Part::Text(b"journal"), Part::Int(i64::MIN), Part::Int(1)],
         Part::Text(b""),
     ),
     (
-        Func::Substring,
+        SUBSTRING,
         &[Part::Text(b"journal"), Part::Int(i64::MAX), Part::Int(1)],
         Part::Text(b""),
     ),
     (
-        Func::Substring,
+        SUBSTRING,
         &[Part::Text(b"journal"), Part::Int(-1), Part::Int(1)],
         Part::Text(b"l"),
     ),
     (
-        Func::Substring,
+        SUBSTRING,
         &[Part::Text(b""), Part::Int(1), Part::Int(1)],
         Part::Text(b""),
     ),
     (
-        Func::Substring,
+        SUBSTRING,
         &[Part::Text(b""), Part::Int(-1), Part::Int(1)],
         Part::Text(b""),
     ),
     (
-        Func::Substring,
+        SUBSTRING,
         &[Part::Null, Part::Int(1), Part::Int(1)],
         Part::Null,
     ),
     (
-        Func::Substring,
+        SUBSTRING,
         &[Part::Text(b"journal"), Part::Null, Part::Int(1)],
         Part::Null,
     ),
     (
-        Func::Substring,
+        SUBSTRING,
         &[Part::Text(b"journal"), Part::Int(1), Part::Null],
         Part::Null,
     ),
     (
-        Func::Substring,
+        SUBSTRING,
         &[Part::Null, Part::Text(b"x"), Part::Int(1)],
         Part::Null,
     ),
     (
-        Func::Substring,
+        SUBSTRING,
         &[Part::Int(5), Part::Null, Part::Int(1)],
         Part::Null,
     ),
     (
-        Func::Substring,
+        SUBSTRING,
         &[Part::Int(5), Part::Int(1), Part::Int(1)],
         Part::Error(30002),
     ),
     (
-        Func::Substring,
+        SUBSTRING,
         &[Part::Text(b"journal"), Part::Text(b"1"), Part::Int(1)],
         Part::Error(30002),
     ),
     (
-        Func::Substring,
+        SUBSTRING,
         &[Part::Text(b"journal"), Part::Int(1), Part::Text(b"1")],
         Part::Error(30002),
     ),
@@ -235,11 +234,11 @@ fn takes(f: Func, count: usize) -> bool
     ensures { IsTrue result → IsTrue (takes f count) }
 {
     match f {
-        Func::Abs | Func::Length => count == 1,
-        Func::IfNull => count == 2,
-        Func::If | Func::Substring => count == 3,
-        Func::Coalesce | Func::Concat => count >= 1,
-        _ => false,
+        Func::Zero(_) => false,
+        Func::One(_) => count == 1,
+        Func::Two(_) => count == 2,
+        Func::Three(_) => count == 3,
+        Func::Many(_) => count >= 1,
     }
 }
 
@@ -304,7 +303,7 @@ fn has_length(found: &Result<Value, SqlRefusal>, wanted: &Part) -> bool {
 /// Whether CONCAT of so many times `a` and a value is NULL, an error, or a text of a length.
 fn joins(alloc: Global, count: usize, last: &Part, wanted: &Part) -> bool {
     let arguments = many(alloc, count, last);
-    has_length(&given(alloc, Func::Concat, &arguments), wanted)
+    has_length(&given(alloc, CONCAT, &arguments), wanted)
 }
 
 /// How many do so, from the first on.
