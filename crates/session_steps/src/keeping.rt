@@ -81,13 +81,14 @@ fn keep_in(
     ensures { IfOk result (λ kept. IsTurn desk.old desk.new session.new kept (item_kept (called call.now) item mark (shared_of desk.old) (record session.old { transaction = Some transaction }))) }
 {
     let mut open = transaction;
-    let is_kept = open.add_item(item)?;
+    let added = open.add_item(item);
+    session.transaction = Some(open);
+    let is_kept = added?;
     if is_kept {
         desk.take_lock(call.number);
     } else {
         desk.cut(call.number, mark);
     }
-    session.transaction = Some(open);
     Ok(is_kept)
 }
 
