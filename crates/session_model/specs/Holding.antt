@@ -233,7 +233,7 @@ pub record Stays {I A B : Type 0} (old : Turn I A) (new : Turn I B) : Type 0 whe
   pub more_items : List I
   pub items : items_of new.session.transaction ≡ items_of old.session.transaction ++ more_items
 
--- and what the steps of a CALL so far have done stays, whatever its procedure still does, and wherever an error ends it
+-- what the steps of a CALL so far have done stays, whatever its procedure still does, and wherever an error ends it
 abbrev pub CallsKeepSteps : Type 0
 CallsKeepSteps = (call : Call Whole) (talk : Talk Came) (at : Reached Whole) → Stays at (brought (steps_of call) talk at).1
 
