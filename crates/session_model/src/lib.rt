@@ -42,5 +42,6 @@ pub use laws::{
 };
 pub use worked::{
     calls_committed, first_refusal_counts, formats_set, locals_closed_in, log_grows, logs_full,
-    procedures_called, refused_sets_taken_back, savepoints_kept, variables_set, writers_and_readers,
+    procedures_called, refused_sets_taken_back, savepoints_kept, variables_set,
+    writers_and_readers,
 };
