@@ -4,7 +4,7 @@
 //!
 //! - `playing`: calls of the program on scripts and on logs
 //! - `answers`: scripts and what they write: transactions, generated values, limits of trees, errors and their order
-//! - `programs`: stored functions and triggers
+//! - `programs`: stored functions and triggers; `settings`: SET that is refused behind its evaluation
 //! - `replication`: logs fetched in pieces and carried out in groups
 //! - `logs`: the source's log in place of the answers
 //! - `texts`: that log printed and replayed: what each statement carries, by its text and by its rows, and what a procedure leaves
@@ -27,6 +27,8 @@ mod programs;
 mod replays;
 #[cfg(test)]
 mod replication;
+#[cfg(test)]
+mod settings;
 #[cfg(test)]
 mod statuses;
 #[cfg(test)]

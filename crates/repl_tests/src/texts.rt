@@ -10,7 +10,7 @@ const FIRST_LINE: &str = "4 FORMAT_DESCRIPTION 5.7.44-log\n";
 /// Scripts, the lines that show their logs behind the first, and that of their replay. Places are sums of the lengths of events: 35
 /// and the text for a statement, and 5 where increment and offset stand before it, 40 for BEGIN, 27 for XID, 28 for a number, 35 for
 /// seeds. Each moment is that of the third draw, but that of the first command.
-static LOGS: [(&str, &str, &str); 16] = [
+static LOGS: [(&str, &str, &str); 17] = [
     // a table and a row
     (
         "s1: CREATE TABLE t (id INT, v INT, PRIMARY KEY (id)) //\ns1: INSERT INTO t VALUES (1, 10) //\n",
@@ -64,6 +64,12 @@ static LOGS: [(&str, &str, &str); 16] = [
         "s1: CREATE TABLE t (id INT, v INT, PRIMARY KEY (id)) //\ns1: CREATE FUNCTION f(n INT) RETURNS INT BEGIN INSERT INTO t VALUES (n, 0); RETURN n + 1; END //\ns1: SELECT f(1) //\ns1: DO f(2) //\ns1: SET @a = f(3) //\ns1: SET @a = 1 + f(4), @b = 'x' //\n",
         "123 QUERY thread=1 time=1700000001 CREATE TABLE t (id INT, v INT, PRIMARY KEY (id))\n206 QUERY thread=1 time=1700000002 CREATE FUNCTION f(n INT) RETURNS INT BEGIN INSERT INTO t VALUES (n, 0); RETURN n + 1; END\n330 QUERY thread=1 time=1700000002 BEGIN\n370 QUERY thread=1 time=1700000002 SELECT f(1)\n416 XID 3\n443 QUERY thread=1 time=1700000002 BEGIN\n483 QUERY thread=1 time=1700000002 DO f(2)\n525 XID 4\n552 QUERY thread=1 time=1700000002 BEGIN\n592 QUERY thread=1 time=1700000002 DO `f`(3)\n636 XID 5\n663 QUERY thread=1 time=1700000002 BEGIN\n703 QUERY thread=1 time=1700000002 DO (1 + `f`(4)), 'x'\n758 XID 6\n",
         "applied 6 1:785\n",
+    ),
+    // a SET that is refused behind its evaluation is not in the log
+    (
+        "s1: CREATE TABLE t (id INT, v INT, PRIMARY KEY (id)) //\ns1: CREATE FUNCTION f(n INT) RETURNS INT BEGIN INSERT INTO t VALUES (n, 0); RETURN n + 1; END //\ns1: SET @a = f(1), rand_seed1 = 'a' //\ns1: BEGIN //\ns1: SET @a = f(1), binlog_format = ROW //\ns1: COMMIT //\ns1: SET @a = f(3) //\n",
+        "123 QUERY thread=1 time=1700000001 CREATE TABLE t (id INT, v INT, PRIMARY KEY (id))\n206 QUERY thread=1 time=1700000002 CREATE FUNCTION f(n INT) RETURNS INT BEGIN INSERT INTO t VALUES (n, 0); RETURN n + 1; END\n330 QUERY thread=1 time=1700000002 BEGIN\n370 QUERY thread=1 time=1700000002 DO `f`(3)\n414 XID 3\n",
+        "applied 3 1:441\n",
     ),
     // the last generated value, as it was before the statement
     (

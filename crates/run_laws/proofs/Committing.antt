@@ -1,6 +1,6 @@
 -- A step puts out transactions and definitions, and no beginning of a log.
 use Rattle.std.proofs.Common.{ℕ, Bool, true, false, List, [], ◌∷◌, ◌++◌, map, Option, Some, None, Result, Ok, Err}
-use Rattle.std.specs.Prelude.{if◌then◌else◌, find, is_some, slice_index_or, zip, ℤ}
+use Rattle.std.specs.Prelude.{if◌then◌else◌, find, is_some, slice_index_or, ℤ}
 use Rattle.std.specs.Option.{option_map}
 use Rattle.val_types.specs.declared.change.Change.{Change}
 use Rattle.val_types.specs.declared.value.Value.{Value}
@@ -30,8 +30,8 @@ use Rattle.proc_model.proofs.Leading.{talk_keeps}
 use Rattle.text_answers.specs.Answers.{TextAnswer, a_statement, a_syntax_error, too_deep, text_answer}
 use Rattle.session_model.specs.Answers.{ok, refused}
 use Rattle.session_model.specs.Sessions.{Save, Open, Session, Shared, State}
-use Rattle.session_model.specs.Running.{Call, full, Turn, Given, is_other, items_of, commit_open, commit_entries, kept_entries, keep, settle, ended, takes_too_much, undone, setting_of, scene_for, made_behind, item_of, with_counters, with_context, fuel_of, statement_run, values_run, expressions_run, writing_refusal, lock_refusal}
-use Rattle.session_model.specs.Commands.{is_too_long, definition_turn, define_turn, made_turn, unless_answered, unless_refused, code_answer, assign_unless, first_refused, is_open, set_by, set_given, set_turn, set_expressions, plain_turn, given_turn, answered, back_in, back_to_save, release_in, definition_entry, is_save_of, saves_but}
+use Rattle.session_model.specs.Running.{Call, full, Turn, Given, is_other, items_of, commit_open, commit_entries, kept_entries, keep, settle, ended, takes_too_much, undone, setting_of, scene_for, made_behind, item_of, with_counters, with_context, fuel_of, statement_run, values_run, fitted, fitted_run, writing_refusal, lock_refusal}
+use Rattle.session_model.specs.Commands.{is_too_long, definition_turn, define_turn, made_turn, unless_answered, unless_refused, code_answer, is_open, set_by, set_given, set_misfit, set_turn, set_expressions, plain_turn, given_turn, answered, back_in, back_to_save, release_in, definition_entry, is_save_of, saves_but}
 use Rattle.session_model.specs.Calling.{Reached, reached_by, step_check, unless_checked, with_counted, steps_of, left_with, arguments_run, called_by, called_with, call_turn}
 use Rattle.session_model.specs.Machine.{Whole, whole, step, text_turn, statement_turn, at_work}
 use Rattle.run_model.specs.Following.{AreCommitted}
@@ -126,6 +126,11 @@ values_put call left text made_of locals ts shared session =
     ended_puts call left text made_of shared session (λ _. None) (λ _. None) (scene_for call.number left session.vars.context shared)
     (evaluation (setting_of shared.base.catalog session.vars.context (number_of_bytes 0 call.draw.uuid)) left.nesting locals ts (scene_for call.number left session.vars.context shared))
 
+fitted_put : (call : Call Whole) (left : Left) (text : List ℕ) (ts : Trees) (misfit : List Value → Option ℕ) (shared : Shared) (session : Session Whole) → Puts (fitted_run call left text ts misfit shared session)
+fitted_put call left text ts misfit shared session =
+    ended_puts {A = List Value} call left text (evaluate ts) shared session (λ _. None) (λ _. None) (scene_for call.number left session.vars.context shared)
+    (fitted misfit (evaluation (setting_of shared.base.catalog session.vars.context (number_of_bytes 0 call.draw.uuid)) left.nesting [] ts (scene_for call.number left session.vars.context shared)))
+
 -- ---- CALL
 
 reached_puts : {A : Type 0} (at : Reached Whole) (t : Turn Whole A) → Puts at → Puts t → Puts (reached_by at t)
@@ -162,27 +167,22 @@ refused_puts : (o : Option Answer) (shared : Shared) (session : Session Whole) (
 refused_puts None shared session t p = p
 refused_puts (Some answer) shared session t p = tt
 
-assign_puts : (o : Option ℕ) (assignments : List (Target × Value)) (t : Turn Whole (Given (List Value))) → Puts t → Puts (assign_unless o assignments t)
-assign_puts None assignments t p = p
-assign_puts (Some code) assignments t p = p
-
 set_by_puts : (as' : List (Target × Tree)) (r : Result (List Value) ℕ) (t : Turn Whole (Given (List Value))) → Puts t → Puts (set_by as' r t)
 set_by_puts as' (Err code) t p = p
-set_by_puts as' (Ok vs) t p =
-    let assignments : List (Target × Value) = zip (map (λ (a : Target × Tree). a.0) as') vs in
-    assign_puts (first_refused (is_open t.session) assignments) assignments t p
+set_by_puts as' (Ok vs) t p = p
 
 set_puts : (call : Call Whole) (as' : List (Target × Tree)) (shared : Shared) (session : Session Whole) → Puts (set_turn call as' shared session)
 set_puts call as' shared session =
     let ts : Trees = set_expressions as' in
     let text : List ℕ = spelling (evaluate ts) in
-    let t : Turn Whole (Given (List Value)) = expressions_run call full text ts shared session in
+    let misfit : List Value → Option ℕ = set_misfit (is_open session) as' in
+    let t : Turn Whole (Given (List Value)) = fitted_run call full text ts misfit shared session in
     let given : Turn Whole Answer = set_given as' t in
     let locked : Turn Whole Answer = unless_refused (lock_refusal call.number shared (evaluate ts)) shared session given in
     let checked : Turn Whole Answer = unless_refused (code_answer (statement_refusal shared.base.catalog session_scope (set_all as'))) shared session locked in
     by_test (is_too_long text) (answered (refused 1153) shared session) checked tt
     (refused_puts (code_answer (statement_refusal shared.base.catalog session_scope (set_all as'))) shared session locked
-    (refused_puts (lock_refusal call.number shared (evaluate ts)) shared session given (set_by_puts as' t.given.result t (values_put call full text (evaluate ts) [] ts shared session))))
+    (refused_puts (lock_refusal call.number shared (evaluate ts)) shared session given (set_by_puts as' t.given.result t (fitted_put call full text ts misfit shared session))))
 
 call_puts : (call : Call Whole) (name : List ℕ) (ts : Trees) (shared : Shared) (session : Session Whole) → Puts (call_turn call name ts shared session)
 call_puts call name ts shared session =

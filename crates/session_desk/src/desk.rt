@@ -1,5 +1,5 @@
 //! What all sessions share.
-ghost use Rattle.std.specs.Prelude.{◌≡◌, ◌≤◌, [], ◌∷◌, length, None, Some, IfOk, OnOk};
+ghost use Rattle.std.specs.Prelude.{◌≡◌, ◌≤◌, [], ◌∷◌, length, None, Some, IfOk, OnErr, OnOk};
 ghost use Rattle.catalog_rules.specs.Bases.{empty_base};
 ghost use Rattle.log_entries.specs.declared.entries.Entry.TheVariants.{Transaction};
 ghost use Rattle.logged_items.specs.Logged.{in_log};
@@ -121,6 +121,7 @@ impl Desk {
         requires { 1 ≤ length items.now }
         ensures shared { OnOk result (shared_of self.new ≡ all_committed (Transaction stamp server_id items.now) (shared_of self.old)) }
         ensures log { OnOk result (Logs (Transaction stamp server_id items.now ∷ []) self.old self.new) }
+        ensures err { OnErr result (self.new ≡ self.old) }
     {
         let header = Header {
             stamp,

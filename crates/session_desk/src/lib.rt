@@ -11,8 +11,8 @@
 //!
 //! # Proved
 //! - [`Desk`] and [`Open`] are the machine's: each of their calls says what is shared, or what the transaction has, behind it.
-//! - [`Desk::commit`] logs just the entry of its transaction, which can be logged there, or memory is short; no other call of
-//!   [`Desk`] changes the log.
+//! - [`Desk::commit`] logs just the entry of its transaction, which can be logged there, or memory is short, and then the desk is
+//!   as before; no other call of [`Desk`] changes the log. [`Open::save`] leaves its transaction as before where memory is short.
 //! - [`checked`], [`lock_check`] and [`step_check`] refuse just what the machine's checks refuse, with the same error.
 //!
 //! # Only tested

@@ -1,5 +1,5 @@
 //! Savepoints.
-ghost use Rattle.std.specs.Prelude.{◌≡◌, ◌<◌, length, position, slice_get, IfSome};
+ghost use Rattle.std.specs.Prelude.{◌≡◌, ◌<◌, ◌≤◌, ◌++◌, ◌∷◌, [], length, position, slice_get, vec_capacity, vec_len, IfSome};
 ghost use Rattle.session_model.specs.Commands.{is_save_of, saves_but};
 ghost use Rattle.session_desk.specs.Saving.{marks_of};
 
@@ -47,9 +47,21 @@ pub(crate) fn marks_at(saves: &[Save], place: usize) -> Option<(u64, u64)>
     }
 }
 
-/// Takes out the savepoints of a name.
+/// Takes out the savepoints of a name. The room stays.
 pub(crate) fn take_out(name: &Bytes, saves: &mut Vec<Save>)
-    ensures { saves.new.items ≡ saves_but name.now saves.old.items }
+    ensures left { saves.new.items ≡ saves_but name.now saves.old.items }
+    ensures fewer { vec_len saves.new ≤ vec_len saves.old }
+    ensures room { vec_capacity saves.new ≡ vec_capacity saves.old }
 {
     saves.retain(|save| !is_save_of(name, save));
+}
+
+/// Puts a savepoint behind the others, where there is room for it.
+pub(crate) fn put_last(saves: &mut Vec<Save>, save: Save)
+    requires { vec_len saves.old < vec_capacity saves.old }
+    ensures { saves.new.items ≡ saves.old.items ++ save ∷ [] }
+{
+    if let Err(full) = saves.push(save) {
+        drop(full);
+    }
 }

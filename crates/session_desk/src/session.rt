@@ -1,5 +1,5 @@
 //! Sessions and their open transactions.
-ghost use Rattle.std.specs.Prelude.{◌≡◌, ◌∷◌, ◌++◌, [], not, find, is_some, IfOk, OnOk};
+ghost use Rattle.std.specs.Prelude.{◌≡◌, ◌∷◌, ◌++◌, [], not, find, is_some, IfOk, OnErr, OnOk};
 ghost use Rattle.std.specs.Option.{option_map};
 ghost use Rattle.session_model.specs.Sessions.{just_opened};
 ghost use Rattle.session_model.specs.Commands.{is_save_of, saved, saves_but};
@@ -7,7 +7,7 @@ ghost use Rattle.session_model.specs.Formats.{is_by_rows};
 ghost use Rattle.session_desk.specs.Saving.{changes_at, one_more_if, went_back};
 ghost use Rattle.transaction_sizes.specs.Sizes.{are_too_large};
 
-use crate::saves::{Save, marks_at, place_of, take_out};
+use crate::saves::{Save, marks_at, place_of, put_last, take_out};
 use log_entries::Item;
 use logged_items::Items;
 use session_ctx::SessionVars;
@@ -67,17 +67,20 @@ impl Open {
         Ok(true)
     }
 
-    /// Sets a savepoint, which stands at so many changes. One of the name moves.
+    /// Sets a savepoint, which stands at so many changes. One of the name moves. All memory is taken before anything is.
     pub fn save(&mut self, alloc: Global, name: &Bytes, changes: u64) -> Result<(), NoMemory>
-        ensures { OnOk result (self.new ≡ saved name.now changes self.old) }
+        ensures ok { OnOk result (self.new ≡ saved name.now changes self.old) }
+        ensures err { OnErr result (self.new ≡ self.old) }
     {
+        let copy = name.duplicate(alloc)?;
+        self.saves.reserve(1)?;
         take_out(name, &mut self.saves);
-        let name = name.duplicate(alloc)?;
-        self.saves.push(Save {
-            name,
+        let save = Save {
+            name: copy,
             items: self.items.mark(),
             changes,
-        })?;
+        };
+        put_last(&mut self.saves, save);
         Ok(())
     }
 

@@ -1,5 +1,5 @@
 -- What holds of every run stays so: one lemma a command.
-use Rattle.std.proofs.Common.{◌≡◌, ◌≢◌, ◌<◌, ℕ, zero, suc, inl, inr, Bool, true, false, ◌==◌, List, [], ◌∷◌, ◌++◌, map, length, take, find, zip, Option, Some, None, Result, Ok, Err, refl, sym, ◌∙◌, ap, subst, arith, cond, ◌≤◌, ◌^◌}
+use Rattle.std.proofs.Common.{◌≡◌, ◌≢◌, ◌<◌, ℕ, zero, suc, inl, inr, Bool, true, false, ◌==◌, List, [], ◌∷◌, ◌++◌, map, length, take, find, Option, Some, None, Result, Ok, Err, refl, sym, ◌∙◌, ap, subst, arith, cond, ◌≤◌, ◌^◌}
 use Rattle.std.proofs.lemmas.List.{get_or-set_same, get_or-set_other}
 use Rattle.std.proofs.lemmas.Bool.{eqb-true, eqb-false}
 use Rattle.std.specs.Prelude.{is_some, slice_index_or, slice_set, replicate}
@@ -20,12 +20,15 @@ use Rattle.catalog_rules.specs.Checks.{session_scope, statement_refusal}
 use Rattle.answer_text.specs.declared.answer.Answer.{Answer}
 use Rattle.text_answers.specs.Answers.{TextAnswer, a_statement, a_syntax_error, too_deep, text_answer}
 use Rattle.sql_meaning.specs.Frames.{Context}
+use Rattle.sql_meaning.specs.Running.{evaluation}
 use Rattle.sql_meaning.specs.Leading.{StatementsEndWell, EvaluationsEndWell}
+use Rattle.sql_reach.specs.Defining.{number_of_bytes}
 use Rattle.sql_reach.specs.Reach.{is_definition}
+use Rattle.proc_model.specs.Procedures.{assignments_of}
 use Rattle.session_model.specs.Answers.{ok, refused, refused_at}
 use Rattle.session_model.specs.Sessions.{Save, Open, just_opened, Session, Shared}
-use Rattle.session_model.specs.Running.{Call, Turn, Given, is_other, released, items_of, commit_shared, commit_entries, commit_open, full, expressions_run, lock_refusal, writing_refusal}
-use Rattle.session_model.specs.Commands.{answered, unless_refused, begin_turn, commit_turn, rollback_turn, is_save_of, saves_but, changes_of_own, saved, save_turn, cut_back, back_to_save, back_in, back_turn, release_in, defined_turn, made_turn, unless_answered, define_turn, definition_turn, assign_unless, first_refused, is_open, set_by, set_expressions, set_turn, code_answer, is_too_long, plain_turn, definition_entry}
+use Rattle.session_model.specs.Running.{Call, Turn, Given, is_other, released, items_of, commit_shared, commit_entries, commit_open, full, fitted_run, scene_for, setting_of, lock_refusal, writing_refusal}
+use Rattle.session_model.specs.Commands.{answered, unless_refused, begin_turn, commit_turn, rollback_turn, is_save_of, saves_but, changes_of_own, saved, save_turn, cut_back, back_to_save, back_in, back_turn, release_in, defined_turn, made_turn, unless_answered, define_turn, definition_turn, is_open, set_by, set_expressions, set_misfit, set_turn, code_answer, is_too_long, plain_turn, definition_entry}
 use Rattle.session_model.specs.Calling.{arguments_run, call_turn}
 use Rattle.session_model.specs.Formats.{first_format}
 use Rattle.session_model.specs.declared.format.Format.{Format}
@@ -35,7 +38,7 @@ use Rattle.session_model.proofs.Saving.{none_made, front_made, cut_changes, save
 use Rattle.session_model.proofs.Assigning.{all_owned}
 use Rattle.session_model.proofs.Logging.{Logged, logged_on, no_entry, none_one, front_one, in_behind, front_in}
 use Rattle.session_model.proofs.Owning.{held_not_other, other_not_held, not_both, none_taken, Frame, StillHolds, nothing_done, no_changes, own_changes, closed_owns, entry_made, released_left, must_own, free_to_write}
-use Rattle.session_model.proofs.Keeping.{TurnLeft, statement_left, values_left}
+use Rattle.session_model.proofs.Keeping.{TurnLeft, fitted_fits, fitted_left, statement_left}
 use Rattle.session_model.proofs.Calling.{called_left, arguments_left, arguments_format}
 use Rattle.port_traits.specs.declared.identity.Identity.{Identity}
 use Rattle.port_traits.specs.declared.identity.Draw.{Draw}
@@ -255,30 +258,30 @@ module _ (P : Type 0) (identity : Identity) (draw : Draw) (number : ℕ) where
 
     -- ---- statements that are run
     module _ (statements : StatementsEndWell) (evaluations : EvaluationsEndWell) where
-      expressions_left : (text : List ℕ) (ts : Trees) → TurnLeft P number shared session.format (expressions_run call full text ts shared session)
-      expressions_left text ts = values_left P identity draw number shared session h o evaluations full text (evaluate ts) [] ts
-
-      assigned_left : (refusal : Option ℕ) (assignments : List (Target × Value)) (t : Turn Whole (Given (List Value))) → first_refused (is_open t.session) assignments ≡ refusal
-          → TurnLeft P number shared session.format t → TurnLeft P number shared session.format (assign_unless refusal assignments t)
-      assigned_left None assignments t e l =
-          record { holds = l.holds; own = all_owned number t.shared assignments t.session e l.own; entries = l.entries; log = l.log; formats = l.formats; frame = l.frame }
-      assigned_left (Some code) assignments t e l = l
-
-      set_given_left : (as' : List (Target × Tree)) (r : Result (List Value) ℕ) (t : Turn Whole (Given (List Value))) → TurnLeft P number shared session.format t → TurnLeft P number shared session.format (set_by as' r t)
-      set_given_left as' (Err code) t l = l
-      set_given_left as' (Ok vs) t l =
-          let assignments = zip (map (λ (a : Target × Tree). a.0) as') vs in
-          assigned_left (first_refused (is_open t.session) assignments) assignments t refl l
+      -- values that are not refused are assigned
+      set_by_left : (as' : List (Target × Tree)) (r : Result (List Value) ℕ) (t : Turn Whole (Given (List Value)))
+          → ((vs : List Value) → r ≡ Ok vs → (set_misfit (is_open session) as' vs ≡ None) × (is_open t.session ≡ is_open session)) → TurnLeft P number shared session.format t
+          → TurnLeft P number shared session.format (set_by as' r t)
+      set_by_left as' (Err code) t fits l = l
+      set_by_left as' (Ok vs) t fits l =
+          let fit = fits vs refl in
+          let none : set_misfit (is_open t.session) as' vs ≡ None = ap (λ (b : Bool). set_misfit b as' vs) fit.1 ∙ fit.0 in
+          record { holds = l.holds; own = all_owned number t.shared (assignments_of as' vs) t.session none l.own; entries = l.entries; log = l.log; formats = l.formats; frame = l.frame }
 
       set_left : (as' : List (Target × Tree)) → TurnLeft P number shared session.format (set_turn call as' shared session)
       set_left as' =
           let ts = set_expressions as' in
           let text = spelling (evaluate ts) in
-          let run = expressions_run call full text ts shared session in
+          let misfit = set_misfit (is_open session) as' in
+          let before = scene_for number full session.vars.context shared in
+          let run = fitted_run call full text ts misfit shared session in
           long_left (is_too_long text) (refused 1153) _
           (unless_left (code_answer (statement_refusal shared.base.catalog session_scope (set_all as'))) _
           (unless_left (lock_refusal number shared (evaluate ts)) _
-          (set_given_left as' run.given.result run (expressions_left text ts))))
+          (set_by_left as' run.given.result run
+          (fitted_fits {A = List Value} call full text (evaluate ts) shared session (λ _. None) (λ _. None) before misfit
+          (evaluation (setting_of shared.base.catalog session.vars.context (number_of_bytes 0 draw.uuid)) full.nesting [] ts before))
+          (fitted_left P identity draw number shared session h o evaluations full text ts misfit))))
 
       call_left : (name : List ℕ) (ts : Trees) → TurnLeft P number shared session.format (call_turn call name ts shared session)
       call_left name ts =

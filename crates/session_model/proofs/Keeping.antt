@@ -8,18 +8,19 @@ use Rattle.table_rules.specs.Stored.{all_applied}
 use Rattle.proc_model.specs.Talk.{Left}
 use Rattle.port_traits.specs.declared.identity.Identity.{Identity}
 use Rattle.port_traits.specs.declared.identity.Draw.{Draw}
-use Rattle.sql_tree.specs.Statement.{Statement}
+use Rattle.sql_tree.specs.Statement.{Statement, evaluate}
 use Rattle.sql_tree.specs.Tree.{Trees}
 use Rattle.sql_locals.specs.declared.locals.Local.{Local}
 use Rattle.session_ctx.specs.declared.session.SessionVars.{SessionVars}
 use Rattle.sql_meaning.specs.Scenes.{Scene, Ending, done, failed}
 use Rattle.sql_meaning.specs.Frames.{Context}
 use Rattle.sql_meaning.specs.Changing.{Did}
-use Rattle.sql_meaning.specs.Running.{context_after}
-use Rattle.sql_meaning.specs.Leading.{EndsWell, StatementsEndWell, EvaluationsEndWell}
+use Rattle.sql_meaning.specs.Running.{context_after, evaluation}
+use Rattle.sql_meaning.specs.Leading.{Leads, EndsWell, StatementsEndWell, EvaluationsEndWell}
 use Rattle.sql_reach.specs.Defining.{number_of_bytes}
 use Rattle.session_model.specs.Sessions.{Open, Session, Shared}
-use Rattle.session_model.specs.Running.{Call, Turn, Given, is_other, items_of, keep, made_behind, with_counters, scene_for, settle, ended, item_of, fuel_of, with_context, setting_of, statement_run, values_run, kept_entries, kept_shared, takes_too_much, undone}
+use Rattle.session_model.specs.Running.{Call, Turn, Given, is_other, items_of, keep, made_behind, with_counters, scene_for, settle, ended, item_of, fuel_of, with_context, setting_of, statement_run, values_run, unless_misfit, fitted, fitted_run, kept_entries, kept_open, kept_shared, takes_too_much, undone}
+use Rattle.session_model.specs.Commands.{is_open}
 use Rattle.session_model.specs.Formats.{is_by_rows}
 use Rattle.session_model.specs.declared.format.Format.{Format}
 use Rattle.session_model.specs.Machine.{Whole, whole}
@@ -31,6 +32,61 @@ use Rattle.session_model.proofs.Owning.{same_number, StillHolds, nothing_done, n
 -- what a turn leaves
 abbrev pub TurnLeft : {A : Type 0} → Type 0 → ℕ → Shared → Format → Turn Whole A → Type 0
 TurnLeft P n shared format t = StillHolds P n shared t.shared format t.session.format t.session.transaction t.committed
+
+-- ---- runs whose values may be refused
+
+-- what is done leads on; of an error nothing is asked, since what it changed is taken back
+abbrev pub DoneWell : {A : Type 0} → Scene → Ending A → Type 0
+DoneWell before (done a scene) = Leads before scene
+DoneWell before (failed code scene) = Unit {0}
+
+pub done_well : {A : Type 0} (before : Scene) (e : Ending A) → EndsWell before e → DoneWell before e
+done_well before (done a scene) well = well
+done_well before (failed code scene) well = tt
+
+pub fitted_well : {A : Type 0} (misfit : A → Option ℕ) (before : Scene) (e : Ending A) → EndsWell before e → DoneWell before (fitted misfit e)
+fitted_well misfit before (done a scene) well = by (misfit a)
+  where
+    by : (o : Option ℕ) → DoneWell before (unless_misfit o a scene)
+    by None = well
+    by (Some code) = tt
+fitted_well misfit before (failed code scene) well = tt
+
+kept_is_open : {I : Type 0} (item : I) (t : Option (Open I)) → is_some (kept_open item t) ≡ is_some t
+kept_is_open item None = refl
+kept_is_open item (Some open') = refl
+
+-- values that come of such a run are not refused, and it opens and ends no transaction
+pub fitted_fits : {A : Type 0} (call : Call Whole) (left : Left) (text : List ℕ) (tree : Statement) (shared : Shared) (session : Session Whole) (first last_id : A → Option ℤ) (before : Scene) (misfit : A → Option ℕ)
+    (e : Ending A) (a : A) → let t = ended call left text tree shared session first last_id before (fitted misfit e) in t.given.result ≡ Ok a → (misfit a ≡ None) × (is_open t.session ≡ is_open session)
+fitted_fits call left text tree shared session first last_id before misfit (failed code scene) a q = cc
+fitted_fits {A = A} call left text tree shared session first last_id before misfit (done b scene) a q = by (misfit b) refl q
+  where
+    after : Session Whole
+    after = with_context (context_after session.vars.context tree scene.seeds (last_id b)) session
+
+    given : Given A
+    given = record { result = Ok b; fuel = fuel_of scene }
+
+    fits : given.result ≡ Ok a → misfit b ≡ None → misfit a ≡ None
+    fits r m = let same : b ≡ a = cc in ap misfit (sym same) ∙ m
+
+    kept_or_not : (c : Bool) (item : Whole) → let t = cond c (undone {A = A} 1197 tree shared session scene) (keep call item scene (with_counters scene shared) after given) in
+        misfit b ≡ None → t.given.result ≡ Ok a → (misfit a ≡ None) × (is_open t.session ≡ is_open session)
+    kept_or_not true item m r = cc
+    kept_or_not false item m r = (fits r m, kept_is_open item session.transaction)
+
+    settled : (made : List Change) → let t = settle call (item_of call session.format left text tree session.vars.context shared (first b)) made scene (with_counters scene shared) after given
+        (undone 1197 tree shared session scene) in misfit b ≡ None → t.given.result ≡ Ok a → (misfit a ≡ None) × (is_open t.session ≡ is_open session)
+    settled [] m r = (fits r m, refl)
+    settled (c ∷ cs) m r =
+        let item : Whole = item_of call session.format left text tree session.vars.context shared (first b) (c ∷ cs) in
+        kept_or_not (takes_too_much call session.transaction item) item m r
+
+    by : (o : Option ℕ) → misfit b ≡ o → let t = ended call left text tree shared session first last_id before (unless_misfit o b scene) in t.given.result ≡ Ok a
+        → (misfit a ≡ None) × (is_open t.session ≡ is_open session)
+    by (Some code) m r = cc
+    by None m r = settled (made_behind (is_other call.number shared.writer) before scene) m r
 
 -- ---- the format stays
 
@@ -129,7 +185,7 @@ module _ (P : Type 0) (identity : Identity) (draw : Draw) (number : ℕ) where
           (more_one (items_of session.transaction) (item (c ∷ cs)) o.one m.1 q) (more_in session.format (items_of session.transaction) (item (c ∷ cs)) o.formats m.2)
 
   ended_left : {A : Type 0} (left : Left) (text : List ℕ) (tree : Statement) (shared : Shared) (session : Session Whole) (first last_id : A → Option ℤ) (e : Ending A)
-      → SharedHolds shared → Owns number shared session.format session.transaction → EndsWell (scene_for number left session.vars.context shared) e
+      → SharedHolds shared → Owns number shared session.format session.transaction → DoneWell (scene_for number left session.vars.context shared) e
       → let turn : Turn Whole (Given A) = ended call left text tree shared session first last_id (scene_for number left session.vars.context shared) e in
       StillHolds P number shared turn.shared session.format turn.session.format turn.session.transaction turn.committed
   ended_left {A = A} left text tree shared session first last_id e h o ends = by e ends
@@ -140,7 +196,7 @@ module _ (P : Type 0) (identity : Identity) (draw : Draw) (number : ℕ) where
           nothing_done P number (with_counters scene shared) session.format session.format session.transaction (counters_hold scene shared h)
           (counters_owned number scene shared session.format session.transaction o)
 
-      by : (e : Ending A) → EndsWell (scene_for number left session.vars.context shared) e
+      by : (e : Ending A) → DoneWell (scene_for number left session.vars.context shared) e
           → let turn : Turn Whole (Given A) = ended call left text tree shared session first last_id (scene_for number left session.vars.context shared) e in
           StillHolds P number shared turn.shared session.format turn.session.format turn.session.transaction turn.committed
       by (done a scene) ends =
@@ -158,10 +214,17 @@ module _ (P : Type 0) (identity : Identity) (draw : Draw) (number : ℕ) where
     pub statement_left : StatementsEndWell → (left : Left) (text : List ℕ) (s : Statement) → TurnLeft P number shared session.format (statement_run call left text s shared session)
     statement_left statements left text s =
         ended_left left text s shared session (λ (did : Did). did.first) (λ (did : Did). did.last_id) _ h o
-        (statements (setting_of shared.base.catalog session.vars.context (number_of_bytes 0 draw.uuid)) left.nesting [] s (scene_for number left session.vars.context shared))
+        (done_well _ _ (statements (setting_of shared.base.catalog session.vars.context (number_of_bytes 0 draw.uuid)) left.nesting [] s (scene_for number left session.vars.context shared)))
 
     pub values_left : EvaluationsEndWell → (left : Left) (text : List ℕ) (tree : Statement) (locals : List Local) (ts : Trees)
         → TurnLeft P number shared session.format (values_run call left text tree locals ts shared session)
     values_left evaluations left text tree locals ts =
         ended_left {A = List Value} left text tree shared session (λ _. None) (λ _. None) _ h o
-        (evaluations (setting_of shared.base.catalog session.vars.context (number_of_bytes 0 draw.uuid)) left.nesting locals ts (scene_for number left session.vars.context shared))
+        (done_well _ _ (evaluations (setting_of shared.base.catalog session.vars.context (number_of_bytes 0 draw.uuid)) left.nesting locals ts (scene_for number left session.vars.context shared)))
+
+    pub fitted_left : EvaluationsEndWell → (left : Left) (text : List ℕ) (ts : Trees) (misfit : List Value → Option ℕ) → TurnLeft P number shared session.format (fitted_run call left text ts misfit shared session)
+    fitted_left evaluations left text ts misfit =
+        let before = scene_for number left session.vars.context shared in
+        let setting = setting_of shared.base.catalog session.vars.context (number_of_bytes 0 draw.uuid) in
+        ended_left {A = List Value} left text (evaluate ts) shared session (λ _. None) (λ _. None) (fitted misfit (evaluation setting left.nesting [] ts before)) h o
+        (fitted_well misfit before (evaluation setting left.nesting [] ts before) (evaluations setting left.nesting [] ts before))

@@ -5,5 +5,6 @@ mod Logging
 pub mod Natural
 pub mod Owning
 mod Saving
+mod Staying
 pub mod Keeping
 pub mod Calling

@@ -1,5 +1,5 @@
 -- A node does on what it keeps of items what a whole run does on all that is known of them: one lemma a command.
-use Rattle.std.proofs.Common.{◌≡◌, ℕ, Bool, true, false, List, [], ◌∷◌, ◌++◌, map, find, zip, Option, Some, None, Result, Ok, Err, ℤ, refl, sym, ◌∙◌, ap, cond}
+use Rattle.std.proofs.Common.{◌≡◌, ℕ, Bool, true, false, List, [], ◌∷◌, ◌++◌, map, find, Option, Some, None, Result, Ok, Err, ℤ, refl, sym, ◌∙◌, ap, cond}
 use Rattle.std.proofs.lemmas.List.{map-append, length-map}
 use Rattle.std.proofs.lemmas.List.{map-set}
 use Rattle.std.proofs.Math.ListN.{get_or-map}
@@ -31,13 +31,13 @@ use Rattle.sql_meaning.specs.Running.{context_after, effect, evaluation}
 use Rattle.sql_reach.specs.Defining.{counters_after, number_of_bytes}
 use Rattle.sql_reach.specs.Closing.{closed}
 use Rattle.proc_model.specs.Talk.{Left, Refusal, Told}
-use Rattle.proc_model.specs.Procedures.{Came, scope_of, called}
+use Rattle.proc_model.specs.Procedures.{Came, assignments_of, scope_of, called}
 use Rattle.proc_model.proofs.Leading.{talk_seen}
 use Rattle.text_answers.specs.Answers.{TextAnswer, a_statement, a_syntax_error, too_deep, text_answer}
 use Rattle.session_model.specs.Answers.{ok, refused}
 use Rattle.session_model.specs.Sessions.{Save, Open, Session, Shared, State}
-use Rattle.session_model.specs.Running.{Call, full, Turn, Given, is_other, released, all_committed, counted_in, commit_shared, commit_open, keep, takes_too_much, undone, settle, ended, statement_run, values_run, expressions_run, writing_refusal, lock_refusal, item_of, made_behind, with_counters, with_context, fuel_of, scene_for, setting_of}
-use Rattle.session_model.specs.Commands.{answered, with_answer, definition_entry, begin_turn, commit_turn, save_turn, is_save_of, saves_but, changes_of_own, saves_up_to, changes_cut, back_to_save, back_in, release_in, defined_turn, made_turn, unless_answered, define_turn, definition_turn, assign_unless, first_refused, is_open, set_by, set_given, set_expressions, code_answer, is_too_long, given_turn, unless_refused, set_turn, plain_turn}
+use Rattle.session_model.specs.Running.{Call, full, Turn, Given, is_other, released, all_committed, counted_in, commit_shared, commit_open, keep, takes_too_much, undone, settle, ended, statement_run, values_run, expressions_run, fitted, fitted_run, writing_refusal, lock_refusal, item_of, made_behind, with_counters, with_context, fuel_of, scene_for, setting_of}
+use Rattle.session_model.specs.Commands.{answered, with_answer, definition_entry, begin_turn, commit_turn, save_turn, is_save_of, saves_but, changes_of_own, saves_up_to, changes_cut, back_to_save, back_in, release_in, defined_turn, made_turn, unless_answered, define_turn, definition_turn, is_open, set_by, set_given, set_expressions, set_misfit, code_answer, is_too_long, given_turn, unless_refused, set_turn, plain_turn}
 use Rattle.session_model.specs.Calling.{Reached, reached_by, step_check, told_of, unless_checked, counted_by, with_counted, effect_of, same, run_step, evaluate_step, assign_step, steps_of, left_with, arguments_run, came_to, called_by, called_with, call_turn}
 use Rattle.session_model.specs.declared.format.Format.{Format}
 use Rattle.session_model.proofs.Assigning.{open_same, all_assigned_by}
@@ -237,17 +237,17 @@ module _ (identity : Identity) (draw : Draw) (number : ℕ) where
       ap (λ (t : Turn Item (Unit {0})). define_turn item_call text s t) (commit_natural shared session) ∙ define_by text s (commit_open whole_call shared session)
 
   -- ---- SET, and statements that are run
-  assign_by : (o : Option ℕ) (assignments : List (Target × Value)) (t : Turn Whole (Given (List Value))) → assign_unless o assignments (item_turn t) ≡ item_turn (assign_unless o assignments t)
-  assign_by None assignments t =
-      ap (λ (session : Session Item). record { shared = t.shared; session = session; committed = map kept_entry t.committed; given = ok 0 }) (all_assigned_by assignments t.session)
-  assign_by (Some code) assignments t = refl
+  fitted_by : (left : Left) (text : List ℕ) (ts : Trees) (misfit : List Value → Option ℕ) (shared : Shared) (session : Session Whole)
+      → fitted_run item_call left text ts misfit shared (session_by kept_of session) ≡ item_turn (fitted_run whole_call left text ts misfit shared session)
+  fitted_by left text ts misfit shared session =
+      let before = scene_for number left session.vars.context shared in
+      ended_by {A = List Value} left text (evaluate ts) shared session (λ _. None) (λ _. None) before
+      (fitted misfit (evaluation (setting_of shared.base.catalog session.vars.context (number_of_bytes 0 draw.uuid)) left.nesting [] ts before))
 
   set_given_by : (as' : List (Target × Tree)) (r : Result (List Value) ℕ) (t : Turn Whole (Given (List Value))) → set_by as' r (item_turn t) ≡ item_turn (set_by as' r t)
   set_given_by as' (Err code) t = refl
   set_given_by as' (Ok vs) t =
-      let assignments = zip (map (λ (a : Target × Tree). a.0) as') vs in
-      ap (λ (b : Bool). assign_unless (first_refused b assignments) assignments (item_turn t)) (open_same t.session.transaction)
-      ∙ assign_by (first_refused (is_open t.session) assignments) assignments t
+      ap (λ (session : Session Item). record { shared = t.shared; session = session; committed = map kept_entry t.committed; given = ok 0 }) (all_assigned_by (assignments_of as' vs) t.session)
 
   long_by : (b : Bool) (answer : Answer) (shared : Shared) (session : Session Whole) (t : Turn Item Answer) (u : Turn Whole Answer) → t ≡ item_turn u
       → cond b (answered answer shared (session_by kept_of session)) t ≡ item_turn (cond b (answered answer shared session) u)
@@ -259,9 +259,12 @@ module _ (identity : Identity) (draw : Draw) (number : ℕ) where
   set_natural as' shared session =
       let ts = set_expressions as' in
       let text = spelling (evaluate ts) in
-      let run : set_given as' (expressions_run item_call full text ts shared (session_by kept_of session)) ≡ item_turn (set_given as' (expressions_run whole_call full text ts shared session)) =
-      ap (λ (t : Turn Item (Given (List Value))). set_given as' t) (expressions_by full text ts shared session)
-      ∙ set_given_by as' (expressions_run whole_call full text ts shared session).given.result (expressions_run whole_call full text ts shared session) in
+      let misfit = set_misfit (is_open session) as' in
+      let t = fitted_run whole_call full text ts misfit shared session in
+      let run : set_given as' (fitted_run item_call full text ts (set_misfit (is_open (session_by kept_of session)) as') shared (session_by kept_of session)) ≡ item_turn (set_given as' t) =
+      ap (λ (b : Bool). set_given as' (fitted_run item_call full text ts (set_misfit b as') shared (session_by kept_of session))) (open_same session.transaction)
+      ∙ ap (λ (u : Turn Item (Given (List Value))). set_given as' u) (fitted_by full text ts misfit shared session)
+      ∙ set_given_by as' t.given.result t in
       long_by (is_too_long text) (refused 1153) shared session _ _
       (unless_natural (code_answer (statement_refusal shared.base.catalog session_scope (set_all as'))) shared session _ _
       (unless_natural (lock_refusal number shared (evaluate ts)) shared session _ _ run))

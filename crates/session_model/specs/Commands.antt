@@ -1,5 +1,5 @@
 -- What each command of a session does: one definition a command.
-use Rattle.std.specs.Prelude.{ℕ, ◌^◌, Bool, false, not, nat_lt, if◌then◌else◌, List, [], ◌∷◌, ◌++◌, length, filter, find, map, take, zip, Option, Some, None, Result, Ok, Err, is_some}
+use Rattle.std.specs.Prelude.{ℕ, ◌^◌, Bool, false, not, nat_lt, if◌then◌else◌, List, [], ◌∷◌, ◌++◌, length, filter, find, map, take, Option, Some, None, Result, Ok, Err, is_some}
 use Rattle.std.specs.Option.{option_map}
 use Rattle.val_types.specs.declared.value.Value.{Value}
 use Rattle.sql_print.specs.StatementSpelling.{spelling}
@@ -19,11 +19,12 @@ use Rattle.sql_meaning.specs.Frames.{Context}
 use Rattle.sql_meaning.specs.Changing.{Did}
 use Rattle.sql_meaning.specs.Running.{most_nested}
 use Rattle.sql_reach.specs.Defining.{counters_after}
+use Rattle.proc_model.specs.Procedures.{assignments_of}
 use Rattle.session_model.specs.Answers.{ok, refused}
 use Rattle.session_model.specs.Formats.{format_for, format_refusal}
 use Rattle.session_model.specs.declared.format.Format.{Format}
 use Rattle.session_model.specs.Sessions.{Save, Open, just_opened, Session, Shared}
-use Rattle.session_model.specs.Running.{Call, full, Turn, Given, is_other, writing_refusal, lock_refusal, closed, commit_open, counted_in, logged_by, statement_run, expressions_run, given_answer}
+use Rattle.session_model.specs.Running.{Call, full, Turn, Given, is_other, writing_refusal, lock_refusal, closed, commit_open, counted_in, logged_by, statement_run, fitted_run, given_answer}
 use Rattle.session_ctx.specs.Variables.{setting, fitting, assigned}
 use Rattle.session_ctx.specs.declared.session.SessionVars.{SessionVars}
 use Rattle.log_entries.specs.Variables.{variable_set}
@@ -231,22 +232,18 @@ abbrev pub all_assigned : {I : Type 0} → Session I → List (Target × Value) 
 all_assigned session [] = session
 all_assigned session (a ∷ as') = all_assigned (assign session a) as'
 
--- all assigned, or none where one is refused: then the first refused counts
-abbrev pub assign_unless : {I : Type 0} → Option ℕ → List (Target × Value) → Turn I (Given (List Value)) → Turn I Answer
-assign_unless (Some code) assignments t = with_answer (refused code) t
-assign_unless None assignments t =
-    record { shared = t.shared; session = all_assigned t.session assignments; committed = t.committed; given = ok 0 }
+-- what refuses the values of SET's expressions: the first assignment that is refused
+abbrev pub set_misfit : (is_open : Bool) → List (Target × Tree) → List Value → Option ℕ
+set_misfit is_open as' vs = first_refused is_open (assignments_of as' vs)
 
 abbrev pub is_open : {I : Type 0} → Session I → Bool
 is_open session = is_some session.transaction
 
-abbrev pub assign_turn : {I : Type 0} → List (Target × Value) → Turn I (Given (List Value)) → Turn I Answer
-assign_turn assignments t = assign_unless (first_refused (is_open t.session) assignments) assignments t
-
--- the values assigned, or the error of their evaluation
+-- all values assigned, or the error of their evaluation
 abbrev pub set_by : {I : Type 0} → List (Target × Tree) → Result (List Value) ℕ → Turn I (Given (List Value)) → Turn I Answer
 set_by as' (Err code) t = with_answer (refused code) t
-set_by as' (Ok vs) t = assign_turn (zip (map (λ (a : Target × Tree). a.0) as') vs) t
+set_by as' (Ok vs) t =
+    record { shared = t.shared; session = all_assigned t.session (assignments_of as' vs); committed = t.committed; given = ok 0 }
 
 abbrev pub set_given : {I : Type 0} → List (Target × Tree) → Turn I (Given (List Value)) → Turn I Answer
 set_given as' t = set_by as' t.given.result t
@@ -263,7 +260,7 @@ abbrev pub code_answer : Option ℕ → Option Answer
 code_answer code = option_map refused code
 
 -- SET: 1153 for the printed DO of its expressions, the catalog's checks, the lock, the values of all its expressions, then
--- all assignments
+-- all assignments; where one of these is refused, the evaluation is taken back and none is made
 abbrev pub set_turn : {I : Type 0} → Call I → List (Target × Tree) → Shared → Session I → Turn I Answer
 set_turn call as' shared session =
     let ts = set_expressions as' in
@@ -272,7 +269,7 @@ set_turn call as' shared session =
     else
     unless_refused (code_answer (statement_refusal shared.base.catalog session_scope (set_all as'))) shared session
     (unless_refused (lock_refusal call.number shared (evaluate ts)) shared session
-    (set_given as' (expressions_run call full text ts shared session)))
+    (set_given as' (fitted_run call full text ts (set_misfit (is_open session) as') shared session)))
 
 -- ---- changes, SELECT and DO
 

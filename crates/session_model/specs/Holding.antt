@@ -1,6 +1,6 @@
 -- What holds of every run: the committed base is what its entries make of the first one, and the log ends where they end; the open
 -- changes are those of the writer's items, and a savepoint stands where it says; items and entries are what statements made.
-use Rattle.std.specs.Prelude.{◌≡◌, ℕ, ◌≤◌, ◌<◌, ◌^◌, ◌==◌, Bool, true, false, not, List, [], ◌∷◌, length, map, flat_map, take, Option, Some, None, is_some, slice_index_or}
+use Rattle.std.specs.Prelude.{◌≡◌, ℕ, ◌≤◌, ◌<◌, ◌^◌, ◌==◌, Bool, true, false, not, List, [], ◌∷◌, ◌++◌, length, map, flat_map, take, Option, Some, None, is_some, slice_index_or, Result, Ok, Err}
 use Rattle.std.specs.Option.{option_map_or, option_and_then}
 use Rattle.val_types.specs.declared.change.Change.{Change}
 use Rattle.auto_inc.specs.declared.counters.Counter.{Counter}
@@ -13,7 +13,9 @@ use Rattle.log_entries.specs.declared.entries.Entry.TheVariants.{Transaction, De
 use Rattle.log_entries.specs.Entries.{after}
 use Rattle.log_model.specs.Log.{LogPlace, counted_all, written_to}
 use Rattle.transaction_sizes.specs.Sizes.{are_too_large}
-use Rattle.proc_model.specs.Talk.{Left}
+use Rattle.proc_model.specs.Talk.{Left, Talk, brought}
+use Rattle.proc_model.specs.Procedures.{Came}
+use Rattle.session_ctx.specs.declared.session.SessionVars.{SessionVars}
 use Rattle.session_model.specs.Formats.{first_format, is_by_rows}
 use Rattle.session_model.specs.Sessions.{Save, Open, Session, Shared}
 use Rattle.session_model.specs.declared.format.Format.{Format}
@@ -22,9 +24,12 @@ use Rattle.answer_text.specs.declared.answer.End.{End}
 use Rattle.answer_text.specs.declared.answer.End.TheVariants as ends
 use Rattle.sql_meaning.specs.Frames.{Context}
 use Rattle.sql_reach.specs.Reach.{is_definition}
-use Rattle.sql_tree.specs.Statement.{Statement, begin, set_all, call_procedure}
+use Rattle.sql_locals.specs.declared.locals.Local.{Local}
+use Rattle.sql_tree.specs.Statement.{Statement, call_procedure}
+use Rattle.sql_tree.specs.Tree.{Trees}
 use Rattle.text_answers.specs.Answers.{a_statement, text_answer}
-use Rattle.session_model.specs.Running.{Call, Turn, definitions_changed, items_of, is_other, scene_for}
+use Rattle.session_model.specs.Running.{Call, Turn, commit_open, definitions_changed, items_of, is_other, scene_for}
+use Rattle.session_model.specs.Calling.{Reached, arguments_run, run_step, evaluate_step, steps_of}
 use Rattle.session_model.specs.Machine.{Whole, whole, kept_of, kept_entry, Machine, machine_after, first_state, nowhere, opened, step, statement_turn}
 
 -- ---- entries of whole items
@@ -170,28 +175,67 @@ is_refused (ends.Ok affected warned) = false
 is_refused (ends.Rows warned) = false
 is_refused (ends.Refused code place holder) = true
 
--- a change, a SELECT or a DO; savepoints; COMMIT and ROLLBACK
+-- where a command begins
+abbrev pub begun : {I : Type 0} → Shared → Session I → Reached I
+begun shared session = record { shared = shared; session = session; committed = []; given = tt }
+
+-- the variables of a session with the seeds and the forced INSERT_ID of another context
+abbrev pub with_used : Context → SessionVars → SessionVars
+with_used context vars = record vars { context = record (vars.context) { seeds = context.seeds; forced = context.forced } }
+
+-- all is as it was, but for what is used: counters, seeds and a forced INSERT_ID
+pub record IsLeft {I A B : Type 0} (old : Turn I A) (new : Turn I B) : Type 0 where
+  pub base : new.shared.base ≡ old.shared.base
+  pub changes : new.shared.changes ≡ old.shared.changes
+  pub writer : new.shared.writer ≡ old.shared.writer
+  pub count : new.shared.committed ≡ old.shared.committed
+  pub place : new.shared.place ≡ old.shared.place
+  pub transaction : new.session.transaction ≡ old.session.transaction
+  pub format : new.session.format ≡ old.session.format
+  pub vars : new.session.vars ≡ with_used new.session.vars.context old.session.vars
+  pub entries : new.committed ≡ old.committed
+
+-- every statement but a definition and CALL
 abbrev pub leaves_on_error : Statement → Bool
-leaves_on_error begin = false
-leaves_on_error (set_all as') = false
 leaves_on_error (call_procedure name ts) = false
 leaves_on_error s = not (is_definition s)
 
--- all is as it was, but for counters, and what the session sees of its statement
-pub record IsLeft {I : Type 0} (shared : Shared) (session : Session I) (t : Turn I Answer) : Type 0 where
-  pub base : t.shared.base ≡ shared.base
-  pub changes : t.shared.changes ≡ shared.changes
-  pub writer : t.shared.writer ≡ shared.writer
-  pub count : t.shared.committed ≡ shared.committed
-  pub place : t.shared.place ≡ shared.place
-  pub transaction : t.session.transaction ≡ session.transaction
-  pub entries : t.committed ≡ []
-
--- such a statement that is refused leaves all tables, the transaction and what was committed
+-- where it is refused, it leaves all tables, the transaction and what was committed, and assigns no variable
 abbrev pub ErrorsLeaveAll : Type 0
 ErrorsLeaveAll =
     (call : Call Whole) (text : List ℕ) (s : Statement) (shared : Shared) (session : Session Whole) → leaves_on_error s ≡ true
-    → is_refused (statement_turn call text s shared session).given.end ≡ true → IsLeft shared session (statement_turn call text s shared session)
+    → is_refused (statement_turn call text s shared session).given.end ≡ true → IsLeft (begun shared session) (statement_turn call text s shared session)
+
+-- a definition that is refused changes no table: all is as the commit of the open transaction leaves it
+abbrev pub DefinitionsLeaveAll : Type 0
+DefinitionsLeaveAll =
+    (call : Call Whole) (text : List ℕ) (s : Statement) (shared : Shared) (session : Session Whole) → is_definition s ≡ true
+    → is_refused (statement_turn call text s shared session).given.end ≡ true
+    → IsLeft (commit_open call shared session) (statement_turn call text s shared session)
+
+abbrev pub is_error : {A E : Type 0} → Result A E → Bool
+is_error (Ok a) = false
+is_error (Err e) = true
+
+-- in a CALL each statement, and each evaluation, also that of its arguments, that is refused leaves all where it stands
+pub record StepsLeaveAll : Type 0 where
+  pub arguments : (call : Call Whole) (text : List ℕ) (ts : Trees) (shared : Shared) (session : Session Whole)
+      → is_error (arguments_run call text ts shared session).given.result ≡ true → IsLeft (begun shared session) (arguments_run call text ts shared session)
+  pub statements : (call : Call Whole) (left : Left) (s : Statement) (at : Reached Whole) → is_error (run_step call left s at).0.result ≡ true
+      → IsLeft at (run_step call left s at).1
+  pub evaluations : (call : Call Whole) (left : Left) (locals : List Local) (ts : Trees) (at : Reached Whole)
+      → is_error (evaluate_step call left locals ts at).0.result ≡ true → IsLeft at (evaluate_step call left locals ts at).1
+
+-- the entries that were put out and the items of the open transaction stay, and more come behind them
+pub record Stays {I A B : Type 0} (old : Turn I A) (new : Turn I B) : Type 0 where
+  pub more_entries : List (Entry I)
+  pub entries : new.committed ≡ old.committed ++ more_entries
+  pub more_items : List I
+  pub items : items_of new.session.transaction ≡ items_of old.session.transaction ++ more_items
+
+-- what the steps of a CALL so far have done stays, whatever its procedure still does, and wherever an error ends it
+abbrev pub CallsKeepSteps : Type 0
+CallsKeepSteps = (call : Call Whole) (talk : Talk Came) (at : Reached Whole) → Stays at (brought (steps_of call) talk at).1
 
 -- a session beside another one's open changes reads the committed rows; the one that has the lock, or any where none has, its own
 abbrev pub ReadersSeeCommitted : Type 0

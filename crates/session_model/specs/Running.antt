@@ -294,6 +294,22 @@ values_run call left text tree locals ts shared session =
 abbrev pub expressions_run : {I : Type 0} → Call I → Left → List ℕ → Trees → Shared → Session I → Turn I (Given (List Value))
 expressions_run call left text ts shared session = values_run call left text (evaluate ts) [] ts shared session
 
+-- a value that is refused behind its evaluation is an error of the evaluation
+abbrev pub unless_misfit : {A : Type 0} → Option ℕ → A → Scene → Ending A
+unless_misfit None a scene = done a scene
+unless_misfit (Some code) a scene = failed code scene
+
+abbrev pub fitted : {A : Type 0} → (misfit : A → Option ℕ) → Ending A → Ending A
+fitted misfit (done a scene) = unless_misfit (misfit a) a scene
+fitted misfit (failed code scene) = failed code scene
+
+-- the same where the values may be refused: then what their evaluation changed is taken back
+abbrev pub fitted_run : {I : Type 0} → Call I → Left → List ℕ → Trees → (misfit : List Value → Option ℕ) → Shared → Session I → Turn I (Given (List Value))
+fitted_run call left text ts misfit shared session =
+    let before = scene_for call.number left session.vars.context shared in
+    ended call left text (evaluate ts) shared session (λ _. None) (λ _. None) before
+    (fitted misfit (evaluation (setting_of shared.base.catalog session.vars.context (number_of_bytes 0 call.draw.uuid)) left.nesting [] ts before))
+
 -- the answer of a statement
 abbrev pub did_answer : Did → Answer
 did_answer did = option_map_or showing did.shown (ok did.affected)

@@ -1,5 +1,5 @@
 //! What holds of the machine of sessions.
-ghost use Rattle.session_model.specs.Holding.{ErrorsLeaveAll, FormatsDecide, ReadersSeeCommitted, RunsBegin, RunsGoOn, RunsOpen};
+ghost use Rattle.session_model.specs.Holding.{CallsKeepSteps, DefinitionsLeaveAll, ErrorsLeaveAll, FormatsDecide, ReadersSeeCommitted, RunsBegin, RunsGoOn, RunsOpen, StepsLeaveAll};
 ghost use Rattle.session_model.specs.Machine.{StepsAreKept};
 
 use sql_meaning::statements_end_well;
@@ -28,10 +28,14 @@ pub fn formats_decide()
     statements_end_well();
 }
 
-/// A law: a change, a SELECT, a DO, a ROLLBACK TO or a RELEASE that is refused leaves all tables, the
-/// open transaction and what was committed as they were.
+/// A law: a statement that is refused leaves all tables, the open transaction and what was committed as they were, and assigns
+/// no variable; a definition leaves all as the commit of the open transaction does. In a CALL the statement or evaluation that
+/// is refused leaves all where it stands, and what those before it did stays.
 pub fn errors_leave_all()
-    ensures { ErrorsLeaveAll }
+    ensures statements { ErrorsLeaveAll }
+    ensures definitions { DefinitionsLeaveAll }
+    ensures steps { StepsLeaveAll }
+    ensures calls { CallsKeepSteps }
 {}
 
 /// A law: a session beside another one's open changes reads the rows that were last committed.

@@ -25,10 +25,11 @@
 //!   ([`runs_hold`], [`calls_committed`]).
 //! - What a step commits is logged in the format of its session: each item by its text under STATEMENT, and by its rows under ROW
 //!   ([`formats_decide`]).
-//! - A change, a SELECT, a DO or a statement on savepoints that is refused leaves all tables, the open transaction and what was
-//!   committed ([`errors_leave_all`]).
+//! - A statement that is refused leaves all tables, the open transaction and what was committed, and assigns no variable: also a
+//!   SET whose values are refused behind their evaluation. A definition leaves what the commit before it does. In a CALL the
+//!   statement that is refused leaves all where it stands, and what those before it did stays ([`errors_leave_all`]).
 //! - A session beside another one's open changes reads the rows that were last committed ([`readers_see_committed`]).
-//! - The worked scripts: a writer and a reader, savepoints, variables, formats, procedures; where the log ends behind a text and behind a row.
+//! - The worked scripts: a writer and a reader, savepoints, variables, formats, a SET taken back, procedures; where the log ends behind a text and behind a row.
 #![tactic(auto)]
 
 mod format;
@@ -41,5 +42,6 @@ pub use laws::{
 };
 pub use worked::{
     calls_committed, first_refusal_counts, formats_set, locals_closed_in, log_grows, logs_full,
-    procedures_called, savepoints_kept, variables_set, writers_and_readers,
+    procedures_called, refused_sets_taken_back, savepoints_kept, variables_set,
+    writers_and_readers,
 };

@@ -2,7 +2,7 @@
 //!
 //! The table `t` has two numbers, `id` and `v`, of which the first is its key.
 ghost use Rattle.std.specs.Prelude.{◌≡◌, [], ◌∷◌, codes, false, pos, true};
-ghost use Rattle.val_types.specs.declared.value.Value.TheVariants.{Int};
+ghost use Rattle.val_types.specs.declared.value.Value.TheVariants.{Int, Null};
 ghost use Rattle.session_model.specs.Answers.{ok, refused, refused_at, refused_by, showing};
 ghost use Rattle.session_model.specs.Running.{is_full};
 ghost use Rattle.session_model.specs.Worked.{adds_nine, answers_of, asks_f, called_with_rows, first_at, hides_v, inserts_twice, made_t, pair, places_of, s1, s2, texts_of};
@@ -41,6 +41,16 @@ pub fn first_refusal_counts()
     ensures { answers_of (s1 (codes "BEGIN") ∷ s1 (codes "SET binlog_format = 'ROW', rand_seed1 = 'a'") ∷ s1 (codes "SET rand_seed1 = 'a', binlog_format = 'ROW'")
         ∷ s1 (codes "SET auto_increment_offset = 5, binlog_format = 1") ∷ s1 (codes "SELECT @@auto_increment_offset") ∷ [])
         ≡ ok 0 ∷ refused 30006 ∷ refused 1231 ∷ refused 1231 ∷ showing ((Int (pos 1) ∷ []) ∷ []) ∷ [] }
+{}
+
+/// A SET that is refused behind its evaluation: the row of the function that it called is taken back, nothing is logged, and in a
+/// transaction it takes no lock.
+pub fn refused_sets_taken_back()
+    ensures answers { answers_of (made_t ∷ adds_nine ∷ s1 (codes "SET @a = f(), rand_seed1 = 'a'") ∷ s1 (codes "SELECT * FROM t") ∷ s1 (codes "SELECT @a")
+        ∷ s1 (codes "BEGIN") ∷ s1 (codes "SET @a = f(), binlog_format = ROW") ∷ s2 (codes "INSERT INTO t VALUES (1, 10)") ∷ [])
+        ≡ ok 0 ∷ ok 0 ∷ refused 1231 ∷ showing [] ∷ showing ((Null ∷ []) ∷ []) ∷ ok 0 ∷ refused 30006 ∷ ok 1 ∷ [] }
+    ensures logged { texts_of (made_t ∷ adds_nine ∷ s1 (codes "SET @a = f(), rand_seed1 = 'a'") ∷ s1 (codes "SET @a = f()") ∷ [])
+        ≡ (codes "DO `f`()" ∷ []) ∷ [] }
 {}
 
 /// Where the log ends behind a table that is created, and behind an INSERT that is logged by its text, or by its row.

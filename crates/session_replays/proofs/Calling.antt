@@ -9,7 +9,7 @@ use Rattle.sql_tree.specs.Tree.{Trees, no_tree, tree}
 use Rattle.sql_locals.specs.declared.locals.Local.{Local}
 use Rattle.sql_print.specs.StatementSpelling.{spelling}
 use Rattle.catalog_rules.specs.Checks.{session_scope}
-use Rattle.sql_meaning.specs.Scenes.{Scene}
+use Rattle.sql_meaning.specs.Scenes.{Scene, Ending, done, failed}
 use Rattle.sql_meaning.specs.Frames.{Setting}
 use Rattle.sql_meaning.specs.Changing.{Did}
 use Rattle.sql_meaning.specs.Running.{effect, evaluation}
@@ -20,12 +20,12 @@ use Rattle.closing_laws.specs.Laws.{ClosedDoesTheSame, FittedIsShort}
 use Rattle.proc_model.specs.Talk.{Left, Refusal, Told}
 use Rattle.proc_model.specs.Procedures.{scope_of, called}
 use Rattle.session_model.specs.Sessions.{Session, Shared}
-use Rattle.session_model.specs.Running.{Call, full, Turn, Given, items_of, scene_for, setting_of, statement_run, values_run}
+use Rattle.session_model.specs.Running.{Call, full, Turn, Given, items_of, scene_for, setting_of, statement_run, values_run, unless_misfit, fitted, fitted_run}
 use Rattle.session_model.specs.Calling.{Reached, reached_by, step_check, unless_checked, counted_by, with_counted, run_step, evaluate_step, assign_step, steps_of, left_with, arguments_run, called_by}
 use Rattle.session_model.specs.declared.format.Format.{Format}
 use Rattle.session_model.specs.Machine.{Whole, whole}
 use Rattle.session_model.specs.Holding.{Owns, SharedHolds}
-use Rattle.session_model.proofs.Keeping.{TurnLeft}
+use Rattle.session_model.proofs.Keeping.{TurnLeft, done_well, fitted_well}
 use Rattle.session_model.proofs.Calling.{CallHolds, ran_holds, gave_holds, assign_holds}
 use Rattle.session_replays.specs.Again.{AllGive, without_values}
 use Rattle.session_replays.specs.Sizes.{has_sizes}
@@ -39,6 +39,15 @@ record CallKept (n : ℕ) (shared : Shared) (format : Format) (at : Reached Whol
   stands : CallHolds (Unit {0}) n shared format at
   kept : TurnKept n shared at
 
+-- values that were not refused came of the evaluation
+fitted_done : {A : Type 0} (misfit : A → Option ℕ) (e : Ending A) (a : A) (scene : Scene) → fitted misfit e ≡ done a scene → e ≡ done a scene
+fitted_done misfit (failed code after) a scene q = q
+fitted_done misfit (done b after) a scene q = by (misfit b) q
+  where
+    by : (o : Option ℕ) → unless_misfit o b after ≡ done a scene → done b after ≡ done a scene
+    by None r = r
+    by (Some code) r = cc
+
 module _ (identity : Identity) (draw : Draw) (number : ℕ) where
   abbrev call : Call Whole
   call = record { identity = identity; draw = draw; number = number; known = whole }
@@ -50,7 +59,7 @@ module _ (identity : Identity) (draw : Draw) (number : ℕ) where
     statement_kept statements left text s =
         let before = scene_for number left session.vars.context shared in
         let setting = setting_of shared.base.catalog session.vars.context (number_of_bytes 0 draw.uuid) in
-        ended_kept call left text s shared session (λ (did : Did). did.first) (λ (did : Did). did.last_id) (effect setting left.nesting [] s before) refl h o g (statements setting left.nesting [] s before)
+        ended_kept call left text s shared session (λ (did : Did). did.first) (λ (did : Did). did.last_id) (effect setting left.nesting [] s before) refl h o g (done_well before _ (statements setting left.nesting [] s before))
         (λ did scene e. record { did = did; ends = e })
 
     -- expressions, where their item does without locals what the DO over them does
@@ -60,8 +69,17 @@ module _ (identity : Identity) (draw : Draw) (number : ℕ) where
         let before = scene_for number left session.vars.context shared in
         let setting = setting_of shared.base.catalog session.vars.context (number_of_bytes 0 draw.uuid) in
         ended_kept call left text item shared session (λ (vs : List Value). None) (λ (vs : List Value). None) (evaluation setting left.nesting locals ts before) refl h o g
-        (evaluations setting left.nesting locals ts before)
+        (done_well before _ (evaluations setting left.nesting locals ts before))
         (λ vs scene e. record { did = _; ends = same setting left.nesting before ∙ (sets_run_as_dos setting left.nesting locals ts before ∙ ap without_values e) })
+
+    -- expressions of a SET, whose values may be refused
+    pub fitted_kept : EvaluationsEndWell → (left : Left) (text : List ℕ) (ts : Trees) (misfit : List Value → Option ℕ) → TurnKept number shared (fitted_run call left text ts misfit shared session)
+    fitted_kept evaluations left text ts misfit =
+        let before = scene_for number left session.vars.context shared in
+        let setting = setting_of shared.base.catalog session.vars.context (number_of_bytes 0 draw.uuid) in
+        ended_kept call left text (evaluate ts) shared session (λ (vs : List Value). None) (λ (vs : List Value). None) (fitted misfit (evaluation setting left.nesting [] ts before)) refl h o g
+        (fitted_well misfit before _ (evaluations setting left.nesting [] ts before))
+        (λ vs scene e. record { did = _; ends = sets_run_as_dos setting left.nesting [] ts before ∙ ap without_values (fitted_done misfit (evaluation setting left.nesting [] ts before) vs scene e) })
 
     pub arguments_kept : EvaluationsEndWell → (text : List ℕ) (ts : Trees) → TurnKept number shared (arguments_run call text ts shared session)
     arguments_kept evaluations text no_tree = nothing_kept number shared session.transaction g

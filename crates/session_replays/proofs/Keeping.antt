@@ -8,7 +8,6 @@ use Rattle.sql_meaning.specs.Scenes.{Scene, Ending, done, failed}
 use Rattle.sql_meaning.specs.Frames.{Context}
 use Rattle.sql_meaning.specs.Changing.{Did}
 use Rattle.sql_meaning.specs.Running.{effect, context_after}
-use Rattle.sql_meaning.specs.Leading.{EndsWell}
 use Rattle.session_ctx.specs.declared.session.SessionVars.{SessionVars}
 use Rattle.session_model.specs.Sessions.{Open, Session, Shared, tables_with}
 use Rattle.sql_reach.specs.Defining.{number_of_bytes}
@@ -16,6 +15,7 @@ use Rattle.session_model.specs.Running.{Known, Call, Turn, Given, is_other, item
 use Rattle.session_model.specs.declared.format.Format.{Format}
 use Rattle.session_model.specs.Machine.{Whole, whole}
 use Rattle.session_model.specs.Holding.{changes_in, Owns, SharedHolds}
+use Rattle.session_model.proofs.Keeping.{DoneWell}
 use Rattle.session_model.proofs.Owning.{Frame, StillHolds, own_changes, made_kept}
 use Rattle.session_replays.specs.Again.{Gives, AllGive, EntriesGive}
 use Rattle.session_replays.proofs.Giving.{all_behind, entries_behind}
@@ -123,7 +123,7 @@ module _ (call : Call Whole) (left : Left) (text : List ℕ) (tree : Statement) 
 
   -- a statement that ended, done or with an error
   pub ended_kept : {A : Type 0} (session : Session Whole) (first last_id : A → Option ℤ) (e : Ending A) → call.known ≡ whole → SharedHolds shared → Owns call.number shared session.format session.transaction
-      → AllGive shared.base [] (items_of session.transaction) → EndsWell (scene_for call.number left session.vars.context shared) e
+      → AllGive shared.base [] (items_of session.transaction) → DoneWell (scene_for call.number left session.vars.context shared) e
       → ((a : A) (scene : Scene) → e ≡ done a scene → WasDone call left shared session.vars.context tree (scene_for call.number left session.vars.context shared) scene)
       → let turn : Turn Whole (Given A) = ended call left text tree shared session first last_id (scene_for call.number left session.vars.context shared) e in
       Kept call.number shared turn.shared turn.session.transaction turn.committed

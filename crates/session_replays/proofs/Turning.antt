@@ -1,5 +1,5 @@
 -- What each command of a session leaves: one lemma a command.
-use Rattle.std.proofs.Common.{◌≡◌, ℕ, inl, inr, Bool, true, false, List, [], ◌∷◌, map, find, zip, Option, Some, None, Result, Ok, Err, refl, sym, subst, cond}
+use Rattle.std.proofs.Common.{◌≡◌, ℕ, inl, inr, Bool, true, false, List, [], ◌∷◌, find, Option, Some, None, Result, Ok, Err, refl, sym, subst, cond}
 use Rattle.std.specs.Prelude.{is_some}
 use Rattle.std.specs.List.{list_all}
 use Rattle.std.specs.Option.{option_map}
@@ -15,13 +15,14 @@ use Rattle.answer_text.specs.declared.answer.Answer.{Answer}
 use Rattle.text_answers.specs.Answers.{TextAnswer, a_statement, a_syntax_error, too_deep, text_answer}
 use Rattle.sql_meaning.specs.Frames.{Context}
 use Rattle.sql_meaning.specs.Leading.{StatementsEndWell, EvaluationsEndWell}
+use Rattle.proc_model.specs.Procedures.{assignments_of}
 use Rattle.session_model.specs.Answers.{ok, refused, refused_at}
 use Rattle.session_model.specs.Sessions.{Save, Open, Session, Shared}
 use Rattle.closing_laws.specs.Laws.{ClosedDoesTheSame, FittedIsShort}
 use Rattle.port_traits.specs.declared.identity.Identity.{Identity}
 use Rattle.port_traits.specs.declared.identity.Draw.{Draw}
-use Rattle.session_model.specs.Running.{Call, Turn, Given, is_other, released, items_of, commit_shared, commit_entries, commit_open, full, expressions_run, lock_refusal, writing_refusal}
-use Rattle.session_model.specs.Commands.{answered, unless_refused, begin_turn, dropped, rollback_turn, is_save_of, saves_but, changes_of_own, saved, save_turn, cut_back, changes_cut, back_to_save, back_in, release_in, definition_item, made_turn, unless_answered, define_turn, definition_turn, assign_unless, first_refused, is_open, set_by, set_expressions, set_turn, code_answer, is_too_long, plain_turn}
+use Rattle.session_model.specs.Running.{Call, Turn, Given, is_other, released, items_of, commit_shared, commit_entries, commit_open, full, fitted_run, lock_refusal, writing_refusal}
+use Rattle.session_model.specs.Commands.{answered, unless_refused, begin_turn, dropped, rollback_turn, is_save_of, saves_but, changes_of_own, saved, save_turn, cut_back, changes_cut, back_to_save, back_in, release_in, definition_item, made_turn, unless_answered, define_turn, definition_turn, is_open, set_by, set_expressions, set_misfit, set_turn, code_answer, is_too_long, plain_turn}
 use Rattle.session_model.specs.Calling.{arguments_run, call_turn}
 use Rattle.session_model.specs.Machine.{Whole, whole, statement_turn, text_turn, with_count}
 use Rattle.session_model.specs.Holding.{Owns, SharedHolds}
@@ -30,7 +31,7 @@ use Rattle.session_model.proofs.Owning.{held_not_other, must_own, free_to_write}
 use Rattle.session_model.proofs.Calling.{arguments_left, arguments_format}
 use Rattle.session_replays.specs.Again.{AllGive}
 use Rattle.session_replays.specs.Sizes.{has_sizes}
-use Rattle.session_replays.proofs.Calling.{statement_kept, values_kept, arguments_kept, called_kept}
+use Rattle.session_replays.proofs.Calling.{statement_kept, fitted_kept, arguments_kept, called_kept}
 use Rattle.session_replays.proofs.Giving.{all_front, define_behind}
 use Rattle.session_replays.proofs.Locking.{released_base, commit_other, dropped_base, cut_base}
 use Rattle.session_replays.proofs.Keeping.{Kept, TurnKept, nothing_kept}
@@ -134,30 +135,25 @@ module _ (identity : Identity) (draw : Draw) (number : ℕ) (shared : Shared) (s
 
   -- ---- statements that are run
   module _ (statements : StatementsEndWell) (evaluations : EvaluationsEndWell) (closes : ClosedDoesTheSame) (fits : FittedIsShort) (sized : list_all has_sizes shared.base.catalog ≡ true) where
+    set_by_kept : (as' : List (Target × Tree)) (r : Result (List Value) ℕ) (t : Turn Whole (Given (List Value))) → TurnKept call.number shared t → TurnKept call.number shared (set_by as' r t)
+    set_by_kept as' (Err code) t k = k
+    set_by_kept as' (Ok vs) t k = record {
+      entries = k.entries;
+      items = subst (λ (u : Option (Open Whole)). AllGive t.shared.base [] (items_of u)) (sym (all_keep (assignments_of as' vs) t.session)) k.items;
+      frame = k.frame;
+    }
+
     -- a SET as the DO over its expressions
-    expressions_kept : (text : List ℕ) (ts : Trees) → TurnKept call.number shared (expressions_run call full text ts shared session)
-    expressions_kept text ts = values_kept identity draw number shared session h o g evaluations full text (evaluate ts) [] ts (λ setting nesting scene. refl)
-
-    assigned_kept : (refusal : Option ℕ) (assignments : List (Target × Value)) (t : Turn Whole (Given (List Value))) → TurnKept call.number shared t → TurnKept call.number shared (assign_unless refusal assignments t)
-    assigned_kept None assignments t k =
-        record { entries = k.entries; items = subst (λ (u : Option (Open Whole)). AllGive t.shared.base [] (items_of u)) (sym (all_keep assignments t.session)) k.items; frame = k.frame }
-    assigned_kept (Some code) assignments t k = k
-
-    set_given_kept : (as' : List (Target × Tree)) (r : Result (List Value) ℕ) (t : Turn Whole (Given (List Value))) → TurnKept call.number shared t → TurnKept call.number shared (set_by as' r t)
-    set_given_kept as' (Err code) t k = k
-    set_given_kept as' (Ok vs) t k =
-        let assignments = zip (map (λ (a : Target × Tree). a.0) as') vs in
-        assigned_kept (first_refused (is_open t.session) assignments) assignments t k
-
     set_kept : (as' : List (Target × Tree)) → TurnKept call.number shared (set_turn call as' shared session)
     set_kept as' =
         let ts = set_expressions as' in
         let text = spelling (evaluate ts) in
-        let run = expressions_run call full text ts shared session in
+        let misfit = set_misfit (is_open session) as' in
+        let run = fitted_run call full text ts misfit shared session in
         long_kept (is_too_long text) (refused 1153) _
         (unless_kept (code_answer (statement_refusal shared.base.catalog session_scope (set_all as'))) _
         (unless_kept (lock_refusal call.number shared (evaluate ts)) _
-        (set_given_kept as' run.given.result run (expressions_kept text ts))))
+        (set_by_kept as' run.given.result run (fitted_kept identity draw number shared session h o g evaluations full text ts misfit))))
 
     call_kept : (name : List ℕ) (ts : Trees) → TurnKept call.number shared (call_turn call name ts shared session)
     call_kept name ts =

@@ -1,5 +1,5 @@
 -- SET, where it begins with all that a command has, as it answers.
-use Rattle.std.proofs.Common.{◌≡◌, ℕ, List, zip, Ok, Err, ap, subst}
+use Rattle.std.proofs.Common.{◌≡◌, ℕ, List, zip, Option, Ok, Err, ap, subst}
 use Rattle.val_types.specs.declared.value.Value.{Value}
 use Rattle.val_types.specs.declared.refusal.SqlRefusal.TheVariants.{Sql}
 use Rattle.answer_text.specs.declared.answer.Answer.{Answer}
@@ -8,31 +8,32 @@ use Rattle.sql_tree.specs.Tree.{Trees}
 use Rattle.sql_tree.specs.declared.statements.Target.{Target}
 use Rattle.prog_run.specs.declared.meter.Meter.{Meter}
 use Rattle.proc_parts.specs.Calls.{left_of}
-use Rattle.session_model.specs.Answers.{refused}
+use Rattle.session_model.specs.Answers.{ok, refused}
 use Rattle.session_model.specs.Sessions.{Session}
-use Rattle.session_model.specs.Running.{Call, Fuel, expressions_run, full}
-use Rattle.session_model.specs.Commands.{first_refused, is_open}
+use Rattle.session_model.specs.Running.{Call, Fuel, fitted_run, full}
+use Rattle.session_model.specs.Commands.{all_assigned}
 use Rattle.session_desk.specs.Desk.{shared_of}
 use Rattle.session_steps.specs.Ran.{full_meter}
 use Rattle.session_steps.specs.Turned.{EndsWith, IsTurn, giving}
 use Rattle.session_desk.specs.declared.desk.Desk.{Desk}
-use Rattle.session_sets.specs.Assigning.{assigned_answer, assigned_session, result_of, set_from}
+use Rattle.session_sets.specs.Assigning.{result_of, set_from}
 use Rattle.session_sets.proofs.SetParts.{set_failed, set_values}
 
-module _ (call : Call Item) (old new : Desk) (session after : Session Item) (start : Meter) (fuel : Fuel) (begins : start ≡ full_meter) where
-  pub set_told : (names : List Target) (text said : List ℕ) (ts : Trees) (vs : List Value) (answer : Answer) (later : Session Item) → said ≡ text → EndsWith (Ok vs) fuel old new after (expressions_run call (left_of start) said ts (shared_of old) session)
-      → answer ≡ assigned_answer (first_refused (is_open after) (zip names vs)) → later ≡ assigned_session (first_refused (is_open after) (zip names vs)) (zip names vs) after
-      → IsTurn old new later answer (set_from names (giving result_of (expressions_run call full text ts (shared_of old) session)))
+module _ (call : Call Item) (old new : Desk) (session after : Session Item) (start : Meter) (fuel : Fuel) (begins : start ≡ full_meter) (misfit : List Value → Option ℕ) where
+  pub set_told : (names : List Target) (text said : List ℕ) (ts : Trees) (vs : List Value) (answer : Answer) (later : Session Item) → said ≡ text
+      → EndsWith (Ok vs) fuel old new after (fitted_run call (left_of start) said ts misfit (shared_of old) session) → answer ≡ ok 0 → later ≡ all_assigned after (zip names vs)
+      → IsTurn old new later answer (set_from names (giving result_of (fitted_run call full text ts misfit (shared_of old) session)))
   set_told names text said ts vs answer later same ends answered left =
-      subst (λ (x : List ℕ). IsTurn old new later answer (set_from names (giving result_of (expressions_run call full x ts (shared_of old) session)))) same
-      (subst (λ (m : Meter). IsTurn old new later answer (set_from names (giving result_of (expressions_run call (left_of m) said ts (shared_of old) session)))) begins
-      (set_values names vs old new after later answer (giving result_of (expressions_run call (left_of start) said ts (shared_of old) session)) ends.0 (ap result_of ends.1) answered left))
+      subst (λ (x : List ℕ). IsTurn old new later answer (set_from names (giving result_of (fitted_run call full x ts misfit (shared_of old) session)))) same
+      (subst (λ (m : Meter). IsTurn old new later answer (set_from names (giving result_of (fitted_run call (left_of m) said ts misfit (shared_of old) session)))) begins
+      (set_values names vs old new after later answer (giving result_of (fitted_run call (left_of start) said ts misfit (shared_of old) session)) ends.0 (ap result_of ends.1) answered left))
 
-  pub set_refused : (names : List Target) (text said : List ℕ) (ts : Trees) (code : ℕ) (answer : Answer) → said ≡ text → EndsWith {A = List Value} (Err (Sql code)) fuel old new after (expressions_run call (left_of start) said ts (shared_of old) session)
-      → answer ≡ refused code → IsTurn old new after answer (set_from names (giving result_of (expressions_run call full text ts (shared_of old) session)))
+  pub set_refused : (names : List Target) (text said : List ℕ) (ts : Trees) (code : ℕ) (answer : Answer) → said ≡ text
+      → EndsWith {A = List Value} (Err (Sql code)) fuel old new after (fitted_run call (left_of start) said ts misfit (shared_of old) session) → answer ≡ refused code
+      → IsTurn old new after answer (set_from names (giving result_of (fitted_run call full text ts misfit (shared_of old) session)))
   set_refused names text said ts code answer same ends answered =
-      subst (λ (x : List ℕ). IsTurn old new after answer (set_from names (giving result_of (expressions_run call full x ts (shared_of old) session)))) same
-      (subst (λ (m : Meter). IsTurn old new after answer (set_from names (giving result_of (expressions_run call (left_of m) said ts (shared_of old) session)))) begins
-      (set_failed names code old new after answer (giving result_of (expressions_run call (left_of start) said ts (shared_of old) session)) ends.0 (ap result_of ends.1) answered))
+      subst (λ (x : List ℕ). IsTurn old new after answer (set_from names (giving result_of (fitted_run call full x ts misfit (shared_of old) session)))) same
+      (subst (λ (m : Meter). IsTurn old new after answer (set_from names (giving result_of (fitted_run call (left_of m) said ts misfit (shared_of old) session)))) begins
+      (set_failed names code old new after answer (giving result_of (fitted_run call (left_of start) said ts misfit (shared_of old) session)) ends.0 (ap result_of ends.1) answered))
 
 pub ruleset setting = (set_told, set_refused)

@@ -14,11 +14,11 @@ use Rattle.sql_tree.specs.declared.statements.Target.{Target}
 use Rattle.sql_tree.specs.declared.expressions.Expr.{Expr}
 use Rattle.sql_tree.specs.declared.statements.Stmt.{Stmt}
 use Rattle.sql_tree.specs.declared.statements.Stmt.{the_lemmas}
-use Rattle.session_model.specs.Answers.{refused}
+use Rattle.session_model.specs.Answers.{ok, refused}
 use Rattle.session_model.specs.Sessions.{Session, Shared}
-use Rattle.session_model.specs.Running.{Call, Given, Turn, expressions_run, full, lock_refusal}
-use Rattle.session_model.specs.Commands.{answered, assign_unless, code_answer, first_refused, is_open, is_too_long, set_by, set_expressions, set_turn, unless_refused}
-use Rattle.session_sets.specs.Assigning.{assigned_answer, assigned_session, result_of, set_from, set_parts, set_to, target_of, value_of}
+use Rattle.session_model.specs.Running.{Call, Given, Turn, fitted_run, full, lock_refusal}
+use Rattle.session_model.specs.Commands.{all_assigned, answered, code_answer, is_open, is_too_long, set_by, set_expressions, set_misfit, set_turn, unless_refused}
+use Rattle.session_sets.specs.Assigning.{misfit_of, result_of, set_from, set_parts, set_to, target_of, value_of}
 use Rattle.session_desk.specs.declared.desk.Desk.{Desk}
 use Rattle.session_steps.specs.Turned.{IsTurn, Moves, giving}
 
@@ -34,22 +34,17 @@ expressions_of (a ∷ as') = ap (λ ts. tree (view_tree a.value) ts) (expression
 
 -- ---- what SET leaves
 
-assigned_is : (refusal : Option ℕ) (as' : List (Target × Value)) (t : Turn Item (Given (List Value)))
-    → assign_unless refusal as' t ≡ record { shared = t.shared; session = assigned_session refusal as' t.session; committed = t.committed; given = assigned_answer refusal }
-assigned_is (Some code) as' t = refl
-assigned_is None as' t = refl
-
 set_by_is : (as' : List (Target × Tree)) (result : Result (List Value) ℕ) (t : Turn Item (Given (List Value)))
     → set_by as' result t ≡ set_to (map (λ (a : Target × Tree). a.0) as') result (giving result_of t)
 set_by_is as' (Err code) t = refl
-set_by_is as' (Ok vs) t = assigned_is (first_refused (is_open t.session) (zip (map (λ (a : Target × Tree). a.0) as') vs)) (zip (map (λ (a : Target × Tree). a.0) as') vs) t
+set_by_is as' (Ok vs) t = refl
 
 set_of : (call : Call Item) (as' : List (Target × Tree)) (shared : Shared) (session : Session Item)
     → set_turn call as' shared session
     ≡ set_parts call (statement_refusal shared.base.catalog session_scope (set_all as')) (map (λ (a : Target × Tree). a.0) as') (set_expressions as') shared session
 set_of call as' shared session =
     let ts : Trees = set_expressions as' in
-    let t : Turn Item (Given (List Value)) = expressions_run call full (spelling (evaluate ts)) ts shared session in
+    let t : Turn Item (Given (List Value)) = fitted_run call full (spelling (evaluate ts)) ts (set_misfit (is_open session) as') shared session in
     ap (λ (u : Turn Item Answer). if is_too_long (spelling (evaluate ts)) then answered (refused 1153) shared session
     else
     unless_refused (code_answer (statement_refusal shared.base.catalog session_scope (set_all as'))) shared session
@@ -65,14 +60,12 @@ set_taken_apart call as' refusal names ts shared session checks targets values =
     ∙ ap (λ (us : Trees). set_parts call (statement_refusal shared.base.catalog session_scope (set_all (view_assignments as'))) (map (λ (a : Target × Tree). a.0) (view_assignments as')) us shared session) (values ∙ sym (expressions_of as'))
     ∙ sym (set_of call (view_assignments as') shared session)
 
--- values assigned, or none
+-- values assigned
 pub set_values : (names : List Target) (vs : List Value) (old new : Desk) (ran after : Session Item) (answer : Answer) (t : Turn Item (Result (List Value) ℕ)) → Moves old new ran t → t.given ≡ Ok vs
-    → answer ≡ assigned_answer (first_refused (is_open ran) (zip names vs)) → after ≡ assigned_session (first_refused (is_open ran) (zip names vs)) (zip names vs) ran → IsTurn old new after answer (set_from names t)
+    → answer ≡ ok 0 → after ≡ all_assigned ran (zip names vs) → IsTurn old new after answer (set_from names t)
 set_values names vs old new ran after answer t moves gave said left =
-    subst (λ (r : Result (List Value) ℕ). IsTurn old new after answer (set_to names r t)) (sym gave) (
-      (moves.0, left ∙ ap (λ (s : Session Item). assigned_session (first_refused (is_open s) (zip names vs)) (zip names vs) s) moves.1, moves.2),
-      said ∙ ap (λ (s : Session Item). assigned_answer (first_refused (is_open s) (zip names vs))) moves.1,
-    )
+    subst (λ (r : Result (List Value) ℕ). IsTurn old new after answer (set_to names r t)) (sym gave)
+    ((moves.0, left ∙ ap (λ (s : Session Item). all_assigned s (zip names vs)) moves.1, moves.2), said)
 
 pub set_failed : (names : List Target) (code : ℕ) (old new : Desk) (after : Session Item) (answer : Answer) (t : Turn Item (Result (List Value) ℕ)) → Moves old new after t → t.given ≡ Err code
     → answer ≡ refused code → IsTurn old new after answer (set_from names t)
@@ -83,16 +76,17 @@ set_failed names code old new after answer t moves gave said =
 
 pub set_goes : (call : Call Item) (refusal : Option ℕ) (names : List Target) (text : List ℕ) (ts us : Trees) (shared : Shared) (session : Session Item)
     → text ≡ spelling (evaluate ts) → is_too_long text ≡ false → refusal ≡ None → None ≡ lock_refusal call.number shared (evaluate ts) → us ≡ ts
-    → set_from names (giving result_of (expressions_run call full text us shared session)) ≡ set_parts call refusal names ts shared session
+    → set_from names (giving result_of (fitted_run call full text us (misfit_of (is_open session) names) shared session)) ≡ set_parts call refusal names ts shared session
 set_goes call refusal names text ts us shared session is short none free same =
-    ap (λ (vs : Trees). set_from names (giving result_of (expressions_run call full text vs shared session))) same
-    ∙ ap (λ (x : List ℕ). set_from names (giving result_of (expressions_run call full x ts shared session))) is
-    ∙ ap (λ (o : Option Answer). unless_refused o shared session (set_from names (giving result_of (expressions_run call full (spelling (evaluate ts)) ts shared session)))) free
+    let misfit : List Value → Option ℕ = misfit_of (is_open session) names in
+    ap (λ (vs : Trees). set_from names (giving result_of (fitted_run call full text vs misfit shared session))) same
+    ∙ ap (λ (x : List ℕ). set_from names (giving result_of (fitted_run call full x ts misfit shared session))) is
+    ∙ ap (λ (o : Option Answer). unless_refused o shared session (set_from names (giving result_of (fitted_run call full (spelling (evaluate ts)) ts misfit shared session)))) free
     ∙ ap (λ (r : Option ℕ). unless_refused (code_answer r) shared session (unless_refused (lock_refusal call.number shared (evaluate ts)) shared session
-    (set_from names (giving result_of (expressions_run call full (spelling (evaluate ts)) ts shared session))))) (sym none)
+    (set_from names (giving result_of (fitted_run call full (spelling (evaluate ts)) ts misfit shared session))))) (sym none)
     ∙ ap (λ (b : Bool). if b then answered (refused 1153) shared session
     else unless_refused (code_answer refusal) shared session (unless_refused (lock_refusal call.number shared (evaluate ts)) shared session
-    (set_from names (giving result_of (expressions_run call full (spelling (evaluate ts)) ts shared session))))) (sym (ap is_too_long (sym is) ∙ short))
+    (set_from names (giving result_of (fitted_run call full (spelling (evaluate ts)) ts misfit shared session))))) (sym (ap is_too_long (sym is) ∙ short))
 
 -- DO over expressions
 pub view_do : (es : List Expr) → view (Stmt.Do es) ≡ evaluate (view_trees es)

@@ -1,5 +1,5 @@
 -- The parts of an assignment, and SET by its parts.
-use Rattle.std.specs.Prelude.{ℕ, if◌then◌else◌, List, zip, Option, Some, None, Result, Ok, Err}
+use Rattle.std.specs.Prelude.{ℕ, Bool, if◌then◌else◌, List, zip, Option, Result, Ok, Err}
 use Rattle.val_types.specs.declared.value.Value.{Value}
 use Rattle.log_entries.specs.declared.entries.Item.{Item}
 use Rattle.answer_text.specs.declared.answer.Answer.{Answer}
@@ -11,7 +11,7 @@ use Rattle.sql_tree.specs.declared.statements.Assignment.{Assignment}
 use Rattle.sql_tree.specs.declared.statements.Target.{Target}
 use Rattle.session_model.specs.Answers.{ok, refused}
 use Rattle.session_model.specs.Sessions.{Session, Shared}
-use Rattle.session_model.specs.Running.{Call, Given, Turn, expressions_run, full, lock_refusal}
+use Rattle.session_model.specs.Running.{Call, Given, Turn, fitted_run, full, lock_refusal}
 use Rattle.session_model.specs.Commands.{all_assigned, answered, code_answer, first_refused, is_open, is_too_long, unless_refused}
 use Rattle.session_steps.specs.Turned.{giving}
 
@@ -23,15 +23,9 @@ value_of a = a.value
 
 -- ---- what SET leaves
 
--- the answer, by the first refusal
-abbrev pub assigned_answer : Option ℕ → Answer
-assigned_answer (Some code) = refused code
-assigned_answer None = ok 0
-
--- the session: all is assigned where nothing is refused
-abbrev pub assigned_session : Option ℕ → List (Target × Value) → Session Item → Session Item
-assigned_session (Some code) as' session = session
-assigned_session None as' session = all_assigned session as'
+-- what refuses values for targets: the first assignment that is refused
+abbrev pub misfit_of : (is_open : Bool) → List Target → List Value → Option ℕ
+misfit_of is_open names vs = first_refused is_open (zip names vs)
 
 -- what an evaluation gave, without what is left of turns
 abbrev pub result_of : {A : Type 0} → Given A → Result A ℕ
@@ -40,12 +34,7 @@ result_of given = given.result
 -- values set, or the error of their evaluation
 abbrev pub set_to : List Target → Result (List Value) ℕ → Turn Item (Result (List Value) ℕ) → Turn Item Answer
 set_to names (Err code) t = record { shared = t.shared; session = t.session; committed = t.committed; given = refused code }
-set_to names (Ok vs) t = record {
-  shared = t.shared;
-  session = assigned_session (first_refused (is_open t.session) (zip names vs)) (zip names vs) t.session;
-  committed = t.committed;
-  given = assigned_answer (first_refused (is_open t.session) (zip names vs));
-}
+set_to names (Ok vs) t = record { shared = t.shared; session = all_assigned t.session (zip names vs); committed = t.committed; given = ok 0 }
 
 abbrev pub set_from : List Target → Turn Item (Result (List Value) ℕ) → Turn Item Answer
 set_from names t = set_to names t.given t
@@ -57,4 +46,4 @@ set_parts call refusal names ts shared session =
     else
     unless_refused (code_answer refusal) shared session
     (unless_refused (lock_refusal call.number shared (evaluate ts)) shared session
-    (set_from names (giving result_of (expressions_run call full (spelling (evaluate ts)) ts shared session))))
+    (set_from names (giving result_of (fitted_run call full (spelling (evaluate ts)) ts (misfit_of (is_open session) names) shared session))))

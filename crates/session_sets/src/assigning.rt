@@ -1,7 +1,7 @@
 //! The assignments of SET.
 ghost use Rattle.std.specs.Prelude.{◌≡◌, map, zip, IfOk, OnOk, Some, None};
-ghost use Rattle.session_model.specs.Commands.{all_assigned, assign, assignment_refusal, first_refused, variable_refusal, with_setting};
-ghost use Rattle.session_sets.specs.Assigning.{target_of, value_of};
+ghost use Rattle.session_model.specs.Commands.{all_assigned, assign, assignment_refusal, first_refused, is_open, variable_refusal, with_setting};
+ghost use Rattle.session_sets.specs.Assigning.{misfit_of, target_of, value_of};
 
 use crate::formats::{format_for, format_refusal, is_format};
 use session_ctx::{set_variable, variable_fits};
@@ -36,7 +36,7 @@ fn refusal(is_open: bool, target: &Target, value: &Value) -> Option<SqlError>
 
 /// The refusal of the first assignment that is refused.
 #[tactic(auto, using(crate::proofs::Zipping::zipping))]
-pub(crate) fn first_refused(is_open: bool, targets: &[Target], values: &[Value]) -> Option<SqlError>
+fn first_refused(is_open: bool, targets: &[Target], values: &[Value]) -> Option<SqlError>
     ensures { result ≡ first_refused is_open (zip targets.now values.now) }
 {
     let (mut targets, mut values) = (targets, values);
@@ -51,6 +51,18 @@ pub(crate) fn first_refused(is_open: bool, targets: &[Target], values: &[Value])
         values = values_left;
     }
     None
+}
+
+/// What refuses values for the targets of a session's SET.
+pub(crate) fn misfit_of(
+    session: &Session,
+    targets: &List<Target>,
+    values: &List<Value>,
+) -> Option<SqlError>
+    ensures { result ≡ misfit_of (is_open session.now) targets.now values.now }
+{
+    let is_open = session.transaction.is_some();
+    first_refused(is_open, targets.as_slice(), values.as_slice())
 }
 
 /// A session variable set; nothing is where the value is refused.

@@ -5,40 +5,38 @@ ghost use Rattle.sql_tree.specs.Statement.{evaluate, set_all};
 ghost use Rattle.sql_tree.specs.StatementView.{view, view_assignments};
 ghost use Rattle.sql_tree.specs.View.{view_trees};
 ghost use Rattle.catalog_rules.specs.Checks.{session_scope, statement_refusal};
-ghost use Rattle.session_model.specs.Running.{expressions_run, full};
-ghost use Rattle.session_model.specs.Commands.{first_refused, is_open, is_too_long, set_turn};
-ghost use Rattle.session_sets.specs.Assigning.{assigned_answer, assigned_session, result_of, set_from, set_parts};
+ghost use Rattle.session_model.specs.Answers.{ok};
+ghost use Rattle.session_model.specs.Running.{fitted_run, full};
+ghost use Rattle.session_model.specs.Commands.{all_assigned, is_open, is_too_long, set_turn};
+ghost use Rattle.session_sets.specs.Assigning.{misfit_of, result_of, set_from, set_parts};
 ghost use Rattle.session_steps.specs.Calls.{called};
 ghost use Rattle.session_desk.specs.Desk.{shared_of};
 ghost use Rattle.session_steps.specs.Turned.{IsTurn, giving};
 
-use crate::assigning::{assign_all, first_refused, taken_apart};
+use crate::assigning::{assign_all, taken_apart};
+use crate::evaluating::fitting_values;
 use crate::refusing::{LONGEST, TOO_LONG, lock_refusal};
 use answer_text::Answer;
 use node_answers::{NodeFault, ok, refused};
 use session_desk::{Call, Desk, Session};
-use session_steps::{evaluate_with_text, full};
+use session_steps::full;
+use sql_locals::Locals;
 use sql_print::print;
 use sql_tree::{Assignment, Expr, Stmt, Target};
 use std::alloc::Global;
 use val_types::{Bytes, List, NoMemory, SqlError, SqlRefusal, Value};
 
-/// Assigns values, or refuses as the first that is refused and assigns none.
-fn assign_unless_refused(
+/// Assigns values, which nothing refuses.
+fn assign_values(
     alloc: Global,
     session: &mut Session,
     targets: &List<Target>,
     values: &List<Value>,
 ) -> Result<Answer, NoMemory>
-    ensures answer { IfOk result (λ answer. answer ≡ assigned_answer (first_refused (is_open session.old) (zip targets.now values.now))) }
-    ensures session { OnOk result (session.new ≡ assigned_session (first_refused (is_open session.old) (zip targets.now values.now)) (zip targets.now values.now) session.old) }
+    ensures answer { IfOk result (λ answer. answer ≡ ok 0) }
+    ensures session { OnOk result (session.new ≡ all_assigned session.old (zip targets.now values.now)) }
 {
-    let (targets, values) = (targets.as_slice(), values.as_slice());
-    let is_open = session.transaction.is_some();
-    if let Some(code) = first_refused(is_open, targets, values) {
-        return Ok(refused(alloc, code));
-    }
-    assign_all(alloc, session, targets, values)?;
+    assign_all(alloc, session, targets.as_slice(), values.as_slice())?;
     Ok(ok(alloc, 0))
 }
 
@@ -55,22 +53,25 @@ fn set_values(
     expressions: &List<Expr>,
 ) -> Result<Answer, NodeFault>
     requires { view statement.now ≡ evaluate (view_trees expressions.now) }
-    ensures { IfOk result (λ answer. IsTurn desk.old desk.new session.new answer (set_from targets.now (giving result_of (expressions_run (called call.now) full text.now (view_trees expressions.now) (shared_of desk.old) session.old)))) }
+    ensures { IfOk result (λ answer. IsTurn desk.old desk.new session.new answer (set_from targets.now (giving result_of (fitted_run (called call.now) full text.now (view_trees expressions.now) (misfit_of (is_open session.old) targets.now) (shared_of desk.old) session.old)))) }
 {
+    let locals = Locals::new(alloc);
     let mut meter = full();
-    match evaluate_with_text(
+    match fitting_values(
         alloc,
         call,
         desk,
         session,
-        text.as_slice(),
+        text,
+        targets,
         statement,
         expressions,
+        &locals,
         &mut meter,
     ) {
         Err(SqlRefusal::NoMemory) => Err(NodeFault::NoMemory),
         Err(SqlRefusal::Sql(code)) => Ok(refused(alloc, code)),
-        Ok(values) => Ok(assign_unless_refused(alloc, session, targets, &values)?),
+        Ok(values) => Ok(assign_values(alloc, session, targets, &values)?),
     }
 }
 

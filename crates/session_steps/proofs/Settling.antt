@@ -52,7 +52,7 @@ drop_front : (cs more : List Change) → drop (length cs) (cs ++ more) ≡ more
 drop_front [] more = refl
 drop_front (c ∷ cs) more = drop_front cs more
 
-take_front : (cs more : List Change) → take (length cs) (cs ++ more) ≡ cs
+pub take_front : (cs more : List Change) → take (length cs) (cs ++ more) ≡ cs
 take_front [] more = refl
 take_front (c ∷ cs) more = ap (λ rest. c ∷ rest) (take_front cs more)
 

@@ -46,6 +46,12 @@ changes_kept call item [] mark last_id shared session = record { shared = shared
 changes_kept call item (c ∷ cs) mark last_id shared session =
     refused_unless (item_kept call (item (c ∷ cs)) mark shared session).given last_id (item_kept call (item (c ∷ cs)) mark shared session)
 
+-- the changes of an evaluation, where an error refuses its values: those behind the mark are taken back
+abbrev pub settled : Call Item → Option ℕ → (List Change → Item) → List Change → ℕ → ℤ → Shared → Session Item → Turn Item (Result (Unit {0}) ℕ)
+settled call None item changes mark last_id shared session = changes_kept call item changes mark last_id shared session
+settled call (Some code) item changes mark last_id shared session =
+    record { shared = cut_to call.number mark shared; session = session; committed = []; given = Err code }
+
 -- the item of a statement by the context behind it, with the numbers before it, by its rows or by its text
 abbrev pub item_made : List ℕ → Statement → Before → Option ℤ → (rows : Bool) → List Object → Context → List Change → Item
 item_made text s before first rows catalog context changes = statement_item text (carried catalog s (as_before before context) first) rows catalog changes

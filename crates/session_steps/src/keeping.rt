@@ -8,7 +8,7 @@ ghost use Rattle.session_model.specs.Commands.{changes_of_own};
 ghost use Rattle.session_model.specs.Formats.{is_by_rows};
 ghost use Rattle.session_steps.specs.Calls.{called};
 ghost use Rattle.session_desk.specs.Desk.{own_behind, shared_of};
-ghost use Rattle.session_steps.specs.Keeping.{changes_kept, item_kept, item_made};
+ghost use Rattle.session_steps.specs.Keeping.{changes_kept, item_kept, item_made, settled};
 ghost use Rattle.session_steps.specs.Turned.{EndsAs, IsTurn};
 
 use log_entries::Item;
@@ -81,13 +81,14 @@ fn keep_in(
     ensures { IfOk result (λ kept. IsTurn desk.old desk.new session.new kept (item_kept (called call.now) item mark (shared_of desk.old) (record session.old { transaction = Some transaction }))) }
 {
     let mut open = transaction;
-    let is_kept = open.add_item(item)?;
+    let added = open.add_item(item);
+    session.transaction = Some(open);
+    let is_kept = added?;
     if is_kept {
         desk.take_lock(call.number);
     } else {
         desk.cut(call.number, mark);
     }
-    session.transaction = Some(open);
     Ok(is_kept)
 }
 
@@ -148,6 +149,29 @@ pub(crate) fn keep(
     }
     session.vars.context.set_last_id(start.before.last_id);
     Err(SqlRefusal::Sql(TOO_LARGE))
+}
+
+/// Keeps what the expressions of a SET changed, or takes it back where an error refuses their values.
+pub fn settle(
+    alloc: Global,
+    call: &Call<'_>,
+    desk: &mut Desk,
+    session: &mut Session,
+    text: &[u8],
+    statement: &Stmt,
+    start: Start,
+    refusal: Option<SqlError>,
+) -> Result<(), SqlRefusal>
+    requires { IsTrue (int_le (pos 0) start.before.last_id) }
+    ensures { EndsAs result desk.old desk.new session.new (settled (called call.now) refusal
+        (item_made text.now (view statement.now) (start.before) None (is_by_rows (session.old.format)) ((shared_of desk.old).base.catalog) (session.old.vars.context))
+        (own_behind (call.now.number) (start.mark) (shared_of desk.old)) (start.mark) (start.before.last_id) (shared_of desk.old) session.old) }
+{
+    if let Some(code) = refusal {
+        desk.cut(call.number, start.mark);
+        return Err(SqlRefusal::Sql(code));
+    }
+    keep(alloc, call, desk, session, text, statement, start, None)
 }
 
 /// The same by the canonical text, which is made only where the statement changed something.

@@ -1,12 +1,12 @@
 //! Statements run on what all sessions of a source share, and kept as items with the log: one step of a session each.
 //!
 //! - `running`: a statement run on the desk, on a copy beside another session's open changes; `keeping`: what it changed,
-//!   kept as its item
+//!   kept as its item, or taken back ([`settle`])
 //! - `stepping`: [`run_with_text`] and [`evaluate_with_text`], a statement run and kept; [`run_printed`] and
-//!   [`evaluate_closed`], the same of a procedure
+//!   [`evaluate_closed`], the same of a procedure; [`evaluate_unkept`], the part that all evaluations have in common
 //!
 //! Desk, session and log stand in `session_desk`. The definitions in specs/ say what a command has round it (`Calls`), how
-//! statements end (`Ran`), and what turns of the machine of `session_model` leave of desk, session and log (`Turned`,
+//! statements end (`Ran`), what an evaluation gives before it is kept (`Evaluating`), and what turns of the machine of `session_model` leave of desk, session and log (`Turned`,
 //! `Keeping`).
 //!
 //! # Proved
@@ -23,5 +23,8 @@ mod keeping;
 mod running;
 mod stepping;
 
+pub use keeping::{Start, settle};
 pub use running::full;
-pub use stepping::{evaluate_closed, evaluate_with_text, run_printed, run_with_text};
+pub use stepping::{
+    Evaluated, evaluate_closed, evaluate_unkept, evaluate_with_text, run_printed, run_with_text,
+};

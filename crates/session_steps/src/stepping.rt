@@ -1,5 +1,6 @@
 //! A statement run, with what it changed kept as its item.
-ghost use Rattle.std.specs.Prelude.{◌≡◌, [], false};
+ghost use Rattle.std.specs.Prelude.{◌≡◌, [], false, int_le, pos, IfOk, IsTrue};
+ghost use Rattle.logged_items.specs.Items.{numbers_of};
 ghost use Rattle.sql_print.specs.StatementSpelling.{spelling};
 ghost use Rattle.sql_tree.specs.Statement.{evaluate};
 ghost use Rattle.sql_tree.specs.StatementView.{view};
@@ -8,13 +9,15 @@ ghost use Rattle.sql_reach.specs.Closing.{closed};
 ghost use Rattle.sql_reach.specs.Reach.{is_definition};
 ghost use Rattle.prog_run.specs.Runs.{Spends};
 ghost use Rattle.proc_parts.specs.Calls.{left_of};
-ghost use Rattle.session_model.specs.Running.{expressions_run, statement_run, values_run};
+ghost use Rattle.session_model.specs.Commands.{changes_of_own};
+ghost use Rattle.session_model.specs.Running.{expressions_run, statement_run, values_run, with_context};
 ghost use Rattle.session_steps.specs.Calls.{called};
 ghost use Rattle.session_desk.specs.Desk.{shared_of};
-ghost use Rattle.session_steps.specs.Ran.{fuel_at, told_given};
+ghost use Rattle.session_steps.specs.Ran.{Gives, fuel_at, place_at, told_given};
+ghost use Rattle.session_steps.specs.Evaluating.{values_of};
 ghost use Rattle.session_steps.specs.Turned.{EndsWith, giving};
 
-use crate::keeping::{keep, keep_closed, keep_printed, start_of};
+use crate::keeping::{Start, keep, keep_closed, keep_printed, start_of};
 use crate::running::{evaluate, run};
 use prog_run::{Meter, Outcome};
 use session_desk::{Call, Desk, Session};
@@ -101,6 +104,49 @@ pub fn run_printed(
     }
 }
 
+/// The values of expressions, and where their evaluation began: what it changed is neither kept nor taken back.
+#[derive(Drop)]
+pub struct Evaluated {
+    pub values: List<Value>,
+    pub start: Start,
+}
+
+/// Evaluates expressions of a session where locals are in scope. What they changed is neither kept nor taken back.
+pub fn evaluate_unkept(
+    alloc: Global,
+    call: &Call<'_>,
+    desk: &mut Desk,
+    session: &mut Session,
+    expressions: &List<Expr>,
+    locals: &Locals,
+    meter: &mut Meter,
+) -> Result<Evaluated, SqlRefusal>
+    ensures gives { Gives (call.now.number) (call.now.draw.now) (left_of meter.old) locals.now (view_trees expressions.now) (values_of result) (fuel_at meter.new) (place_at (shared_of desk.old) (session.old.vars.context)) (place_at (shared_of desk.new) (session.new.vars.context)) }
+    ensures session { session.new ≡ with_context (session.new.vars.context) session.old }
+    ensures mark { IfOk result (λ evaluated. evaluated.start.mark ≡ changes_of_own (call.now.number) (shared_of desk.old)) }
+    ensures before { IfOk result (λ evaluated. evaluated.start.before ≡ numbers_of (session.old.vars.context)) }
+    ensures counts { IfOk result (λ evaluated. IsTrue (int_le (pos 0) evaluated.start.before.last_id)) }
+    ensures log { desk.new.log ≡ desk.old.log }
+    ensures committed { desk.new.committed ≡ desk.old.committed }
+    ensures spends { Spends meter.old meter.new }
+{
+    let start = start_of(desk, call.number, &session.vars.context);
+    let context = &mut session.vars.context;
+    match evaluate(
+        alloc,
+        desk,
+        call.number,
+        expressions,
+        locals,
+        context,
+        call.draw,
+        meter,
+    ) {
+        Err(refusal) => Err(refusal),
+        Ok(values) => Ok(Evaluated { values, start }),
+    }
+}
+
 /// The values of a session's expressions, where no local is in scope.
 fn evaluate_kept(
     alloc: Global,
@@ -118,23 +164,21 @@ fn evaluate_kept(
     ensures ends { EndsWith result (fuel_at meter.new) desk.old desk.new session.new (expressions_run (called call.now) (left_of meter.old) text.now (view_trees expressions.now) (shared_of desk.old) session.old) }
     ensures spends { Spends meter.old meter.new }
 {
-    let start = start_of(desk, call.number, &session.vars.context);
-    let context = &mut session.vars.context;
-    match evaluate(
-        alloc,
-        desk,
-        call.number,
-        expressions,
-        locals,
-        context,
-        call.draw,
-        meter,
-    ) {
+    match evaluate_unkept(alloc, call, desk, session, expressions, locals, meter) {
         Err(refusal) => Err(refusal),
-        Ok(values) => {
-            match keep(alloc, call, desk, session, text, statement, start, None) {
+        Ok(evaluated) => {
+            match keep(
+                alloc,
+                call,
+                desk,
+                session,
+                text,
+                statement,
+                evaluated.start,
+                None,
+            ) {
                 Err(refusal) => Err(refusal),
-                Ok(()) => Ok(values),
+                Ok(()) => Ok(evaluated.values),
             }
         }
     }
@@ -185,23 +229,20 @@ pub fn evaluate_closed(
     ensures ends { EndsWith result (fuel_at meter.new) desk.old desk.new session.new (values_run (called call.now) (left_of meter.old) (spelling (closed (view statement.now) locals.now)) (closed (view statement.now) locals.now) locals.now (view_trees expressions.now) (shared_of desk.old) session.old) }
     ensures spends { Spends meter.old meter.new }
 {
-    let start = start_of(desk, call.number, &session.vars.context);
-    let context = &mut session.vars.context;
-    match evaluate(
-        alloc,
-        desk,
-        call.number,
-        expressions,
-        locals,
-        context,
-        call.draw,
-        meter,
-    ) {
+    match evaluate_unkept(alloc, call, desk, session, expressions, locals, meter) {
         Err(refusal) => Err(refusal),
-        Ok(values) => {
-            match keep_closed(alloc, call, desk, session, statement, locals, start) {
+        Ok(evaluated) => {
+            match keep_closed(
+                alloc,
+                call,
+                desk,
+                session,
+                statement,
+                locals,
+                evaluated.start,
+            ) {
                 Err(refusal) => Err(refusal),
-                Ok(()) => Ok(values),
+                Ok(()) => Ok(evaluated.values),
             }
         }
     }

@@ -1,5 +1,5 @@
 //! BEGIN.
-ghost use Rattle.std.specs.Prelude.{◌≡◌, IfOk};
+ghost use Rattle.std.specs.Prelude.{◌≡◌, IfOk, OnErr};
 ghost use Rattle.session_model.specs.Commands.{begin_turn};
 ghost use Rattle.session_steps.specs.Calls.{called};
 ghost use Rattle.session_desk.specs.Desk.{shared_of};
@@ -19,7 +19,9 @@ pub fn begin(
     desk: &mut Desk,
     session: &mut Session,
 ) -> Result<Answer, NoMemory>
-    ensures { IfOk result (λ answer. IsTurn desk.old desk.new session.new answer (begin_turn (called call.now) (shared_of desk.old) session.old)) }
+    ensures ok { IfOk result (λ answer. IsTurn desk.old desk.new session.new answer (begin_turn (called call.now) (shared_of desk.old) session.old)) }
+    ensures desk { OnErr result (desk.new ≡ desk.old) }
+    ensures session { OnErr result (session.new ≡ session.old) }
 {
     commit_open(alloc, call, desk, session)?;
     session.transaction = Some(Open::new(alloc));

@@ -1,5 +1,5 @@
 //! COMMIT and ROLLBACK.
-ghost use Rattle.std.specs.Prelude.{◌≡◌, IfOk, OnOk};
+ghost use Rattle.std.specs.Prelude.{◌≡◌, IfOk, OnErr, OnOk};
 ghost use Rattle.session_model.specs.Running.{commit_entries, commit_open, commit_shared, items_of};
 ghost use Rattle.session_model.specs.Commands.{commit_turn, rollback_turn};
 ghost use Rattle.session_steps.specs.Calls.{called};
@@ -24,6 +24,7 @@ fn commit_items(
 ) -> Result<(), NoMemory>
     ensures shared { OnOk result (shared_of desk.new ≡ commit_shared (called call.now) context.now (items_of transaction.now) (shared_of desk.old)) }
     ensures log { OnOk result (Logs (commit_entries (called call.now) context.now (items_of transaction.now)) desk.old desk.new) }
+    ensures err { OnErr result (desk.new ≡ desk.old) }
 {
     let Some(open) = transaction else {
         return Ok(());
@@ -35,17 +36,25 @@ fn commit_items(
     desk.commit(alloc, context.stamp(), call.identity.server_id, items)
 }
 
-/// Ends the open transaction of a session, with its changes.
+/// Ends the open transaction of a session, with its changes. Where memory is short, it stays open as it was.
 pub fn commit_open(
     alloc: Global,
     call: &Call<'_>,
     desk: &mut Desk,
     session: &mut Session,
 ) -> Result<(), NoMemory>
-    ensures { OnOk result (Moves desk.old desk.new session.new (commit_open (called call.now) (shared_of desk.old) session.old)) }
+    ensures ok { OnOk result (Moves desk.old desk.new session.new (commit_open (called call.now) (shared_of desk.old) session.old)) }
+    ensures desk { OnErr result (desk.new ≡ desk.old) }
+    ensures session { OnErr result (session.new ≡ session.old) }
 {
-    let transaction = session.transaction.take();
-    commit_items(alloc, call, desk, &session.vars.context, &transaction)?;
+    commit_items(
+        alloc,
+        call,
+        desk,
+        &session.vars.context,
+        &session.transaction,
+    )?;
+    session.transaction = None;
     desk.release(call.number);
     Ok(())
 }
@@ -57,7 +66,9 @@ pub fn commit(
     desk: &mut Desk,
     session: &mut Session,
 ) -> Result<Answer, NoMemory>
-    ensures { IfOk result (λ answer. IsTurn desk.old desk.new session.new answer (commit_turn (called call.now) (shared_of desk.old) session.old)) }
+    ensures ok { IfOk result (λ answer. IsTurn desk.old desk.new session.new answer (commit_turn (called call.now) (shared_of desk.old) session.old)) }
+    ensures desk { OnErr result (desk.new ≡ desk.old) }
+    ensures session { OnErr result (session.new ≡ session.old) }
 {
     commit_open(alloc, call, desk, session)?;
     Ok(ok(alloc, 0))

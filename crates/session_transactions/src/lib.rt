@@ -8,8 +8,8 @@
 //! `source_node` has the other commands, and stands on this crate.
 //!
 //! # Proved
-//! - Each command does just what the machine's does: answer, desk, session and log are those of its turn, or memory is short.
-//!   [`rollback`], [`rollback_to`] and [`release_savepoint`] want no memory.
+//! - Each command does just what the machine's does: answer, desk, session and log are those of its turn, or memory is short, and
+//!   then all are as before. [`rollback`], [`rollback_to`] and [`release_savepoint`] want no memory.
 //! - [`commit_open`] leaves what the machine's commit leaves: where the transaction has an item, one entry of its items is
 //!   logged, and the lock is free.
 //!

@@ -1,5 +1,5 @@
 //! SAVEPOINT, ROLLBACK TO and RELEASE SAVEPOINT.
-ghost use Rattle.std.specs.Prelude.{◌≡◌, IfOk};
+ghost use Rattle.std.specs.Prelude.{◌≡◌, IfOk, OnErr};
 ghost use Rattle.log_entries.specs.declared.entries.Item.{Item as LoggedItem};
 ghost use Rattle.session_model.specs.Commands.{back_turn, release_in, save_turn};
 ghost use Rattle.session_steps.specs.Calls.{called};
@@ -23,12 +23,14 @@ pub fn savepoint(
     session: &mut Session,
     name: &Bytes,
 ) -> Result<Answer, NoMemory>
-    ensures { IfOk result (λ answer. IsTurn desk.now desk.now session.new answer (save_turn (called call.now) name.now (shared_of desk.now) session.old)) }
+    ensures ok { IfOk result (λ answer. IsTurn desk.now desk.now session.new answer (save_turn (called call.now) name.now (shared_of desk.now) session.old)) }
+    ensures session { OnErr result (session.new ≡ session.old) }
 {
     let changes = desk.own_changes(call.number);
     if let Some(mut open) = session.transaction.take() {
-        open.save(alloc, name, changes)?;
+        let saved = open.save(alloc, name, changes);
         session.transaction = Some(open);
+        saved?;
     }
     Ok(ok(alloc, 0))
 }

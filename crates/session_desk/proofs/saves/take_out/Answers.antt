@@ -4,5 +4,5 @@ use Rattle.session_model.specs.Sessions.{Save}
 use Rattle.session_model.specs.Commands.{is_save_of}
 use Rattle.session_desk.proofs.saves.take_out.Goals as goal
 
-pub returns : goal.returns
-returns c = filter_same _ (λ (s : Save). not (is_save_of c.args.name.now s)) _ (λ x b f' k. search rules) _ _ c.retain.ensures.filtered
+pub returns-clause-left : goal.returns-clause-left
+returns-clause-left c = filter_same _ (λ (s : Save). not (is_save_of c.args.name.now s)) _ (λ x b f' k. search rules) _ _ c.retain.ensures.filtered

@@ -1,0 +1,61 @@
+//! The values of SET's expressions.
+ghost use Rattle.std.specs.Prelude.{◌≡◌, []};
+ghost use Rattle.sql_tree.specs.Statement.{evaluate};
+ghost use Rattle.sql_tree.specs.StatementView.{view};
+ghost use Rattle.sql_tree.specs.View.{view_trees};
+ghost use Rattle.proc_parts.specs.Calls.{left_of};
+ghost use Rattle.session_model.specs.Running.{fitted_run};
+ghost use Rattle.session_model.specs.Commands.{is_open};
+ghost use Rattle.session_sets.specs.Assigning.{misfit_of};
+ghost use Rattle.session_steps.specs.Calls.{called};
+ghost use Rattle.session_desk.specs.Desk.{shared_of};
+ghost use Rattle.session_steps.specs.Ran.{fuel_at};
+ghost use Rattle.session_steps.specs.Turned.{EndsWith};
+
+use crate::assigning::misfit_of;
+use prog_run::Meter;
+use session_desk::{Call, Desk, Session};
+use session_steps::{evaluate_unkept, settle};
+use sql_locals::Locals;
+use sql_tree::{Expr, Stmt, Target};
+use std::alloc::Global;
+use val_types::{Bytes, List, SqlRefusal, Value};
+
+/// The values of SET's expressions, where no local is in scope. Where an assignment of them is refused, what their evaluation
+/// changed is taken back; else it is kept.
+pub(crate) fn fitting_values(
+    alloc: Global,
+    call: &Call<'_>,
+    desk: &mut Desk,
+    session: &mut Session,
+    text: &Bytes,
+    targets: &List<Target>,
+    statement: &Stmt,
+    expressions: &List<Expr>,
+    locals: &Locals,
+    meter: &mut Meter,
+) -> Result<List<Value>, SqlRefusal>
+    requires is { view statement.now ≡ evaluate (view_trees expressions.now) }
+    requires none { locals.now ≡ [] }
+    ensures { EndsWith result (fuel_at meter.new) desk.old desk.new session.new (fitted_run (called call.now) (left_of meter.old) text.now (view_trees expressions.now) (misfit_of (is_open session.old) targets.now) (shared_of desk.old) session.old) }
+{
+    match evaluate_unkept(alloc, call, desk, session, expressions, locals, meter) {
+        Err(refusal) => Err(refusal),
+        Ok(evaluated) => {
+            let misfit = misfit_of(session, targets, &evaluated.values);
+            match settle(
+                alloc,
+                call,
+                desk,
+                session,
+                text.as_slice(),
+                statement,
+                evaluated.start,
+                misfit,
+            ) {
+                Err(refusal) => Err(refusal),
+                Ok(()) => Ok(evaluated.values),
+            }
+        }
+    }
+}
