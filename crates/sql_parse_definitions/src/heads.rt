@@ -12,7 +12,7 @@ ghost use Rattle.sql_syntax.specs.Tokens.{keyword, sign};
 use crate::types::a_type;
 use sql_lex::{Keyword, Symbol};
 use sql_parse_tokens::fault::Stop;
-use sql_parse_tokens::lexeme::sign_code;
+use sql_parse_tokens::kinds::{FIRST_WORD, sign_code};
 use sql_parse_tokens::opening::opening;
 use sql_parse_tokens::parts::a_name;
 use sql_parse_tokens::rest::Rest;
@@ -169,12 +169,12 @@ fn one_trait<'t>(rest: Rest<'t>) -> Result<((), Rest<'t>), Stop<'t>>
 
 /// What traits begin with.
 const TRAIT_WORDS: [u8; 6] = [
-    Keyword::Not as u8,
-    Keyword::Deterministic as u8,
-    Keyword::No as u8,
-    Keyword::Contains as u8,
-    Keyword::Reads as u8,
-    Keyword::Modifies as u8,
+    FIRST_WORD + Keyword::Not as u8,
+    FIRST_WORD + Keyword::Deterministic as u8,
+    FIRST_WORD + Keyword::No as u8,
+    FIRST_WORD + Keyword::Contains as u8,
+    FIRST_WORD + Keyword::Reads as u8,
+    FIRST_WORD + Keyword::Modifies as u8,
 ];
 
 /// Traits, none too, which are read and dropped.

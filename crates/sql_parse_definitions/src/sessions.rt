@@ -10,6 +10,7 @@ ghost use Rattle.sql_tree.specs.StatementView.{view};
 
 use sql_lex::{Keyword, Symbol};
 use sql_parse_tokens::fault::Stop;
+use sql_parse_tokens::kinds::{FIRST_WORD, code};
 use sql_parse_tokens::parts::{
     a_name, dotted_name, name_but, optional_name, system_name, word_name,
 };
@@ -39,6 +40,12 @@ fn new_target<'t>(alloc: Global, rest: Rest<'t>) -> Result<(Target, Rest<'t>), S
     }
 }
 
+/// The words that a target of their own begins with.
+const TARGET_WORDS: [u8; 2] = [
+    FIRST_WORD + Keyword::Session as u8,
+    FIRST_WORD + Keyword::New as u8,
+];
+
 /// What an assignment of SET writes.
 pub fn target<'t>(alloc: Global, rest: Rest<'t>) -> Result<(Target, Rest<'t>), Stop<'t>>
     ensures { Gives (λ t. t) result (spec.target.read rest.entry) }
@@ -59,8 +66,7 @@ pub fn target<'t>(alloc: Global, rest: Rest<'t>) -> Result<(Target, Rest<'t>), S
     if rest.is_key(Keyword::New) {
         return new_target(alloc, rest);
     }
-    let words = [Keyword::Session as u8, Keyword::New as u8];
-    let (name, rest) = name_but(alloc, &words, rest)?;
+    let (name, rest) = name_but(alloc, &TARGET_WORDS, rest)?;
     Ok((Target::Plain(name), rest))
 }
 
@@ -132,7 +138,7 @@ fn savepoint_name<'t>(alloc: Global, rest: Rest<'t>) -> Result<(Bytes, Rest<'t>)
         let (name, rest) = optional_name(alloc, rest)?;
         return Ok((name.unwrap_or(savepoint), rest));
     }
-    name_but(alloc, &[Keyword::Savepoint as u8], rest)
+    name_but(alloc, &[code(Keyword::Savepoint)], rest)
 }
 
 /// ROLLBACK, of all or back to a savepoint.

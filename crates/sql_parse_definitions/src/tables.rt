@@ -12,7 +12,7 @@ use crate::name_set::NameSet;
 use crate::types::a_type;
 use sql_lex::{Keyword, Symbol};
 use sql_parse_tokens::fault::Stop;
-use sql_parse_tokens::lexeme::sign_code;
+use sql_parse_tokens::kinds::{FIRST_WORD, code, sign_code};
 use sql_parse_tokens::opening::opening;
 use sql_parse_tokens::parts::{a_name, a_value, name_but, names_in, optional_name, word_name};
 use sql_parse_tokens::rest::Rest;
@@ -151,12 +151,12 @@ fn one_mark<'t>(
 
 /// What options begin with.
 const MARK_WORDS: [u8; 6] = [
-    Keyword::Null as u8,
-    Keyword::Not as u8,
-    Keyword::Default as u8,
-    Keyword::AutoIncrement as u8,
-    Keyword::Primary as u8,
-    Keyword::Unique as u8,
+    FIRST_WORD + Keyword::Null as u8,
+    FIRST_WORD + Keyword::Not as u8,
+    FIRST_WORD + Keyword::Default as u8,
+    FIRST_WORD + Keyword::AutoIncrement as u8,
+    FIRST_WORD + Keyword::Primary as u8,
+    FIRST_WORD + Keyword::Unique as u8,
 ];
 
 /// The options of a column, each once, in a table that has a primary key so far or not.
@@ -218,7 +218,7 @@ fn unique_part<'t>(
     if rest.is_key(Keyword::Index) {
         return index_of(alloc, depth, rest);
     }
-    let (name, rest) = name_but(alloc, &[Keyword::Index as u8], rest)?;
+    let (name, rest) = name_but(alloc, &[code(Keyword::Index)], rest)?;
     let (columns, rest) = names_in(alloc, depth, rest)?;
     Ok((TablePart::Unique(name, columns), rest))
 }

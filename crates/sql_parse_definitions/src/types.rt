@@ -10,7 +10,7 @@ ghost use Rattle.sql_syntax.specs.Tokens.{keyword};
 
 use sql_lex::{Keyword, Symbol};
 use sql_parse_tokens::fault::Stop;
-use sql_parse_tokens::lexeme::sign_code;
+use sql_parse_tokens::kinds::sign_code;
 use sql_parse_tokens::opening::opening;
 use sql_parse_tokens::parts::a_number;
 use sql_parse_tokens::rest::Rest;

@@ -7,7 +7,6 @@ use Rattle.sql_grammar.specs.Rule.{Rule, either, opened, any_of, behind, paired}
 use Rattle.val_types.specs.declared.ops.UnOp.TheVariants.{Not}
 use Rattle.sql_tree.specs.Tree.{Tree, unary}
 use Rattle.sql_syntax.specs.Tokens.{Tok, kind, code, sign}
-use Rattle.sql_syntax.specs.Parts.{closed}
 use Rattle.sql_syntax.specs.Selects.{select_by, single_by}
 use Rattle.sql_syntax.specs.Expressions.{nested, disjunction, comparison, prefix_by, two_arguments, three_arguments, as_three}
 
@@ -51,8 +50,3 @@ both_as (Err e) q h g = refl
 pub three_as : {A : Type 0} (f : Tree → Tree → Tree → A) (r : Rule Tok Tree) (ts : List Tok)
     → (three_arguments f r).read ts ≡ bind ((three_arguments as_three r).read ts) (λ x. Ok (f x.0.0 x.0.1.0 x.0.1.1, x.1))
 three_as f r ts = both_as (r.read ts) (behind (sign signs.Comma) (two_arguments paired r)).read (λ a bc. as_three a bc.0 bc.1) (λ p. f p.0 p.1.0 p.1.1)
-
--- a function of two expressions, and the two
-pub two_as : {A : Type 0} (f : Tree → Tree → A) (r : Rule Tok Tree) (ts : List Tok)
-    → (two_arguments f r).read ts ≡ bind ((two_arguments paired r).read ts) (λ x. Ok (f x.0.0 x.0.1, x.1))
-two_as f r ts = both_as (r.read ts) (behind (sign signs.Comma) (closed r)).read paired (λ p. f p.0 p.1)

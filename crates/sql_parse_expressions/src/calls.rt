@@ -4,7 +4,7 @@ ghost use Rattle.sql_syntax.specs.Expressions as spec;
 ghost use Rattle.sql_parse_nodes.specs.Kept.{Keeps};
 ghost use Rattle.sql_syntax.specs.Parts as part;
 ghost use Rattle.sql_lex.specs.declared.token.Symbol.TheVariants as signs;
-ghost use Rattle.sql_syntax.specs.Tokens.{kind, sign};
+ghost use Rattle.sql_syntax.specs.Tokens.{kind, own_names, sign};
 ghost use Rattle.sql_parse_tokens.specs.Gives.{Gives};
 ghost use Rattle.sql_tree.specs.Depth.{depth_of_tree, depth_of_trees};
 ghost use Rattle.sql_tree.specs.View.{view_tree, view_trees};
@@ -14,67 +14,37 @@ use crate::expressions::{closed_list, prefix};
 use crate::primaries::{closed_whole, three_arguments, two_arguments};
 use sql_lex::{Keyword, Symbol};
 use sql_parse_nodes::kept::{Kept, empty};
-use sql_parse_nodes::leaves::{call_of, column, constant, plain_literal};
-use sql_parse_nodes::nodes::{call, floor_rand, ifnull, many_of, one_of, substring};
+use sql_parse_nodes::leaves::{column, constant, plain_literal};
+use sql_parse_nodes::nodes::{call, floor_rand, func_n, func0, func1, func2, func3};
 use sql_parse_tokens::fault::Stop;
+use sql_parse_tokens::kinds::{
+    FIRST_WORD, NUMBER, OF_MANY, OF_NONE, OF_ONE, OF_THREE, OF_TWO, TEXT,
+};
 use sql_parse_tokens::opening::open_mark;
-use sql_parse_tokens::parts::{NUMBER, TEXT};
 use sql_parse_tokens::rest::Rest;
 use sql_tree::Expr;
 use std::alloc::Global;
 use val_types::{Boxed, List};
 
-/// The built-ins of one argument.
-const WITH_ONE: [u8; 2] = [Keyword::Abs as u8, Keyword::Length as u8];
+/// The kind of NULL.
+const NULL: u8 = FIRST_WORD + Keyword::Null as u8;
 
-/// The built-ins of one argument or more.
-const WITH_SOME: [u8; 2] = [Keyword::Coalesce as u8, Keyword::Concat as u8];
+/// The kind of NAME_CONST.
+const NAME_CONST: u8 = FIRST_WORD + Keyword::NameConst as u8;
 
-/// The built-ins without arguments.
-const WITH_NONE: [u8; 8] = [
-    Keyword::Now as u8,
-    Keyword::UnixTimestamp as u8,
-    Keyword::Sysdate as u8,
-    Keyword::User as u8,
-    Keyword::Uuid as u8,
-    Keyword::ConnectionId as u8,
-    Keyword::LastInsertId as u8,
-    Keyword::RowCount as u8,
-];
+/// The kind of FLOOR.
+const FLOOR: u8 = FIRST_WORD + Keyword::Floor as u8;
 
-/// All of them.
-const BUILT_INS: [u8; 16] = [
-    Keyword::Abs as u8,
-    Keyword::Length as u8,
-    Keyword::Coalesce as u8,
-    Keyword::Concat as u8,
-    Keyword::Now as u8,
-    Keyword::UnixTimestamp as u8,
-    Keyword::Sysdate as u8,
-    Keyword::User as u8,
-    Keyword::Uuid as u8,
-    Keyword::ConnectionId as u8,
-    Keyword::LastInsertId as u8,
-    Keyword::RowCount as u8,
-    Keyword::Ifnull as u8,
-    Keyword::Substring as u8,
-    Keyword::NameConst as u8,
-    Keyword::Floor as u8,
-];
+/// The kinds of the names of built-ins, of those too that have a rule of their own.
+const BUILT_INS: [u8; 7] = [OF_NONE, OF_ONE, OF_TWO, OF_THREE, OF_MANY, NAME_CONST, FLOOR];
 
 /// Aggregates, and RAND: names that no expression calls.
 const UNCALLED: [u8; 5] = [
-    Keyword::Count as u8,
-    Keyword::Sum as u8,
-    Keyword::Min as u8,
-    Keyword::Max as u8,
-    Keyword::Rand as u8,
-];
-
-/// Names that call a stored function before a parenthesis.
-const OWN_NAMES: [u8; 31] = [
-    65, 66, 67, 68, 69, 70, 71, 72, 73, 74, 75, 76, 77, 78, 79, 80, 81, 82, 83, 84, 85, 86, 87, 88,
-    89, 90, 91, 92, 93, 140, 141,
+    FIRST_WORD + Keyword::Count as u8,
+    FIRST_WORD + Keyword::Sum as u8,
+    FIRST_WORD + Keyword::Min as u8,
+    FIRST_WORD + Keyword::Max as u8,
+    FIRST_WORD + Keyword::Rand as u8,
 ];
 
 /// A name, a call by name or a literal, of which the first token decides.
@@ -93,7 +63,7 @@ pub fn by_name<'t>(
     if rest.is_in(&UNCALLED) {
         return uncalled(alloc, rest);
     }
-    if rest.is_in(&[NUMBER, TEXT, Keyword::Null as u8]) {
+    if rest.is_in(&[NUMBER, TEXT, NULL]) {
         return plain_literal(alloc, rest);
     }
     name_or_call(alloc, depth, rest)
@@ -116,9 +86,9 @@ fn name_or_call<'t>(
     rest: Rest<'t>,
 ) -> Result<(Kept<Boxed<Expr>>, Rest<'t>), Stop<'t>>
     ensures { Keeps view_tree depth_of_tree result
-        ((both spec.named (token kind spec.own_names (λ t. Some t)) (spec.name_tail depth (spec.nested (pred depth)).whole)).read rest.entry) }
+        ((both spec.named (token kind own_names (λ t. Some t)) (spec.name_tail depth (spec.nested (pred depth)).whole)).read rest.entry) }
 {
-    let (word, rest) = rest.take(&OWN_NAMES)?;
+    let (word, rest) = rest.take_own_name()?;
     if !rest.is_mark(Symbol::Open) {
         return column(alloc, word, rest);
     }
@@ -154,20 +124,20 @@ fn built_ins<'t>(
     ensures { Keeps view_tree depth_of_tree result
         ((spec.built_ins depth (spec.nested (pred depth))).read rest.entry) }
 {
-    if rest.is_in(&WITH_ONE) {
-        return with_one(alloc, depth, rest);
-    }
-    if rest.is_in(&WITH_SOME) {
-        return with_some(alloc, depth, rest);
-    }
-    if rest.is_in(&WITH_NONE) {
+    if rest.is_in(&[OF_NONE]) {
         return with_none(alloc, depth, rest);
     }
-    if rest.is_key(Keyword::Ifnull) {
-        return ifnull_call(alloc, depth, rest);
+    if rest.is_in(&[OF_ONE]) {
+        return with_one(alloc, depth, rest);
     }
-    if rest.is_key(Keyword::Substring) {
-        return substring_call(alloc, depth, rest);
+    if rest.is_in(&[OF_TWO]) {
+        return with_two(alloc, depth, rest);
+    }
+    if rest.is_in(&[OF_THREE]) {
+        return with_three(alloc, depth, rest);
+    }
+    if rest.is_in(&[OF_MANY]) {
+        return with_many(alloc, depth, rest);
     }
     if rest.is_key(Keyword::NameConst) {
         return name_const_call(alloc, depth, rest);
@@ -175,7 +145,24 @@ fn built_ins<'t>(
     floor_call(alloc, depth, rest)
 }
 
-/// ABS and LENGTH.
+/// A built-in without arguments, as NOW.
+fn with_none<'t>(
+    alloc: Global,
+    depth: u32,
+    rest: Rest<'t>,
+) -> Result<(Kept<Boxed<Expr>>, Rest<'t>), Stop<'t>>
+    ensures { Keeps view_tree depth_of_tree result ((spec.of_none depth).read rest.entry) }
+{
+    let (word, rest) = rest.take(&[OF_NONE])?;
+    if !rest.is_mark(Symbol::Open) {
+        return column(alloc, word, rest);
+    }
+    let (_, rest) = open_mark(depth, Symbol::Open, rest)?;
+    let ((), rest) = rest.skip_mark(Symbol::Close)?;
+    Ok((func0(alloc, word.none())?, rest))
+}
+
+/// A built-in of one argument, as ABS.
 #[cycle(expressions)]
 fn with_one<'t>(
     alloc: Global,
@@ -185,87 +172,70 @@ fn with_one<'t>(
     ensures { Keeps view_tree depth_of_tree result
         ((spec.of_one depth (spec.nested (pred depth)).whole).read rest.entry) }
 {
-    let (word, rest) = rest.take(&WITH_ONE)?;
+    let (word, rest) = rest.take(&[OF_ONE])?;
     if !rest.is_mark(Symbol::Open) {
         return column(alloc, word, rest);
     }
     let (inside, rest) = open_mark(depth, Symbol::Open, rest)?;
     let (a, rest) = closed_whole(alloc, inside, rest)?;
-    Ok((one_of(alloc, word.key(), a)?, rest))
+    Ok((func1(alloc, word.one(), a)?, rest))
 }
 
-/// COALESCE and CONCAT.
+/// A built-in of two arguments, as IFNULL.
 #[cycle(expressions)]
-fn with_some<'t>(
+fn with_two<'t>(
     alloc: Global,
     depth: u32,
     rest: Rest<'t>,
 ) -> Result<(Kept<Boxed<Expr>>, Rest<'t>), Stop<'t>>
     ensures { Keeps view_tree depth_of_tree result
-        ((spec.of_some depth (spec.nested (pred depth)).whole).read rest.entry) }
+        ((spec.of_two depth (spec.nested (pred depth)).whole).read rest.entry) }
 {
-    let (word, rest) = rest.take(&WITH_SOME)?;
-    if !rest.is_mark(Symbol::Open) {
-        return column(alloc, word, rest);
-    }
-    let (inside, rest) = open_mark(depth, Symbol::Open, rest)?;
-    let (items, rest) = closed_list(alloc, inside, rest)?;
-    Ok((many_of(alloc, word.key(), items)?, rest))
-}
-
-/// NOW, UUID and the others without arguments.
-fn with_none<'t>(
-    alloc: Global,
-    depth: u32,
-    rest: Rest<'t>,
-) -> Result<(Kept<Boxed<Expr>>, Rest<'t>), Stop<'t>>
-    ensures { Keeps view_tree depth_of_tree result ((spec.of_none depth).read rest.entry) }
-{
-    let (word, rest) = rest.take(&WITH_NONE)?;
-    if !rest.is_mark(Symbol::Open) {
-        return column(alloc, word, rest);
-    }
-    let (_, rest) = open_mark(depth, Symbol::Open, rest)?;
-    let ((), rest) = rest.skip_mark(Symbol::Close)?;
-    Ok((call_of(alloc, word.key())?, rest))
-}
-
-/// IFNULL.
-#[cycle(expressions)]
-fn ifnull_call<'t>(
-    alloc: Global,
-    depth: u32,
-    rest: Rest<'t>,
-) -> Result<(Kept<Boxed<Expr>>, Rest<'t>), Stop<'t>>
-    ensures { Keeps view_tree depth_of_tree result
-        ((spec.of_ifnull depth (spec.nested (pred depth)).whole).read rest.entry) }
-{
-    let (word, rest) = rest.take(&[Keyword::Ifnull as u8])?;
+    let (word, rest) = rest.take(&[OF_TWO])?;
     if !rest.is_mark(Symbol::Open) {
         return column(alloc, word, rest);
     }
     let (inside, rest) = open_mark(depth, Symbol::Open, rest)?;
     let (two, rest) = two_arguments(alloc, inside, rest)?;
-    Ok((ifnull(alloc, two)?, rest))
+    Ok((func2(alloc, word.two(), two)?, rest))
 }
 
-/// SUBSTRING.
+/// A built-in of three arguments, as SUBSTRING.
 #[cycle(expressions)]
-fn substring_call<'t>(
+fn with_three<'t>(
     alloc: Global,
     depth: u32,
     rest: Rest<'t>,
 ) -> Result<(Kept<Boxed<Expr>>, Rest<'t>), Stop<'t>>
     ensures { Keeps view_tree depth_of_tree result
-        ((spec.of_substring depth (spec.nested (pred depth)).whole).read rest.entry) }
+        ((spec.of_three depth (spec.nested (pred depth)).whole).read rest.entry) }
 {
-    let (word, rest) = rest.take(&[Keyword::Substring as u8])?;
+    let (word, rest) = rest.take(&[OF_THREE])?;
     if !rest.is_mark(Symbol::Open) {
         return column(alloc, word, rest);
     }
     let (inside, rest) = open_mark(depth, Symbol::Open, rest)?;
     let (three, rest) = three_arguments(alloc, inside, rest)?;
-    Ok((substring(alloc, three)?, rest))
+    Ok((func3(alloc, word.three(), three)?, rest))
+}
+
+/// A built-in of one argument or more, as CONCAT.
+#[cycle(expressions)]
+fn with_many<'t>(
+    alloc: Global,
+    depth: u32,
+    rest: Rest<'t>,
+) -> Result<(Kept<Boxed<Expr>>, Rest<'t>), Stop<'t>>
+    ensures { Keeps view_tree depth_of_tree result
+        ((spec.of_many depth (spec.nested (pred depth)).whole).read rest.entry) }
+{
+    let (word, rest) = rest.take(&[OF_MANY])?;
+    if !rest.is_mark(Symbol::Open) {
+        return column(alloc, word, rest);
+    }
+    let (inside, rest) = open_mark(depth, Symbol::Open, rest)?;
+    let (items, rest) = closed_list(alloc, inside, rest)?;
+    Ok((func_n(alloc, word.many(), items)?, rest))
 }
 
 /// NAME_CONST.
@@ -276,7 +246,7 @@ fn name_const_call<'t>(
 ) -> Result<(Kept<Boxed<Expr>>, Rest<'t>), Stop<'t>>
     ensures { Keeps view_tree depth_of_tree result ((spec.of_name_const depth).read rest.entry) }
 {
-    let (word, rest) = rest.take(&[Keyword::NameConst as u8])?;
+    let (word, rest) = rest.take(&[NAME_CONST])?;
     if !rest.is_mark(Symbol::Open) {
         return column(alloc, word, rest);
     }
@@ -294,7 +264,7 @@ fn floor_call<'t>(
     ensures { Keeps view_tree depth_of_tree result
         ((spec.of_floor depth (spec.nested (pred depth)).prefix).read rest.entry) }
 {
-    let (word, rest) = rest.take(&[Keyword::Floor as u8])?;
+    let (word, rest) = rest.take(&[FLOOR])?;
     if !rest.is_mark(Symbol::Open) {
         return column(alloc, word, rest);
     }

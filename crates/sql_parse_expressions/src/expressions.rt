@@ -16,8 +16,8 @@ use sql_parse_nodes::operators::{
     PRODUCT_OPS, SUM_OPS, TEST_KINDS, comparison_op, nullness, product_op, sum_op,
 };
 use sql_parse_tokens::fault::Stop;
+use sql_parse_tokens::kinds::TIGHT_MINUS;
 use sql_parse_tokens::opening::{open_key, open_mark};
-use sql_parse_tokens::parts::TIGHT_MINUS;
 use sql_parse_tokens::rest::Rest;
 use sql_tree::Expr;
 use std::alloc::Global;

@@ -9,7 +9,7 @@ ghost use Rattle.sql_syntax.specs.Tokens.{keyword, sign};
 ghost use Rattle.sql_tree.specs.Depth.{depth_of_tree, depth_of_part, deepest};
 ghost use Rattle.sql_tree.specs.Tree as tree;
 ghost use Rattle.sql_tree.specs.BuiltIns.{on_three};
-ghost use Rattle.val_types.specs.declared.ops.Func.TheVariants as functions;
+ghost use Rattle.val_types.specs.declared.ops.Func3.{Func3};
 ghost use Rattle.sql_tree.specs.View.{view_tree, view_arm, view_part};
 ghost use Rattle.std.specs.Prelude.{map, pred};
 
@@ -19,13 +19,13 @@ use crate::selects::{select, single};
 use sql_lex::{Keyword, Symbol};
 use sql_parse_nodes::kept::{Kept, alone_boxed, beside, push_boxed};
 use sql_parse_nodes::leaves::{system_variable, user_variable, values_call};
-use sql_parse_nodes::nodes::{Three, arm, choice, choose, exists, no_part, part, subquery};
+use sql_parse_nodes::nodes::{Three, arm, choice, exists, func3, no_part, part, subquery};
 use sql_parse_tokens::fault::Stop;
 use sql_parse_tokens::opening::{open_key, open_mark};
 use sql_parse_tokens::rest::Rest;
 use sql_tree::{Arm, Expr};
 use std::alloc::Global;
-use val_types::{Boxed, List};
+use val_types::{Boxed, Func3, List};
 
 /// A primary expression, of which the first token decides.
 #[cycle(expressions)]
@@ -119,12 +119,12 @@ fn if_call<'t>(
     rest: Rest<'t>,
 ) -> Result<(Kept<Boxed<Expr>>, Rest<'t>), Stop<'t>>
     ensures { Keeps view_tree depth_of_tree result
-        ((behind (keyword words.If) (part.in_parentheses depth (spec.three_arguments (on_three functions.If) (spec.nested (pred depth)).whole))).read rest.entry) }
+        ((behind (keyword words.If) (part.in_parentheses depth (spec.three_arguments (on_three Func3.If) (spec.nested (pred depth)).whole))).read rest.entry) }
 {
     let ((), rest) = rest.skip_key(Keyword::If)?;
     let (inside, rest) = open_mark(depth, Symbol::Open, rest)?;
     let (three, rest) = three_arguments(alloc, inside, rest)?;
-    Ok((choose(alloc, three)?, rest))
+    Ok((func3(alloc, Func3::If, three)?, rest))
 }
 
 /// Three expressions with commas between, and the closing parenthesis.

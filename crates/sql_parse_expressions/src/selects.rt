@@ -22,6 +22,7 @@ use sql_parse_nodes::nodes::{
     no_origin, no_part, order_item, part,
 };
 use sql_parse_tokens::fault::Stop;
+use sql_parse_tokens::kinds::FIRST_WORD;
 use sql_parse_tokens::limits::limits;
 use sql_parse_tokens::opening::open_mark;
 use sql_parse_tokens::parts::a_name;
@@ -32,17 +33,21 @@ use val_types::{Agg, Boxed, List};
 
 /// Names of aggregates.
 const AGGREGATES: [u8; 4] = [
-    Keyword::Count as u8,
-    Keyword::Sum as u8,
-    Keyword::Min as u8,
-    Keyword::Max as u8,
+    FIRST_WORD + Keyword::Count as u8,
+    FIRST_WORD + Keyword::Sum as u8,
+    FIRST_WORD + Keyword::Min as u8,
+    FIRST_WORD + Keyword::Max as u8,
 ];
 
 /// Those that always take an expression.
-const ONE_SIDED: [u8; 3] = [Keyword::Sum as u8, Keyword::Min as u8, Keyword::Max as u8];
+const ONE_SIDED: [u8; 3] = [
+    FIRST_WORD + Keyword::Sum as u8,
+    FIRST_WORD + Keyword::Min as u8,
+    FIRST_WORD + Keyword::Max as u8,
+];
 
 /// The kind of the opening parenthesis.
-const OPEN: u8 = 120 + Symbol::Open as u8;
+const OPEN: u8 = Symbol::Open as u8;
 
 /// A SELECT.
 #[cycle(expressions)]

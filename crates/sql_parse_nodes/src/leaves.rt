@@ -136,27 +136,3 @@ pub fn column<'t>(
     let (column, rest) = a_name(alloc, rest)?;
     Ok((column_by(alloc, &word, column)?, rest))
 }
-
-/// The call of the built-in without arguments that a word names.
-fn name_of(word: Option<Keyword>) -> Expr
-    ensures name { view_tree result ≡ spec.none_of word }
-    ensures leaf { depth_of_tree (view_tree result) ≡ 1 }
-{
-    match word {
-        Some(Keyword::UnixTimestamp) => Expr::UnixTimestamp,
-        Some(Keyword::Sysdate) => Expr::SysDate,
-        Some(Keyword::User) => Expr::User,
-        Some(Keyword::Uuid) => Expr::Uuid,
-        Some(Keyword::ConnectionId) => Expr::ConnectionId,
-        Some(Keyword::LastInsertId) => Expr::LastInsertId,
-        Some(Keyword::RowCount) => Expr::RowCount,
-        _ => Expr::Now,
-    }
-}
-
-/// The same call as a part.
-pub fn call_of(alloc: Global, word: Option<Keyword>) -> Result<Kept<Boxed<Expr>>, NoMemory>
-    ensures { IfOk result (λ k. IsKept view_tree depth_of_tree (spec.none_of word) k) }
-{
-    leaf(alloc, name_of(word))
-}

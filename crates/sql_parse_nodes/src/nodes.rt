@@ -11,16 +11,16 @@ ghost use Rattle.sql_parse_nodes.specs.Kept.{IsKept, view_beside, depth_beside, 
 ghost use Rattle.sql_tree.specs.Depth.{depth_of_tree, depth_of_trees, depth_of_arms, depth_of_part, depth_of_query, depth_of_selected, depth_of_aggregates, depth_of_origin, depth_of_orders};
 ghost use Rattle.sql_tree.specs.Tree.{Tree, Trees, Arms, Part, Query, Selected, Aggregates, Origin, Orders};
 ghost use Rattle.sql_tree.specs.Tree as tree;
-ghost use Rattle.sql_tree.specs.BuiltIns.{on_one, on_two, on_three};
-ghost use Rattle.val_types.specs.declared.ops.Func.TheVariants as functions;
+ghost use Rattle.sql_tree.specs.BuiltIns.{on_none, on_one, on_two, on_three, on_many};
 ghost use Rattle.sql_tree.specs.View.{view_tree, view_trees, view_arm, view_arms, view_part, view_query, view_selected, view_aggregate, view_aggregates, view_origin, view_order, view_orders};
 
 use crate::kept::{Kept, Levelled, above, beside};
 use crate::{held, node};
-use sql_lex::Keyword;
 use sql_tree::{Aggregate, Arm, Expr, FromClause, Limit, OrderItem, Select, Selection};
 use std::alloc::Global;
-use val_types::{Agg, BinOp, Boxed, Bytes, List, NoMemory, UnOp};
+use val_types::{
+    Agg, BinOp, Boxed, Bytes, Func0, Func1, Func2, Func3, FuncN, List, NoMemory, UnOp,
+};
 
 /// A node without parts.
 pub fn leaf(alloc: Global, part: Expr) -> Result<Kept<Boxed<Expr>>, NoMemory>
@@ -174,101 +174,65 @@ pub fn floor_rand(alloc: Global, a: Kept<Boxed<Expr>>) -> Result<Kept<Boxed<Expr
     node!(alloc, above(a), a => Expr::FloorRand(a))
 }
 
-/// ABS.
-fn abs(alloc: Global, a: Kept<Boxed<Expr>>) -> Result<Kept<Boxed<Expr>>, NoMemory>
-    ensures { IfOk result (λ k. (t : Tree) → IsKept view_tree depth_of_tree t a
-        → IsKept view_tree depth_of_tree (on_one functions.Abs t) k) }
+/// A call of a built-in without arguments.
+pub fn func0(alloc: Global, function: Func0) -> Result<Kept<Boxed<Expr>>, NoMemory>
+    ensures { IfOk result (λ k. IsKept view_tree depth_of_tree (on_none function) k) }
 {
-    node!(alloc, above(a), a => Expr::Abs(a))
+    leaf(alloc, Expr::Func0(function))
 }
 
-/// LENGTH.
-fn length(alloc: Global, a: Kept<Boxed<Expr>>) -> Result<Kept<Boxed<Expr>>, NoMemory>
-    ensures { IfOk result (λ k. (t : Tree) → IsKept view_tree depth_of_tree t a
-        → IsKept view_tree depth_of_tree (on_one functions.Length t) k) }
-{
-    node!(alloc, above(a), a => Expr::Length(a))
-}
-
-/// A call of the built-in of one argument that a word names.
-pub fn one_of(
+/// A call of a built-in of one argument.
+pub fn func1(
     alloc: Global,
-    word: Option<Keyword>,
+    function: Func1,
     a: Kept<Boxed<Expr>>,
 ) -> Result<Kept<Boxed<Expr>>, NoMemory>
     ensures { IfOk result (λ k. (t : Tree) → IsKept view_tree depth_of_tree t a
-        → IsKept view_tree depth_of_tree (spec.one_of word t) k) }
+        → IsKept view_tree depth_of_tree (on_one function t) k) }
 {
-    match word {
-        Some(Keyword::Length) => length(alloc, a),
-        _ => abs(alloc, a),
-    }
+    node!(alloc, above(a), a => Expr::Func1(function, a))
 }
 
-/// COALESCE.
-fn coalesce(alloc: Global, list: Kept<List<Expr>>) -> Result<Kept<Boxed<Expr>>, NoMemory>
-    ensures { IfOk result (λ k. (ts : Trees) → IsKept view_trees depth_of_trees ts list
-        → IsKept view_tree depth_of_tree (tree.built_in functions.Coalesce ts) k) }
-{
-    node!(alloc, above(list), list => Expr::Coalesce(list))
-}
-
-/// CONCAT.
-fn concat(alloc: Global, list: Kept<List<Expr>>) -> Result<Kept<Boxed<Expr>>, NoMemory>
-    ensures { IfOk result (λ k. (ts : Trees) → IsKept view_trees depth_of_trees ts list
-        → IsKept view_tree depth_of_tree (tree.built_in functions.Concat ts) k) }
-{
-    node!(alloc, above(list), list => Expr::Concat(list))
-}
-
-/// A call of the built-in of one argument or more that a word names.
-pub fn many_of(
+/// A call of a built-in of two arguments.
+pub fn func2(
     alloc: Global,
-    word: Option<Keyword>,
-    arguments: Kept<List<Expr>>,
-) -> Result<Kept<Boxed<Expr>>, NoMemory>
-    ensures { IfOk result (λ k. (ts : Trees) → IsKept view_trees depth_of_trees ts arguments
-        → IsKept view_tree depth_of_tree (spec.many_of word ts) k) }
-{
-    match word {
-        Some(Keyword::Concat) => concat(alloc, arguments),
-        _ => coalesce(alloc, arguments),
-    }
-}
-
-/// IFNULL.
-pub fn ifnull(
-    alloc: Global,
+    function: Func2,
     two: Kept<(Boxed<Expr>, Boxed<Expr>)>,
 ) -> Result<Kept<Boxed<Expr>>, NoMemory>
     ensures { IfOk result (λ k. (ts : Tree × Tree)
         → IsKept (view_beside view_tree view_tree) (depth_beside depth_of_tree depth_of_tree) ts two
-        → IsKept view_tree depth_of_tree (on_two functions.IfNull ts.0 ts.1) k) }
+        → IsKept view_tree depth_of_tree (on_two function ts.0 ts.1) k) }
 {
-    node!(alloc, above(two), (a, b) => Expr::IfNull(a, b))
+    node!(alloc, above(two), (a, b) => Expr::Func2(function, a, b))
 }
 
 /// The parts of a call of three arguments.
 pub type Three = (Boxed<Expr>, (Boxed<Expr>, Boxed<Expr>));
 
-/// IF as an expression.
-pub fn choose(alloc: Global, three: Kept<Three>) -> Result<Kept<Boxed<Expr>>, NoMemory>
+/// A call of a built-in of three arguments.
+pub fn func3(
+    alloc: Global,
+    function: Func3,
+    three: Kept<Three>,
+) -> Result<Kept<Boxed<Expr>>, NoMemory>
     ensures { IfOk result (λ k. (ts : Tree × (Tree × Tree))
         → IsKept (view_beside view_tree (view_beside view_tree view_tree))
         (depth_beside depth_of_tree (depth_beside depth_of_tree depth_of_tree)) ts three
-        → IsKept view_tree depth_of_tree (on_three functions.If ts.0 ts.1.0 ts.1.1) k) }
+        → IsKept view_tree depth_of_tree (on_three function ts.0 ts.1.0 ts.1.1) k) }
 {
-    node!(alloc, above(three), (a, (b, c)) => Expr::If(a, b, c))
+    node!(alloc, above(three), (a, (b, c)) => Expr::Func3(function, a, b, c))
 }
 
-/// SUBSTRING.
-pub fn substring(alloc: Global, three: Kept<Three>) -> Result<Kept<Boxed<Expr>>, NoMemory>
-    ensures { IfOk result (λ k. (ts : Tree × (Tree × Tree))
-        → IsKept (view_beside view_tree (view_beside view_tree view_tree))
-        (depth_beside depth_of_tree (depth_beside depth_of_tree depth_of_tree)) ts three
-        → IsKept view_tree depth_of_tree (on_three functions.Substring ts.0 ts.1.0 ts.1.1) k) }
+/// A call of a built-in of one argument or more.
+pub fn func_n(
+    alloc: Global,
+    function: FuncN,
+    arguments: Kept<List<Expr>>,
+) -> Result<Kept<Boxed<Expr>>, NoMemory>
+    ensures { IfOk result (λ k. (ts : Trees) → IsKept view_trees depth_of_trees ts arguments
+        → IsKept view_tree depth_of_tree (on_many function ts) k) }
 {
-    node!(alloc, above(three), (a, (b, c)) => Expr::Substring(a, b, c))
+    node!(alloc, above(arguments), list => Expr::FuncN(function, list))
 }
 
 /// An expression that may be left out, and is.

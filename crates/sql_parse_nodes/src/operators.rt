@@ -7,50 +7,50 @@ ghost use Rattle.std.specs.Prelude.{◌≡◌, Some};
 
 use sql_lex::{Keyword, Symbol};
 use sql_parse_tokens::fault::Stop;
-use sql_parse_tokens::parts::{BROKEN_MINUS, TIGHT_MINUS};
+use sql_parse_tokens::kinds::{BROKEN_MINUS, FIRST_WORD, TIGHT_MINUS};
 use sql_parse_tokens::rest::Rest;
 use sql_parse_tokens::word::Word;
 use val_types::{BinOp, UnOp};
 
 /// The kinds of the operators of the level of products.
 pub const PRODUCT_OPS: [u8; 4] = [
-    120 + Symbol::Star as u8,
-    120 + Symbol::Percent as u8,
-    Keyword::Div as u8,
-    Keyword::Mod as u8,
+    Symbol::Star as u8,
+    Symbol::Percent as u8,
+    FIRST_WORD + Keyword::Div as u8,
+    FIRST_WORD + Keyword::Mod as u8,
 ];
 
 /// The kinds of the operators of the level of sums.
 pub const SUM_OPS: [u8; 4] = [
-    120 + Symbol::Plus as u8,
-    120 + Symbol::Minus as u8,
+    Symbol::Plus as u8,
+    Symbol::Minus as u8,
     TIGHT_MINUS,
     BROKEN_MINUS,
 ];
 
 /// The kinds of the signs that compare.
 pub const COMPARISON_OPS: [u8; 7] = [
-    120 + Symbol::Equal as u8,
-    120 + Symbol::NullSafeEqual as u8,
-    120 + Symbol::NotEqual as u8,
-    120 + Symbol::Less as u8,
-    120 + Symbol::LessEqual as u8,
-    120 + Symbol::Greater as u8,
-    120 + Symbol::GreaterEqual as u8,
+    Symbol::Equal as u8,
+    Symbol::NullSafeEqual as u8,
+    Symbol::NotEqual as u8,
+    Symbol::Less as u8,
+    Symbol::LessEqual as u8,
+    Symbol::Greater as u8,
+    Symbol::GreaterEqual as u8,
 ];
 
 /// The kinds of tokens that go on behind the left operand of a comparison.
 pub const TEST_KINDS: [u8; 10] = [
-    Keyword::Is as u8,
-    Keyword::In as u8,
-    Keyword::Not as u8,
-    120 + Symbol::Equal as u8,
-    120 + Symbol::NullSafeEqual as u8,
-    120 + Symbol::NotEqual as u8,
-    120 + Symbol::Less as u8,
-    120 + Symbol::LessEqual as u8,
-    120 + Symbol::Greater as u8,
-    120 + Symbol::GreaterEqual as u8,
+    FIRST_WORD + Keyword::Is as u8,
+    FIRST_WORD + Keyword::In as u8,
+    FIRST_WORD + Keyword::Not as u8,
+    Symbol::Equal as u8,
+    Symbol::NullSafeEqual as u8,
+    Symbol::NotEqual as u8,
+    Symbol::Less as u8,
+    Symbol::LessEqual as u8,
+    Symbol::Greater as u8,
+    Symbol::GreaterEqual as u8,
 ];
 
 fn product_said(word: &Word<'_>) -> BinOp

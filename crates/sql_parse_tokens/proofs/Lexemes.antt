@@ -12,6 +12,7 @@ use Rattle.sql_parse_tokens.specs.Lexemes.{tok_by, tok_of, seen, kind_by, split_
 pub kind_seen : (sort : Sort) (bytes : List ℕ) → kind (tok_by sort bytes) ≡ kind_by sort
 unfolding kind
 kind_seen (sorts.Key k) bytes = refl
+kind_seen (sorts.Function f) bytes = refl
 kind_seen sorts.Name bytes = refl
 kind_seen sorts.Quoted bytes = refl
 kind_seen (sorts.Number n) bytes = refl

@@ -1,4 +1,5 @@
 pub mod Lexemes
+pub mod Names
 pub mod Numbers
 pub mod Reading
 pub mod Bounds

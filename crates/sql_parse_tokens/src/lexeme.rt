@@ -1,17 +1,23 @@
 //! Tokens as the parser looks at them.
 ghost use Rattle.std.specs.Prelude.{◌≡◌};
+ghost use Rattle.sql_grammar.specs.Sets.{member};
 ghost use Rattle.sql_parse_tokens.specs.Lexemes.{kind_by};
-ghost use Rattle.sql_syntax.specs.Tokens.{code, sign_code};
+ghost use Rattle.sql_syntax.specs.Tokens.{code, names, own_names};
 
+use crate::kinds::{
+    BROKEN_MINUS, LEAST, NAME, NUMBER, QUOTED, TEXT, TIGHT_MINUS, code, function_code, sign_code,
+};
 use sql_lex::{Keyword, Symbol};
+use val_types::Func;
 
-/// What a lexeme is. A `Key` is a keyword without quotes, a `Name` another word, `Quoted` a name in
-/// backquotes. `Least` are the digits 9223372036854775808 directly behind a `-`. A `-` directly before
-/// a number is `TightMinus`, one directly before digits that are no number `BrokenMinus`; `Mark` is
-/// every other sign.
+/// What a lexeme is. A `Key` is a keyword without quotes, a `Function` another word that names a
+/// built-in function, a `Name` any other word, `Quoted` a name in backquotes. `Least` are the digits
+/// 9223372036854775808 directly behind a `-`. A `-` directly before a number is `TightMinus`, one
+/// directly before digits that are no number `BrokenMinus`; `Mark` is every other sign.
 #[derive(Clone, Copy)]
 pub enum Sort {
     Key(Keyword),
+    Function(Func),
     Name,
     Quoted,
     Number(u64),
@@ -30,18 +36,19 @@ pub struct Lexeme {
     pub end: u32,
 }
 
-/// The kind of a keyword: its place among them, from 0.
-pub fn code(k: Keyword) -> u8
-    ensures { result ≡ code k }
+/// Whether a keyword may be a name.
+fn is_name_word(k: Keyword) -> bool
+    ensures { result ≡ member (code k) names }
 {
-    k as u8
+    !k.is_reserved()
 }
 
-/// The kind of a sign.
-pub fn sign_code(s: Symbol) -> u8
-    ensures { result ≡ sign_code s }
+/// Whether a keyword calls a stored function before a parenthesis: it may be a name, and takes part
+/// in no call of its own.
+fn is_own_word(k: Keyword) -> bool
+    ensures { result ≡ member (code k) own_names }
 {
-    120 + s as u8
+    !k.is_reserved() && code(k) <= code(Keyword::Work)
 }
 
 impl Sort {
@@ -51,14 +58,37 @@ impl Sort {
     {
         match self {
             Sort::Key(k) => code(k),
-            Sort::Name => 140,
-            Sort::Quoted => 141,
-            Sort::Number(_) => 142,
-            Sort::Least => 143,
-            Sort::Text => 144,
+            Sort::Function(f) => function_code(f),
+            Sort::Name => NAME,
+            Sort::Quoted => QUOTED,
+            Sort::Number(_) => NUMBER,
+            Sort::Least => LEAST,
+            Sort::Text => TEXT,
             Sort::Mark(s) => sign_code(s),
-            Sort::TightMinus => 145,
-            Sort::BrokenMinus => 146,
+            Sort::TightMinus => TIGHT_MINUS,
+            Sort::BrokenMinus => BROKEN_MINUS,
+        }
+    }
+
+    /// Whether it may be a name.
+    pub fn is_name(self) -> bool
+        ensures { result ≡ member (kind_by self) names }
+    {
+        match self {
+            Sort::Key(k) => is_name_word(k),
+            Sort::Function(_) | Sort::Name | Sort::Quoted => true,
+            _ => false,
+        }
+    }
+
+    /// Whether it calls a stored function before a parenthesis.
+    pub fn is_own_name(self) -> bool
+        ensures { result ≡ member (kind_by self) own_names }
+    {
+        match self {
+            Sort::Key(k) => is_own_word(k),
+            Sort::Name | Sort::Quoted => true,
+            _ => false,
         }
     }
 }

@@ -1,13 +1,16 @@
 //! From the lexer's tokens to lexemes.
 ghost use Rattle.std.specs.Prelude.{◌≡◌, ◌==◌, IfOk, drop, length, map, List as Items, ℕ};
 ghost use Rattle.sql_lex.specs.declared.token.Token.{Token};
+ghost use Rattle.sql_lex.specs.Folded.{folded};
 ghost use Rattle.sql_lex.specs.Plain.{bytes_at};
 ghost use Rattle.sql_parse_tokens.specs.Lexemes.{seen, tok_by, tok_of};
 ghost use Rattle.sql_parse_tokens.specs.Lexing.{bounded, lexeme_place, place};
-ghost use Rattle.sql_syntax.specs.Texts.{begins_with_digit, minus_by, tok_before, toks};
+ghost use Rattle.sql_syntax.specs.Texts.{begins_with_digit, minus_by, name_by, tok_before, toks};
+ghost use Rattle.sql_tree.specs.BuiltIns.{function_named};
 
 use crate::lexeme::{Lexeme, Sort};
-use sql_lex::{Symbol, Token, TokenKind, keyword_at};
+use sql_lex::{Symbol, Token, TokenKind, bytes_of, keyword_at};
+use sql_tree::function_named;
 use std::alloc::Global;
 use val_types::{List, NoMemory};
 
@@ -32,6 +35,16 @@ fn minus_sort(before_digit: bool, is_last: bool) -> Sort
     }
 }
 
+/// What a word is that is no keyword.
+fn name_sort(word: &[u8]) -> Sort
+    ensures { tok_by result word.now ≡ name_by (function_named (folded word.now)) (folded word.now) }
+{
+    match function_named(word) {
+        Some(function) => Sort::Function(function),
+        None => Sort::Name,
+    }
+}
+
 /// What a token is, with tokens behind it or not.
 fn sort(text: &[u8], token: Token, is_last: bool) -> Sort
     ensures { (ts : Items Token) → is_last ≡ (length ts == 0)
@@ -40,7 +53,7 @@ fn sort(text: &[u8], token: Token, is_last: bool) -> Sort
     match token.kind {
         TokenKind::Word => match keyword_at(text, token) {
             Some(word) => Sort::Key(word),
-            None => Sort::Name,
+            None => name_sort(bytes_of(text, token)),
         },
         TokenKind::Quoted => Sort::Quoted,
         TokenKind::Number(n) => Sort::Number(n),

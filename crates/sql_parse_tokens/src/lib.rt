@@ -4,6 +4,7 @@
 //! made once, by `sql_lex`; each function that reads takes a [`Rest`](rest) of them, and gives what
 //! its rule of `sql_syntax` reads with the tokens that are left behind it.
 //!
+//! - [`kinds`]: the kinds of tokens as numbers
 //! - [`lexeme`], [`lexing`]: tokens with their keywords and kinds, made of the lexer's
 //! - [`word`], [`rest`], [`fault`]: a token and what it says, the tokens that are left, why reading
 //!   stops
@@ -17,12 +18,13 @@
 //! - `lexemes`: one lexeme for each token, each at its token's place (`places`), which say what the
 //!   grammar's tokens of the text are (`said`).
 //! - `opening` and its like: where one may be opened, one less may be opened inside (`one_less`).
-//! - `name`, `text`, `key`, `mark`, `number`, `integer`, `negative` of a token: exactly what the
-//!   definitions say.
+//! - `name`, `text`, `key`, `none` to `many`, `mark`, `number`, `integer`, `negative` of a token:
+//!   exactly what the definitions say.
 #![tactic(auto)]
 
 pub mod closing;
 pub mod fault;
+pub mod kinds;
 pub mod lexeme;
 pub mod lexing;
 pub mod limits;

@@ -5,7 +5,8 @@ ghost use Rattle.sql_grammar.specs.Rule.{mapped};
 ghost use Rattle.sql_syntax.specs.Selects as spec;
 
 use crate::fault::Stop;
-use crate::parts::{NUMBER, a_name, a_number};
+use crate::kinds::NUMBER;
+use crate::parts::{a_name, a_number};
 use crate::rest::Rest;
 use sql_lex::{Keyword, Symbol};
 use sql_tree::{Count, Limit};

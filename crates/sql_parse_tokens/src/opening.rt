@@ -5,7 +5,7 @@ ghost use Rattle.sql_syntax.specs.Parts as spec;
 ghost use Rattle.sql_syntax.specs.Tokens.{code, sign_code};
 
 use crate::fault::Stop;
-use crate::lexeme::{code, sign_code};
+use crate::kinds::{code, sign_code};
 use crate::rest::Rest;
 use sql_lex::{Keyword, Symbol};
 

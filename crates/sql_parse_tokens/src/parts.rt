@@ -7,40 +7,18 @@ ghost use Rattle.sql_syntax.specs.Parts as spec;
 ghost use Rattle.sql_syntax.specs.Tokens.{sign};
 
 use crate::fault::Stop;
-use crate::lexeme::{code, sign_code};
+use crate::kinds::{LEAST, NUMBER, TEXT, TIGHT_MINUS, code, sign_code};
 use crate::opening::opening;
 use crate::rest::Rest;
 use sql_lex::{Keyword, Symbol};
 use std::alloc::Global;
 use val_types::{Bytes, List, Value};
 
-/// The kinds of the words that may be names, and of names.
-pub const NAMES: [u8; 52] = [
-    65, 66, 67, 68, 69, 70, 71, 72, 73, 74, 75, 76, 77, 78, 79, 80, 81, 82, 83, 84, 85, 86, 87, 88,
-    89, 90, 91, 92, 93, 94, 95, 96, 97, 98, 99, 100, 101, 102, 103, 104, 105, 106, 107, 108, 109,
-    110, 111, 112, 113, 114, 140, 141,
-];
-
-/// The kind of numbers.
-pub const NUMBER: u8 = 142;
-
-/// The kind of 9223372036854775808 behind a minus.
-pub const LEAST: u8 = 143;
-
-/// The kind of texts.
-pub const TEXT: u8 = 144;
-
-/// The kind of a minus directly before a number.
-pub const TIGHT_MINUS: u8 = 145;
-
-/// The kind of a minus directly before digits that are no number.
-pub const BROKEN_MINUS: u8 = 146;
-
 /// A name.
 pub fn a_name<'t>(alloc: Global, rest: Rest<'t>) -> Result<(Bytes, Rest<'t>), Stop<'t>>
     ensures { Gives (λ n. n) result (spec.a_name.read rest.entry) }
 {
-    let (word, rest) = rest.take(&NAMES)?;
+    let (word, rest) = rest.take_name()?;
     Ok((word.name(alloc)?, rest))
 }
 
@@ -77,7 +55,7 @@ pub fn optional_name<'t>(
 ) -> Result<(Option<Bytes>, Rest<'t>), Stop<'t>>
     ensures { Gives (λ n. n) result (spec.optional_name.read rest.entry) }
 {
-    if !rest.is_in(&NAMES) {
+    if !rest.is_name() {
         return Ok((None, rest));
     }
     let (name, rest) = a_name(alloc, rest)?;
@@ -101,7 +79,7 @@ pub fn system_name<'t>(alloc: Global, rest: Rest<'t>) -> Result<(Bytes, Rest<'t>
     ensures { Gives (λ n. n) result (spec.system_name.read rest.entry) }
 {
     if !rest.is_key(Keyword::Session) {
-        return name_but(alloc, &[Keyword::Session as u8], rest);
+        return name_but(alloc, &[code(Keyword::Session)], rest);
     }
     let (session, rest) = word_name(alloc, Keyword::Session, rest)?;
     let (name, rest) = dotted_name(alloc, rest)?;

@@ -4,10 +4,11 @@ ghost use Rattle.sql_grammar.specs.Sets.{member, next_in, next_two_in};
 ghost use Rattle.sql_grammar.specs.Rule.{token, word};
 ghost use Rattle.sql_parse_tokens.specs.Gives.{Gives};
 ghost use Rattle.sql_parse_tokens.specs.Lexemes.{seen, split_first};
-ghost use Rattle.sql_syntax.specs.Tokens.{kind, code, sign_code, first_keyword, keyword, sign};
+ghost use Rattle.sql_syntax.specs.Tokens.{kind, code, sign_code, names, own_names, first_keyword, keyword, sign};
 
 use crate::fault::Stop;
-use crate::lexeme::{Lexeme, code, sign_code};
+use crate::kinds::{code, sign_code};
+use crate::lexeme::Lexeme;
 use crate::word::Word;
 use sql_lex::{Keyword, Symbol};
 use std::marker::Model;
@@ -87,6 +88,36 @@ impl<'t> Rest<'t> {
     {
         match self.split() {
             Some((kind, word, rest)) if has(kinds, kind) => Ok((word, rest)),
+            _ => Err(Stop::Syntax(self)),
+        }
+    }
+
+    /// Whether the next token may be a name.
+    pub fn is_name(&self) -> bool
+        ensures { result ≡ next_in kind names self.now }
+    {
+        match self.split() {
+            Some((_, word, _)) => word.is_name(),
+            None => false,
+        }
+    }
+
+    /// The next token, where it may be a name.
+    pub fn take_name(self) -> Result<(Word<'t>, Rest<'t>), Stop<'t>>
+        ensures { Gives (λ t. t) result ((token kind names (λ t. Some t)).read self.entry) }
+    {
+        match self.split() {
+            Some((_, word, rest)) if word.is_name() => Ok((word, rest)),
+            _ => Err(Stop::Syntax(self)),
+        }
+    }
+
+    /// The next token, where it calls a stored function before a parenthesis.
+    pub fn take_own_name(self) -> Result<(Word<'t>, Rest<'t>), Stop<'t>>
+        ensures { Gives (λ t. t) result ((token kind own_names (λ t. Some t)).read self.entry) }
+    {
+        match self.split() {
+            Some((_, word, rest)) if word.is_own_name() => Ok((word, rest)),
             _ => Err(Stop::Syntax(self)),
         }
     }

@@ -1,13 +1,25 @@
 //! A token, and what it says.
 ghost use Rattle.std.specs.Prelude.{◌≡◌, IfOk, pos, neg_ℤ};
+ghost use Rattle.sql_grammar.specs.Sets.{member};
 ghost use Rattle.sql_parse_tokens.specs.Lexemes.{tok_of};
 ghost use Rattle.sql_syntax.specs.Tokens as spec;
+ghost use Rattle.sql_tree.specs.BuiltIns.{lower_name};
 
 use crate::lexeme::{Lexeme, Sort};
 use sql_lex::{Keyword, Symbol, Token, TokenKind, name_of, text_of};
+use sql_tree::function_name;
 use std::alloc::Global;
 use std::marker::Model;
-use val_types::{Bytes, List, NoMemory};
+use val_types::{Bytes, Func, Func0, Func1, Func2, Func3, FuncN, List, NoMemory};
+
+/// The name of a built-in function, in lower case.
+fn lower_name(alloc: Global, function: Func) -> Result<Bytes, NoMemory>
+    ensures { IfOk result (λ name. name ≡ lower_name function) }
+{
+    let name = function_name(function);
+    let bytes: Vec<u8> = name.iter().map(|b| b.to_ascii_lowercase()).collect(alloc)?;
+    Ok(List::from_vec(bytes))
+}
 
 /// A token of a text.
 #[derive(Drop)]
@@ -41,6 +53,7 @@ impl<'t> Word<'t> {
         let Lexeme { sort, at, end } = *self.lexeme;
         match sort {
             Sort::Key(k) => List::from_slice(alloc, k.word()),
+            Sort::Function(f) => lower_name(alloc, f),
             Sort::Name => {
                 let kind = TokenKind::Word;
                 name_of(alloc, self.text, Token { kind, at, end })
@@ -72,6 +85,71 @@ impl<'t> Word<'t> {
         match self.lexeme.sort {
             Sort::Key(k) => Some(k),
             _ => None,
+        }
+    }
+
+    /// Whether the token may be a name.
+    pub fn is_name(&self) -> bool
+        ensures { result ≡ member (spec.kind self.now) spec.names }
+    {
+        self.lexeme.sort.is_name()
+    }
+
+    /// Whether the token calls a stored function before a parenthesis.
+    pub fn is_own_name(&self) -> bool
+        ensures { result ≡ member (spec.kind self.now) spec.own_names }
+    {
+        self.lexeme.sort.is_own_name()
+    }
+
+    /// The built-in function without arguments that the token names; NOW for a token that names none.
+    pub fn none(&self) -> Func0
+        ensures { result ≡ spec.none_said self.now }
+    {
+        match self.lexeme.sort {
+            Sort::Function(Func::Zero(f)) => f,
+            _ => Func0::Now,
+        }
+    }
+
+    /// The built-in function of one argument that the token names; ABS for a token that names none.
+    pub fn one(&self) -> Func1
+        ensures { result ≡ spec.one_said self.now }
+    {
+        match self.lexeme.sort {
+            Sort::Function(Func::One(f)) => f,
+            _ => Func1::Abs,
+        }
+    }
+
+    /// The built-in function of two arguments that the token names; IFNULL for a token that names none.
+    pub fn two(&self) -> Func2
+        ensures { result ≡ spec.two_said self.now }
+    {
+        match self.lexeme.sort {
+            Sort::Function(Func::Two(f)) => f,
+            _ => Func2::IfNull,
+        }
+    }
+
+    /// The built-in function of three arguments that the token names; IF for a token that names none.
+    pub fn three(&self) -> Func3
+        ensures { result ≡ spec.three_said self.now }
+    {
+        match self.lexeme.sort {
+            Sort::Function(Func::Three(f)) => f,
+            _ => Func3::If,
+        }
+    }
+
+    /// The built-in function of one argument or more that the token names; COALESCE for a token that
+    /// names none.
+    pub fn many(&self) -> FuncN
+        ensures { result ≡ spec.many_said self.now }
+    {
+        match self.lexeme.sort {
+            Sort::Function(Func::Many(f)) => f,
+            _ => FuncN::Coalesce,
         }
     }
 

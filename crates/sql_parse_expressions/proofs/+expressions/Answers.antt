@@ -3,20 +3,20 @@ use Rattle.sql_lex.specs.declared.keyword.Keyword.TheVariants as words
 use Rattle.sql_lex.specs.declared.token.Symbol.TheVariants as signs
 use Rattle.val_types.specs.declared.ops.UnOp.TheVariants.{Negate, Not}
 use Rattle.sql_grammar.specs.Rule.{mapped, alone, both, behind, paired}
-use Rattle.val_types.specs.declared.ops.Func.TheVariants as functions
-use Rattle.sql_tree.specs.BuiltIns.{on_two, on_three}
+use Rattle.val_types.specs.declared.ops.Func3.{Func3}
+use Rattle.sql_tree.specs.BuiltIns.{on_three}
 use Rattle.sql_tree.specs.Tree.{unary, exists, call, choice, floor_rand, no_tree, no_part, part, subquery, query, items, tree, all_columns, aggregates, no_order, no_origin, from_table}
 use Rattle.sql_tree.specs.View.{view_tree, view_trees, view_arm, view_arms, view_part, view_query, view_order, view_orders, view_aggregate, view_aggregates, trees_of, arms_of, orders_of, aggregates_of}
 use Rattle.sql_tree.specs.Depth.{depth_of_tree, depth_of_trees, depth_of_arms, depth_of_part, depth_of_query, depth_of_orders, depth_of_aggregates, deepest}
-use Rattle.sql_syntax.specs.Tokens.{code, sign_code, keyword, keyword_said, name_said}
+use Rattle.sql_syntax.specs.Tokens.{code, sign_code, one_code, two_code, three_code, many_code, keyword, name_said}
 use Rattle.sql_parse_tokens.specs.Gives.{Fails}
 use Rattle.sql_parse_nodes.specs.Kept.{view_beside, depth_beside, depth_of_aggregate}
 use Rattle.sql_syntax.specs.Parts.{list_of, exprs, closed, arguments, in_parentheses}
 use Rattle.sql_syntax.specs.Selects.{selected, single_selected, agg, counted, direction, origin_of}
-use Rattle.sql_syntax.specs.Expressions.{nested, disjunction, conjunction, comparison, sum, product, among, null_test, compared, grouped, case_body, two_arguments, three_arguments, as_three, when_arm, when_arms, random, with_one, with_some, one_of, many_of}
+use Rattle.sql_syntax.specs.Expressions.{nested, disjunction, conjunction, comparison, sum, product, among, null_test, compared, grouped, case_body, two_arguments, three_arguments, as_three, call_one, call_two, call_three, call_many, when_arm, when_arms, random}
 use Rattle.sql_parse_expressions.proofs.BuiltIns.{keeps_tail, called_as}
 use Rattle.sql_parse_nodes.proofs.KeptLaws.{kept_alone, kept_beside, kept_push, kept_seen, keeps_mapped}
-use Rattle.sql_parse_expressions.proofs.NestedLaws.{whole_is, negation_is, prefix_is, select_is, single_is, two_as, three_as}
+use Rattle.sql_parse_expressions.proofs.NestedLaws.{whole_is, negation_is, prefix_is, select_is, single_is, three_as}
 use Rattle.sql_parse_nodes.proofs.Openings.{opened_as, keeps_behind, keeps_opened}
 use Rattle.sql_parse_nodes.proofs.TreeLists.{deepest_trees, deepest_arms, deepest_orders, deepest_aggregates}
 use Rattle.sql_parse_tokens.proofs.Reading.{again, fails_behind}
@@ -285,15 +285,15 @@ primaries::when_arms-returns t c = turns_end _ _ _ _ _ _ _ _ _ _ c.loop-turn.inv
 pub primaries::if_call-returns-in_err-three : goal.primaries::if_call-returns-in_err-three
 primaries::if_call-returns-in_err-three t c =
     let m = c.in_ok-inside.inside in
-    rw (c.in_ok-rest.ensures, opened_as c.args.depth (sign_code signs.Open) (λ a. a) (λ m. three_arguments (on_three functions.If) (nested m).whole) c.in_ok-rest.rest, c.in_ok-inside.ensures.reads, three_as (on_three functions.If) (nested m).whole c.in_ok-inside.rest) (search rules)
+    rw (c.in_ok-rest.ensures, opened_as c.args.depth (sign_code signs.Open) (λ a. a) (λ m. three_arguments (on_three Func3.If) (nested m).whole) c.in_ok-rest.rest, c.in_ok-inside.ensures.reads, three_as (on_three Func3.If) (nested m).whole c.in_ok-inside.rest) (search rules)
 
 pub primaries::if_call-returns : goal.primaries::if_call-returns
 primaries::if_call-returns t c =
     let r = c.in_ok-three.ensures in
     let m = c.in_ok-inside.inside in (
-      on_three functions.If r.0.0 r.0.1.0 r.0.1.1,
-      rw (c.in_ok-rest.ensures, opened_as c.args.depth (sign_code signs.Open) (λ a. a) (λ m. three_arguments (on_three functions.If) (nested m).whole) c.in_ok-rest.rest, c.in_ok-inside.ensures.reads, three_as (on_three functions.If) (nested m).whole c.in_ok-inside.rest, r.1) refl,
-      c.in_ok-choose.ensures r.0 r.2,
+      on_three Func3.If r.0.0 r.0.1.0 r.0.1.1,
+      rw (c.in_ok-rest.ensures, opened_as c.args.depth (sign_code signs.Open) (λ a. a) (λ m. three_arguments (on_three Func3.If) (nested m).whole) c.in_ok-rest.rest, c.in_ok-inside.ensures.reads, three_as (on_three Func3.If) (nested m).whole c.in_ok-inside.rest, r.1) refl,
+      c.in_ok-func3.ensures r.0 r.2,
     )
 
 pub primaries::exists_call-returns-in_err-query : goal.primaries::exists_call-returns-in_err-query
@@ -309,59 +309,59 @@ primaries::exists_call-returns t c =
     )
 
 pub calls::with_one-returns-then-not-is_mark : goal.calls::with_one-returns-then-not-is_mark
-calls::with_one-returns-then-not-is_mark t c = keeps_tail with_one (λ t a. one_of (keyword_said t) a) c.args.depth (closed (nested (pred c.args.depth)).whole) _ c.args.rest _ _ c.in_ok-word.ensures c.if-not-is_mark.ensures c.column.ensures
+calls::with_one-returns-then-not-is_mark t c = keeps_tail (one_code ∷ []) call_one c.args.depth (closed (nested (pred c.args.depth)).whole) _ c.args.rest _ _ c.in_ok-word.ensures c.if-not-is_mark.ensures c.column.ensures
 
 pub calls::with_one-returns-in_err-a : goal.calls::with_one-returns-in_err-a
-calls::with_one-returns-in_err-a t c = rw (called_as with_one (λ t a. one_of (keyword_said t) a) c.args.depth c.in_ok-inside.inside (λ m. closed (nested m).whole) c.args.rest _ _ _ c.in_ok-word.ensures c.if-not-is_mark.ensures c.in_ok-inside.ensures.reads) (search rules)
+calls::with_one-returns-in_err-a t c = rw (called_as (one_code ∷ []) call_one c.args.depth c.in_ok-inside.inside (λ m. closed (nested m).whole) c.args.rest _ _ _ c.in_ok-word.ensures c.if-not-is_mark.ensures c.in_ok-inside.ensures.reads) (search rules)
 
 pub calls::with_one-returns : goal.calls::with_one-returns
 calls::with_one-returns t c =
     let r = c.in_ok-a.ensures in (
-      one_of (keyword_said c.in_ok-word.word) r.0,
-      rw (called_as with_one (λ t a. one_of (keyword_said t) a) c.args.depth c.in_ok-inside.inside (λ m. closed (nested m).whole) c.args.rest _ _ _ c.in_ok-word.ensures c.if-not-is_mark.ensures c.in_ok-inside.ensures.reads, r.1) refl,
-      rw c.key.ensures at (c.in_ok-one_of.ensures r.0 r.2),
+      call_one c.in_ok-word.word r.0,
+      rw (called_as (one_code ∷ []) call_one c.args.depth c.in_ok-inside.inside (λ m. closed (nested m).whole) c.args.rest _ _ _ c.in_ok-word.ensures c.if-not-is_mark.ensures c.in_ok-inside.ensures.reads, r.1) refl,
+      rw c.one.ensures at (c.in_ok-func1.ensures r.0 r.2),
     )
 
-pub calls::with_some-returns-then-not-is_mark : goal.calls::with_some-returns-then-not-is_mark
-calls::with_some-returns-then-not-is_mark t c = keeps_tail with_some (λ t a. many_of (keyword_said t) a) c.args.depth (closed (exprs (nested (pred c.args.depth)).whole)) _ c.args.rest _ _ c.in_ok-word.ensures c.if-not-is_mark.ensures c.column.ensures
+pub calls::with_two-returns-then-not-is_mark : goal.calls::with_two-returns-then-not-is_mark
+calls::with_two-returns-then-not-is_mark t c = keeps_tail (two_code ∷ []) call_two c.args.depth (two_arguments paired (nested (pred c.args.depth)).whole) _ c.args.rest _ _ c.in_ok-word.ensures c.if-not-is_mark.ensures c.column.ensures
 
-pub calls::with_some-returns-in_err-items : goal.calls::with_some-returns-in_err-items
-calls::with_some-returns-in_err-items t c = rw (called_as with_some (λ t a. many_of (keyword_said t) a) c.args.depth c.in_ok-inside.inside (λ m. closed (exprs (nested m).whole)) c.args.rest _ _ _ c.in_ok-word.ensures c.if-not-is_mark.ensures c.in_ok-inside.ensures.reads) (search rules)
+pub calls::with_two-returns-in_err-two : goal.calls::with_two-returns-in_err-two
+calls::with_two-returns-in_err-two t c = rw (called_as (two_code ∷ []) call_two c.args.depth c.in_ok-inside.inside (λ m. two_arguments paired (nested m).whole) c.args.rest _ _ _ c.in_ok-word.ensures c.if-not-is_mark.ensures c.in_ok-inside.ensures.reads) (search rules)
 
-pub calls::with_some-returns : goal.calls::with_some-returns
-calls::with_some-returns t c =
-    let r = c.in_ok-items.ensures in (
-      many_of (keyword_said c.in_ok-word.word) r.0,
-      rw (called_as with_some (λ t a. many_of (keyword_said t) a) c.args.depth c.in_ok-inside.inside (λ m. closed (exprs (nested m).whole)) c.args.rest _ _ _ c.in_ok-word.ensures c.if-not-is_mark.ensures c.in_ok-inside.ensures.reads, r.1) refl,
-      rw c.key.ensures at (c.in_ok-many_of.ensures r.0 r.2),
-    )
-
-pub calls::ifnull_call-returns-then-not-is_mark : goal.calls::ifnull_call-returns-then-not-is_mark
-calls::ifnull_call-returns-then-not-is_mark t c = keeps_tail (code words.Ifnull ∷ []) (λ t a. a) c.args.depth (two_arguments (on_two functions.IfNull) (nested (pred c.args.depth)).whole) _ c.args.rest _ _ c.in_ok-word.ensures c.if-not-is_mark.ensures c.column.ensures
-
-pub calls::ifnull_call-returns-in_err-two : goal.calls::ifnull_call-returns-in_err-two
-calls::ifnull_call-returns-in_err-two t c = rw (called_as (code words.Ifnull ∷ []) (λ t a. a) c.args.depth c.in_ok-inside.inside (λ m. two_arguments (on_two functions.IfNull) (nested m).whole) c.args.rest _ _ _ c.in_ok-word.ensures c.if-not-is_mark.ensures c.in_ok-inside.ensures.reads, two_as (on_two functions.IfNull) (nested c.in_ok-inside.inside).whole c.in_ok-inside.rest) (search rules)
-
-pub calls::ifnull_call-returns : goal.calls::ifnull_call-returns
-calls::ifnull_call-returns t c =
+pub calls::with_two-returns : goal.calls::with_two-returns
+calls::with_two-returns t c =
     let r = c.in_ok-two.ensures in (
-      on_two functions.IfNull r.0.0 r.0.1,
-      rw (called_as (code words.Ifnull ∷ []) (λ t a. a) c.args.depth c.in_ok-inside.inside (λ m. two_arguments (on_two functions.IfNull) (nested m).whole) c.args.rest _ _ _ c.in_ok-word.ensures c.if-not-is_mark.ensures c.in_ok-inside.ensures.reads, two_as (on_two functions.IfNull) (nested c.in_ok-inside.inside).whole c.in_ok-inside.rest, r.1) refl,
-      c.in_ok-ifnull.ensures r.0 r.2,
+      call_two c.in_ok-word.word r.0,
+      rw (called_as (two_code ∷ []) call_two c.args.depth c.in_ok-inside.inside (λ m. two_arguments paired (nested m).whole) c.args.rest _ _ _ c.in_ok-word.ensures c.if-not-is_mark.ensures c.in_ok-inside.ensures.reads, r.1) refl,
+      rw c.two.ensures at (c.in_ok-func2.ensures r.0 r.2),
     )
 
-pub calls::substring_call-returns-then-not-is_mark : goal.calls::substring_call-returns-then-not-is_mark
-calls::substring_call-returns-then-not-is_mark t c = keeps_tail (code words.Substring ∷ []) (λ t a. a) c.args.depth (three_arguments (on_three functions.Substring) (nested (pred c.args.depth)).whole) _ c.args.rest _ _ c.in_ok-word.ensures c.if-not-is_mark.ensures c.column.ensures
+pub calls::with_three-returns-then-not-is_mark : goal.calls::with_three-returns-then-not-is_mark
+calls::with_three-returns-then-not-is_mark t c = keeps_tail (three_code ∷ []) call_three c.args.depth (three_arguments as_three (nested (pred c.args.depth)).whole) _ c.args.rest _ _ c.in_ok-word.ensures c.if-not-is_mark.ensures c.column.ensures
 
-pub calls::substring_call-returns-in_err-three : goal.calls::substring_call-returns-in_err-three
-calls::substring_call-returns-in_err-three t c = rw (called_as (code words.Substring ∷ []) (λ t a. a) c.args.depth c.in_ok-inside.inside (λ m. three_arguments (on_three functions.Substring) (nested m).whole) c.args.rest _ _ _ c.in_ok-word.ensures c.if-not-is_mark.ensures c.in_ok-inside.ensures.reads, three_as (on_three functions.Substring) (nested c.in_ok-inside.inside).whole c.in_ok-inside.rest) (search rules)
+pub calls::with_three-returns-in_err-three : goal.calls::with_three-returns-in_err-three
+calls::with_three-returns-in_err-three t c = rw (called_as (three_code ∷ []) call_three c.args.depth c.in_ok-inside.inside (λ m. three_arguments as_three (nested m).whole) c.args.rest _ _ _ c.in_ok-word.ensures c.if-not-is_mark.ensures c.in_ok-inside.ensures.reads) (search rules)
 
-pub calls::substring_call-returns : goal.calls::substring_call-returns
-calls::substring_call-returns t c =
+pub calls::with_three-returns : goal.calls::with_three-returns
+calls::with_three-returns t c =
     let r = c.in_ok-three.ensures in (
-      on_three functions.Substring r.0.0 r.0.1.0 r.0.1.1,
-      rw (called_as (code words.Substring ∷ []) (λ t a. a) c.args.depth c.in_ok-inside.inside (λ m. three_arguments (on_three functions.Substring) (nested m).whole) c.args.rest _ _ _ c.in_ok-word.ensures c.if-not-is_mark.ensures c.in_ok-inside.ensures.reads, three_as (on_three functions.Substring) (nested c.in_ok-inside.inside).whole c.in_ok-inside.rest, r.1) refl,
-      c.in_ok-substring.ensures r.0 r.2,
+      call_three c.in_ok-word.word r.0,
+      rw (called_as (three_code ∷ []) call_three c.args.depth c.in_ok-inside.inside (λ m. three_arguments as_three (nested m).whole) c.args.rest _ _ _ c.in_ok-word.ensures c.if-not-is_mark.ensures c.in_ok-inside.ensures.reads, r.1) refl,
+      rw c.three.ensures at (c.in_ok-func3.ensures r.0 r.2),
+    )
+
+pub calls::with_many-returns-then-not-is_mark : goal.calls::with_many-returns-then-not-is_mark
+calls::with_many-returns-then-not-is_mark t c = keeps_tail (many_code ∷ []) call_many c.args.depth (closed (exprs (nested (pred c.args.depth)).whole)) _ c.args.rest _ _ c.in_ok-word.ensures c.if-not-is_mark.ensures c.column.ensures
+
+pub calls::with_many-returns-in_err-items : goal.calls::with_many-returns-in_err-items
+calls::with_many-returns-in_err-items t c = rw (called_as (many_code ∷ []) call_many c.args.depth c.in_ok-inside.inside (λ m. closed (exprs (nested m).whole)) c.args.rest _ _ _ c.in_ok-word.ensures c.if-not-is_mark.ensures c.in_ok-inside.ensures.reads) (search rules)
+
+pub calls::with_many-returns : goal.calls::with_many-returns
+calls::with_many-returns t c =
+    let r = c.in_ok-items.ensures in (
+      call_many c.in_ok-word.word r.0,
+      rw (called_as (many_code ∷ []) call_many c.args.depth c.in_ok-inside.inside (λ m. closed (exprs (nested m).whole)) c.args.rest _ _ _ c.in_ok-word.ensures c.if-not-is_mark.ensures c.in_ok-inside.ensures.reads, r.1) refl,
+      rw c.many.ensures at (c.in_ok-func_n.ensures r.0 r.2),
     )
 
 pub calls::floor_call-returns-then-not-is_mark : goal.calls::floor_call-returns-then-not-is_mark
@@ -397,20 +397,20 @@ calls::by_name-returns-then-is_in-2 t c = rw (← c.if-is_in.ensures, ← c.if-i
 pub calls::floor_call-returns-in_err-inside : goal.calls::floor_call-returns-in_err-inside
 calls::floor_call-returns-in_err-inside t c = rw (c.in_ok-word.ensures, ← c.if-not-is_mark.ensures) (search rules)
 
-pub calls::ifnull_call-returns-in_err-inside : goal.calls::ifnull_call-returns-in_err-inside
-calls::ifnull_call-returns-in_err-inside t c = rw (c.in_ok-word.ensures, ← c.if-not-is_mark.ensures) (search rules)
+pub calls::with_three-returns-in_err-inside : goal.calls::with_three-returns-in_err-inside
+calls::with_three-returns-in_err-inside t c = rw (c.in_ok-word.ensures, ← c.if-not-is_mark.ensures) (search rules)
 
 pub calls::name_or_call-returns-in_err-inside : goal.calls::name_or_call-returns-in_err-inside
 calls::name_or_call-returns-in_err-inside t c = rw (c.in_ok-word.ensures, ← c.if-not-is_mark.ensures) (search rules)
 
-pub calls::substring_call-returns-in_err-inside : goal.calls::substring_call-returns-in_err-inside
-calls::substring_call-returns-in_err-inside t c = rw (c.in_ok-word.ensures, ← c.if-not-is_mark.ensures) (search rules)
+pub calls::with_many-returns-in_err-inside : goal.calls::with_many-returns-in_err-inside
+calls::with_many-returns-in_err-inside t c = rw (c.in_ok-word.ensures, ← c.if-not-is_mark.ensures) (search rules)
 
 pub calls::with_one-returns-in_err-inside : goal.calls::with_one-returns-in_err-inside
 calls::with_one-returns-in_err-inside t c = rw (c.in_ok-word.ensures, ← c.if-not-is_mark.ensures) (search rules)
 
-pub calls::with_some-returns-in_err-inside : goal.calls::with_some-returns-in_err-inside
-calls::with_some-returns-in_err-inside t c = rw (c.in_ok-word.ensures, ← c.if-not-is_mark.ensures) (search rules)
+pub calls::with_two-returns-in_err-inside : goal.calls::with_two-returns-in_err-inside
+calls::with_two-returns-in_err-inside t c = rw (c.in_ok-word.ensures, ← c.if-not-is_mark.ensures) (search rules)
 
 pub calls::arguments-returns : goal.calls::arguments-returns
 calls::arguments-returns t c = (no_tree, rw (← c.if-not-is_mark.ensures, c.in_ok-rest.ensures) refl, rw c.empty.ensures refl)

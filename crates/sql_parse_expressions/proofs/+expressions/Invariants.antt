@@ -111,14 +111,14 @@ decreases-calls::built_ins l = 100 * l.depth + 48
 abbrev pub decreases-calls::with_one : goal.decreases-calls::with_one
 decreases-calls::with_one l = 100 * l.depth + 47
 
-abbrev pub decreases-calls::with_some : goal.decreases-calls::with_some
-decreases-calls::with_some l = 100 * l.depth + 47
+abbrev pub decreases-calls::with_two : goal.decreases-calls::with_two
+decreases-calls::with_two l = 100 * l.depth + 47
 
-abbrev pub decreases-calls::ifnull_call : goal.decreases-calls::ifnull_call
-decreases-calls::ifnull_call l = 100 * l.depth + 47
+abbrev pub decreases-calls::with_three : goal.decreases-calls::with_three
+decreases-calls::with_three l = 100 * l.depth + 47
 
-abbrev pub decreases-calls::substring_call : goal.decreases-calls::substring_call
-decreases-calls::substring_call l = 100 * l.depth + 47
+abbrev pub decreases-calls::with_many : goal.decreases-calls::with_many
+decreases-calls::with_many l = 100 * l.depth + 47
 
 abbrev pub decreases-calls::floor_call : goal.decreases-calls::floor_call
 decreases-calls::floor_call l = 100 * l.depth + 47
