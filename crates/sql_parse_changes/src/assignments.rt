@@ -21,7 +21,7 @@ use sql_parse_expressions::expressions::{list, whole};
 use sql_parse_nodes::held;
 use sql_parse_nodes::kept::{Kept, Levelled, above, alone, push};
 use sql_parse_tokens::fault::Stop;
-use sql_parse_tokens::lexeme::sign_code;
+use sql_parse_tokens::kinds::sign_code;
 use sql_parse_tokens::opening::opening;
 use sql_parse_tokens::parts::a_name;
 use sql_parse_tokens::rest::Rest;

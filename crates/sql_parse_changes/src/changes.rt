@@ -25,7 +25,7 @@ use sql_parse_expressions::selects::{order, select, where_part};
 use sql_parse_nodes::kept::{Kept, Levelled, above, alone, beside, push};
 use sql_parse_nodes::{held, node};
 use sql_parse_tokens::fault::Stop;
-use sql_parse_tokens::lexeme::sign_code;
+use sql_parse_tokens::kinds::sign_code;
 use sql_parse_tokens::limits::limit;
 use sql_parse_tokens::opening::opening;
 use sql_parse_tokens::parts::{a_name, names_in};

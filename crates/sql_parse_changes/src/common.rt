@@ -14,6 +14,7 @@ use sql_parse_expressions::selects::select;
 use sql_parse_nodes::held;
 use sql_parse_nodes::kept::{Kept, Levelled};
 use sql_parse_tokens::fault::Stop;
+use sql_parse_tokens::kinds::FIRST_WORD;
 use sql_parse_tokens::rest::Rest;
 use sql_tree::{Select, Stmt};
 use std::alloc::Global;
@@ -82,8 +83,8 @@ pub fn common<'t>(
 
 /// What INSERT, REPLACE, UPDATE and DELETE begin with.
 const CHANGE_WORDS: [u8; 4] = [
-    Keyword::Insert as u8,
-    Keyword::Replace as u8,
-    Keyword::Update as u8,
-    Keyword::Delete as u8,
+    FIRST_WORD + Keyword::Insert as u8,
+    FIRST_WORD + Keyword::Replace as u8,
+    FIRST_WORD + Keyword::Update as u8,
+    FIRST_WORD + Keyword::Delete as u8,
 ];
