@@ -36,7 +36,9 @@ const NAME_CONST: u8 = FIRST_WORD + Keyword::NameConst as u8;
 const FLOOR: u8 = FIRST_WORD + Keyword::Floor as u8;
 
 /// The kinds of the names of built-ins, of those too that have a rule of their own.
-const BUILT_INS: [u8; 7] = [OF_NONE, OF_ONE, OF_TWO, OF_THREE, OF_MANY, NAME_CONST, FLOOR];
+const BUILT_INS: [u8; 7] = [
+    OF_NONE, OF_ONE, OF_TWO, OF_THREE, OF_MANY, NAME_CONST, FLOOR,
+];
 
 /// Aggregates, and RAND: names that no expression calls.
 const UNCALLED: [u8; 5] = [

@@ -13,7 +13,7 @@ returns-in_err-rest c = rw (c.in_ok-word.ensures, ← c.if-not-is_mark.ensures) 
 
 pub returns : goal.returns
 returns c = (
-    call_none c.in_ok-word.word tt,
-    rw (called_as (none_code ∷ []) call_none c.args.depth _ (λ m. sign signs.Close) c.args.rest _ _ _ c.in_ok-word.ensures c.if-not-is_mark.ensures c.in_ok-rest.ensures.reads, c.in_ok-rest-2.ensures) refl,
-    rw c.none.ensures at c.in_ok-func0.ensures,
-  )
+  call_none c.in_ok-word.word tt,
+  rw (called_as (none_code ∷ []) call_none c.args.depth _ (λ m. sign signs.Close) c.args.rest _ _ _ c.in_ok-word.ensures c.if-not-is_mark.ensures c.in_ok-rest.ensures.reads, c.in_ok-rest-2.ensures) refl,
+  rw c.none.ensures at c.in_ok-func0.ensures,
+)
