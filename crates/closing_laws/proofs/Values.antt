@@ -8,7 +8,6 @@ use Rattle.std.proofs.lemmas.Bool.{and_parts}
 use Rattle.val_types.specs.declared.value.Value.{Value}
 use Rattle.val_types.specs.declared.value.Value.TheVariants.{Null, Int, Text}
 use Rattle.val_types.specs.declared.definitions.TableDef.{TableDef}
-use Rattle.val_types.specs.declared.ops.Func.{Func}
 use Rattle.val_types.specs.declared.ops.Agg.{Agg}
 use Rattle.val_types.specs.Fitting.{is_null}
 use Rattle.value_rules.specs.Operators.{truth_value, comparison, decided, binary_value, unary_value}

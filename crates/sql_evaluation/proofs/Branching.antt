@@ -1,5 +1,5 @@
 -- Conditions, IN, CASE, IF, IFNULL and COALESCE, one step at a time.
-use Rattle.std.proofs.Common.{◌≡◌, ℕ, suc, ◌+◌, ◌<◌, ◌≤◌, List, [], ◌∷◌, Bool, true, false, cond, Option, Some, None, length, get_or, drop, map, refl, sym, ap, ◌∙◌, add-one, drop-cons, subst, Result, Ok, Err}
+use Rattle.std.proofs.Common.{◌≡◌, ℕ, suc, ◌+◌, ◌<◌, ◌≤◌, List, ◌∷◌, Bool, true, false, cond, Option, Some, None, length, get_or, drop, refl, sym, ap, ◌∙◌, add-one, drop-cons, subst, Result, Ok, Err}
 use Rattle.std.specs.declared.cmp.Ordering.{Ordering}
 use Rattle.std.specs.Ordering.{is_eq}
 use Rattle.std.proofs.lemmas.List.{drop_all}
@@ -15,12 +15,11 @@ use Rattle.sql_tree.specs.declared.expressions.Aggregate.TheFolds.{fold_out-Arm}
 use Rattle.sql_tree.specs.Tree.{Tree, Trees, Arms, Part, arm, tree, no_tree, Query, Selected, Origin}
 use Rattle.val_types.specs.declared.ops.Agg.{Agg}
 use Rattle.sql_tree.specs.BuiltIns.{on_many, on_two, on_three}
-use Rattle.sql_tree.specs.View.{view_tree, view_trees, view_arms, view_arm, view_part, aggregate_step, tree_step, selected_step, arm_step, origin_step, order_step, query_step}
+use Rattle.sql_tree.specs.View.{view_tree, view_trees, view_arms, view_arm, aggregate_step, tree_step, selected_step, arm_step, origin_step, order_step, query_step}
 use Rattle.value_rules.specs.Operators.{truth_of, comparison}
 use Rattle.value_rules.specs.Functions.{is_known_true}
 use Rattle.sql_meaning.specs.Scenes.{Scene, Ending, Action, done, failed, then_do, pure, answered, ◌>>=◌}
-use Rattle.sql_meaning.specs.Frames.{World, Frame}
-use Rattle.sql_meaning.specs.Values.{value, values, holds, found_among, found_or, value_of_arms, value_of_part, first_known_of, value_of_if, value_at}
+use Rattle.sql_meaning.specs.Values.{holds, found_or, value_of_arms, first_known_of, value_at}
 use Rattle.val_types.specs.declared.refusal.SqlRefusal.{SqlRefusal}
 use Rattle.val_types.specs.declared.refusal.SqlRefusal.TheVariants.{Sql, NoMemory}
 use Rattle.sql_stage.specs.Stage.{EndsAs}

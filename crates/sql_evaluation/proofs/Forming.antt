@@ -1,24 +1,23 @@
 -- Aggregates, one at a time.
-use Rattle.std.proofs.Common.{◌≡◌, ℕ, zero, suc, ◌+◌, ◌<◌, ◌≤◌, List, [], ◌∷◌, ◌++◌, Bool, true, false, cond, Option, Some, None, length, get_or, drop, map, refl, sym, ap, ◌∙◌, append_assoc, append-nil, add-one, drop-cons, subst, Result, Ok, Err, arith}
+use Rattle.std.proofs.Common.{◌≡◌, ℕ, zero, suc, ◌+◌, ◌<◌, ◌≤◌, List, [], ◌∷◌, ◌++◌, Option, Some, None, length, get_or, drop, map, refl, sym, ap, ◌∙◌, append_assoc, append-nil, add-one, subst, Result, Ok, Err}
 use Rattle.std.specs.List.{slice_index_or, slice_get}
 use Rattle.std.proofs.lemmas.List.{drop_all}
 use Rattle.val_types.specs.declared.value.Value.{Value}
-use Rattle.val_types.specs.declared.value.Value.TheVariants.{Null, Int}
+use Rattle.val_types.specs.declared.value.Value.TheVariants.{Null}
 use Rattle.val_types.specs.declared.refusal.SqlRefusal.{SqlRefusal}
 use Rattle.val_types.specs.declared.refusal.SqlRefusal.TheVariants.{Sql, NoMemory}
-use Rattle.val_types.specs.Answers.{Gives}
 use Rattle.val_types.specs.declared.definitions.TableDef.{TableDef}
 use Rattle.val_types.specs.declared.ops.Agg.{Agg}
 use Rattle.sql_tree.specs.declared.expressions.Aggregate.{Aggregate}
-use Rattle.sql_tree.specs.Tree.{Tree, Aggregates, no_aggregate, count_all, aggregate}
+use Rattle.sql_tree.specs.Tree.{Tree, Aggregates}
 use Rattle.sql_tree.specs.View.{view_aggregate, view_aggregates, aggregate_before}
 use Rattle.value_rules.specs.Selecting.{first_value, aggregate_value}
-use Rattle.sql_meaning.specs.Scenes.{Scene, Ending, Action, done, failed, then_do, pure, each, answered, ◌>>=◌}
+use Rattle.sql_meaning.specs.Scenes.{Scene, Ending, done, failed, then_do, pure, answered, ◌>>=◌}
 use Rattle.sql_meaning.specs.Values.{formed, functions_of}
 use Rattle.sql_stage.specs.Stage.{EndsAs}
 use Rattle.sql_evaluation.specs.declared.world.View.{View as Shown}
 use Rattle.sql_evaluation.specs.declared.world.Around.{Around}
-use Rattle.sql_evaluation.specs.Seen.{value_in, argument_in, arguments_in, argument_rows_in, aggregated_in, function_in, column_at, put_before, formed_values, seen, with_row, Inside}
+use Rattle.sql_evaluation.specs.Seen.{argument_in, arguments_in, argument_rows_in, aggregated_in, function_in, column_at, put_before, formed_values, seen, with_row, Inside}
 use Rattle.sql_evaluation.proofs.Loops.{rest_of, each_starts, each_more, each_fails, each_ends}
 use Rattle.sql_evaluation.proofs.Branching.{rest_is}
 use Rattle.sql_evaluation.proofs.Scanning.{inside_next}

@@ -1,12 +1,11 @@
 -- Loops, one item at a time: what is left does, from here, what all did from the start.
-use Rattle.std.proofs.Common.{◌≡◌, ℕ, suc, ◌+◌, ◌<◌, ◌≤◌, List, [], ◌∷◌, ◌++◌, Bool, true, false, cond, Option, Some, None, length, get_or, drop, map, refl, sym, ap, ◌∙◌, append_assoc, append-nil, add-one, drop-cons, arith, Result, Ok, Err}
+use Rattle.std.proofs.Common.{◌≡◌, ℕ, suc, ◌+◌, ◌<◌, ◌≤◌, List, [], ◌∷◌, ◌++◌, length, get_or, drop, refl, sym, ap, ◌∙◌, append_assoc, append-nil, add-one, drop-cons}
 use Rattle.std.proofs.lemmas.List.{drop_all}
 use Rattle.val_types.specs.declared.value.Value.{Value}
 use Rattle.sql_tree.specs.declared.expressions.Expr.{Expr}
-use Rattle.sql_tree.specs.declared.expressions.Arm.{Arm}
-use Rattle.sql_tree.specs.Tree.{Tree, Trees, Arms}
-use Rattle.sql_tree.specs.View.{view_tree, view_trees, view_arms, trees_of}
-use Rattle.sql_meaning.specs.Scenes.{Scene, Ending, Action, done, failed, then_do, pure, each, kept_by, ◌>>=◌}
+use Rattle.sql_tree.specs.Tree.{Trees}
+use Rattle.sql_tree.specs.View.{view_tree, view_trees}
+use Rattle.sql_meaning.specs.Scenes.{Scene, Ending, Action, done, failed, then_do, pure, each, ◌>>=◌}
 use Rattle.sql_meaning.specs.Frames.{World, Frame}
 use Rattle.sql_meaning.specs.Values.{value, values}
 

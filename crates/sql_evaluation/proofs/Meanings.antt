@@ -1,18 +1,16 @@
 -- What stands already, and answers that are the same in any scene.
-use Rattle.std.proofs.Common.{◌≡◌, ℕ, List, [], ◌∷◌, Option, Some, None, Bool, true, false, cond, refl, sym, ◌∙◌, ap, nat_le, length, Result, Ok, Err}
+use Rattle.std.proofs.Common.{◌≡◌, ℕ, List, Option, Some, None, true, false, refl, Ok, Err}
 use Rattle.std.specs.Option.{option_copied}
 use Rattle.std.specs.Borrow.{Bor}
 use Rattle.val_types.specs.declared.value.Value.{Value}
 use Rattle.val_types.specs.declared.value.Value.TheVariants.{Null, Int, Text}
-use Rattle.val_types.specs.declared.refusal.SqlRefusal.{SqlRefusal}
 use Rattle.val_types.specs.declared.refusal.SqlRefusal.TheVariants.{Sql, NoMemory}
 use Rattle.sql_tree.specs.Tree.{Tree, literal, name, column, new_column, old_column, user_variable, system_variable, unary, binary, is_in, choice, subquery, exists, call, values_of, name_const, floor_rand, built_in}
-use Rattle.sql_meaning.specs.Scenes.{Scene, Action, Ending, done, failed, needed, answered}
+use Rattle.sql_meaning.specs.Scenes.{Scene, Action, done, failed, needed}
 use Rattle.sql_meaning.specs.Frames.{capped}
-use Rattle.sql_stage.specs.Stage.{EndsAs}
 use Rattle.sql_evaluation.specs.declared.world.View.{View as Shown}
 use Rattle.sql_evaluation.specs.declared.world.Around.{Around}
-use Rattle.sql_evaluation.specs.Seen.{value_in, Stands, StandsIf, meant, Anywhere, is_capped}
+use Rattle.sql_evaluation.specs.Seen.{Stands, StandsIf, meant, Anywhere, is_capped}
 
 needed_some : (code : ℕ) (o : Option Value) (v : Value) (scene : Scene) → Some v ≡ o → needed code o scene ≡ done v scene
 needed_some code o v scene h = rw (← h) refl

@@ -1,6 +1,5 @@
 -- SELECTs, one step at a time.
-use Rattle.std.proofs.Common.{◌≡◌, ℕ, suc, ◌+◌, ◌<◌, ◌≤◌, List, [], ◌∷◌, ◌++◌, Bool, true, false, cond, Option, Some, None, length, get_or, drop, map, refl, sym, ap, ◌∙◌, append_assoc, append-nil, add-one, drop-cons, subst, Result, Ok, Err, IsTrue, ◌↔◌}
-use Rattle.std.specs.Option.{option_map}
+use Rattle.std.proofs.Common.{◌≡◌, ℕ, ◌+◌, ◌<◌, ◌≤◌, List, [], ◌∷◌, ◌++◌, Bool, true, false, cond, Option, Some, None, length, get_or, drop, map, refl, sym, ap, ◌∙◌, append_assoc, append-nil, subst, Result, Ok, Err, IsTrue, ◌↔◌}
 use Rattle.std.specs.Ordering.{is_lt}
 use Rattle.std.proofs.lemmas.List.{drop_all}
 use Rattle.val_types.specs.declared.value.Value.{Value}
@@ -19,18 +18,18 @@ use Rattle.sql_tree.specs.declared.expressions.Aggregate.TheFolds.{fold_out-Sele
 use Rattle.sql_tree.specs.Tree.{Tree, Trees, Query, query, Selected, Origin, from_table, Orders, no_order, order_by, Part, no_part, part, items}
 use Rattle.sql_tree.specs.declared.expressions.Aggregate.{Aggregate}
 use Rattle.sql_tree.specs.declared.expressions.Arm.{Arm}
-use Rattle.sql_tree.specs.View.{view_aggregate, view_arm, view_tree, view_trees, view_selected, view_origin, view_from, view_order, view_orders, view_part, view_query, aggregate_step, tree_step, selected_step, arm_step, origin_step, order_step, query_step}
+use Rattle.sql_tree.specs.View.{view_aggregate, view_arm, view_tree, view_selected, view_origin, view_from, view_order, view_orders, view_part, view_query, aggregate_step, tree_step, selected_step, arm_step, origin_step, order_step, query_step}
 use Rattle.table_rules.specs.Tables.{Table}
 use Rattle.value_rules.specs.Selecting.{by_items, in_order, put_in_order, first_value}
 use Rattle.sql_meaning.specs.Scenes.{Scene, Ending, Action, done, failed, then_do, pure, each, kept_by, table_now, ◌>>=◌}
-use Rattle.sql_meaning.specs.Frames.{World, Frame, sees, limited}
-use Rattle.sql_meaning.specs.Values.{value, values, holds, is_kept, order_values, rows_of_query, shown_rows, sorted, directions, only_value}
+use Rattle.sql_meaning.specs.Frames.{sees, limited}
+use Rattle.sql_meaning.specs.Values.{is_kept, order_values, shown_rows, sorted, directions, only_value}
 use Rattle.sql_stage.specs.Stage.{EndsAs}
 use Rattle.sql_evaluation.specs.declared.world.View.{View as Shown}
 use Rattle.sql_evaluation.specs.declared.world.Around.{Around}
 use Rattle.sql_evaluation.specs.Seen.{value_in, values_in, holds_in, kept_in, where_in, keyed_in, ordered_in, order_in, items_in, shown_in, rows_in, alone_in, from_in, aggregated_in, seen, with_row, Inside, Anywhere, world_of, frame_of}
 use Rattle.sql_evaluation.proofs.Loops.{rest_of, each_starts, each_more, each_fails, each_ends}
-use Rattle.sql_evaluation.proofs.Branching.{rest_is, then_then, ends_through}
+use Rattle.sql_evaluation.proofs.Branching.{rest_is, ends_through}
 
 -- ---- the only value
 

@@ -10,7 +10,7 @@ use Rattle.sql_tree.specs.Tree.{Tree, name, column, new_column, old_column, valu
 use Rattle.sql_tree.specs.declared.expressions.Expr.{Expr}
 use Rattle.sql_tree.specs.View.{view_tree}
 use Rattle.std.specs.declared.cmp.Ordering.{Ordering}
-use Rattle.sql_meaning.specs.Scenes.{Scene, Ending, Action, done, answered, pure, each, kept_by, ◌>>=◌}
+use Rattle.sql_meaning.specs.Scenes.{Scene, Action, done, answered, pure, each, kept_by, ◌>>=◌}
 use Rattle.val_types.specs.declared.ops.BinOp.{BinOp}
 use Rattle.value_rules.specs.Operators.{decided, binary_value, comparison, with_value, truth_of}
 use Rattle.sql_meaning.specs.Frames.{World, Frame, View, Running, Setting, named_value, qualified_value, column_if}

@@ -1,4 +1,4 @@
-use Rattle.std.proofs.Common.{◌≡◌, ap, ◌∙◌, Bool}
+use Rattle.std.proofs.Common.{ap, ◌∙◌, Bool}
 use Rattle.std.proofs.lemmas.Result.{err_from_is_err_and}
 use Rattle.sql_tree.specs.View.{view_tree}
 use Rattle.sql_meaning.specs.Scenes.{done}

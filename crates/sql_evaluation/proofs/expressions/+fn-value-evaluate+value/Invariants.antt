@@ -1,4 +1,4 @@
-use Rattle.std.proofs.Common.{ℕ, ◌+◌, ◌*◌, ◌-◌}
+use Rattle.std.proofs.Common.{◌+◌, ◌*◌, ◌-◌}
 use Rattle.sql_evaluation.proofs.expressions.+fn-value-evaluate+value.Given as goal
 
 abbrev pub decreases-value : goal.decreases-value
