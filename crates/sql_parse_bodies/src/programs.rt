@@ -22,7 +22,7 @@ use sql_parse_expressions::expressions::whole;
 use sql_parse_nodes::kept::{Kept, Levelled, alone_boxed, on_heap, push_boxed};
 use sql_parse_tokens::closing::{before_end, before_key, before_mark};
 use sql_parse_tokens::fault::Stop;
-use sql_parse_tokens::lexeme::code;
+use sql_parse_tokens::kinds::{FIRST_WORD, code};
 use sql_parse_tokens::opening::opening;
 use sql_parse_tokens::rest::Rest;
 use sql_syntax::Head;
@@ -32,25 +32,25 @@ use val_types::{Boxed, List};
 
 /// What a statement in a program begins with.
 const INNER_WORDS: [u8; 19] = [
-    Keyword::Begin as u8,
-    Keyword::If as u8,
-    Keyword::While as u8,
-    Keyword::Return as u8,
-    Keyword::Create as u8,
-    Keyword::Drop as u8,
-    Keyword::Truncate as u8,
-    Keyword::Insert as u8,
-    Keyword::Replace as u8,
-    Keyword::Update as u8,
-    Keyword::Delete as u8,
-    Keyword::Select as u8,
-    Keyword::Do as u8,
-    Keyword::Set as u8,
-    Keyword::Call as u8,
-    Keyword::Commit as u8,
-    Keyword::Rollback as u8,
-    Keyword::Savepoint as u8,
-    Keyword::Release as u8,
+    FIRST_WORD + Keyword::Begin as u8,
+    FIRST_WORD + Keyword::If as u8,
+    FIRST_WORD + Keyword::While as u8,
+    FIRST_WORD + Keyword::Return as u8,
+    FIRST_WORD + Keyword::Create as u8,
+    FIRST_WORD + Keyword::Drop as u8,
+    FIRST_WORD + Keyword::Truncate as u8,
+    FIRST_WORD + Keyword::Insert as u8,
+    FIRST_WORD + Keyword::Replace as u8,
+    FIRST_WORD + Keyword::Update as u8,
+    FIRST_WORD + Keyword::Delete as u8,
+    FIRST_WORD + Keyword::Select as u8,
+    FIRST_WORD + Keyword::Do as u8,
+    FIRST_WORD + Keyword::Set as u8,
+    FIRST_WORD + Keyword::Call as u8,
+    FIRST_WORD + Keyword::Commit as u8,
+    FIRST_WORD + Keyword::Rollback as u8,
+    FIRST_WORD + Keyword::Savepoint as u8,
+    FIRST_WORD + Keyword::Release as u8,
 ];
 
 /// A statement in a program. Programs whose bodies are programs are read one behind the other, and
