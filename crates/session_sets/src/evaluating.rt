@@ -19,7 +19,7 @@ use session_steps::{evaluate_unkept, settle};
 use sql_locals::Locals;
 use sql_tree::{Expr, Stmt, Target};
 use std::alloc::Global;
-use val_types::{Bytes, List, SqlRefusal, Value};
+use val_types::{List, SqlRefusal, Value};
 
 /// The values of SET's expressions, where no local is in scope. Where an assignment of them is refused, what their evaluation
 /// changed is taken back; else it is kept.
@@ -28,7 +28,7 @@ pub(crate) fn fitting_values(
     call: &Call<'_>,
     desk: &mut Desk,
     session: &mut Session,
-    text: &Bytes,
+    text: &[u8],
     targets: &List<Target>,
     statement: &Stmt,
     expressions: &List<Expr>,
@@ -48,7 +48,7 @@ pub(crate) fn fitting_values(
                 call,
                 desk,
                 session,
-                text.as_slice(),
+                text,
                 statement,
                 evaluated.start,
                 misfit,

@@ -62,7 +62,7 @@ fn set_values(
         call,
         desk,
         session,
-        text,
+        text.as_slice(),
         targets,
         statement,
         expressions,

@@ -1,5 +1,5 @@
 -- Expressions whose values may be refused: what their evaluation changed is kept, or taken back.
-use Rattle.std.proofs.Common.{◌≡◌, ℕ, List, [], ◌∷◌, Bool, true, false, if◌then◌else◌, length, take, Option, Some, None, Result, Ok, Err, refl, sym, ap, ◌∙◌, subst}
+use Rattle.std.proofs.Common.{◌≡◌, ℕ, List, [], ◌++◌, Bool, true, false, if◌then◌else◌, length, take, Option, Some, None, Result, Ok, Err, refl, sym, ap, ◌∙◌, subst}
 use Rattle.val_types.specs.declared.change.Change.{Change}
 use Rattle.val_types.specs.declared.value.Value.{Value}
 use Rattle.val_types.specs.declared.refusal.SqlRefusal.{SqlRefusal}
@@ -52,6 +52,12 @@ cut_back n left context scene old ran mark led behind' at = ap (cut_to n mark) b
         ap (λ (b : Bool). cut_to n mark (if b then with_counters scene old else record (with_counters scene old) { changes = scene.changes })) own
         ∙ ap (λ (b : Bool). if b then record (with_counters scene old) { changes = scene.changes } else record (with_counters scene old) { changes = take mark scene.changes }) own
         ∙ ap (λ (cs : List Change). record (with_counters scene old) { changes = cs }) cut
+
+no_value : (r : Result (Unit {0}) ℕ) (code : ℕ) (u : Unit {0}) → r ≡ Err code → r ≡ Ok u → ⊥
+no_value r code u p q = cc
+
+same_error : (r : Result (Unit {0}) ℕ) (code said : ℕ) → r ≡ Err code → r ≡ Err said → code ≡ said
+same_error r code said p q = cc
 
 -- ---- kept, from the session that an evaluation left
 
@@ -133,13 +139,13 @@ module _ (identity : Identity) (draw : Draw) (n : ℕ) (left : Left) (text : Lis
       → mark ≡ changes_of_own n (shared_of old) → ran.log ≡ old.log → misfit vs ≡ Some code
       → EndsAs r ran new after (record { shared = cut_to n mark (shared_of ran); session = mid; committed = []; given = Err code })
       → EndsWith (kept_as vs r) fuel old new after (fitted_run (call_of identity draw n) left text ts misfit (shared_of old) session)
-  taken_so vs code (Ok done) fuel old ran new session mid after mark gave moved at bytes some ends = let never : Err code ≡ Ok done = ends.1 in cc
+  taken_so vs code (Ok u) fuel old ran new session mid after mark gave moved at bytes some ends = absurd (no_value (Err code) code u refl ends.1)
   taken_so vs code (Err NoMemory) fuel old ran new session mid after mark gave moved at bytes some ends = tt
   taken_so vs code (Err (Sql said)) fuel old ran new session mid after mark gave moved at bytes some ends =
       let before : Scene = scene_for n left session.vars.context (shared_of old) in
       let well = evaluations_end (setting_of (shared_of old).base.catalog session.vars.context (number_of_bytes 0 draw.uuid)) left.nesting [] ts before in
       let led : Leads before gave.scene = subst (λ e. EndsWell before e) gave.ends well in
-      let same : code ≡ said = let one : Err {_} {_} code ≡ Err said = ends.1 in cc in
+      let same : code ≡ said = same_error (Err code) code said refl ends.1 in
       subst (λ t. EndsWith {A = List Value} (Err (Sql said)) fuel old new after t) (refuses vs code gave.scene (shared_of old) session gave.ends some) (
         (
           ends.0.0 ∙ cut_back n left session.vars.context gave.scene (shared_of old) (shared_of ran) mark led gave.leaves.shared at,
