@@ -1,5 +1,7 @@
 -- The room of blocks, by a weight: what they have above half of what one holds, and 128 for each.
-use Rattle.std.proofs.Common.{◌≡◌, ℕ, suc, ◌+◌, ◌-◌, ◌*◌, ◌<◌, ◌≤◌, max, List, [], ◌∷◌, ◌++◌, length, Bool, true, false, refl, ap, arith, length-append}
+use Rattle.std.proofs.Common.{◌≡◌, ℕ, suc, ◌+◌, ◌-◌, ◌*◌, ◌/◌, ◌%◌, ◌<◌, ◌≤◌, ◌⊎◌, inl, inr, max, min, List, [], ◌∷◌, ◌++◌, length, Bool, true, false, refl, ap, arith, length-append}
+use Rattle.std.proofs.lemmas.Bool.{cases_lt}
+use Rattle.std.proofs.lemmas.Grind.{div_ceil_times}
 use Rattle.std.specs.Prelude.{nat_le, if◌then◌else◌}
 use Rattle.block_list.specs.Layouts.{flat, AreShaped, excess, room, Layout}
 use Rattle.block_list.specs.Joining.{joined_to, joined, weight}
@@ -107,3 +109,25 @@ room_of_spares bs s more h = omega (arith, h)
 pub room_of_halves : (bs : List (List ℕ)) (s more : ℕ) → AreShaped bs → length (flat bs) + 2 * more ≤ 256 * s → more ≤ room (record { blocks = bs; spares = s })
 unfolding room
 room_of_halves bs s more shaped h = omega (arith, half_of bs shaped, h)
+
+-- so many spare blocks, or half of them where there are many
+pub room_of_needed : (bs : List (List ℕ)) (s count more : ℕ) → AreShaped bs → count ≡ length (flat bs) → min more ((count + 2 * more) / 256 + min 1 ((count + 2 * more) % 256)) ≤ s
+    → more ≤ room (record { blocks = bs; spares = s })
+room_of_needed bs s count more shaped e h = step (cases_lt s more)
+  where
+    step : (s < more) ⊎ (more ≤ s) → more ≤ room (record { blocks = bs; spares = s })
+    step (inr le) = room_of_spares bs s more le
+    step (inl lt) =
+        let times : (count + 2 * more ≤ ((count + 2 * more) / 256 + min 1 ((count + 2 * more) % 256)) * 256) × (((count + 2 * more) / 256 + min 1 ((count + 2 * more) % 256)) * 256 < count + 2 * more + 256) = div_ceil_times (count + 2 * more) 256 (omega arith) in
+        let few : (count + 2 * more) / 256 + min 1 ((count + 2 * more) % 256) ≤ s = omega (arith, h, lt) in
+        room_of_halves bs s more shaped (omega (arith, times.0, few, e))
+
+-- more spare blocks
+pub room_of_more : (bs cs : List (List ℕ)) (s t : ℕ) → cs ≡ bs → s ≤ t → room (record { blocks = bs; spares = s }) ≤ room (record { blocks = cs; spares = t })
+unfolding room
+room_of_more bs cs s t e le = omega (arith, le, ap excess e)
+
+-- all blocks made spare ones
+pub room_of_all : (bs cs : List (List ℕ)) (s t : ℕ) → cs ≡ [] → t ≡ s + length bs → room (record { blocks = bs; spares = s }) ≤ room (record { blocks = cs; spares = t })
+room_of_all bs cs s t none all =
+    omega (arith, room_by_weight bs cs s t 0 (omega (arith, ap weight none, weight_least bs)) (omega (arith, all, ap length none)) (omega (arith, all)))

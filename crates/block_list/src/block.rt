@@ -35,7 +35,8 @@ impl Block {
 
     /// Its numbers.
     pub(crate) fn as_slice(&self) -> &[u32]
-        ensures { result.now ≡ self.now }
+        ensures value { result.now ≡ self.now }
+        ensures few { length self.now ≤ 255 }
     {
         self.numbers.as_slice()
     }

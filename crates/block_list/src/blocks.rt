@@ -1,7 +1,7 @@
 //! Numbers in an order of their own.
-ghost use Rattle.std.specs.Prelude.{◌≡◌, ◌+◌, ◌-◌, ◌*◌, ◌^◌, ◌<◌, ◌≤◌, ◌↔◌, ℕ, [], length, insert, remove, slice_get, IsTrue, OnOk};
-ghost use Rattle.block_list.specs.Layouts.{flat, room};
-ghost use Rattle.block_list.specs.Spots.{place, IsAt, IsSpot};
+ghost use Rattle.std.specs.Prelude.{◌≡◌, ◌+◌, ◌-◌, ◌*◌, ◌^◌, ◌<◌, ◌≤◌, ◌↔◌, ℕ, [], length, insert, remove, slice_get, IsTrue, OnOk, OnErr};
+ghost use Rattle.block_list.specs.Layouts.{flat, room, AreShaped};
+ghost use Rattle.block_list.specs.Spots.{block_at, place, IsAt, IsSpot};
 
 use crate::block::Block;
 use crate::changing::{put_into, take_from};
@@ -61,6 +61,25 @@ impl Blocks {
         self.count == 0
     }
 
+    /// The numbers of a block, none behind the last one.
+    pub(crate) fn numbers_of(&self, block: usize) -> &[u32]
+        ensures value { result.now ≡ block_at self.now.blocks block }
+        ensures few { length result.now ≤ 255 }
+    {
+        match self.blocks.get(block) {
+            Some(numbers) => numbers.as_slice(),
+            None => &[],
+        }
+    }
+
+    /// How many blocks are in use.
+    pub(crate) fn block_count(&self) -> usize
+        ensures count { result ≡ length self.now.blocks }
+        ensures shaped { AreShaped self.now.blocks }
+    {
+        self.blocks.len()
+    }
+
     /// Puts a number before the one at a spot, which takes no memory.
     pub fn put(&mut self, spot: Spot, number: u32)
         requires spot { IsSpot self.old.blocks spot }
@@ -91,12 +110,33 @@ impl Blocks {
         ensures numbers { self.new.blocks ≡ self.old.blocks }
         ensures room { room self.old ≤ room self.new }
     {
+        // each spare block is room for one number at least, and for half of what it holds where there are so many
         let needed = usize::min(more, (self.count + 2 * more).div_ceil(256));
         while self.spares.len() < needed {
-            self.blocks.reserve(self.spares.len() + 1)?;
-            self.spares.reserve(self.blocks.len() + 1)?;
-            self.spares.push_reserved(Block::new(alloc)?);
+            self.add_spare(alloc)?;
         }
         Ok(())
+    }
+
+    /// Makes one more spare block.
+    fn add_spare(&mut self, alloc: Global) -> Result<(), AllocError>
+        ensures numbers { self.new.blocks ≡ self.old.blocks }
+        ensures ok { OnOk result (self.new.spares ≡ self.old.spares + 1) }
+        ensures err { OnErr result (self.new.spares ≡ self.old.spares) }
+    {
+        self.blocks.reserve(self.spares.len() + 1)?;
+        self.spares.reserve(self.blocks.len() + 1)?;
+        self.spares.push_reserved(Block::new(alloc)?);
+        Ok(())
+    }
+
+    /// Takes all numbers out, and keeps the room.
+    pub fn clear(&mut self)
+        ensures numbers { flat self.new.blocks ≡ [] }
+        ensures room { room self.old ≤ room self.new }
+    {
+        // there is room, so no memory is asked for
+        let _ = self.spares.append(&mut self.blocks);
+        self.count = 0;
     }
 }

@@ -1,5 +1,5 @@
 //! What is looked for by halves.
-ghost use Rattle.std.specs.Prelude.{◌≡◌, ◌+◌, ◌-◌, ◌*◌, ◌^◌, ◌<◌, ◌≤◌, ℕ};
+ghost use Rattle.std.specs.Prelude.{◌≡◌, ◌+◌, ◌-◌, ◌*◌, ◌^◌, ◌<◌, ◌≤◌, ℕ, MatchResult};
 ghost use Rattle.std.specs.declared.cmp.Ordering.{Ordering as Order};
 ghost use Rattle.block_list.specs.Places.{AreParted, Computes, IsPlace};
 
@@ -15,6 +15,7 @@ pub(crate) fn place_in<L: Ledger, F: Fn(usize) -> Ordering>(
     steps: &mut Steps<L>,
 ) -> Result<usize, usize>
     requires callable { (at : ℕ) → at < count → F.pre compare_at.now at }
+    ensures within { MatchResult result (λ at. at < count) (λ at. at ≤ count) }
     ensures place { (order : ℕ → Order) → ((at : ℕ) (o : Order) → at < count → F.post compare_at.now at o → o ≡ order at) → AreParted order count → IsPlace order count result }
     ensures cost { 2 ^ (steps.new - steps.old) ≤ 2 * count + 1 }
     ensures more { steps.old ≤ steps.new }

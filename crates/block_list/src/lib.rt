@@ -7,6 +7,8 @@ mod changing;
 mod counting;
 mod halves;
 mod joining;
+mod reading;
+mod searching;
 mod spot;
 
 pub use blocks::Blocks;
