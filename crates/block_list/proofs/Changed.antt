@@ -1,7 +1,7 @@
 -- What becomes of blocks where a number is put among theirs, or taken out.
-use Rattle.std.proofs.Common.{◌≡◌, ℕ, zero, suc, ◌+◌, ◌-◌, ◌*◌, ◌<◌, ◌≤◌, List, [], ◌∷◌, ◌++◌, length, take, drop, set, get_or, Some, refl, sym, ap, subst, ◌∙◌, arith, add-one, length-append, length-drop, append_assoc, append-nil}
+use Rattle.std.proofs.Common.{◌≡◌, ℕ, zero, suc, ◌+◌, ◌<◌, ◌≤◌, List, [], ◌∷◌, ◌++◌, length, take, drop, set, get_or, Some, refl, sym, ap, subst, ◌∙◌, arith, add-one, length-append, length-drop, append_assoc, append-nil}
 use Rattle.std.specs.Prelude.{insert, remove, slice_get, slice_index}
-use Rattle.std.proofs.lemmas.List.{take_at, drop_at, take_all, nil_from_length, take-append-drop, length-take-le, set_split, get_or_read, get_or-set_same, get_or-append-add, get_or_append_left, same_from_push, drop_all}
+use Rattle.std.proofs.lemmas.List.{take_at, drop_at, take_all, take-append-drop, length-take-le, set_split, get_or_read, get_or-set_same, get_or-append-add, get_or_append_left, drop_all}
 use Rattle.std.proofs.lemmas.List.Edits.{length-insert, length-remove, insert_end}
 use Rattle.std.proofs.lemmas.Option.{slice_get-get_or}
 use Rattle.block_list.specs.Layouts.{flat, room, AreShaped}
@@ -46,10 +46,10 @@ pub becomes_put : (bs : List (List ℕ)) (i at number : ℕ) (b m : List ℕ) �
 becomes_put bs i at number b m shaped lt read put le few =
     let e : b ≡ block_at bs i = get_or_read bs i b lt read [] in
     let f : set bs i m ≡ take i bs ++ insert (block_at bs i) at number ∷ drop (i + 1) bs =
-        ap (λ (x : List ℕ). set bs i x) (put ∙ ap (λ (x : List ℕ). insert x at number) e) ∙ set_parts bs i (insert (block_at bs i) at number) lt in
+    ap (λ (x : List ℕ). set bs i x) (put ∙ ap (λ (x : List ℕ). insert x at number) e) ∙ set_parts bs i (insert (block_at bs i) at number) lt in
     subst (λ (ys : List (List ℕ)). Becomes bs ys (insert (flat bs) (length (flat (take i bs)) + at) number) 1) (sym f)
-      (becomes_whole bs i lt (take i bs ++ insert (block_at bs i) at number ∷ drop (i + 1) bs) (λ all. insert all (length (flat (take i bs)) + at) number) 1
-        (put_within (take i bs) (block_at bs i) (drop (i + 1) bs) at number (shaped_parts bs i lt shaped) le few))
+    (becomes_whole bs i lt (take i bs ++ insert (block_at bs i) at number ∷ drop (i + 1) bs) (λ all. insert all (length (flat (take i bs)) + at) number) 1
+    (put_within (take i bs) (block_at bs i) (drop (i + 1) bs) at number (shaped_parts bs i lt shaped) le few))
 
 -- ---- joined on both sides
 
@@ -83,19 +83,22 @@ split_within F b B at number shaped le full =
     let r : length (drop 128 (insert b at number)) ≡ 128 = omega (arith, length-drop 128 (insert b at number), w, full) in
     let two : AreShaped (take 128 (insert b at number) ∷ (drop 128 (insert b at number) ∷ [])) = (omega (arith, l), omega (arith, l), omega (arith, l, r), (omega (arith, r), omega (arith, r))) in
     let same : take 128 (insert b at number) ++ (drop 128 (insert b at number) ++ flat B) ≡ insert b at number ++ flat B =
-        sym (append_assoc (take 128 (insert b at number)) (drop 128 (insert b at number)) (flat B)) ∙ ap (λ (x : List ℕ). x ++ flat B) (take-append-drop 128 (insert b at number)) in
+    sym (append_assoc (take 128 (insert b at number)) (drop 128 (insert b at number)) (flat B)) ∙ ap (λ (x : List ℕ). x ++ flat B) (take-append-drop 128 (insert b at number)) in
     record {
       numbers_are =
-        flat_around F (take 128 (insert b at number) ∷ (drop 128 (insert b at number) ∷ [])) B
-        ∙ flat-append F (take 128 (insert b at number) ∷ (drop 128 (insert b at number) ∷ B))
-        ∙ ap (λ (x : List ℕ). flat F ++ x) same
-        ∙ sym (flat-append F (insert b at number ∷ B))
-        ∙ flat_put F b B at number le;
+          flat_around F (take 128 (insert b at number) ∷ (drop 128 (insert b at number) ∷ [])) B
+          ∙ flat-append F (take 128 (insert b at number) ∷ (drop 128 (insert b at number) ∷ B))
+          ∙ ap (λ (x : List ℕ). flat F ++ x) same
+          ∙ sym (flat-append F (insert b at number ∷ B))
+          ∙ flat_put F b B at number le;
       shaped = shaped_joined F (joined (take 128 (insert b at number) ∷ (drop 128 (insert b at number) ∷ [])) B) (shaped_front F (b ∷ B) shaped)
-        (shaped_joined (take 128 (insert b at number) ∷ (drop 128 (insert b at number) ∷ [])) B two (shaped_behind (b ∷ []) B (shaped_behind F (b ∷ B) shaped)));
+          (shaped_joined (take 128 (insert b at number) ∷ (drop 128 (insert b at number) ∷ [])) B two (shaped_behind (b ∷ []) B (shaped_behind F (b ∷ B) shaped)));
       weight_is =
-        omega (arith, weight_around F (take 128 (insert b at number)) (drop 128 (insert b at number) ∷ []) B,
-          weight_behind F (b ∷ B) (take 128 (insert b at number) ∷ (drop 128 (insert b at number) ∷ B)) 1 (omega arith) (omega arith) (weight_split b (take 128 (insert b at number)) (drop 128 (insert b at number)) B full l r));
+          omega (
+            arith,
+            weight_around F (take 128 (insert b at number)) (drop 128 (insert b at number) ∷ []) B,
+            weight_behind F (b ∷ B) (take 128 (insert b at number) ∷ (drop 128 (insert b at number) ∷ B)) 1 (omega arith) (omega arith) (weight_split b (take 128 (insert b at number)) (drop 128 (insert b at number)) B full l r),
+          );
     }
 
 pub becomes_split : (bs : List (List ℕ)) (i at number : ℕ) (mid now : List (List ℕ)) → AreShaped bs → i < length bs → at ≤ 255 → length (block_at bs i) ≡ 255
@@ -105,12 +108,12 @@ pub becomes_split : (bs : List (List ℕ)) (i at number : ℕ) (mid now : List (
 becomes_split bs i at number mid now shaped lt le full is then =
     let f : length (take i bs) ≡ i = there_front bs i lt in
     let e : now ≡ joined (take i bs) (joined (take 128 (insert (block_at bs i) at number) ∷ (drop 128 (insert (block_at bs i) at number) ∷ [])) (drop (i + 1) bs)) =
-        then ∙ ap (λ (xs : List (List ℕ)). joined (take i xs) (joined (drop i (take (i + 1 + 1) xs)) (drop (i + 1 + 1) xs))) is
-        ∙ join_parts (take i bs) (take 128 (insert (block_at bs i) at number) ∷ (drop 128 (insert (block_at bs i) at number) ∷ [])) (drop (i + 1) bs) i (i + 1) f
-          (length-append (take i bs) (take 128 (insert (block_at bs i) at number) ∷ (drop 128 (insert (block_at bs i) at number) ∷ [])) ∙ omega (arith, f)) in
+    then ∙ ap (λ (xs : List (List ℕ)). joined (take i xs) (joined (drop i (take (i + 1 + 1) xs)) (drop (i + 1 + 1) xs))) is
+    ∙ join_parts (take i bs) (take 128 (insert (block_at bs i) at number) ∷ (drop 128 (insert (block_at bs i) at number) ∷ [])) (drop (i + 1) bs) i (i + 1) f
+    (length-append (take i bs) (take 128 (insert (block_at bs i) at number) ∷ (drop 128 (insert (block_at bs i) at number) ∷ [])) ∙ omega (arith, f)) in
     subst (λ (ys : List (List ℕ)). Becomes bs ys (insert (flat bs) (length (flat (take i bs)) + at) number) 1) (sym e)
-      (becomes_whole bs i lt _ (λ all. insert all (length (flat (take i bs)) + at) number) 1
-        (split_within (take i bs) (block_at bs i) (drop (i + 1) bs) at number (shaped_parts bs i lt shaped) (omega (arith, le, full)) full))
+    (becomes_whole bs i lt _ (λ all. insert all (length (flat (take i bs)) + at) number) 1
+    (split_within (take i bs) (block_at bs i) (drop (i + 1) bs) at number (shaped_parts bs i lt shaped) (omega (arith, le, full)) full))
 
 -- ---- a new last block
 
@@ -119,17 +122,17 @@ pub becomes_first : (bs now : List (List ℕ)) (number : ℕ) (i at : ℕ) → l
 becomes_first [] now number i at none le is =
     let e : 0 ≡ length (flat (take i [])) + at = omega (arith, le, ap (λ (x : List (List ℕ)). length (flat x)) (take_all i [] (omega arith))) in
     subst (λ (ys : List (List ℕ)). Becomes [] ys (insert [] (length (flat (take i [])) + at) number) 1) (sym is)
-      (record { numbers_are = ap (λ (n : ℕ). insert [] n number) e; shaped = (omega arith, omega arith); weight_is = omega arith })
+    (record { numbers_are = ap (λ (n : ℕ). insert [] n number) e; shaped = (omega arith, omega arith); weight_is = omega arith })
 becomes_first (b ∷ bs) now number i at none le is = absurd (omega (arith, none))
 
 next_within : (F : List (List ℕ)) (b : List ℕ) (number : ℕ) → AreShaped (F ++ b ∷ []) → length b ≡ 255
     → Becomes (F ++ b ∷ []) (F ++ b ∷ ((number ∷ []) ∷ [])) (insert (flat (F ++ b ∷ [])) (length (flat F) + 255) number) 1
 next_within F b number shaped full =
     let n : length (flat (F ++ b ∷ [])) ≡ length (flat F) + 255 =
-        ap length (flat-append F (b ∷ [])) ∙ length-append (flat F) (b ++ []) ∙ omega (arith, length-append b [], full) in
+    ap length (flat-append F (b ∷ [])) ∙ length-append (flat F) (b ++ []) ∙ omega (arith, length-append b [], full) in
     let e : flat (F ++ b ∷ ((number ∷ []) ∷ [])) ≡ flat (F ++ b ∷ []) ++ number ∷ [] =
-        flat-append F (b ∷ ((number ∷ []) ∷ [])) ∙ ap (λ (x : List ℕ). flat F ++ (x ++ number ∷ [])) (sym (append-nil b)) ∙ sym (append_assoc (flat F) (b ++ []) (number ∷ []))
-        ∙ ap (λ (x : List ℕ). x ++ number ∷ []) (sym (flat-append F (b ∷ []))) in
+    flat-append F (b ∷ ((number ∷ []) ∷ [])) ∙ ap (λ (x : List ℕ). flat F ++ (x ++ number ∷ [])) (sym (append-nil b)) ∙ sym (append_assoc (flat F) (b ++ []) (number ∷ []))
+    ∙ ap (λ (x : List ℕ). x ++ number ∷ []) (sym (flat-append F (b ∷ []))) in
     record {
       numbers_are = e ∙ sym (insert_end (flat (F ++ b ∷ [])) number) ∙ ap (λ (i : ℕ). insert (flat (F ++ b ∷ [])) i number) n;
       shaped = shaped_next F b number full shaped;
@@ -145,11 +148,11 @@ becomes_next bs now number i at shaped last full le few is =
     let e : bs ≡ take i bs ++ block_at bs i ∷ [] = parts bs i lt ∙ ap (λ (x : List (List ℕ)). take i bs ++ block_at bs i ∷ x) none in
     let f : now ≡ take i bs ++ block_at bs i ∷ ((number ∷ []) ∷ []) = is ∙ ap (λ (x : List (List ℕ)). x ++ (number ∷ []) ∷ []) e ∙ append_assoc (take i bs) (block_at bs i ∷ []) ((number ∷ []) ∷ []) in
     let whole : Becomes (take i bs ++ block_at bs i ∷ []) (take i bs ++ block_at bs i ∷ ((number ∷ []) ∷ [])) (insert (flat (take i bs ++ block_at bs i ∷ [])) (length (flat (take i bs)) + 255) number) 1 =
-        next_within (take i bs) (block_at bs i) number (subst AreShaped e shaped) b_full in
+    next_within (take i bs) (block_at bs i) number (subst AreShaped e shaped) b_full in
     let again : Becomes bs (take i bs ++ block_at bs i ∷ ((number ∷ []) ∷ [])) (insert (flat bs) (length (flat (take i bs)) + 255) number) 1 =
-        subst (λ (xs : List (List ℕ)). Becomes xs (take i bs ++ block_at bs i ∷ ((number ∷ []) ∷ [])) (insert (flat xs) (length (flat (take i bs)) + 255) number) 1) (sym e) whole in
+    subst (λ (xs : List (List ℕ)). Becomes xs (take i bs ++ block_at bs i ∷ ((number ∷ []) ∷ [])) (insert (flat xs) (length (flat (take i bs)) + 255) number) 1) (sym e) whole in
     subst (λ (ys : List (List ℕ)). Becomes bs ys (insert (flat bs) (length (flat (take i bs)) + at) number) 1) (sym f)
-      (subst (λ (n : ℕ). Becomes bs (take i bs ++ block_at bs i ∷ ((number ∷ []) ∷ [])) (insert (flat bs) (length (flat (take i bs)) + n) number) 1) (sym full) again)
+    (subst (λ (n : ℕ). Becomes bs (take i bs ++ block_at bs i ∷ ((number ∷ []) ∷ [])) (insert (flat bs) (length (flat (take i bs)) + n) number) 1) (sym full) again)
 
 -- ---- a number taken out
 
@@ -175,11 +178,11 @@ becomes_taken bs i at b m now shaped lt at_lt read is some then =
     let e : b ≡ block_at bs i = get_or_read bs i b lt read [] in
     let taken : m ≡ remove (block_at bs i) at = is ∙ ap (λ (x : List ℕ). remove x at) e in
     let g : now ≡ joined (take i bs) (joined (m ∷ []) (drop (i + 1) bs)) =
-        then ∙ ap (λ (xs : List (List ℕ)). joined (take i xs) (joined (drop i (take (i + 1) xs)) (drop (i + 1) xs))) (set_parts bs i m lt)
-        ∙ join_parts (take i bs) (m ∷ []) (drop (i + 1) bs) i i f (length-append (take i bs) (m ∷ []) ∙ omega (arith, f)) in
+    then ∙ ap (λ (xs : List (List ℕ)). joined (take i xs) (joined (drop i (take (i + 1) xs)) (drop (i + 1) xs))) (set_parts bs i m lt)
+    ∙ join_parts (take i bs) (m ∷ []) (drop (i + 1) bs) i i f (length-append (take i bs) (m ∷ []) ∙ omega (arith, f)) in
     subst (λ (ys : List (List ℕ)). Becomes bs ys (remove (flat bs) (length (flat (take i bs)) + at)) 0) (sym g)
-      (becomes_whole bs i lt _ (λ all. remove all (length (flat (take i bs)) + at)) 0
-        (taken_within (take i bs) (block_at bs i) m (drop (i + 1) bs) at (shaped_parts bs i lt shaped) at_lt taken some))
+    (becomes_whole bs i lt _ (λ all. remove all (length (flat (take i bs)) + at)) 0
+    (taken_within (take i bs) (block_at bs i) m (drop (i + 1) bs) at (shaped_parts bs i lt shaped) at_lt taken some))
 
 -- the only number of a block, whose neighbours are full
 
@@ -219,10 +222,10 @@ becomes_emptied bs i at b m now shaped lt at_lt read is none then =
     let n : length (take i bs ++ m ∷ []) ≡ suc i = length-append (take i bs) (m ∷ []) ∙ omega (arith, f) in
     let behind : drop (suc i) (set bs i m) ≡ drop (i + 1) bs = ap (λ (x : List (List ℕ)). drop (suc i) x) (parts_are ∙ whole) ∙ drop_at (take i bs ++ m ∷ []) (drop (i + 1) bs) (suc i) n in
     let g : now ≡ take i bs ++ drop (i + 1) bs =
-        then ∙ ap (λ (x : List (List ℕ)). x ++ drop (suc i) (set bs i m)) front ∙ ap (λ (x : List (List ℕ)). take i bs ++ x) behind in
+    then ∙ ap (λ (x : List (List ℕ)). x ++ drop (suc i) (set bs i m)) front ∙ ap (λ (x : List (List ℕ)). take i bs ++ x) behind in
     subst (λ (ys : List (List ℕ)). Becomes bs ys (remove (flat bs) (length (flat (take i bs)) + at)) 0) (sym g)
-      (becomes_whole bs i lt _ (λ all. remove all (length (flat (take i bs)) + at)) 0
-        (emptied_within (take i bs) (block_at bs i) (drop (i + 1) bs) at (shaped_parts bs i lt shaped) at_lt taken))
+    (becomes_whole bs i lt _ (λ all. remove all (length (flat (take i bs)) + at)) 0
+    (emptied_within (take i bs) (block_at bs i) (drop (i + 1) bs) at (shaped_parts bs i lt shaped) at_lt taken))
 
 -- the number that is taken out
 pub number_is : (bs : List (List ℕ)) (i at number : ℕ) (b : List ℕ) → i < length bs → at < length (block_at bs i) → b ≡ get_or bs i b → number ≡ slice_index b at
@@ -231,12 +234,12 @@ number_is bs i at number b lt at_lt read is =
     let e : b ≡ block_at bs i = get_or_read bs i b lt read [] in
     let whole : flat bs ≡ flat (take i bs) ++ (block_at bs i ++ flat (drop (i + 1) bs)) = ap flat (parts bs i lt) ∙ flat-append (take i bs) (block_at bs i ∷ drop (i + 1) bs) in
     let within : length (flat (take i bs)) + at < length (flat bs) =
-        omega (arith, ap length whole, length-append (flat (take i bs)) (block_at bs i ++ flat (drop (i + 1) bs)), length-append (block_at bs i) (flat (drop (i + 1) bs)), at_lt) in
+    omega (arith, ap length whole, length-append (flat (take i bs)) (block_at bs i ++ flat (drop (i + 1) bs)), length-append (block_at bs i) (flat (drop (i + 1) bs)), at_lt) in
     let here : get_or (flat bs) (length (flat (take i bs)) + at) 0 ≡ number =
-        ap (λ (all : List ℕ). get_or all (length (flat (take i bs)) + at) 0) whole
-        ∙ get_or-append-add (flat (take i bs)) (block_at bs i ++ flat (drop (i + 1) bs)) at 0
-        ∙ get_or_append_left (block_at bs i) (flat (drop (i + 1) bs)) 0 at at_lt
-        ∙ ap (λ (x : List ℕ). get_or x at 0) (sym e) ∙ sym is in
+    ap (λ (all : List ℕ). get_or all (length (flat (take i bs)) + at) 0) whole
+    ∙ get_or-append-add (flat (take i bs)) (block_at bs i ++ flat (drop (i + 1) bs)) at 0
+    ∙ get_or_append_left (block_at bs i) (flat (drop (i + 1) bs)) 0 at at_lt
+    ∙ ap (λ (x : List ℕ). get_or x at 0) (sym e) ∙ sym is in
     slice_get-get_or (flat bs) (length (flat (take i bs)) + at) 0 within ∙ ap (λ (n : ℕ). Some n) here
 
 -- what was written at a place is read there

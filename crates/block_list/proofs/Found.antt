@@ -1,5 +1,5 @@
 -- What was found among the first numbers of blocks and in one block, among all numbers.
-use Rattle.std.proofs.Common.{◌≡◌, ℕ, zero, suc, ◌+◌, ◌-◌, ◌<◌, ◌≤◌, List, [], ◌∷◌, ◌++◌, length, take, get_or, inl, inr, ◌⊎◌, refl, sym, ap, subst, ◌∙◌, arith, length-append}
+use Rattle.std.proofs.Common.{◌≡◌, ℕ, zero, suc, ◌+◌, ◌-◌, ◌<◌, ◌≤◌, List, [], ◌∷◌, length, take, inl, inr, ◌⊎◌, sym, ap, subst, ◌∙◌, arith, length-append}
 use Rattle.std.specs.Prelude.{slice_index, Ok, Err}
 use Rattle.std.specs.declared.cmp.Ordering.{Ordering}
 use Rattle.std.specs.declared.cmp.Ordering.TheVariants.{Less, Equal, Greater}
@@ -8,8 +8,6 @@ use Rattle.std.proofs.lemmas.Option.{get_or_from_slice_get, slice_get_within}
 use Rattle.block_list.specs.Layouts.{flat, AreShaped}
 use Rattle.block_list.specs.Places.{AreParted, AreInOrder, IsPlace}
 use Rattle.block_list.specs.Spots.{block_at, IsFound}
-use Rattle.block_list.specs.declared.spot.Spot.{Spot}
-use Rattle.block_list.proofs.Changed.{there}
 use Rattle.block_list.proofs.Halving.{low_less, high_greater}
 use Rattle.block_list.proofs.Joined.{shaped_behind}
 use Rattle.block_list.proofs.Standing.{some_at, number_at, count_more, count_all}

@@ -5,7 +5,7 @@ use Rattle.std.proofs.lemmas.Bool.Decides.{nat_tests}
 use Rattle.std.proofs.lemmas.List.{take_all, drop_all, get_or_read}
 use Rattle.std.proofs.lemmas.List.Edits.{length-remove, get_or-remove_below}
 use Rattle.block_list.specs.Spots.{block_at}
-use Rattle.block_list.specs.Joining.{joined_to, joined}
+use Rattle.block_list.specs.Joining.{joined}
 
 -- the blocks up to a place and those behind it, joined
 abbrev pub joined_at : List (List ℕ) → ℕ → List (List ℕ)

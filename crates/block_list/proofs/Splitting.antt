@@ -1,5 +1,5 @@
 -- A number put into a list, by halves of the list; and blocks joined with those around them.
-use Rattle.std.proofs.Common.{◌≡◌, ℕ, zero, suc, ◌+◌, ◌-◌, ◌<◌, ◌≤◌, List, [], ◌∷◌, ◌++◌, length, take, drop, refl, sym, ap, subst, ◌∙◌, arith, length-append, length-drop}
+use Rattle.std.proofs.Common.{◌≡◌, ℕ, ◌+◌, ◌-◌, ◌<◌, ◌≤◌, List, [], ◌∷◌, ◌++◌, length, take, drop, sym, ap, ◌∙◌, arith, length-append, length-drop}
 use Rattle.std.specs.Prelude.{insert}
 use Rattle.std.proofs.lemmas.List.{take_at, drop_at, take-take, take-append-drop, length-take-le}
 use Rattle.std.proofs.lemmas.List.Edits.{insert-append_left, insert-append_right, length-insert}
@@ -14,9 +14,10 @@ put_before xs k at number le within =
     let n : length (take k xs) ≡ k = length-take-le k xs within in
     let m : length (insert (take k xs) at number) ≡ k + 1 = omega (arith, length-insert (take k xs) at number (omega (arith, n, le)), n) in
     let e : insert xs at number ≡ insert (take k xs) at number ++ drop k xs =
-        ap (λ (all : List ℕ). insert all at number) (sym (take-append-drop k xs)) ∙ insert-append_left (take k xs) (drop k xs) at number (omega (arith, n, le)) in
-    (sym (ap (λ (all : List ℕ). take (k + 1) all) e ∙ take_at (insert (take k xs) at number) (drop k xs) (k + 1) m),
-      sym (ap (λ (all : List ℕ). drop (k + 1) all) e ∙ drop_at (insert (take k xs) at number) (drop k xs) (k + 1) m))
+    ap (λ (all : List ℕ). insert all at number) (sym (take-append-drop k xs)) ∙ insert-append_left (take k xs) (drop k xs) at number (omega (arith, n, le)) in (
+      sym (ap (λ (all : List ℕ). take (k + 1) all) e ∙ take_at (insert (take k xs) at number) (drop k xs) (k + 1) m),
+      sym (ap (λ (all : List ℕ). drop (k + 1) all) e ∙ drop_at (insert (take k xs) at number) (drop k xs) (k + 1) m),
+    )
 
 -- a number put behind the first so many
 pub put_behind : (xs : List ℕ) (k at number : ℕ) → k ≤ at → at ≤ length xs
@@ -24,9 +25,10 @@ pub put_behind : (xs : List ℕ) (k at number : ℕ) → k ≤ at → at ≤ len
 put_behind xs k at number le within =
     let n : length (take k xs) ≡ k = length-take-le k xs (omega (arith, le, within)) in
     let e : insert xs at number ≡ take k xs ++ insert (drop k xs) (at - k) number =
-        ap (λ (all : List ℕ). insert all at number) (sym (take-append-drop k xs)) ∙ insert-append_right (take k xs) (drop k xs) k at number n le in
-    (sym (ap (λ (all : List ℕ). take k all) e ∙ take_at (take k xs) (insert (drop k xs) (at - k) number) k n),
-      sym (ap (λ (all : List ℕ). drop k all) e ∙ drop_at (take k xs) (insert (drop k xs) (at - k) number) k n))
+    ap (λ (all : List ℕ). insert all at number) (sym (take-append-drop k xs)) ∙ insert-append_right (take k xs) (drop k xs) k at number n le in (
+      sym (ap (λ (all : List ℕ). take k all) e ∙ take_at (take k xs) (insert (drop k xs) (at - k) number) k n),
+      sym (ap (λ (all : List ℕ). drop k all) e ∙ drop_at (take k xs) (insert (drop k xs) (at - k) number) k n),
+    )
 
 -- ---- joined on both sides
 
@@ -48,7 +50,7 @@ pub around_has : (bs now : List (List ℕ)) (first last : ℕ) → first ≤ las
 around_has bs now first last order there e =
     let n : length (take first bs) ≡ first = length-take-le first bs (omega (arith, order, there)) in
     let whole : length now ≡ length (take first bs) + length (joined (drop first (take (last + 1) bs)) (drop (last + 1) bs)) =
-        ap length (e ∙ around_is bs first last order there) ∙ length-append (take first bs) (joined (drop first (take (last + 1) bs)) (drop (last + 1) bs)) in
+    ap length (e ∙ around_is bs first last order there) ∙ length-append (take first bs) (joined (drop first (take (last + 1) bs)) (drop (last + 1) bs)) in
     omega arith
 
 pub around : (bs now : List (List ℕ)) (first last : ℕ) → 0 < first → first ≤ last → last < length bs → now ≡ joined_at bs last

@@ -1,9 +1,9 @@
 -- The room of blocks, by a weight: what they have above half of what one holds, and 128 for each.
-use Rattle.std.proofs.Common.{◌≡◌, ℕ, suc, ◌+◌, ◌-◌, ◌*◌, ◌/◌, ◌%◌, ◌<◌, ◌≤◌, ◌⊎◌, inl, inr, max, min, List, [], ◌∷◌, ◌++◌, length, Bool, true, false, refl, ap, arith, length-append}
+use Rattle.std.proofs.Common.{◌≡◌, ℕ, ◌+◌, ◌*◌, ◌/◌, ◌%◌, ◌<◌, ◌≤◌, ◌⊎◌, inl, inr, min, List, [], ◌∷◌, ◌++◌, length, Bool, true, false, ap, arith, length-append}
 use Rattle.std.proofs.lemmas.Bool.{cases_lt}
 use Rattle.std.proofs.lemmas.Grind.{div_ceil_times}
 use Rattle.std.specs.Prelude.{nat_le, if◌then◌else◌}
-use Rattle.block_list.specs.Layouts.{flat, AreShaped, excess, room, Layout}
+use Rattle.block_list.specs.Layouts.{flat, AreShaped, excess, room}
 use Rattle.block_list.specs.Joining.{joined_to, joined, weight}
 
 -- blocks and spare ones are as many as before: the room falls by no more than the weight rises

@@ -1,5 +1,5 @@
 -- How numbers stand in blocks, and how many more can be put without memory.
-use Rattle.std.specs.Prelude.{◌≡◌, ◌+◌, ◌-◌, ◌*◌, ◌^◌, ◌<◌, ◌≤◌, ℕ, max, List, [], ◌∷◌, ◌++◌, length}
+use Rattle.std.specs.Prelude.{◌+◌, ◌-◌, ◌*◌, ◌^◌, ◌<◌, ◌≤◌, ℕ, max, List, [], ◌∷◌, ◌++◌, length}
 
 -- the blocks in use, each the list of its numbers, and how many spare blocks there are
 pub record Layout : Type 0 where

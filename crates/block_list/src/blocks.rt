@@ -26,11 +26,11 @@ impl Model for Blocks {
     ghost view = { λ b. record { blocks = b.blocks.items; spares = vec_len b.spares } };
 
     ghost invariant = { λ b. record {
-        shaped : AreShaped b.blocks.items;
-        counted : b.count ≡ length (flat b.blocks.items);
-        few : b.count ≤ 2 ^ 32;
-        room_for_blocks : vec_len b.blocks + vec_len b.spares ≤ vec_capacity b.blocks;
-        room_for_spares : vec_len b.blocks + vec_len b.spares ≤ vec_capacity b.spares;
+      shaped : AreShaped b.blocks.items;
+      counted : b.count ≡ length (flat b.blocks.items);
+      few : b.count ≤ 2 ^ 32;
+      room_for_blocks : vec_len b.blocks + vec_len b.spares ≤ vec_capacity b.blocks;
+      room_for_spares : vec_len b.blocks + vec_len b.spares ≤ vec_capacity b.spares;
     } };
 }
 

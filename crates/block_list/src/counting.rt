@@ -1,8 +1,8 @@
 //! Comparisons, counted at no cost.
-ghost use Rattle.std.specs.Prelude.{◌≡◌, ◌+◌};
+ghost use Rattle.std.specs.Prelude.{◌≡◌, ◌+◌, ◌<◌};
 
 use std::marker::Model;
-use std::sync::ledger::{Book, Ledger, Share};
+use std::sync::ledger::{Blank, Book, Ledger, Share};
 
 /// How many numbers were compared. It takes no bytes, and only `tick` changes it.
 #[derive(Drop)]
@@ -22,6 +22,17 @@ impl<L: Ledger> Model for Steps<L> {
 }
 
 impl<L: Ledger> Steps<L> {
+    /// No comparison yet, in a ledger that nothing else counts in.
+    pub fn new(blank: Blank) -> Steps<L>
+        requires name { blank.name ≡ L.name }
+        requires parts { blank.parts ≡ L.parts }
+        requires some { 0 < blank.parts }
+        ensures { result ≡ 0 }
+    {
+        let (book, share) = blank.open::<L>();
+        Steps { book, share }
+    }
+
     /// One comparison.
     pub fn tick(&mut self)
         ensures { self.new ≡ self.old + 1 }

@@ -28,7 +28,12 @@ fn join(blocks: &mut Vec<Block>, spares: &mut Vec<Block>, at: usize)
 }
 
 /// Joins the blocks from one place to another with their neighbours.
-pub(crate) fn join_around(blocks: &mut Vec<Block>, spares: &mut Vec<Block>, first: usize, last: usize)
+pub(crate) fn join_around(
+    blocks: &mut Vec<Block>,
+    spares: &mut Vec<Block>,
+    first: usize,
+    last: usize,
+)
     requires order { first ≤ last }
     requires there { last < vec_len blocks.old }
     requires room { vec_len blocks.old + vec_len spares.old ≤ vec_capacity spares.old }

@@ -10,7 +10,8 @@ use crate::counting::Steps;
 use crate::halves::place_in;
 use crate::spot::Spot;
 use std::cmp::Ordering;
-use std::sync::ledger::Ledger;
+use std::marker::Brand;
+use std::sync::ledger::{Blank, Ledger};
 
 /// Where in some numbers what is looked for stands, or belongs.
 fn place_of<L: Ledger, F: Fn(u32) -> Ordering>(
@@ -82,5 +83,31 @@ impl Blocks {
                 Err(at) => Err(Spot { block, at }),
             },
         }
+    }
+
+    /// The same where nobody counts.
+    pub fn find<F: Fn(u32) -> Ordering>(&self, compare: &F) -> Result<Spot, Spot>
+        requires callable { F.IsAlwaysCallable compare.now }
+        ensures spot { MatchResult result (λ spot. IsAt self.now.blocks spot) (λ spot. IsSpot self.now.blocks spot) }
+        ensures place { (order : ℕ → Order) → Computes (F.post compare.now) order → AreInOrder order (flat self.now.blocks) → IsFound order self.now.blocks result }
+    {
+        self.find_in::<Brand, F>(compare, Blank::new(1))
+    }
+
+    /// The same in a ledger of its own.
+    fn find_in<L: Ledger, F: Fn(u32) -> Ordering>(
+        &self,
+        compare: &F,
+        blank: Blank,
+    ) -> Result<Spot, Spot>
+        requires name { blank.name ≡ L.name }
+        requires parts { blank.parts ≡ L.parts }
+        requires some { 0 < blank.parts }
+        requires callable { F.IsAlwaysCallable compare.now }
+        ensures spot { MatchResult result (λ spot. IsAt self.now.blocks spot) (λ spot. IsSpot self.now.blocks spot) }
+        ensures place { (order : ℕ → Order) → Computes (F.post compare.now) order → AreInOrder order (flat self.now.blocks) → IsFound order self.now.blocks result }
+    {
+        let mut steps: Steps<L> = Steps::new(blank);
+        self.search(compare, &mut steps)
     }
 }

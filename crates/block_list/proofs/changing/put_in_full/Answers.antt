@@ -1,5 +1,4 @@
-use Rattle.std.proofs.Common.{◌≡◌, ◌+◌, ◌<◌, ◌≤◌, length, arith}
-use Rattle.block_list.specs.Spots.{block_at}
+use Rattle.std.proofs.Common.{◌<◌, length, arith}
 use Rattle.block_list.proofs.Changed.{becomes_split, becomes_next}
 use Rattle.block_list.proofs.changing.put_in_full.Goals as goal
 

@@ -1,7 +1,6 @@
-use Rattle.std.proofs.Common.{◌≡◌, ◌≢◌, ◌+◌, ◌<◌, ◌≤◌, List, ℕ, [], length, vec_len, ap, subst, arith}
+use Rattle.std.proofs.Common.{◌≡◌, ◌≢◌, ◌<◌, [], length, vec_len, ap, arith}
 use Rattle.std.proofs.lemmas.Bool.Decides.{nat_tests}
-use Rattle.std.proofs.lemmas.List.{nil_from_length, get_or_read}
-use Rattle.block_list.specs.Layouts.{room, AreShaped}
+use Rattle.std.proofs.lemmas.List.{get_or_read}
 use Rattle.block_list.specs.Spots.{block_at}
 use Rattle.block_list.proofs.Changed.{becomes_put, becomes_first, spare_for_none, spare_for_full}
 use Rattle.block_list.proofs.changing.put_into.Goals as goal

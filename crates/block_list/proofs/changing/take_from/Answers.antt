@@ -1,4 +1,4 @@
-use Rattle.std.proofs.Common.{◌≡◌, ◌+◌, ◌<◌, ◌≤◌, length, ap, arith}
+use Rattle.std.proofs.Common.{◌≡◌, ◌<◌, length, ap, arith}
 use Rattle.std.proofs.lemmas.List.{nil_from_length}
 use Rattle.block_list.proofs.Changed.{becomes_taken, becomes_emptied, number_is, there, written}
 use Rattle.block_list.proofs.changing.take_from.Goals as goal

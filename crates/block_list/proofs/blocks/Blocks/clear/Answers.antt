@@ -1,4 +1,4 @@
-use Rattle.std.proofs.Common.{◌≡◌, ◌+◌, ◌≤◌, [], length, vec_len, subst, arith}
+use Rattle.std.proofs.Common.{◌≡◌, ◌+◌, ◌≤◌, [], vec_len, subst, arith}
 use Rattle.std.proofs.lemmas.Grind.{common_steps}
 use Rattle.block_list.specs.Layouts.{Layout, room}
 use Rattle.block_list.proofs.Weights.{room_of_all}

@@ -1,6 +1,4 @@
-use Rattle.std.proofs.Common.{◌≡◌, ℕ, ◌+◌, ◌-◌, ◌*◌, ◌^◌, ◌<◌, ◌≤◌, length, ap, arith}
-use Rattle.block_list.specs.Layouts.{flat}
-use Rattle.block_list.specs.Spots.{block_at}
+use Rattle.std.proofs.Common.{◌+◌, ◌-◌, length, ap, arith}
 use Rattle.block_list.proofs.Standing.{some_at}
 use Rattle.block_list.proofs.Digits.{within_digits, size_within}
 use Rattle.block_list.proofs.Found.{first_in, found_in, missing_in}
