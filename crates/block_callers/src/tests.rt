@@ -1,5 +1,7 @@
 //! Sets of numbers put together and taken apart, each beside a sorted vector that has the same numbers.
 
+ghost use Rattle.std.specs.Prelude.{◌<◌};
+
 use super::*;
 use std::cell::Cell;
 use std::process::Abort;
@@ -62,7 +64,9 @@ fn put_and_take(
     alloc: Global,
     seed: u32,
     below: u32,
-) -> Result<(), Fail> {
+) -> Result<(), Fail>
+    requires { 0 < below }
+{
     let mut seed = seed;
     for i in 0..6_000u32 {
         seed = next(seed);
