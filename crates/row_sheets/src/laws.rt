@@ -1,0 +1,24 @@
+//! Laws of what a table shows.
+ghost use Rattle.row_sheets.specs.OverLaws.{EntriesSet, FoundByKey, NewSlots, OverRises, RowsHidden, SettledEntryStays, SettledStay, SlotsAreTold};
+
+/// A law: an entry that is set again fills its slot, one of a new key is a new slot, and one of the key of a committed row
+/// hides that row.
+pub fn entries_over_rows()
+    ensures set { EntriesSet }
+    ensures new { NewSlots }
+    ensures hidden { RowsHidden }
+{}
+
+/// A law: what is shown rises by key, and has of each key what its entry has, else the committed row; and slots that rise
+/// are told by what they have of each key.
+pub fn slots_are_told()
+    ensures rises { OverRises }
+    ensures found { FoundByKey }
+    ensures told { SlotsAreTold }
+{}
+
+/// A law: settling an entry, whichever, leaves the rows that are shown; so does settling all, in any order.
+pub fn settling_shows_the_same()
+    ensures one { SettledEntryStays }
+    ensures all { SettledStay }
+{}

@@ -1,0 +1,6 @@
+//! What a table shows while a transaction changes it.
+#![tactic(auto)]
+
+mod laws;
+
+pub use laws::{entries_over_rows, settling_shows_the_same, slots_are_told};
