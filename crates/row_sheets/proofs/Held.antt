@@ -38,11 +38,11 @@ none_below key s ss below rises =
 
 -- ---- slots are told by what they hold
 
-held_first : (s : Slot) (ss : List Slot) → held s.key (s ∷ ss) ≡ Some s.row
+pub held_first : (s : Slot) (ss : List Slot) → held s.key (s ∷ ss) ≡ Some s.row
 held_first s ss = rw (same_self s.key) refl
 
 -- of a key other than the first the rest decides
-held_rest : (key : List Value) (s : Slot) (ss : List Slot) → is_slot_of key s ≡ false → held key (s ∷ ss) ≡ held key ss
+pub held_rest : (key : List Value) (s : Slot) (ss : List Slot) → is_slot_of key s ≡ false → held key (s ∷ ss) ≡ held key ss
 held_rest key s ss other = rw other refl
 
 tails : (x y : Slot) (xs ys : List Slot) → x.key ≡ y.key → keys_rise (keys_in (x ∷ xs)) ≡ true → keys_rise (keys_in (y ∷ ys)) ≡ true

@@ -1,4 +1,5 @@
 //! Laws of what a table shows.
+ghost use Rattle.row_sheets.specs.ClaimLaws.{EntryClaimsNothing, NoClaimIsNew, NothingClaimed, RowPut, RowTakenOut, ValuesAreKept};
 ghost use Rattle.row_sheets.specs.OverLaws.{EntriesSet, FoundByKey, NewSlots, OverRises, RowsHidden, SettledEntryStays, SettledStay, SlotsAreTold};
 
 /// A law: an entry that is set again fills its slot, one of a new key is a new slot, and one of the key of a committed row
@@ -21,4 +22,15 @@ pub fn slots_are_told()
 pub fn settling_shows_the_same()
     ensures one { SettledEntryStays }
     ensures all { SettledStay }
+{}
+
+/// A law: claims are kept through what is done with entries. Before the first nothing is claimed, an entry without a row
+/// claims nothing; a row is taken out and put. A value that is kept stays so, and a row of it is put without a new claim.
+pub fn claims_are_kept()
+    ensures start { NothingClaimed }
+    ensures entry { EntryClaimsNothing }
+    ensures out { RowTakenOut }
+    ensures put { RowPut }
+    ensures kept { ValuesAreKept }
+    ensures same { NoClaimIsNew }
 {}
