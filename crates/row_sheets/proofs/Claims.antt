@@ -295,13 +295,13 @@ nothing_claimed u cs = record { holders = λ values k e. none e; rows = λ value
     none : {k : List Value} → None ≡ Some k → false ≡ true
     none e = cc
 
-released_keeps : (t : Bool) (values own : List Value) (claims : List Claim) → is_claimed values claims ≡ true → is_claimed values (cond t (held_now own None claims) claims) ≡ true
-released_keeps true values own claims e = claimed_still own values None claims e
-released_keeps false values own claims e = e
+released_keeps : (t : Bool) (values mine : List Value) (claims : List Claim) → is_claimed values claims ≡ true → is_claimed values (cond t (held_now mine None claims) claims) ≡ true
+released_keeps true values mine claims e = claimed_still mine values None claims e
+released_keeps false values mine claims e = e
 
-claimed_keeps : (t : Bool) (values own key : List Value) (claims : List Claim) → is_claimed values claims ≡ true → is_claimed values (cond t claims (held_now own (Some key) claims)) ≡ true
-claimed_keeps true values own key claims e = e
-claimed_keeps false values own key claims e = claimed_still own values (Some key) claims e
+claimed_keeps : (t : Bool) (values mine key : List Value) (claims : List Claim) → is_claimed values claims ≡ true → is_claimed values (cond t claims (held_now mine (Some key) claims)) ≡ true
+claimed_keeps true values mine key claims e = e
+claimed_keeps false values mine key claims e = claimed_still mine values (Some key) claims e
 
 pub values_kept : (u : KeyDef) (key row other_key other : List Value) (cs : List Slot) (claims : List Claim) → keeps_value u key row cs claims ≡ true
     → (keeps_value u key row cs (released u other_key other claims) ≡ true) × (keeps_value u key row cs (claimed_by u other_key other cs claims) ≡ true)

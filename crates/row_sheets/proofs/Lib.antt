@@ -1,4 +1,5 @@
 pub mod Claims
+pub mod Finding
 pub mod Held
 pub mod Over
 pub mod Settling

@@ -1,5 +1,5 @@
 //! Laws of what a table shows.
-ghost use Rattle.row_sheets.specs.ClaimLaws.{EntryClaimsNothing, NoClaimIsNew, NothingClaimed, RowPut, RowTakenOut, ValuesAreKept};
+ghost use Rattle.row_sheets.specs.ClaimLaws.{EntryClaimsNothing, FoundByValue, NoClaimIsNew, NothingClaimed, RowPut, RowTakenOut, ValuesAreKept};
 ghost use Rattle.row_sheets.specs.OverLaws.{EntriesSet, FoundByKey, NewSlots, OverRises, RowsHidden, SettledEntryStays, SettledStay, SlotsAreTold};
 
 /// A law: an entry that is set again fills its slot, one of a new key is a new slot, and one of the key of a committed row
@@ -33,4 +33,9 @@ pub fn claims_are_kept()
     ensures put { RowPut }
     ensures kept { ValuesAreKept }
     ensures same { NoClaimIsNew }
+{}
+
+/// A law: a value of a unique key leads to the row that is shown with it, if there is one.
+pub fn values_lead_to_rows()
+    ensures { FoundByValue }
 {}

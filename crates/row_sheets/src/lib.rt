@@ -3,4 +3,6 @@
 
 mod laws;
 
-pub use laws::{claims_are_kept, entries_over_rows, settling_shows_the_same, slots_are_told};
+pub use laws::{
+    claims_are_kept, entries_over_rows, settling_shows_the_same, slots_are_told, values_lead_to_rows,
+};
