@@ -3,3 +3,4 @@ pub mod Finding
 pub mod Held
 pub mod Over
 pub mod Settling
+pub mod Sheets

@@ -1,5 +1,6 @@
 //! Laws of what a table shows.
 ghost use Rattle.row_sheets.specs.ClaimLaws.{EntryClaimsNothing, FoundByValue, NoClaimIsNew, NothingClaimed, RowPut, RowTakenOut, ValuesAreKept};
+ghost use Rattle.row_sheets.specs.SheetLaws.{SheetFinds, SheetSettles, SheetStarts, SoundIsApart};
 ghost use Rattle.row_sheets.specs.OverLaws.{EntriesSet, FoundByKey, NewSlots, OverRises, RowsHidden, SettledEntryStays, SettledStay, SlotsAreTold};
 
 /// A law: an entry that is set again fills its slot, one of a new key is a new slot, and one of the key of a committed row
@@ -38,4 +39,13 @@ pub fn claims_are_kept()
 /// A law: a value of a unique key leads to the row that is shown with it, if there is one.
 pub fn values_lead_to_rows()
     ensures { FoundByValue }
+{}
+
+/// A law: a sheet begins with the committed rows; rows that are apart are so on each unique key; claims lead to the rows that
+/// are shown; and entries settled in any order make these the committed ones.
+pub fn sheets_show_rows()
+    ensures start { SheetStarts }
+    ensures apart { SoundIsApart }
+    ensures finds { SheetFinds }
+    ensures settles { SheetSettles }
 {}
