@@ -1,5 +1,5 @@
 -- Claims through what is done with entries.
-use Rattle.std.proofs.Common.{◌≡◌, ℕ, suc, List, [], ◌∷◌, length, Bool, true, false, ◌&&◌, ◌||◌, not, cond, Option, Some, None, inl, inr, ◌⊎◌, refl, sym, ap, subst, ◌∙◌}
+use Rattle.std.proofs.Common.{◌≡◌, suc, List, [], ◌∷◌, length, Bool, true, false, ◌||◌, not, cond, Option, Some, None, inl, inr, ◌⊎◌, refl, sym, ap, subst, ◌∙◌}
 use Rattle.std.specs.List.{list_any}
 use Rattle.std.specs.Option.{option_map_or, option_and_then}
 use Rattle.std.proofs.lemmas.Bool.{and_parts, and_from, or_parts, true≢false}
@@ -9,7 +9,7 @@ use Rattle.val_types.specs.Fitting.{is_null}
 use Rattle.val_types.specs.Keys.{values_at, same_values}
 use Rattle.table_rules.proofs.Taking.{same_is, same_self}
 use Rattle.row_sheets.specs.Slots.{Slot, held, fill, with_slot, is_slot_of, is_not_before}
-use Rattle.row_sheets.specs.Claims.{Claim, holder_of, is_claimed, held_now, has_values, row_under, has_under, AreClaimed, released, claimed_by, keeps_value}
+use Rattle.row_sheets.specs.Claims.{Claim, holder_of, is_claimed, held_now, has_values, has_under, AreClaimed, released, claimed_by, keeps_value}
 use Rattle.row_sheets.proofs.Held.{held_rest}
 
 -- ---- what slots hold once one is filled or new
@@ -191,8 +191,8 @@ module _ (u : KeyDef) (key row : List Value) (es cs : List Slot) (claims : List 
   pub row_taken_out : AreClaimed u (fill key None es) cs (released u key row claims)
   row_taken_out = record {
     holders = λ values k e.
-      let both : (holder_of values claims ≡ Some k) × (same_values k key ≡ false) = taken_holder (option_map_or (same_values key) (holder_of own claims) false) refl values k e in
-      under_same u values k es (fill key None es) (sym (filled_other key k None es both.1)) (are.holders values k both.0);
+        let both : (holder_of values claims ≡ Some k) × (same_values k key ≡ false) = taken_holder (option_map_or (same_values key) (holder_of own claims) false) refl values k e in
+        under_same u values k es (fill key None es) (sym (filled_other key k None es both.1)) (are.holders values k both.0);
     rows = λ values k e. after values k e (same_values k key) refl;
   }
     where
@@ -278,7 +278,7 @@ module _ (u : KeyDef) (key row : List Value) (es cs : List Slot) (claims : List 
       at true same =
           let k_is : k ≡ key = same_is k key same in
           let has_it : has_values u values row ≡ true =
-              under_is u values key (fill key (Some row) es) (Some (Some row)) put_self (subst (λ (n : List Value). has_under u values n (fill key (Some row) es) ≡ true) k_is e) in
+          under_is u values key (fill key (Some row) es) (Some (Some row)) put_self (subst (λ (n : List Value). has_under u values n (fill key (Some row) es) ≡ true) k_is e) in
           own_row t is (values_are u values row has_it) k_is has_it
       at false apart =
           let was : has_under u values k es ≡ true = under_same u values k (fill key (Some row) es) es (filled_other key k (Some row) es apart) e in
@@ -305,11 +305,12 @@ claimed_keeps false values mine key claims e = claimed_still mine values (Some k
 
 pub values_kept : (u : KeyDef) (key row other_key other : List Value) (cs : List Slot) (claims : List Claim) → keeps_value u key row cs claims ≡ true
     → (keeps_value u key row cs (released u other_key other claims) ≡ true) × (keeps_value u key row cs (claimed_by u other_key other cs claims) ≡ true)
-values_kept u key row other_key other cs claims e =
-    (claimed_step (list_any is_null (values_at u.columns row) || has_under u (values_at u.columns row) key cs) (is_claimed (values_at u.columns row) claims) (is_claimed (values_at u.columns row) (released u other_key other claims))
-        (released_keeps (option_map_or (same_values other_key) (holder_of (values_at u.columns other) claims) false) (values_at u.columns row) (values_at u.columns other) claims) e,
-      claimed_step (list_any is_null (values_at u.columns row) || has_under u (values_at u.columns row) key cs) (is_claimed (values_at u.columns row) claims) (is_claimed (values_at u.columns row) (claimed_by u other_key other cs claims))
-        (claimed_keeps (list_any is_null (values_at u.columns other) || has_under u (values_at u.columns other) other_key cs) (values_at u.columns row) (values_at u.columns other) other_key claims) e)
+values_kept u key row other_key other cs claims e = (
+  claimed_step (list_any is_null (values_at u.columns row) || has_under u (values_at u.columns row) key cs) (is_claimed (values_at u.columns row) claims) (is_claimed (values_at u.columns row) (released u other_key other claims))
+      (released_keeps (option_map_or (same_values other_key) (holder_of (values_at u.columns other) claims) false) (values_at u.columns row) (values_at u.columns other) claims) e,
+  claimed_step (list_any is_null (values_at u.columns row) || has_under u (values_at u.columns row) key cs) (is_claimed (values_at u.columns row) claims) (is_claimed (values_at u.columns row) (claimed_by u other_key other cs claims))
+      (claimed_keeps (list_any is_null (values_at u.columns other) || has_under u (values_at u.columns other) other_key cs) (values_at u.columns row) (values_at u.columns other) other_key claims) e,
+)
 
 pub no_new_claim : (u : KeyDef) (key row : List Value) (cs : List Slot) (claims : List Claim) → keeps_value u key row cs claims ≡ true → length (claimed_by u key row cs claims) ≡ length claims
 no_new_claim u key row cs claims e = step (list_any is_null (values_at u.columns row) || has_under u (values_at u.columns row) key cs) e

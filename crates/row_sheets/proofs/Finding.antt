@@ -1,5 +1,5 @@
 -- A value leads to the row that is shown with it.
-use Rattle.std.proofs.Common.{◌≡◌, List, [], ◌∷◌, ◌++◌, Bool, true, false, ◌&&◌, not, cond, Option, Some, None, inl, inr, ◌⊎◌, refl, sym, ap, subst, ◌∙◌}
+use Rattle.std.proofs.Common.{◌≡◌, List, [], ◌∷◌, ◌++◌, Bool, true, false, cond, Option, Some, None, inl, inr, ◌⊎◌, refl, sym, ap, subst, ◌∙◌}
 use Rattle.std.specs.Prelude.{option_to_list, find}
 use Rattle.std.specs.List.{list_all}
 use Rattle.std.specs.Option.{option_or, option_map_or, option_and_then}
@@ -8,7 +8,7 @@ use Rattle.val_types.specs.declared.value.Value.{Value}
 use Rattle.val_types.specs.declared.definitions.TableDef.{TableDef}
 use Rattle.val_types.specs.declared.definitions.KeyDef.{KeyDef}
 use Rattle.val_types.specs.Keys.{primary_key, same_values}
-use Rattle.table_rules.proofs.Taking.{same_is, same_self}
+use Rattle.table_rules.proofs.Taking.{same_is}
 use Rattle.table_rules.specs.Stored.{row_of_values}
 use Rattle.row_sheets.specs.Slots.{Slot, held, rows_in, keys_in, keys_rise, all_above, is_slot_of, has_own_key}
 use Rattle.row_sheets.specs.Over.{over}

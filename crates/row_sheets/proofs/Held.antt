@@ -1,17 +1,15 @@
 -- Slots by what they hold of each key.
-use Rattle.std.proofs.Common.{◌≡◌, List, [], ◌∷◌, ◌++◌, Bool, true, false, ◌&&◌, ◌||◌, not, cond, Option, Some, None, Ordering, Less, Equal, Greater, refl, sym, ap, subst, ◌∙◌}
+use Rattle.std.proofs.Common.{◌≡◌, List, [], ◌∷◌, ◌++◌, Bool, true, false, cond, Option, Some, None, Ordering, Less, Equal, Greater, refl, sym, ap, subst, ◌∙◌}
 use Rattle.std.specs.Prelude.{option_to_list}
-use Rattle.std.specs.Ordering.{is_eq, is_lt, ordering_reverse}
+use Rattle.std.specs.Ordering.{is_eq, is_lt}
 use Rattle.std.specs.Option.{option_or}
-use Rattle.std.proofs.lemmas.Bool.{and_parts, and_from, or_parts, true≢false}
+use Rattle.std.proofs.lemmas.Bool.{and_parts, and_from}
 use Rattle.val_types.specs.declared.value.Value.{Value}
 use Rattle.val_types.specs.Order.{key_order}
 use Rattle.val_types.specs.Keys.{same_values}
-use Rattle.val_types.proofs.Values.{key_order_total}
 use Rattle.table_rules.proofs.Taking.{same_is, same_self}
-use Rattle.table_rules.specs.Stores.{is_among}
-use Rattle.row_sheets.specs.Slots.{Slot, keys_in, rows_in, is_slot_of, all_above, keys_rise, held, fill, drop_slot}
-use Rattle.row_sheets.specs.Over.{by_order, over_step, over, settled_by}
+use Rattle.row_sheets.specs.Slots.{Slot, keys_in, rows_in, is_slot_of, all_above, keys_rise, held, drop_slot}
+use Rattle.row_sheets.specs.Over.{by_order, over_step, over}
 use Rattle.row_sheets.proofs.Over.{chain, apart, greater_below, less_from, lt_is}
 
 -- ---- keys below those of slots
@@ -51,6 +49,7 @@ tails x y xs ys same rise_x rise_y told key = step (is_slot_of key x) refl
   where
     above_x : (all_above x.key (keys_in xs) ≡ true) × (keys_rise (keys_in xs) ≡ true)
     above_x = and_parts (all_above x.key (keys_in xs)) (keys_rise (keys_in xs)) rise_x
+
     above_y : (all_above y.key (keys_in ys) ≡ true) × (keys_rise (keys_in ys) ≡ true)
     above_y = and_parts (all_above y.key (keys_in ys)) (keys_rise (keys_in ys)) rise_y
 
@@ -75,6 +74,7 @@ slots_told (x ∷ xs) (y ∷ ys) rise_x rise_y told = step (key_order x.key y.ke
   where
     up_x : (all_above x.key (keys_in xs) ≡ true) × (keys_rise (keys_in xs) ≡ true)
     up_x = and_parts (all_above x.key (keys_in xs)) (keys_rise (keys_in xs)) rise_x
+
     up_y : (all_above y.key (keys_in ys) ≡ true) × (keys_rise (keys_in ys) ≡ true)
     up_y = and_parts (all_above y.key (keys_in ys)) (keys_rise (keys_in ys)) rise_y
 
@@ -154,7 +154,7 @@ rise_step e es [] rises up ih =
     and_from (all_above e.key (keys_in (over es []))) (keys_rise (keys_in (over es []))) (above_over e.key es [] both.0 refl) (ih [] refl)
 rise_step e es (c ∷ cs) rises up ih =
     at (key_order e.key c.key) refl (and_parts (all_above e.key (keys_in es)) (keys_rise (keys_in es)) rises) (and_parts (all_above c.key (keys_in cs)) (keys_rise (keys_in cs)) up)
-      (λ later. rise_step e es cs rises later ih)
+    (λ later. rise_step e es cs rises later ih)
   where
     at : (o : Ordering) → key_order e.key c.key ≡ o → (all_above e.key (keys_in es) ≡ true) × (keys_rise (keys_in es) ≡ true) → (all_above c.key (keys_in cs) ≡ true) × (keys_rise (keys_in cs) ≡ true)
         → (keys_rise (keys_in cs) ≡ true → keys_rise (keys_in (over_step e (over es) cs)) ≡ true)
@@ -169,7 +169,7 @@ rise_step e es (c ∷ cs) rises up ih =
     at Greater is both_e both_c later =
         let below : is_lt (key_order c.key e.key) ≡ true = greater_below e.key c.key is in
         and_from (all_above c.key (keys_in (over_step e (over es) cs))) (keys_rise (keys_in (over_step e (over es) cs)))
-          (above_step c.key e (over es) cs below (λ ds up_ds. above_over c.key es ds (above_later c.key e.key es below both_e.0) up_ds) both_c.0) (later both_c.1)
+        (above_step c.key e (over es) cs below (λ ds up_ds. above_over c.key es ds (above_later c.key e.key es below both_e.0) up_ds) both_c.0) (later both_c.1)
 
 pub rises-over : (es cs : List Slot) → keys_rise (keys_in es) ≡ true → keys_rise (keys_in cs) ≡ true → keys_rise (keys_in (over es cs)) ≡ true
 rises-over [] cs rises up = up

@@ -1,8 +1,7 @@
 -- Sheets: rows as slots, rows that are apart, and what the laws of slots and claims come to.
-use Rattle.std.proofs.Common.{◌≡◌, ℕ, zero, suc, ◌≤◌, List, [], ◌∷◌, ◌++◌, map, Bool, true, false, ◌&&◌, ◌||◌, not, cond, Option, Some, None, refl, sym, ap, subst, ◌∙◌, arith}
+use Rattle.std.proofs.Common.{◌≡◌, ℕ, zero, suc, List, [], ◌∷◌, ◌++◌, map, Bool, true, false, ◌&&◌, ◌||◌, not, cond, Option, Some, None, refl, sym, ap, subst, ◌∙◌, arith}
 use Rattle.std.specs.Prelude.{option_to_list, slice_get}
 use Rattle.std.specs.List.{list_all, list_any}
-use Rattle.std.specs.Option.{option_map_or, option_and_then}
 use Rattle.std.specs.Ordering.{is_lt}
 use Rattle.std.proofs.lemmas.Bool.{and_parts, and_from, true≢false}
 use Rattle.val_types.specs.declared.value.Value.{Value}
@@ -15,7 +14,7 @@ use Rattle.table_rules.specs.Tables.{is_below, rise, are_apart}
 use Rattle.table_rules.specs.Stored.{row_of_values}
 use Rattle.table_rules.proofs.Taking.{same_is, same_self}
 use Rattle.row_sheets.specs.Slots.{Slot, held, keys_in, rows_in, row_slots, all_above, keys_rise, has_own_key, rows_are_kept, is_sound, is_slot_of}
-use Rattle.row_sheets.specs.Over.{over, settled, AreJust}
+use Rattle.row_sheets.specs.Over.{settled, AreJust}
 use Rattle.row_sheets.specs.Claims.{Claim, has_values, has_under, AreClaimed, AreApart, found_by}
 use Rattle.row_sheets.specs.Sheets.{Entry, entry_slots, shown_slots, shown, AreAllClaimed, IsSheet}
 use Rattle.row_sheets.proofs.Claims.{under_of, under_is, values_are, nothing_claimed}
@@ -82,11 +81,11 @@ module _ (d : TableDef) (which : ℕ) (u : KeyDef) (is : slice_get d.uniques whi
       let vp : values ≡ values_at u.columns p = values_are u values p has_p in
       let vq : values ≡ values_at u.columns q = values_are u values q has_q in
       let no_null : not (list_any is_null (values_at u.columns p)) ≡ true =
-          subst (λ (v : List Value). not (list_any is_null v) ≡ true) vp (and_parts (not (list_any is_null values)) (same_values values (values_at u.columns p)) has_p).0 in
+      subst (λ (v : List Value). not (list_any is_null v) ≡ true) vp (and_parts (not (list_any is_null values)) (same_values values (values_at u.columns p)) has_p).0 in
       let same : same_values (values_at u.columns p) (values_at u.columns q) ≡ true =
-          subst (λ (v : List Value). same_values v (values_at u.columns q) ≡ true) vp (and_parts (not (list_any is_null values)) (same_values values (values_at u.columns q)) has_q).1 in
+      subst (λ (v : List Value). same_values v (values_at u.columns q) ≡ true) vp (and_parts (not (list_any is_null values)) (same_values values (values_at u.columns q)) has_q).1 in
       either (same_values (primary_key d p) (primary_key d q)) (list_any (agree_on p q) d.uniques)
-        (any_at (agree_on p q) d.uniques which u is (and_from (not (list_any is_null (values_at u.columns p))) (same_values (values_at u.columns p) (values_at u.columns q)) no_null same))
+      (any_at (agree_on p q) d.uniques which u is (and_from (not (list_any is_null (values_at u.columns p))) (same_values (values_at u.columns p) (values_at u.columns q)) no_null same))
 
   -- a row with the values is not behind another one that has them
   not_behind : (p : List Value) (key : List Value) (ss : List Slot) → has_values u values p ≡ true → list_all (λ later. not (collide d p later)) (rows_in ss) ≡ true → has_under u values key ss ≡ true → ⊥
@@ -150,8 +149,8 @@ nothing_at_first d (u ∷ uniques) rows = (nothing_claimed u (row_slots d rows),
 pub rows_are_sound : (d : TableDef) (rows : List (List Value)) → rows_are_kept d rows ≡ true → is_sound d (row_slots d rows) ≡ true
 rows_are_sound d rows kept =
     and_from (keys_rise (keys_in (row_slots d rows)) && list_all (has_own_key d) (row_slots d rows)) (rows_are_kept d (rows_in (row_slots d rows)))
-      (and_from (keys_rise (keys_in (row_slots d rows))) (list_all (has_own_key d) (row_slots d rows)) (rises-row_slots d rows (kept_rise d rows kept)) (own-row_slots d rows))
-      (ap (rows_are_kept d) (rows-row_slots d rows) ∙ kept)
+    (and_from (keys_rise (keys_in (row_slots d rows))) (list_all (has_own_key d) (row_slots d rows)) (rises-row_slots d rows (kept_rise d rows kept)) (own-row_slots d rows))
+    (ap (rows_are_kept d) (rows-row_slots d rows) ∙ kept)
 
 pub sheet_starts : (d : TableDef) (rows : List (List Value)) (room : ℕ) → rows_are_kept d rows ≡ true → IsSheet d rows [] (map (λ unique. []) d.uniques) room × (shown d rows [] ≡ rows)
 sheet_starts d rows room kept =
@@ -172,12 +171,13 @@ pub sheet_finds : (d : TableDef) (rows : List (List Value)) (entries : List Entr
     → found_by d u values own (entry_slots d entries) (row_slots d rows) ≡ row_of_values u values (shown d rows entries)
 sheet_finds d rows entries claims room which u own values sheet is has =
     found_by_value d u values own (entry_slots d entries) (row_slots d rows) sheet.rising (rises-row_slots d rows (kept_rise d rows sheet.committed)) (own-row_slots d rows)
-      (sound_is_apart d which u (row_slots d rows) (rows_are_sound d rows sheet.committed) is) (sound_is_apart d which u (shown_slots d rows entries) sheet.sound is)
-      (claimed_at d.uniques claims which u own (entry_slots d entries) (row_slots d rows) sheet.claimed is has)
+    (sound_is_apart d which u (row_slots d rows) (rows_are_sound d rows sheet.committed) is) (sound_is_apart d which u (shown_slots d rows entries) sheet.sound is)
+    (claimed_at d.uniques claims which u own (entry_slots d entries) (row_slots d rows) sheet.claimed is has)
 
 pub sheet_settles : (d : TableDef) (rows : List (List Value)) (entries : List Entry) (claims : List (List Claim)) (room : ℕ) (order : List Slot) → IsSheet d rows entries claims room → AreJust order (entry_slots d entries)
     → (rows_in (settled order (row_slots d rows)) ≡ shown d rows entries) × (rows_are_kept d (shown d rows entries) ≡ true) × (shown d (shown d rows entries) [] ≡ shown d rows entries)
-sheet_settles d rows entries claims room order sheet just =
-    (all_stay order (entry_slots d entries) (row_slots d rows) sheet.rising (rises-row_slots d rows (kept_rise d rows sheet.committed)) just,
-      sound_rows d (shown_slots d rows entries) sheet.sound,
-      rows-row_slots d (shown d rows entries))
+sheet_settles d rows entries claims room order sheet just = (
+  all_stay order (entry_slots d entries) (row_slots d rows) sheet.rising (rises-row_slots d rows (kept_rise d rows sheet.committed)) just,
+  sound_rows d (shown_slots d rows entries) sheet.sound,
+  rows-row_slots d (shown d rows entries),
+)

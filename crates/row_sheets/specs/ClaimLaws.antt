@@ -1,5 +1,5 @@
 -- What claims owe.
-use Rattle.std.specs.Prelude.{◌≡◌, ℕ, Bool, true, false, List, [], Option, Some, None, length}
+use Rattle.std.specs.Prelude.{◌≡◌, true, false, List, [], Some, None, length}
 use Rattle.std.specs.List.{list_all}
 use Rattle.val_types.specs.declared.value.Value.{Value}
 use Rattle.val_types.specs.declared.definitions.TableDef.{TableDef}
@@ -8,7 +8,7 @@ use Rattle.val_types.specs.Keys.{values_at}
 use Rattle.table_rules.specs.Stored.{row_of_values}
 use Rattle.row_sheets.specs.Slots.{Slot, held, keys_in, keys_rise, rows_in, fill, with_slot, has_own_key}
 use Rattle.row_sheets.specs.Over.{over}
-use Rattle.row_sheets.specs.Claims.{Claim, AreClaimed, AreApart, has_under, holder_of, is_claimed, released, claimed_by, keeps_value, found_by}
+use Rattle.row_sheets.specs.Claims.{Claim, AreClaimed, AreApart, has_under, released, claimed_by, keeps_value, found_by}
 
 -- before the first entry nothing is claimed
 abbrev pub NothingClaimed : Type 0

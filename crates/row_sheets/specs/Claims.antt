@@ -1,5 +1,5 @@
 -- A unique key beside a transaction: the values that it put where they were not, and who has each.
-use Rattle.std.specs.Prelude.{◌≡◌, ℕ, Bool, true, false, not, ◌&&◌, ◌||◌, ◌⊎◌, cond, List, [], ◌∷◌, Option, Some, None}
+use Rattle.std.specs.Prelude.{◌≡◌, Bool, true, false, not, ◌&&◌, ◌||◌, ◌⊎◌, cond, List, [], ◌∷◌, Option, Some, None}
 use Rattle.std.specs.List.{list_any}
 use Rattle.std.specs.Option.{option_and_then, option_map_or}
 use Rattle.val_types.specs.declared.value.Value.{Value}
@@ -8,7 +8,7 @@ use Rattle.val_types.specs.declared.definitions.KeyDef.{KeyDef}
 use Rattle.val_types.specs.Fitting.{is_null}
 use Rattle.val_types.specs.Keys.{values_at, primary_key, same_values}
 use Rattle.table_rules.specs.Stored.{row_of_values}
-use Rattle.row_sheets.specs.Slots.{Slot, held, rows_in, fill, with_slot}
+use Rattle.row_sheets.specs.Slots.{Slot, held, rows_in}
 
 -- a value of a unique key, and the primary key of the entry whose row has it, None where no entry's row does any more
 pub record Claim : Type 0 where

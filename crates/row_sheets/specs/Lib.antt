@@ -5,3 +5,4 @@ pub mod OverLaws
 pub mod SheetLaws
 pub mod Sheets
 pub mod Slots
+pub mod Worked

@@ -1,5 +1,5 @@
 -- What entries over rows owe.
-use Rattle.std.specs.Prelude.{◌≡◌, List, Bool, true, false, Option, Some, None}
+use Rattle.std.specs.Prelude.{◌≡◌, List, true, false, Option, Some, None}
 use Rattle.std.specs.Option.{option_or}
 use Rattle.val_types.specs.declared.value.Value.{Value}
 use Rattle.table_rules.specs.Stores.{is_among}

@@ -1,11 +1,10 @@
 -- What sheets owe.
-use Rattle.std.specs.Prelude.{◌≡◌, ℕ, true, List, [], map, Option, Some, slice_get}
-use Rattle.std.specs.Option.{option_or}
+use Rattle.std.specs.Prelude.{◌≡◌, ℕ, true, List, [], map, Some, slice_get}
 use Rattle.val_types.specs.declared.value.Value.{Value}
 use Rattle.val_types.specs.declared.definitions.TableDef.{TableDef}
 use Rattle.val_types.specs.declared.definitions.KeyDef.{KeyDef}
 use Rattle.table_rules.specs.Stored.{row_of_values}
-use Rattle.row_sheets.specs.Slots.{Slot, held, rows_in, row_slots, rows_are_kept, is_sound}
+use Rattle.row_sheets.specs.Slots.{Slot, rows_in, row_slots, rows_are_kept, is_sound}
 use Rattle.row_sheets.specs.Over.{settled, AreJust}
 use Rattle.row_sheets.specs.Claims.{Claim, AreApart, found_by}
 use Rattle.row_sheets.specs.Sheets.{Entry, IsSheet, entry_slots, shown}

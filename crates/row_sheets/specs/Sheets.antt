@@ -1,5 +1,5 @@
 -- The sheet of a table: its committed rows, a transaction's entries over them, and the claims of its unique keys.
-use Rattle.std.specs.Prelude.{◌≡◌, ℕ, ◌≤◌, Bool, true, not, List, [], ◌∷◌, map, count_by, Option, is_none, IsTrue}
+use Rattle.std.specs.Prelude.{◌≡◌, ℕ, ◌≤◌, Bool, not, List, [], ◌∷◌, map, count_by, Option, is_none, IsTrue}
 use Rattle.std.specs.List.{AllByRecursion}
 use Rattle.val_types.specs.declared.value.Value.{Value}
 use Rattle.val_types.specs.declared.definitions.TableDef.{TableDef}
