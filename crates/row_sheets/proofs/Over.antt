@@ -42,7 +42,7 @@ apart low high e = ap is_eq (key_order_total.antisymm high low) ∙ reversed_dif
 pub greater_below : (a b : List Value) → key_order a b ≡ Greater → is_lt (key_order b a) ≡ true
 greater_below a b e = ap is_lt (key_order_total.antisymm b a ∙ ap ordering_reverse e)
 
-greater_from : (a b : List Value) → is_lt (key_order b a) ≡ true → key_order a b ≡ Greater
+pub greater_from : (a b : List Value) → is_lt (key_order b a) ≡ true → key_order a b ≡ Greater
 greater_from a b e = key_order_total.antisymm a b ∙ less_turned (key_order b a) e
   where
     less_turned : (o : Ordering) → is_lt o ≡ true → ordering_reverse o ≡ Greater

@@ -1,5 +1,6 @@
 pub mod ClaimLaws
 pub mod Claims
+pub mod Orders
 pub mod Over
 pub mod OverLaws
 pub mod SheetLaws

@@ -1,6 +1,7 @@
 //! Laws of what a table shows.
 ghost use Rattle.row_sheets.specs.ClaimLaws.{EntryClaimsNothing, FoundByValue, NoClaimIsNew, NothingClaimed, RowPut, RowTakenOut, ValuesAreKept};
 ghost use Rattle.row_sheets.specs.SheetLaws.{SheetFinds, SheetSettles, SheetStarts, SoundIsApart};
+ghost use Rattle.row_sheets.specs.Orders.{FoundHasSlot, MissingHasNone, PutIsOver, RisingIsInOrder, TakenIsDropped};
 ghost use Rattle.row_sheets.specs.OverLaws.{EntriesSet, FoundByKey, NewSlots, OverRises, RowsHidden, SettledEntryStays, SettledStay, SlotsAreTold};
 
 /// A law: an entry that is set again fills its slot, one of a new key is a new slot, and one of the key of a committed row
@@ -48,4 +49,14 @@ pub fn sheets_show_rows()
     ensures apart { SoundIsApart }
     ensures finds { SheetFinds }
     ensures settles { SheetSettles }
+{}
+
+/// A law: numbers whose keys rise are in order for a search; what it finds has the slot of the key, and a number that is put or
+/// taken out there puts its slot or takes it out.
+pub fn orders_are_slots()
+    ensures in_order { RisingIsInOrder }
+    ensures found { FoundHasSlot }
+    ensures missing { MissingHasNone }
+    ensures put { PutIsOver }
+    ensures taken { TakenIsDropped }
 {}

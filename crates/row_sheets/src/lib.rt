@@ -30,7 +30,7 @@ mod laws;
 mod worked;
 
 pub use laws::{
-    claims_are_kept, entries_over_rows, settling_shows_the_same, sheets_show_rows, slots_are_told,
+    claims_are_kept, entries_over_rows, orders_are_slots, settling_shows_the_same, sheets_show_rows, slots_are_told,
     values_lead_to_rows,
 };
 pub use worked::{pens_claimed, pens_found, pens_shown};
