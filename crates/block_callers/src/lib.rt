@@ -53,5 +53,17 @@ pub fn has_just(set: &Blocks, list: &[u32]) -> bool {
     set.get(spot).is_none() && set.len() == list.len()
 }
 
+/// The same from the end.
+pub fn has_just_backwards(set: &Blocks, list: &[u32]) -> bool {
+    let mut spot = set.end();
+    for number in list.iter().rev() {
+        match set.before(spot) {
+            Some(back) if set.get(back) == Some(*number) => spot = back,
+            _ => return false,
+        }
+    }
+    set.before(spot).is_none()
+}
+
 #[cfg(test)]
 mod tests;

@@ -49,6 +49,7 @@ impl Pair {
     /// Whether both have the same numbers.
     fn agrees(&self) -> bool {
         has_just(&self.set, self.list.as_slice())
+            && has_just_backwards(&self.set, self.list.as_slice())
     }
 }
 

@@ -1,8 +1,8 @@
 -- Where numbers stand: the places of blocks among all numbers.
-use Rattle.std.proofs.Common.{◌≡◌, ℕ, zero, suc, ◌+◌, ◌-◌, ◌<◌, ◌≤◌, List, [], ◌∷◌, ◌++◌, length, take, Some, None, refl, ap, ◌∙◌, arith, length-append}
+use Rattle.std.proofs.Common.{◌≡◌, ℕ, zero, suc, ◌+◌, ◌-◌, ◌<◌, ◌≤◌, List, [], ◌∷◌, ◌++◌, length, take, Some, None, refl, ap, subst, ◌∙◌, arith, length-append}
 use Rattle.std.specs.Prelude.{slice_get, slice_index}
 use Rattle.std.proofs.lemmas.List.{take_more, take_all, get_or_default, append-nil}
-use Rattle.block_list.specs.Layouts.{flat, AreShaped}
+use Rattle.block_list.specs.Layouts.{Layout, flat, AreShaped}
 use Rattle.block_list.specs.Spots.{block_at}
 use Rattle.block_list.proofs.Joined.{flat-append}
 use Rattle.block_list.proofs.Changed.{number_is, there}
@@ -50,3 +50,13 @@ none_past (x ∷ xs) (suc i) le = none_past xs i (omega (arith, le))
 -- the first number of a block stands behind the last one of the block before
 pub next_place : (bs : List (List ℕ)) (i at : ℕ) → i + 1 < length bs → at ≤ length (block_at bs i) → length (block_at bs i) ≤ at → length (flat (take (i + 1) bs)) + 0 ≡ length (flat (take i bs)) + at
 next_place bs i at lt few more = omega (arith, few, more, count_more bs i (omega (arith, lt)))
+
+-- the last number of the block before it
+pub before_first : (bs : List (List ℕ)) (i at last : ℕ) → at ≡ 0 → 0 < i → i - 1 < length bs → last ≡ length (block_at bs (i - 1)) → 0 < last
+    → length (flat (take (i - 1) bs)) + (last - 1) + 1 ≡ length (flat (take i bs)) + at
+before_first bs i at last none some lt is more =
+    let again : i - 1 + 1 ≡ i = omega (arith, some) in
+    omega (arith, count_more bs (i - 1) lt, ap (λ n. length (flat (take n bs))) again, none, is, more)
+
+pub shaped_same : (was now : Layout) → was ≡ now → AreShaped was.blocks → AreShaped now.blocks
+shaped_same was now same s = subst (λ (l : Layout). AreShaped l.blocks) same s

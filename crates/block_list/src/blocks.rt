@@ -65,6 +65,7 @@ impl Blocks {
     pub(crate) fn numbers_of(&self, block: usize) -> &[u32]
         ensures value { result.now ≡ block_at self.now.blocks block }
         ensures few { length result.now ≤ 255 }
+        ensures some { block < length self.now.blocks → 0 < length result.now }
     {
         match self.blocks.get(block) {
             Some(numbers) => numbers.as_slice(),

@@ -26,8 +26,8 @@
 //! - [`Blocks::make_room`] makes room for so many more, or wants memory; the numbers stay where they are, and
 //!   the room is never less
 //! - [`Blocks::len`] and [`Blocks::is_empty`] count the numbers; [`Blocks::first`] and [`Blocks::after`] are
-//!   spots one after the other, [`Blocks::get`] is the number there, None behind the last, and
-//!   [`Blocks::standing`] the spot of that number itself
+//!   spots one after the other, [`Blocks::end`] and [`Blocks::before`] the other way round; [`Blocks::get`] is
+//!   the number there, None behind the last, and [`Blocks::standing`] the spot of that number itself
 //! - [`Blocks::search`] and [`Blocks::find`] give the spot of the number that the comparison calls equal, or the
 //!   one at which it belongs, for every order that the comparison computes and in which the numbers stand; the
 //!   first in at most one comparison more than the count of numbers has binary digits

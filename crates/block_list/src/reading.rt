@@ -61,4 +61,38 @@ impl Blocks {
             None => spot,
         }
     }
+
+    /// The end: behind the last number.
+    pub fn end(&self) -> Spot
+        ensures spot { IsSpot self.now.blocks result }
+        ensures place { place self.now.blocks result ≡ length (flat self.now.blocks) }
+    {
+        let block = self.block_count().saturating_sub(1);
+        Spot {
+            block,
+            at: self.numbers_of(block).len(),
+        }
+    }
+
+    /// Where the number before a spot stands, None at the first one.
+    pub fn before(&self, spot: Spot) -> Option<Spot>
+        requires { IsSpot self.now.blocks spot }
+        ensures some { IfSome result (λ back. IsAt self.now.blocks back × (place self.now.blocks back + 1 ≡ place self.now.blocks spot)) }
+        ensures none { IfNone result (place self.now.blocks spot ≡ 0) }
+    {
+        if spot.at > 0 {
+            return Some(Spot {
+                block: spot.block,
+                at: spot.at - 1,
+            });
+        }
+        if spot.block == 0 {
+            return None;
+        }
+        let block = spot.block - 1;
+        Some(Spot {
+            block,
+            at: self.numbers_of(block).len() - 1,
+        })
+    }
 }
