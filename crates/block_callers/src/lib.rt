@@ -1,8 +1,8 @@
-//! Callers of `block_list`, as a test of how little proof it asks of the crates above; the tests of that crate.
+//! Callers of `block_list`, as a test of how little proof it asks of the crates above; the tests of that crate and of `row_arena`.
 //!
 //! A set of numbers in rising order, kept in blocks.
 //!
-//! - `tests`: sets that are put together and taken apart, beside a sorted vector
+//! - `tests`: sets that are put together and taken apart, beside a sorted vector; rows under numbers
 //!
 //! # Proved
 //! - [`put_rising`] and [`take_rising`] keep the numbers rising

@@ -3,9 +3,12 @@
 ghost use Rattle.std.specs.Prelude.{◌<◌};
 
 use super::*;
+use row_arena::RowArena;
+use sharing::Shared;
 use std::cell::Cell;
 use std::process::Abort;
 use std::test::Fail;
+use val_types::{List, Row, Value};
 
 /// A set, and the sorted vector beside it.
 #[derive(Drop)]
@@ -190,5 +193,39 @@ fn searches_are_short(rt: HostRuntime) -> Result<(), Fail> {
             assert!(rt; comparisons(&set, number) <= 11, "for {number}");
         }
     }
+    Ok(())
+}
+
+/// A row of one number.
+fn row_of(alloc: Global, number: i64) -> Result<Shared<Row>, Fail> {
+    let mut row = List::new(alloc);
+    row.push(Value::Int(number))?;
+    Ok(Shared::new(alloc, row)?)
+}
+
+/// Whether the row under a number is that of one number.
+fn is_row_of(arena: &RowArena, under: u32, number: i64) -> bool {
+    match arena.get(under) {
+        Some(row) => row.get(0) == Some(&Value::Int(number)),
+        None => false,
+    }
+}
+
+#[test]
+fn rows_keep_their_numbers(rt: HostRuntime) -> Result<(), Fail> {
+    let mut arena = RowArena::new(rt.alloc());
+    arena.make_room(3)?;
+    let first = arena.put(row_of(rt.alloc(), 10)?);
+    let second = arena.put(row_of(rt.alloc(), 20)?);
+    assert!(rt; first != second);
+    assert!(rt; is_row_of(&arena, first, 10) && is_row_of(&arena, second, 20));
+    assert!(rt; arena.take(first).is_some());
+    assert!(rt; arena.get(first).is_none() && arena.take(first).is_none());
+    let third = arena.put(row_of(rt.alloc(), 30)?);
+    assert_eq!(rt; third, first, "a number is given again");
+    assert!(rt; is_row_of(&arena, third, 30) && is_row_of(&arena, second, 20));
+    assert!(rt; arena.replace(second, row_of(rt.alloc(), 21)?).is_some());
+    assert!(rt; is_row_of(&arena, second, 21));
+    assert!(rt; arena.get(7).is_none());
     Ok(())
 }
