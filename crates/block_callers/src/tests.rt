@@ -211,6 +211,14 @@ fn is_row_of(arena: &RowArena, under: u32, number: i64) -> bool {
     }
 }
 
+/// Puts another row under a number that has one; whether it had.
+fn replaced(arena: &mut RowArena, under: u32, row: Shared<Row>) -> bool {
+    if arena.get(under).is_none() {
+        return false;
+    }
+    arena.replace(under, row).is_some()
+}
+
 #[test]
 fn rows_keep_their_numbers(rt: HostRuntime) -> Result<(), Fail> {
     let mut arena = RowArena::new(rt.alloc());
@@ -224,7 +232,7 @@ fn rows_keep_their_numbers(rt: HostRuntime) -> Result<(), Fail> {
     let third = arena.put(row_of(rt.alloc(), 30)?);
     assert_eq!(rt; third, first, "a number is given again");
     assert!(rt; is_row_of(&arena, third, 30) && is_row_of(&arena, second, 20));
-    assert!(rt; arena.replace(second, row_of(rt.alloc(), 21)?).is_some());
+    assert!(rt; replaced(&mut arena, second, row_of(rt.alloc(), 21)?));
     assert!(rt; is_row_of(&arena, second, 21));
     assert!(rt; arena.get(7).is_none());
     Ok(())
