@@ -1,18 +1,17 @@
 -- Numbers in the order of the keys of their slots.
-use Rattle.std.proofs.Common.{◌≡◌, ◌≢◌, ℕ, zero, suc, ◌+◌, ◌<◌, ◌≤◌, List, [], ◌∷◌, ◌++◌, length, map, take, drop, get_or, Bool, true, false, ◌&&◌, cond, Option, Some, None, Ok, Err, Ordering, Less, Equal, Greater, inl, inr, ◌⊎◌, refl, sym, ap, subst, ◌∙◌, arith}
+use Rattle.std.proofs.Common.{◌≡◌, ◌≢◌, ℕ, zero, suc, ◌<◌, ◌≤◌, List, [], ◌∷◌, ◌++◌, length, map, take, drop, Bool, true, false, cond, Option, Some, None, Ok, Err, Ordering, Less, Equal, Greater, inl, inr, ◌⊎◌, refl, sym, ap, subst, ◌∙◌, arith}
 use Rattle.std.specs.Prelude.{slice_index, insert, remove}
-use Rattle.std.specs.Ordering.{is_eq, is_lt, ordering_reverse}
+use Rattle.std.specs.Ordering.{is_eq, is_lt}
 use Rattle.std.proofs.lemmas.Bool.{and_parts, cases_lt}
 use Rattle.val_types.specs.declared.value.Value.{Value}
 use Rattle.val_types.specs.Order.{key_order}
 use Rattle.val_types.specs.Keys.{same_values}
-use Rattle.val_types.proofs.Values.{key_order_total}
 use Rattle.table_rules.proofs.Taking.{same_is, same_self}
 use Rattle.block_list.specs.Layouts.{flat}
 use Rattle.block_list.specs.Spots.{place, IsFound}
 use Rattle.block_list.specs.declared.spot.Spot.{Spot}
 use Rattle.block_list.proofs.Found.{place_is_within}
-use Rattle.row_sheets.specs.Slots.{Slot, keys_in, all_above, keys_rise, held, is_slot_of, drop_slot}
+use Rattle.row_sheets.specs.Slots.{Slot, keys_in, all_above, keys_rise, held, fill, is_slot_of, drop_slot}
 use Rattle.row_sheets.specs.Over.{by_order, over_step, over}
 use Rattle.row_sheets.specs.Orders.{slots_of, NumbersRise, by_key}
 use Rattle.row_sheets.proofs.Over.{chain, apart, greater_from, greater_below, less_from}
@@ -71,7 +70,7 @@ module _ (slot_at : ℕ → Slot) (key : List Value) where
   found_slot (n ∷ ns) (suc p) rises lt e =
       let both = and_parts (all_above (key_at n) (keys_in (slots_of slot_at ns))) (keys_rise (keys_in (slots_of slot_at ns))) rises in
       let below : is_lt (key_order (key_at n) key) ≡ true =
-          subst (λ (k : List Value). is_lt (key_order (key_at n) k) ≡ true) (same_is (key_at (slice_index ns p)) key (ap is_eq e)) (above_at (key_at n) ns p both.0 (omega (arith, lt))) in
+      subst (λ (k : List Value). is_lt (key_order (key_at n) k) ≡ true) (same_is (key_at (slice_index ns p)) key (ap is_eq e)) (above_at (key_at n) ns p both.0 (omega (arith, lt))) in
       held_rest key (slot_at n) (slots_of slot_at ns) (apart (key_at n) key below) ∙ found_slot ns p both.1 (omega (arith, lt)) e
 
   pub missing_slot : (ns : List ℕ) → ((i : ℕ) → i < length ns → by_key slot_at key (slice_index ns i) ≢ Equal) → held key (slots_of slot_at ns) ≡ None
@@ -119,7 +118,7 @@ module _ (slot_at : ℕ → Slot) (key : List Value) where
   taken_drops (n ∷ ns) (suc p) rises lt e =
       let both = and_parts (all_above (key_at n) (keys_in (slots_of slot_at ns))) (keys_rise (keys_in (slots_of slot_at ns))) rises in
       let below : is_lt (key_order (key_at n) key) ≡ true =
-          subst (λ (k : List Value). is_lt (key_order (key_at n) k) ≡ true) (same_is (key_at (slice_index ns p)) key (ap is_eq e)) (above_at (key_at n) ns p both.0 (omega (arith, lt))) in
+      subst (λ (k : List Value). is_lt (key_order (key_at n) k) ≡ true) (same_is (key_at (slice_index ns p)) key (ap is_eq e)) (above_at (key_at n) ns p both.0 (omega (arith, lt))) in
       ap (λ (rest : List Slot). slot_at n ∷ rest) (taken_drops ns p both.1 (omega (arith, lt)) e)
       ∙ sym (ap (λ (t : Bool). cond t (map slot_at ns) (slot_at n ∷ drop_slot key (map slot_at ns))) (apart (key_at n) key below))
 
@@ -143,3 +142,56 @@ module _ (slot_at : ℕ → Slot) (key : List Value) where
   pub taken_at : (blocks : List (List ℕ)) (spot : Spot) → NumbersRise slot_at (flat blocks) → IsFound (by_key slot_at key) blocks (Ok spot)
       → slots_of slot_at (remove (flat blocks) (place blocks spot)) ≡ drop_slot key (slots_of slot_at (flat blocks))
   taken_at blocks spot rises found = taken_drops (flat blocks) (place blocks spot) rises (place_is_within blocks spot.block spot.at found.0) found.1
+
+-- ---- another row under a number
+
+never_below : (k : List Value) → is_lt (key_order k k) ≡ true → ⊥
+never_below k e = step (key_order k k) (same_self k) e
+  where
+    step : (o : Ordering) → is_eq o ≡ true → is_lt o ≡ true → ⊥
+    step Less e f = no e
+      where
+        no : false ≡ true → ⊥
+        no h = cc
+    step Equal e f = no f
+      where
+        no : false ≡ true → ⊥
+        no h = cc
+    step Greater e f = no e
+      where
+        no : false ≡ true → ⊥
+        no h = cc
+
+module _ (slot_at slot_now : ℕ → Slot) (key : List Value) (row : Option (List Value)) (at : ℕ) (beside : (m : ℕ) → m ≢ at → slot_now m ≡ slot_at m) where
+  -- numbers whose keys are above that of the number
+  above_same : (ns : List ℕ) → all_above (slot_at at).key (keys_in (slots_of slot_at ns)) ≡ true → map slot_now ns ≡ map slot_at ns
+  above_same [] above = refl
+  above_same (m ∷ ns) above =
+      let both = and_parts (is_lt (key_order (slot_at at).key (slot_at m).key)) (all_above (slot_at at).key (keys_in (slots_of slot_at ns))) above in
+      ap (λ (s : Slot). s ∷ map slot_now ns) (beside m (λ e. never_below (slot_at at).key (subst (λ (k : ℕ). is_lt (key_order (slot_at at).key (slot_at k).key) ≡ true) e both.0)))
+      ∙ ap (λ (rest : List Slot). slot_at m ∷ rest) (above_same ns both.1)
+
+  pub replaced_fills : (ns : List ℕ) (p : ℕ) → NumbersRise slot_at ns → p < length ns → by_key slot_at key (slice_index ns p) ≡ Equal → slice_index ns p ≡ at → slot_now at ≡ record { key = (slot_at at).key; row = row }
+      → map slot_now ns ≡ fill key row (slots_of slot_at ns)
+  replaced_fills [] p rises lt e is now = absurd (omega (arith, lt))
+  replaced_fills (n ∷ ns) zero rises lt e is now =
+      let both = and_parts (all_above (slot_at n).key (keys_in (slots_of slot_at ns))) (keys_rise (keys_in (slots_of slot_at ns))) rises in
+      ap (λ (m : ℕ). slot_now m ∷ map slot_now ns) is ∙ ap (λ (s : Slot). s ∷ map slot_now ns) now
+      ∙ ap (λ (rest : List Slot). record { key = (slot_at at).key; row = row } ∷ rest) (above_same ns (subst (λ (m : ℕ). all_above (slot_at m).key (keys_in (slots_of slot_at ns)) ≡ true) is both.0))
+      ∙ ap (λ (m : ℕ). record { key = (slot_at m).key; row = row } ∷ map slot_at ns) (sym is)
+      ∙ sym (ap (λ (t : Bool). cond t (record { key = (slot_at n).key; row = row } ∷ map slot_at ns) (slot_at n ∷ fill key row (map slot_at ns))) (slot_equal slot_at key n e))
+  replaced_fills (n ∷ ns) (suc p) rises lt e is now =
+      let both = and_parts (all_above (slot_at n).key (keys_in (slots_of slot_at ns))) (keys_rise (keys_in (slots_of slot_at ns))) rises in
+      let up : is_lt (key_order (slot_at n).key (slot_at (slice_index ns p)).key) ≡ true = above_at slot_at key (slot_at n).key ns p both.0 (omega (arith, lt)) in
+      let below : is_lt (key_order (slot_at n).key key) ≡ true = subst (λ (k : List Value). is_lt (key_order (slot_at n).key k) ≡ true) (same_is (slot_at (slice_index ns p)).key key (ap is_eq e)) up in
+      let other : n ≢ at = λ same. never_below (slot_at n).key (subst (λ (m : ℕ). is_lt (key_order (slot_at n).key (slot_at m).key) ≡ true) (is ∙ sym same) up) in
+      ap (λ (s : Slot). s ∷ map slot_now ns) (beside n other)
+      ∙ ap (λ (rest : List Slot). slot_at n ∷ rest) (replaced_fills ns p both.1 (omega (arith, lt)) e is now)
+      ∙ sym (ap (λ (t : Bool). cond t (record { key = (slot_at n).key; row = row } ∷ map slot_at ns) (slot_at n ∷ fill key row (map slot_at ns))) (apart (slot_at n).key key below))
+
+pub replaced_at : (slot_at slot_now : ℕ → Slot) (key : List Value) (row : Option (List Value)) (blocks : List (List ℕ)) (spot : Spot) → NumbersRise slot_at (flat blocks) → IsFound (by_key slot_at key) blocks (Ok spot)
+    → slot_now (slice_index (flat blocks) (place blocks spot)) ≡ record { key = (slot_at (slice_index (flat blocks) (place blocks spot))).key; row = row }
+    → ((m : ℕ) → m ≢ slice_index (flat blocks) (place blocks spot) → slot_now m ≡ slot_at m)
+    → slots_of slot_now (flat blocks) ≡ fill key row (slots_of slot_at (flat blocks))
+replaced_at slot_at slot_now key row blocks spot rises found now beside =
+    replaced_fills slot_at slot_now key row (slice_index (flat blocks) (place blocks spot)) beside (flat blocks) (place blocks spot) rises (place_is_within blocks spot.block spot.at found.0) found.1 refl now

@@ -1,11 +1,13 @@
 -- Entries settled leave the rows that are shown.
-use Rattle.std.proofs.Common.{◌≡◌, List, [], ◌∷◌, Bool, true, false, Option, Some, None, refl, sym, ap, subst, ◌∙◌}
+use Rattle.std.proofs.Common.{◌≡◌, List, [], ◌∷◌, Bool, true, false, cond, Option, Some, None, refl, sym, ap, subst, ◌∙◌, suc, ◌+◌, length, arith}
+use Rattle.std.specs.List.{AllByRecursion}
+use Rattle.std.proofs.lemmas.List.{nil_from_length}
 use Rattle.std.specs.Option.{option_or}
 use Rattle.val_types.specs.declared.value.Value.{Value}
 use Rattle.val_types.specs.Keys.{same_values}
 use Rattle.table_rules.proofs.Taking.{same_is, same_self}
-use Rattle.row_sheets.specs.Slots.{Slot, keys_in, rows_in, keys_rise, held, drop_slot}
-use Rattle.row_sheets.specs.Over.{over, settled, settled_by, AreJust}
+use Rattle.row_sheets.specs.Slots.{Slot, is_slot_of, keys_in, rows_in, keys_rise, held, drop_slot}
+use Rattle.row_sheets.specs.Over.{over, settled, settled_by, AreJust, AreOfOneEach}
 use Rattle.row_sheets.proofs.Held.{slots_told, held-over, rises-over, dropped_self, dropped_other, rises-dropped, rows-dropped}
 
 -- a row alone
@@ -77,3 +79,23 @@ all_stay [] es cs rise_es rise_cs just = ap (λ (xs : List Slot). rows_in (over 
 all_stay (t ∷ ts) es cs rise_es rise_cs just =
     all_stay ts (drop_slot t.key es) (settled_by t.key t.row cs) (rises-dropped t.key es rise_es) (settled_rises t.key t.row cs rise_cs) just.1
     ∙ entry_stays t.key t.row es cs rise_es rise_cs just.0
+
+-- ---- entries in an order of their own
+
+length-dropped : (key : List Value) (ss : List Slot) (p : Option (List Value)) → held key ss ≡ Some p → length (drop_slot key ss) + 1 ≡ length ss
+length-dropped key [] p has = cc
+length-dropped key (s ∷ ss) p has = step (is_slot_of key s) has (λ later. length-dropped key ss p later)
+  where
+    step : (here : Bool) → cond here (Some s.row) (held key ss) ≡ Some p → (held key ss ≡ Some p → length (drop_slot key ss) + 1 ≡ length ss)
+        → length (cond here ss (s ∷ drop_slot key ss)) + 1 ≡ suc (length ss)
+    step true e later = omega arith
+    step false e later = omega (arith, later e)
+
+still_held : (key : List Value) (ts es : List Slot) → AllByRecursion (λ later. same_values later.key key ≡ false) ts → AllByRecursion (λ t. held t.key es ≡ Some t.row) ts → AllByRecursion (λ t. held t.key (drop_slot key es) ≡ Some t.row) ts
+still_held key [] es apart has = tt
+still_held key (t ∷ ts) es apart has = (dropped_other key t.key es apart.0 ∙ has.0, still_held key ts es apart.1 has.1)
+
+pub just_by_count : (ts es : List Slot) → keys_rise (keys_in es) ≡ true → AreOfOneEach ts → AllByRecursion (λ t. held t.key es ≡ Some t.row) ts → length ts ≡ length es → AreJust ts es
+just_by_count [] es rises each has count = nil_from_length es (sym count)
+just_by_count (t ∷ ts) es rises each has count =
+    (has.0, just_by_count ts (drop_slot t.key es) (rises-dropped t.key es rises) each.1 (still_held t.key ts es each.0 has.1) (omega (arith, count, length-dropped t.key es t.row has.0)))

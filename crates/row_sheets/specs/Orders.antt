@@ -1,5 +1,5 @@
 -- Numbers that stand in the order of the keys of their slots.
-use Rattle.std.specs.Prelude.{◌≡◌, ◌<◌, ◌≤◌, ℕ, true, List, [], ◌∷◌, map, insert, remove, slice_index, Option, Some, None, Ok, Err}
+use Rattle.std.specs.Prelude.{◌≡◌, ◌≢◌, ℕ, true, List, [], ◌∷◌, map, insert, remove, slice_index, Option, Some, None, Ok, Err}
 use Rattle.std.specs.declared.cmp.Ordering.{Ordering}
 use Rattle.val_types.specs.declared.value.Value.{Value}
 use Rattle.val_types.specs.Order.{key_order}
@@ -7,7 +7,7 @@ use Rattle.block_list.specs.Layouts.{flat}
 use Rattle.block_list.specs.Places.{AreInOrder}
 use Rattle.block_list.specs.Spots.{place, IsFound}
 use Rattle.block_list.specs.declared.spot.Spot.{Spot}
-use Rattle.row_sheets.specs.Slots.{Slot, keys_in, keys_rise, held, drop_slot}
+use Rattle.row_sheets.specs.Slots.{Slot, keys_in, keys_rise, held, fill, drop_slot}
 use Rattle.row_sheets.specs.Over.{over}
 
 -- the slots of numbers
@@ -52,3 +52,11 @@ abbrev pub TakenIsDropped : Type 0
 TakenIsDropped =
     (slot_at : ℕ → Slot) (key : List Value) (blocks : List (List ℕ)) (spot : Spot) → NumbersRise slot_at (flat blocks) → IsFound (by_key slot_at key) blocks (Ok spot)
     → slots_of slot_at (remove (flat blocks) (place blocks spot)) ≡ drop_slot key (slots_of slot_at (flat blocks))
+
+-- another row under a number that is found fills the slot of the key
+abbrev pub ReplacedIsFilled : Type 0
+ReplacedIsFilled =
+    (slot_at slot_now : ℕ → Slot) (key : List Value) (row : Option (List Value)) (blocks : List (List ℕ)) (spot : Spot) → NumbersRise slot_at (flat blocks) → IsFound (by_key slot_at key) blocks (Ok spot)
+    → slot_now (slice_index (flat blocks) (place blocks spot)) ≡ record { key = (slot_at (slice_index (flat blocks) (place blocks spot))).key; row = row }
+    → ((number : ℕ) → number ≢ slice_index (flat blocks) (place blocks spot) → slot_now number ≡ slot_at number)
+    → slots_of slot_now (flat blocks) ≡ fill key row (slots_of slot_at (flat blocks))

@@ -1,9 +1,11 @@
 -- Slots over slots: those of a transaction's entries before those of the committed rows of their keys.
-use Rattle.std.specs.Prelude.{◌≡◌, List, [], ◌∷◌, Option, Some, None}
+use Rattle.std.specs.Prelude.{◌≡◌, false, List, [], ◌∷◌, Option, Some, None}
 use Rattle.std.specs.declared.cmp.Ordering.{Ordering}
 use Rattle.std.specs.declared.cmp.Ordering.TheVariants.{Less, Equal, Greater}
 use Rattle.val_types.specs.declared.value.Value.{Value}
+use Rattle.std.specs.List.{AllByRecursion}
 use Rattle.val_types.specs.Order.{key_order}
+use Rattle.val_types.specs.Keys.{same_values}
 use Rattle.row_sheets.specs.Slots.{Slot, held, drop_slot}
 
 -- one of three, by an order
@@ -36,3 +38,8 @@ settled (e ∷ es) cs = settled es (settled_by e.key e.row cs)
 abbrev pub AreJust : List Slot → List Slot → Type 0
 AreJust [] es = es ≡ []
 AreJust (t ∷ ts) es = (held t.key es ≡ Some t.row) × AreJust ts (drop_slot t.key es)
+
+-- no two slots have the same key
+abbrev pub AreOfOneEach : List Slot → Type 0
+AreOfOneEach [] = Unit {0}
+AreOfOneEach (t ∷ ts) = AllByRecursion (λ later. same_values later.key t.key ≡ false) ts × AreOfOneEach ts

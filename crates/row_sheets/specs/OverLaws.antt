@@ -1,10 +1,11 @@
 -- What entries over rows owe.
-use Rattle.std.specs.Prelude.{◌≡◌, List, true, false, Option, Some, None}
+use Rattle.std.specs.Prelude.{◌≡◌, List, true, false, Option, Some, None, length}
+use Rattle.std.specs.List.{AllByRecursion}
 use Rattle.std.specs.Option.{option_or}
 use Rattle.val_types.specs.declared.value.Value.{Value}
 use Rattle.table_rules.specs.Stores.{is_among}
 use Rattle.row_sheets.specs.Slots.{Slot, rows_in, keys_in, keys_rise, held, fill, with_slot, drop_slot}
-use Rattle.row_sheets.specs.Over.{over, settled, settled_by, AreJust}
+use Rattle.row_sheets.specs.Over.{over, settled, settled_by, AreJust, AreOfOneEach}
 
 -- an entry that is set again fills its slot
 abbrev pub EntriesSet : Type 0
@@ -51,3 +52,8 @@ abbrev pub SettledStay : Type 0
 SettledStay =
     (ts es cs : List Slot) → keys_rise (keys_in es) ≡ true → keys_rise (keys_in cs) ≡ true → AreJust ts es
     → rows_in (settled ts cs) ≡ rows_in (over es cs)
+
+-- slots of different keys, each held by some others, and as many as these, are just those
+abbrev pub JustByCount : Type 0
+JustByCount =
+    (ts es : List Slot) → keys_rise (keys_in es) ≡ true → AreOfOneEach ts → AllByRecursion (λ t. held t.key es ≡ Some t.row) ts → length ts ≡ length es → AreJust ts es

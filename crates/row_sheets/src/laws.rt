@@ -1,8 +1,8 @@
 //! Laws of what a table shows.
 ghost use Rattle.row_sheets.specs.ClaimLaws.{EntryClaimsNothing, FoundByValue, NoClaimIsNew, NothingClaimed, RowPut, RowTakenOut, ValuesAreKept};
 ghost use Rattle.row_sheets.specs.SheetLaws.{SheetFinds, SheetSettles, SheetStarts, SoundIsApart};
-ghost use Rattle.row_sheets.specs.Orders.{FoundHasSlot, MissingHasNone, PutIsOver, RisingIsInOrder, TakenIsDropped};
-ghost use Rattle.row_sheets.specs.OverLaws.{EntriesSet, FoundByKey, NewSlots, OverRises, RowsHidden, SettledEntryStays, SettledStay, SlotsAreTold};
+ghost use Rattle.row_sheets.specs.Orders.{FoundHasSlot, MissingHasNone, PutIsOver, ReplacedIsFilled, RisingIsInOrder, TakenIsDropped};
+ghost use Rattle.row_sheets.specs.OverLaws.{EntriesSet, FoundByKey, JustByCount, NewSlots, OverRises, RowsHidden, SettledEntryStays, SettledStay, SlotsAreTold};
 
 /// A law: an entry that is set again fills its slot, one of a new key is a new slot, and one of the key of a committed row
 /// hides that row.
@@ -24,6 +24,7 @@ pub fn slots_are_told()
 pub fn settling_shows_the_same()
     ensures one { SettledEntryStays }
     ensures all { SettledStay }
+    ensures just { JustByCount }
 {}
 
 /// A law: claims are kept through what is done with entries. Before the first nothing is claimed, an entry without a row
@@ -59,4 +60,5 @@ pub fn orders_are_slots()
     ensures missing { MissingHasNone }
     ensures put { PutIsOver }
     ensures taken { TakenIsDropped }
+    ensures replaced { ReplacedIsFilled }
 {}

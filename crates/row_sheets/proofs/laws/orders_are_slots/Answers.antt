@@ -1,4 +1,4 @@
-use Rattle.row_sheets.proofs.Orders.{in_order, found_at, missing_at, put_at, taken_at}
+use Rattle.row_sheets.proofs.Orders.{in_order, found_at, missing_at, put_at, taken_at, replaced_at}
 use Rattle.row_sheets.proofs.laws.orders_are_slots.Goals as goal
 
 pub returns-clause-in_order : goal.returns-clause-in_order
@@ -15,3 +15,6 @@ returns-clause-put c = put_at
 
 pub returns-clause-taken : goal.returns-clause-taken
 returns-clause-taken c = taken_at
+
+pub returns-clause-replaced : goal.returns-clause-replaced
+returns-clause-replaced c = replaced_at
