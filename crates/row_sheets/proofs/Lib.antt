@@ -5,3 +5,4 @@ pub mod Orders
 pub mod Over
 pub mod Settling
 pub mod Sheets
+pub mod Writes

@@ -57,7 +57,7 @@ sound_rows d ss sound = (and_parts (keys_rise (keys_in ss) && list_all (has_own_
 
 -- ---- rows that are apart
 
-any_at : {A : Type 0} (test : A → Bool) (xs : List A) (i : ℕ) (x : A) → slice_get xs i ≡ Some x → test x ≡ true → list_any test xs ≡ true
+pub any_at : {A : Type 0} (test : A → Bool) (xs : List A) (i : ℕ) (x : A) → slice_get xs i ≡ Some x → test x ≡ true → list_any test xs ≡ true
 any_at test [] i x has e = cc
 any_at test (y ∷ ys) zero x has e = let same : y ≡ x = cc in first (test y) (list_any test ys) (ap test same ∙ e)
   where
@@ -70,7 +70,7 @@ any_at test (y ∷ ys) (suc i) x has e = later (test y) (any_at test ys i x has 
     later true h = refl
     later false h = h
 
-either : (a b : Bool) → b ≡ true → (a || b) ≡ true
+pub either : (a b : Bool) → b ≡ true → (a || b) ≡ true
 either true b e = refl
 either false b e = e
 

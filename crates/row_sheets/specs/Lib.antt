@@ -7,3 +7,4 @@ pub mod SheetLaws
 pub mod Sheets
 pub mod Slots
 pub mod Worked
+pub mod Writes

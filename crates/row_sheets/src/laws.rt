@@ -1,5 +1,6 @@
 //! Laws of what a table shows.
 ghost use Rattle.row_sheets.specs.ClaimLaws.{EntryClaimsNothing, FoundByValue, NoClaimIsNew, NothingClaimed, RowPut, RowTakenOut, ValuesAreKept};
+ghost use Rattle.row_sheets.specs.Writes.{AllPut, AllTakenOut, AllWithEntry, FreeWhereNoneCollides};
 ghost use Rattle.row_sheets.specs.SheetLaws.{SheetFinds, SheetSettles, SheetStarts, SoundIsApart};
 ghost use Rattle.row_sheets.specs.Orders.{FoundHasSlot, MissingHasNone, PutIsOver, ReplacedIsFilled, RisingIsInOrder, TakenIsDropped};
 ghost use Rattle.row_sheets.specs.OverLaws.{EntriesSet, FoundByKey, JustByCount, NewSlots, OverRises, RowsHidden, SettledEntryStays, SettledStay, SlotsAreTold};
@@ -61,4 +62,13 @@ pub fn orders_are_slots()
     ensures put { PutIsOver }
     ensures taken { TakenIsDropped }
     ensures replaced { ReplacedIsFilled }
+{}
+
+/// A law: the claims of all unique keys of a table are kept where an entry is made, a row taken out of one, and a row put into one;
+/// the values of a row that collides with none that is shown are free.
+pub fn all_claims_are_kept()
+    ensures entry { AllWithEntry }
+    ensures out { AllTakenOut }
+    ensures put { AllPut }
+    ensures free { FreeWhereNoneCollides }
 {}
