@@ -1,0 +1,9 @@
+pub mod Changed
+pub mod Digits
+pub mod Found
+pub mod Halving
+pub mod Joined
+pub mod Meeting
+pub mod Splitting
+pub mod Standing
+pub mod Weights

@@ -1,0 +1,4 @@
+pub mod Joining
+pub mod Layouts
+pub mod Places
+pub mod Spots

@@ -1,0 +1,10 @@
+pub mod ClaimLaws
+pub mod Claims
+pub mod Orders
+pub mod Over
+pub mod OverLaws
+pub mod SheetLaws
+pub mod Sheets
+pub mod Slots
+pub mod Worked
+pub mod Writes
