@@ -1,4 +1,3 @@
-pub mod Causes
 pub mod Draws
 pub mod Memory
 pub mod Streams

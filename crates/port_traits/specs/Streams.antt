@@ -1,6 +1,6 @@
 -- What a read takes from a stream of bytes, and what a write adds to one.
 use Rattle.std.specs.Prelude.{◌≡◌, ℕ, ◌<◌, ◌≤◌, zero, suc, Bool, true, false, ◌||◌, nat_lt, if◌then◌else◌, List, ◌++◌, length, take, drop, Option, Result, Ok, Err, MatchResult, IfSome, option_map}
-use Rattle.port_traits.specs.Causes.{one_more}
+use Rattle.fault_counts.specs.Causes.{one_more}
 
 -- `count` bytes went from the front of what was left into the front of the buffer; what is said of
 -- the bytes holds where the stream tells what it has left

@@ -1,7 +1,7 @@
 //! Which calls of an object in memory fail, how many calls and faults it has had, and how many calls
 //! since its end.
 ghost use Rattle.std.specs.Prelude.{◌≡◌, ◌≤◌, max, if◌then◌else◌, is_err};
-ghost use Rattle.port_traits.specs.Causes.{HasCause, one_more};
+ghost use Rattle.fault_counts.specs.Causes.{HasCause, one_more};
 ghost use Rattle.port_traits.specs.Memory.{is_among};
 ghost use Rattle.port_traits.specs.Streams.{ended_after};
 

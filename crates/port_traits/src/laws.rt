@@ -1,7 +1,7 @@
 //! What follows of counts and of draws, as contracts of functions that do nothing.
 ghost use Rattle.std.specs.Prelude.{◌≡◌, ℕ, ◌+◌, ◌-◌, ◌^◌, ◌<◌, ◌≤◌, ◌++◌, List, [], length, take, min, slice_get, Option, option_map, IfSome};
 ghost use Rattle.port_traits.specs.declared.identity.Draw.{Draw};
-ghost use Rattle.port_traits.specs.Causes.{Rose};
+ghost use Rattle.fault_counts.specs.Causes.{Rose};
 ghost use Rattle.port_traits.specs.Streams.{Took};
 ghost use Rattle.port_traits.specs.Draws.{draws_after, draws_left, handed_out};
 

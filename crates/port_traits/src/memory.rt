@@ -1,6 +1,6 @@
 //! A source, a sink and an environment in memory, which tell what they have and hold.
 ghost use Rattle.std.specs.Prelude.{◌≡◌, ◌-◌, ◌^◌, ◌<◌, [], length, min, Some, IfOk, if◌then◌else◌, is_err, IsTrue, IsErr};
-ghost use Rattle.port_traits.specs.Causes.{HasCause, Rose, one_more};
+ghost use Rattle.fault_counts.specs.Causes.{HasCause, Rose, one_more};
 ghost use Rattle.port_traits.specs.Streams.{Takes, Puts, ended_after, is_end};
 ghost use Rattle.port_traits.specs.Memory.{is_among};
 

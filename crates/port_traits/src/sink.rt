@@ -1,6 +1,6 @@
 //! A stream of bytes that is written.
 ghost use Rattle.std.specs.Prelude.{◌≡◌, ℕ, ◌<◌, List, Option, length};
-ghost use Rattle.port_traits.specs.Causes.{HasCause, Rose};
+ghost use Rattle.fault_counts.specs.Causes.{HasCause, Rose};
 ghost use Rattle.port_traits.specs.Streams.{Puts, ended_after, is_end};
 
 use crate::failed::Failed;

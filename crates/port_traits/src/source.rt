@@ -1,6 +1,6 @@
 //! A stream of bytes that is read.
 ghost use Rattle.std.specs.Prelude.{◌≡◌, ℕ, List, Option};
-ghost use Rattle.port_traits.specs.Causes.{HasCause};
+ghost use Rattle.fault_counts.specs.Causes.{HasCause};
 ghost use Rattle.port_traits.specs.Streams.{Takes, ended_after, is_end};
 
 use crate::failed::Failed;

@@ -1,7 +1,7 @@
 //! Readers and writers of the runtime as streams, standard input and output above all.
 ghost use Rattle.std.specs.Prelude.{◌≡◌, ◌<◌, ◌≤◌, true, None, length};
 ghost use Rattle.std.specs.Io.KnownBytes.{ReadConsumes, WriteAppends};
-ghost use Rattle.port_traits.specs.Causes.{HasCause, Rose, one_more};
+ghost use Rattle.fault_counts.specs.Causes.{HasCause, Rose, one_more};
 ghost use Rattle.port_traits.specs.Streams.{Puts, Takes, ended_after, is_end};
 
 use crate::calls::ended_after;

@@ -1,6 +1,6 @@
 //! A log that is read from the input and shown on the output.
 ghost use Rattle.std.specs.Prelude.{◌≡◌, ◌≤◌, [], IfErr, OnErr, OnOk};
-ghost use Rattle.port_traits.specs.Causes.{Rose};
+ghost use Rattle.fault_counts.specs.Causes.{Rose};
 ghost use Rattle.log_model.specs.Events.{events_from};
 ghost use Rattle.run_streams.specs.Stops.{StopsWriting, failed_writes, status_of};
 ghost use Rattle.run_streams.specs.Wrote.{Wrote, WroteFront};

@@ -4,7 +4,7 @@ use Rattle.std.specs.Borrow.{Bor, MutBor}
 use Rattle.val_types.specs.declared.value.Value.{Value}
 use Rattle.val_types.specs.declared.refusal.SqlRefusal.{SqlRefusal}
 use Rattle.val_types.specs.declared.refusal.SqlRefusal.TheVariants as sql
-use Rattle.port_traits.specs.Causes.{Rose}
+use Rattle.fault_counts.specs.Causes.{Rose}
 use Rattle.catalog_objects.specs.Keys.{objects_of}
 use Rattle.sql_evaluation.specs.Seen.{running_of}
 use Rattle.prog_run.specs.declared.meter.Meter.{Meter}

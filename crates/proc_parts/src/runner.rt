@@ -1,6 +1,6 @@
 //! Who carries out what a procedure asks.
 ghost use Rattle.std.specs.Prelude.{◌≡◌, ℕ, ◌≤◌, true, OnOk};
-ghost use Rattle.port_traits.specs.Causes.{Rose};
+ghost use Rattle.fault_counts.specs.Causes.{Rose};
 ghost use Rattle.sql_tree.specs.StatementView.{view};
 ghost use Rattle.proc_model.specs.Procedures.{is_plain};
 ghost use Rattle.proc_parts.specs.declared.runner.RunRefusal.TheVariants.{NoMemory as Wanted};

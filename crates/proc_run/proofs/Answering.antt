@@ -3,7 +3,7 @@ use Rattle.std.proofs.Common.{◌≡◌, ℕ, List, [], Result, Ok, Err, refl, r
 use Rattle.std.specs.Prelude.{IfOk}
 use Rattle.val_types.specs.declared.value.Value.{Value}
 use Rattle.answer_text.specs.declared.answer.Answer.{Answer}
-use Rattle.port_traits.specs.Causes.{Rose}
+use Rattle.fault_counts.specs.Causes.{Rose}
 use Rattle.catalog_rules.specs.Objects.{Object}
 use Rattle.sql_stage.specs.declared.running.Running.{Nothing, the_lemmas}
 use Rattle.sql_stage.specs.UnderWay.{under_way}

@@ -1,6 +1,6 @@
 //! A CALL of a session.
 ghost use Rattle.std.specs.Prelude.{◌≡◌, ◌≤◌, Err, IfOk};
-ghost use Rattle.port_traits.specs.Causes.{Rose};
+ghost use Rattle.fault_counts.specs.Causes.{Rose};
 ghost use Rattle.catalog_objects.specs.Keys.{objects_of};
 ghost use Rattle.proc_model.specs.Procedures.{Came, IsCall};
 ghost use Rattle.proc_parts.specs.Calls.{held_of, left_of};

@@ -1,6 +1,6 @@
 //! A log on an input, replayed.
 ghost use Rattle.std.specs.Prelude.{◌≡◌, ◌≤◌, [], None, IfOk, OnOk};
-ghost use Rattle.port_traits.specs.Causes.{Rose};
+ghost use Rattle.fault_counts.specs.Causes.{Rose};
 ghost use Rattle.run_streams.specs.Reports.{AllTold, Drawn, IsEmpty, Tells};
 ghost use Rattle.run_streams.specs.Stops.{failed_writes};
 ghost use Rattle.replay_log.specs.Ends.{ReplayEnds};

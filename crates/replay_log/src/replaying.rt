@@ -1,6 +1,6 @@
 //! The groups of a log, carried out one after the other.
 ghost use Rattle.std.specs.Prelude.{◌≡◌, ◌≤◌, None, IfErr, IfOk};
-ghost use Rattle.port_traits.specs.Causes.{Rose};
+ghost use Rattle.fault_counts.specs.Causes.{Rose};
 ghost use Rattle.log_model.specs.Groups.{Group as AnyGroup};
 ghost use Rattle.log_reader.specs.Reading.{next_pos};
 ghost use Rattle.replica_model.specs.Replaying.{Replay, by_form, first_replay};

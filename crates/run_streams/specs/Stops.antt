@@ -1,6 +1,6 @@
 -- Why reading, splitting or writing stopped, as a status. A status that cannot come is ⊥.
 use Rattle.std.specs.Prelude.{◌≡◌, ℕ, Bool, true, false, List, map, Result, Ok, Err}
-use Rattle.port_traits.specs.Causes.{Rose}
+use Rattle.fault_counts.specs.Causes.{Rose}
 use Rattle.answer_text.specs.declared.status.Status.{Status}
 use Rattle.answer_text.specs.declared.status.Status.TheVariants.{Done, BadWords, BadScript, ReadFault, WriteFault, NoMemory}
 use Rattle.script_read.specs.declared.command.Command as code_command_type

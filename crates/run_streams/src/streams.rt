@@ -1,6 +1,6 @@
 //! The input read to its end or past the limit, and bytes written whole.
 ghost use Rattle.std.specs.Prelude.{◌≡◌, ℕ, ◌+◌, ◌<◌, ◌≤◌, ◌++◌, ◌⊎◌, if◌then◌else◌, is_err, List, [], length, drop, option_map, IfOk, IfErr, IfSome, OnOk, OnErr, vec_len};
-ghost use Rattle.port_traits.specs.Causes.{HasCause};
+ghost use Rattle.fault_counts.specs.Causes.{HasCause};
 ghost use Rattle.script_read.specs.Script.{split_of};
 ghost use Rattle.run_streams.specs.Wrote.{Wrote, WroteFront};
 ghost use Rattle.run_streams.specs.Stops.{StopsReading, StopsWriting, failed_writes, status_of};

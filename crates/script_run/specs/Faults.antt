@@ -1,6 +1,6 @@
 -- The cause of a fault at which a run stopped.
 use Rattle.std.specs.Prelude.{ℕ}
-use Rattle.port_traits.specs.Causes.{Rose}
+use Rattle.fault_counts.specs.Causes.{Rose}
 use Rattle.answer_text.specs.declared.status.Status.{Status}
 use Rattle.answer_text.specs.declared.status.Status.TheVariants.{BadScript, ReadFault, WriteFault, NoMemory}
 

@@ -1,7 +1,7 @@
 //! The source's log behind the commands of a script, in place of what they are told.
 ghost use Rattle.std.specs.Prelude.{◌≡◌, ◌≤◌, None, length, map, IfOk, IfErr, IsTrue};
 ghost use Rattle.std.specs.List.{list_all};
-ghost use Rattle.port_traits.specs.Causes.{Rose};
+ghost use Rattle.fault_counts.specs.Causes.{Rose};
 ghost use Rattle.session_model.specs.Machine.{log_of};
 ghost use Rattle.run_model.specs.Run.{Both, Names};
 ghost use Rattle.run_streams.specs.Reports.{IsEmpty, StaysHandedOut, Tells};

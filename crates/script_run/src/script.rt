@@ -1,6 +1,6 @@
 //! The word `run`: the script on the input, over any input, output and environments.
 ghost use Rattle.std.specs.Prelude.{◌≡◌, ◌≤◌, true, IfSome, IfErr};
-ghost use Rattle.port_traits.specs.Causes.{Rose};
+ghost use Rattle.fault_counts.specs.Causes.{Rose};
 ghost use Rattle.run_streams.specs.Read.{RestBehindScript, TakesUpToLimit};
 ghost use Rattle.run_streams.specs.Reports.{AllTold, IsEmpty, Tells};
 ghost use Rattle.run_streams.specs.Stops.{failed_writes, is_early, status_of};

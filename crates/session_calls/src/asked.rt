@@ -1,6 +1,6 @@
 //! What a procedure asks, as steps of its session.
 ghost use Rattle.std.specs.Prelude.{◌≡◌, true};
-ghost use Rattle.port_traits.specs.Causes.{Rose};
+ghost use Rattle.fault_counts.specs.Causes.{Rose};
 ghost use Rattle.sql_tree.specs.StatementView.{view};
 ghost use Rattle.proc_model.specs.Procedures.{is_plain};
 ghost use Rattle.prog_run.specs.Runs.{Spends};
