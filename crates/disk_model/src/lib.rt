@@ -1,0 +1,14 @@
+//! Disks: what is asked of one, what is read of it, and what a crash may leave of it at each moment.
+#![tactic(auto)]
+
+mod call;
+mod disk;
+mod durable;
+mod refusals;
+mod worked;
+
+pub use call::Call;
+pub use disk::Disk;
+pub use durable::put;
+pub use refusals::{DiskRefusal, NodeFault, OpenRefusal};
+pub use worked::{images_by_hand, lengths_by_hand};
