@@ -1,13 +1,13 @@
 -- What a read gives may be left of a file; after a sync nothing else.
-use Rattle.std.proofs.Common.{◌≡◌, ℕ, ◌+◌, ◌-◌, ◌<◌, ◌≤◌, Bool, true, false, ◌==◌, ◌&&◌, ◌||◌, cond, min, max, List, [], ◌∷◌, ◌++◌, length, take, drop, get_or, nat_le, nat_lt, refl, sym, ◌∙◌, ap, subst, arith, ◌⊎◌, inl, inr}
+use Rattle.std.proofs.Common.{◌≡◌, ℕ, ◌+◌, ◌<◌, ◌≤◌, Bool, true, false, ◌&&◌, cond, List, [], ◌∷◌, ◌++◌, length, take, drop, get_or, nat_le, nat_lt, refl, ◌∙◌, arith, ◌⊎◌, inl, inr}
 use Rattle.std.specs.List.{list_any}
 use Rattle.std.proofs.lemmas.List.{ext_get_or, length-take, get_or-take}
-use Rattle.std.proofs.lemmas.Bool.{leb-true, leb-false, ltb-false, and_cases, or_parts, cases_lt}
+use Rattle.std.proofs.lemmas.Bool.{leb-true, leb-false, ltb-false, and_cases, or_parts}
 use Rattle.hex.specs.Hex.{IsBytes}
 use Rattle.disk_model.specs.declared.call.Call.{Call}
 use Rattle.disk_model.specs.declared.call.Call.TheVariants.{Look, Write, Cut, Sync}
-use Rattle.disk_model.specs.Story.{Image, concerns, changed, overwritten, seen_after}
-use Rattle.disk_model.specs.Left.{Range, Unsynced, MayHold, LeftAfter, AreBytes, is_within, just_synced, then_done, unsynced_after, written_by}
+use Rattle.disk_model.specs.Story.{Image, concerns, changed, seen_after}
+use Rattle.disk_model.specs.Left.{Unsynced, MayHold, AreBytes, is_within, just_synced, then_done, unsynced_after, written_by}
 use Rattle.disk_model.proofs.Bytes.{bytes_take, over_length, over_before, over_behind, over_bytes}
 
 -- ---- just synced

@@ -1,5 +1,5 @@
 -- What one call more leaves and gives, in the form of a disk's clauses.
-use Rattle.std.proofs.Common.{◌≡◌, ◌≢◌, ℕ, ◌+◌, ◌<◌, ◌≤◌, ◌^◌, Bool, true, false, ◌==◌, cond, List, [], ◌∷◌, length, nat_lt, Option, Some, None, Result, Ok, Err, refl, sym, ◌∙◌, ap, subst, arith, ◌⊎◌, inl, inr}
+use Rattle.std.proofs.Common.{◌≡◌, ◌≢◌, ℕ, ◌+◌, ◌<◌, ◌≤◌, ◌^◌, Bool, true, false, ◌==◌, cond, List, ◌∷◌, length, nat_lt, Option, Some, None, Result, Ok, Err, refl, sym, ◌∙◌, ap, subst, arith, ◌⊎◌, inl, inr}
 use Rattle.std.specs.Prelude.{IfSome}
 use Rattle.std.proofs.lemmas.Bool.{eq-eqb, ne_eqb, cond-true, cond-false, lt-ltb}
 use Rattle.hex.specs.Hex.{IsBytes}
@@ -133,7 +133,7 @@ module _ (first : Image) (past : List Call) (f at : ℕ) (p : List ℕ) (only : 
       torn_write (unsynced_after first past f) (seen_after first past f) (λ d held. only d (record { story = left.story.1; held = held }))
       (synced_bytes first past f left.story.1) (omega (arith, now.no_shorter, now.no_longer)) f at p done (seen_after first past f) c
       (subst (λ b. MayHold (cond b (then_done (Write f at p done) (seen_after first past f) (unsynced_after first past f)) (unsynced_after first past f)) c) (eq-eqb f f refl)
-        (held_cons first (Write f at p done) past f c left.held)) within
+      (held_cons first (Write f at p done) past f c left.held)) within
 
   torn_looked : (c : List ℕ) → LeftAfter first (Look ∷ past) f c → Torn at (length p) (seen_after first past f) c
   torn_looked c left = subst (λ d. Torn at (length p) d c) (only c (left_other first Look past f c refl left)) (torn_none at (length p) c left.held.bytes)
@@ -167,8 +167,8 @@ only_synced None t' g tells c left = absurd (subst (λ u. Left u g c) tells left
 only_synced (Some s) t' g tells c left =
     let now : LeftAfter s.first (Sync g true ∷ s.calls) g c = subst (λ u. Left u g c) tells left in
     synced_only (seen_after s.first s.calls g) c
-      (subst (λ b. MayHold (cond b (then_done (Sync g true) (seen_after s.first s.calls g) (unsynced_after s.first s.calls g)) (unsynced_after s.first s.calls g)) c) (eq-eqb g g refl)
-        (held_cons s.first (Sync g true) s.calls g c now.held))
+    (subst (λ b. MayHold (cond b (then_done (Sync g true) (seen_after s.first s.calls g) (unsynced_after s.first s.calls g)) (unsynced_after s.first s.calls g)) c) (eq-eqb g g refl)
+    (held_cons s.first (Sync g true) s.calls g c now.held))
     ∙ sym (ap (λ u. seen u g) tells ∙ seen_cons s.first (Sync g true) s.calls g ∙ sync_same (g == g) g true (seen_after s.first s.calls g))
 
 -- ---- what holds where the disk tells

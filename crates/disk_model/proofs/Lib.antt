@@ -3,3 +3,7 @@ pub mod Holding
 pub mod Torn
 pub mod Laws
 pub mod Moments
+pub mod Putting
+pub mod Quiet
+pub mod ByHand
+pub mod Examples

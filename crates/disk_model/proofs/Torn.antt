@@ -1,12 +1,12 @@
 -- One write over a durable file: what a crash leaves of it is torn.
-use Rattle.std.proofs.Common.{◌≡◌, ℕ, ◌+◌, ◌-◌, ◌<◌, ◌≤◌, Bool, true, false, ◌&&◌, ◌||◌, cond, min, max, List, [], ◌∷◌, ◌++◌, length, take, drop, map, get_or, nat_le, nat_lt, refl, sym, ◌∙◌, ap, subst, arith, ◌⊎◌, inl, inr}
+use Rattle.std.proofs.Common.{◌≡◌, ℕ, ◌+◌, ◌<◌, ◌≤◌, Bool, true, false, ◌&&◌, min, List, length, take, drop, map, get_or, nat_le, nat_lt, refl, sym, ◌∙◌, ap, arith, ◌⊎◌, inl, inr}
 use Rattle.std.specs.List.{list_any, range_with_len}
 use Rattle.std.proofs.lemmas.List.{ext_get_or, length-take, length-drop, get_or-take, get_or-drop, drop_all}
 use Rattle.std.proofs.lemmas.List.FromFn.{length-map-range_with_len, get_or-map-range_with_len}
-use Rattle.std.proofs.lemmas.Bool.{cases_Bool, cases_lt, and_left, and_right, lt-leb, le-ltb, or_from}
+use Rattle.std.proofs.lemmas.Bool.{cases_lt, and_left, and_right, lt-leb, le-ltb, or_from}
 use Rattle.hex.specs.Hex.{IsBytes}
 use Rattle.disk_model.specs.declared.call.Call.TheVariants.{Write}
-use Rattle.disk_model.specs.Left.{Range, Unsynced, MayHold, is_within, then_done}
+use Rattle.disk_model.specs.Left.{Unsynced, MayHold, is_within, then_done}
 use Rattle.disk_model.specs.Torn.{Torn}
 use Rattle.disk_model.proofs.Bytes.{bytes_within}
 

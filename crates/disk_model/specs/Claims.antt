@@ -1,6 +1,6 @@
 -- What calls on a disk did, at each moment.
 use Rattle.std.specs.Prelude.{◌≡◌, ◌≢◌, ℕ, List, length, Option}
-use Rattle.disk_model.specs.Story.{Image, Story, count, seen}
+use Rattle.disk_model.specs.Story.{Story, count, seen}
 use Rattle.disk_model.specs.Left.{Left}
 use Rattle.disk_model.specs.Moments.{Always, GoesOn, OthersOf}
 use Rattle.disk_model.specs.Torn.{Torn}

@@ -1,7 +1,7 @@
 -- Stories by hand, with file 8.
-use Rattle.std.specs.Prelude.{ℕ, ◌==◌, if◌then◌else◌, true, false, List, [], ◌∷◌}
+use Rattle.std.specs.Prelude.{◌==◌, if◌then◌else◌, true, List, [], ◌∷◌}
 use Rattle.disk_model.specs.declared.call.Call.{Call}
-use Rattle.disk_model.specs.declared.call.Call.TheVariants.{Look, Write, Cut, Sync}
+use Rattle.disk_model.specs.declared.call.Call.TheVariants.{Write, Cut, Sync}
 use Rattle.disk_model.specs.Story.{Image}
 
 -- file 8 has six bytes

@@ -15,7 +15,14 @@ pub enum Call {
         done: bool,
     },
     /// A file cut to a length.
-    Cut { file: u32, length: u64, done: bool },
+    Cut {
+        file: u32,
+        length: u64,
+        done: bool,
+    },
     /// A file made durable.
-    Sync { file: u32, done: bool },
+    Sync {
+        file: u32,
+        done: bool,
+    },
 }
