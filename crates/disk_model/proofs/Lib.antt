@@ -7,3 +7,4 @@ pub mod Putting
 pub mod Quiet
 pub mod ByHand
 pub mod Examples
+pub mod Recorded

@@ -6,3 +6,4 @@ pub mod Torn
 pub mod Claims
 pub mod Refusals
 pub mod Worked
+pub mod Files

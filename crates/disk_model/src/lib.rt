@@ -4,11 +4,14 @@
 mod call;
 mod disk;
 mod durable;
+mod files;
+mod memory;
 mod refusals;
 mod worked;
 
 pub use call::Call;
 pub use disk::Disk;
 pub use durable::put;
+pub use memory::MemDisk;
 pub use refusals::{DiskRefusal, NodeFault, OpenRefusal};
 pub use worked::{images_by_hand, lengths_by_hand};
