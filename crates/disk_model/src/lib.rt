@@ -5,13 +5,17 @@ mod call;
 mod disk;
 mod durable;
 mod files;
+mod fuse;
 mod memory;
 mod refusals;
+mod twist;
 mod worked;
 
 pub use call::Call;
 pub use disk::Disk;
 pub use durable::put;
+pub use fuse::FuseDisk;
 pub use memory::MemDisk;
 pub use refusals::{DiskRefusal, NodeFault, OpenRefusal};
+pub use twist::TwistDisk;
 pub use worked::{images_by_hand, lengths_by_hand};
