@@ -1,0 +1,89 @@
+//! A disk over a folder of the system.
+ghost use Rattle.std.specs.Prelude.{◌≡◌, ◌≤◌, ◌+◌, ◌^◌, ◌<◌, length, IfOk, OnOk, None};
+ghost use Rattle.disk_model.specs.Answers.{HasDiskCause};
+
+use crate::disk::Disk;
+use crate::host_files::HostFiles;
+use crate::refusals::DiskRefusal;
+use std::alloc::Global;
+use std::fs::File;
+use std::rt::Files;
+use val_types::NoMemory;
+
+/// A disk over a folder: file n is `<folder>/n`.
+///
+/// A file or a folder that does not exist has no bytes and needs no sync or cut; a write makes both. Each error
+/// of the system is a fault. It does not tell its story: what a real file holds is outside all claims.
+#[derive(Drop)]
+pub struct HostDisk<R> {
+    files: HostFiles<R>,
+    calls: u64,
+    faults: u64,
+}
+
+impl<R: Drop> HostDisk<R> {
+    /// The disk over this folder, which need not exist. Nothing is opened yet.
+    pub fn new(alloc: Global, rt: R, folder: String) -> Result<HostDisk<R>, NoMemory>
+        ensures { IfOk result (λ d. d.faults ≡ 0) }
+    {
+        Ok(HostDisk {
+            files: HostFiles::new(alloc, rt, folder)?,
+            calls: 0,
+            faults: 0,
+        })
+    }
+
+    /// Counts a call with this answer, and its fault. One that found no memory was none.
+    fn count<T>(&mut self, answer: &Result<T, DiskRefusal>)
+        ensures { HasDiskCause self.old.faults self.new.faults answer.now }
+    {
+        match answer {
+            Ok(_) => self.calls = self.calls.saturating_add(1),
+            Err(DiskRefusal::Failed) => {
+                self.calls = self.calls.saturating_add(1);
+                self.faults = self.faults.saturating_add(1);
+            }
+            Err(DiskRefusal::NoMemory) => {}
+        }
+    }
+}
+
+impl<R: Files<File = File> + Drop> Disk for HostDisk<R> {
+    ghost told = { λ _. None };
+
+    ghost faults = { λ d. d.faults };
+
+    fn length(&mut self, file: u32) -> Result<u64, DiskRefusal> {
+        let answer = self.files.length(file);
+        self.count(&answer);
+        answer
+    }
+
+    fn read(&mut self, file: u32, at: u64, buf: &mut [u8]) -> Result<usize, DiskRefusal> {
+        let answer = self.files.read(file, at, buf);
+        self.count(&answer);
+        answer
+    }
+
+    fn write(&mut self, file: u32, at: u64, piece: &[u8]) -> Result<(), DiskRefusal> {
+        let answer = self.files.write(file, at, piece);
+        self.count(&answer);
+        answer
+    }
+
+    fn cut(&mut self, file: u32, size: u64) -> Result<(), DiskRefusal> {
+        let answer = self.files.cut(file, size);
+        self.count(&answer);
+        answer
+    }
+
+    fn sync(&mut self, file: u32) -> Result<(), DiskRefusal> {
+        let answer = self.files.sync(file);
+        self.count(&answer);
+        answer
+    }
+
+    fn calls(&self) -> u64 {
+        self.calls
+    }
+}
