@@ -1,24 +1,18 @@
 -- A write over a file whose only image is known, and a sync of it: what each moment leaves.
-use Rattle.std.proofs.Common.{◌≡◌, ◌≢◌, ℕ, ◌+◌, ◌≤◌, Bool, true, false, List, length, Option, Some, None, Result, Ok, ◌<◌, ◌^◌, refl, sym, ◌∙◌, subst, arith}
-use Rattle.std.specs.Prelude.{IfSome}
+use Rattle.std.proofs.Common.{◌≡◌, ◌≢◌, ℕ, ◌+◌, ◌≤◌, Bool, true, false, List, length, Option, Some, None, Result, Ok, Err, ◌<◌, ◌^◌, ◌==◌, take, refl, sym, ◌∙◌, ap, subst, arith}
+use Rattle.std.specs.Prelude.{IfSome, OnOk}
+use Rattle.std.proofs.lemmas.Bool.{ne_eqb, eq-eqb, cond-true}
 use Rattle.disk_model.specs.declared.call.Call.{Call}
-use Rattle.disk_model.specs.declared.call.Call.TheVariants.{Sync}
+use Rattle.disk_model.specs.declared.call.Call.TheVariants.{Cut, Sync}
 use Rattle.disk_model.specs.declared.refusals.DiskRefusal.{DiskRefusal}
-use Rattle.disk_model.specs.Story.{Image, Story, count, seen, concerns, overwritten, then_call}
+use Rattle.disk_model.specs.Story.{Image, Story, count, seen, seen_after, concerns, overwritten, then_call}
 use Rattle.disk_model.specs.Torn.{Torn}
 use Rattle.disk_model.specs.Moments.{Each, Since, Always, GoesOn, Only, OthersOf}
-use Rattle.disk_model.specs.Claims.{Steps, Puts}
+use Rattle.disk_model.specs.Claims.{Steps, Puts, WorksOn}
 use Rattle.disk_model.specs.Answers.{Tells, write_call}
 use Rattle.disk_model.proofs.Torn.{torn_none}
-use Rattle.disk_model.proofs.Laws.{by_left, left_bytes, left_write, left_apart, left_sync, seen_apart, seen_sync, seen_written, write_apart}
+use Rattle.disk_model.proofs.Laws.{by_left, left_bytes, left_write, left_apart, left_sync, seen_apart, seen_cons, seen_sync, seen_written, write_apart}
 use Rattle.disk_model.proofs.Moments.{since_none, since_map, since_start, always_call, always_less, on_refl, on_call, on_trans, on_count}
-
--- another file keeps its only image
-pub only_other_write : {A : Type 0} (t t' : Option Story) (r : Result A DiskRefusal) (f at : ℕ) (p : List ℕ) → Tells r (write_call f at p) t t' → (g : ℕ) (file : List ℕ) → g ≢ f → Only t g file → Only t' g file
-only_other_write t t' r f at p tells g file ne only c left = only c (left_apart t t' r (write_call f at p) g (write_apart f at p g ne) tells c left)
-
-pub only_sync : {A : Type 0} (t t' : Option Story) (r : Result A DiskRefusal) (f : ℕ) → Tells r (λ done. Sync f done) t t' → (g : ℕ) (file : List ℕ) → Only t g file → Only t' g file
-only_sync t t' r f tells g file only c left = only c (left_sync t t' r f tells g c left)
 
 -- ---- one call on a file, of which nothing is asked
 
@@ -103,3 +97,22 @@ steps_none t f Q only told = record {
 pub put_reads : (t t' t'' : Option Story) (f at : ℕ) (p : List ℕ) → at + length p < 2 ^ 64 → t' ≡ then_call (write_call f at p true) t → t'' ≡ then_call (Sync f true) t' → IfSome t (λ _. seen t'' f ≡ overwritten at p (seen t f))
 put_reads None t' t'' f at p room wrote synced = tt
 put_reads (Some s) t' t'' f at p room wrote synced = let done : Result ℕ DiskRefusal = Ok 0 in seen_sync t' t'' done f synced f ∙ seen_written (Some s) t' f at p room wrote
+
+-- ---- one call on a file of which nothing is claimed
+
+pub works_write : {A : Type 0} (t t' : Option Story) (r : Result A DiskRefusal) (f at : ℕ) (p : List ℕ) → Tells r (write_call f at p) t t' → WorksOn t t' f
+works_write t t' r f at p tells = steps_call t t' r f (write_call f at p) (write_apart f at p) tells
+
+pub works_cut : {A : Type 0} (t t' : Option Story) (r : Result A DiskRefusal) (f n : ℕ) → Tells r (λ done. Cut f n done) t t' → WorksOn t t' f
+works_cut t t' r f n tells = steps_call t t' r f (λ done. Cut f n done) (λ g ne done. ne_eqb f g (λ e. ne (sym e))) tells
+
+pub written_ok : {A : Type 0} (t t' : Option Story) (r : Result A DiskRefusal) (f at : ℕ) (p : List ℕ) → OnOk r (at + length p < 2 ^ 64) → Tells r (write_call f at p) t t'
+    → OnOk r (IfSome t (λ _. seen t' f ≡ overwritten at p (seen t f)))
+written_ok t t' (Ok x) f at p room tells = seen_written t t' f at p room tells
+written_ok t t' (Err e) f at p room tells = tt
+
+pub cut_ok : {A : Type 0} (t t' : Option Story) (r : Result A DiskRefusal) (f n : ℕ) → Tells r (λ done. Cut f n done) t t' → OnOk r (IfSome t (λ _. seen t' f ≡ take n (seen t f)))
+cut_ok None t' (Ok x) f n tells = tt
+cut_ok (Some s) t' (Ok x) f n tells = ap (λ u. seen u f) tells ∙ seen_cons s.first (Cut f n true) s.calls f
+    ∙ cond-true (f == f) (take n (seen_after s.first s.calls f)) (seen_after s.first s.calls f) (eq-eqb f f refl)
+cut_ok t t' (Err e) f n tells = tt

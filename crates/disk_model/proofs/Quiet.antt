@@ -1,13 +1,15 @@
 -- Calls that only look and sync.
-use Rattle.std.proofs.Common.{ℕ, List, Option, Result, refl, ◌∙◌, arith}
+use Rattle.std.proofs.Common.{◌≡◌, ℕ, List, ◌++◌, length, take, drop, Option, Some, None, Result, Ok, Err, refl, ap, ◌∙◌, arith}
+use Rattle.std.specs.Prelude.{IfSome, OnOk}
+use Rattle.std.proofs.lemmas.List.{take_all, take_at}
 use Rattle.disk_model.specs.declared.call.Call.TheVariants.{Look, Sync}
 use Rattle.disk_model.specs.declared.refusals.DiskRefusal.{DiskRefusal}
-use Rattle.disk_model.specs.Story.{Image, Story, count}
+use Rattle.disk_model.specs.Story.{Image, Story, count, seen}
 use Rattle.disk_model.specs.Left.{Left}
 use Rattle.disk_model.specs.Moments.{Each, Always, Only}
 use Rattle.disk_model.specs.Claims.{Quietly}
-use Rattle.disk_model.specs.Answers.{Tells}
-use Rattle.disk_model.proofs.Laws.{left_apart, left_sync, seen_apart, seen_sync}
+use Rattle.disk_model.specs.Answers.{Tells, Reads}
+use Rattle.disk_model.proofs.Laws.{left_apart, left_sync, seen_apart, seen_sync, only_synced}
 use Rattle.disk_model.proofs.Moments.{since_start, since_map, since_join, always_less, on_refl, on_call, on_trans, on_count}
 
 start : (t : Option Story) → Always (count t) t (λ image. (f : ℕ) → Left t f (image f))
@@ -48,3 +50,23 @@ quiet_trans t u v p q = record {
 
 pub quiet_only : (t u : Option Story) (f : ℕ) (file : List ℕ) → Quietly t u → Only t f file → Only u f file
 quiet_only t u f file quiet only c left = only c (quiet.left f c left)
+
+pub settled_ok : {A : Type 0} (t t' : Option Story) (r : Result A DiskRefusal) (g : ℕ) → Tells r (λ done. Sync g done) t t' → OnOk r (Only t' g (seen t' g))
+settled_ok t t' (Ok x) g tells = only_synced t t' g tells
+settled_ok t t' (Err e) g tells = tt
+
+-- ---- all bytes of a file
+
+file_read : (t t' : Option Story) (f size n : ℕ) (buffer : List ℕ) → Quietly t t' → IfSome t (λ _. size ≡ length (seen t f)) → IfSome t' (λ _. Reads (seen t' f) 0 n buffer) → length buffer ≡ size → IfSome t (λ _. take n buffer ≡ seen t f)
+file_read None t' f size n buffer quiet is reads len = tt
+file_read (Some s) None f size n buffer quiet is reads len = absurd quiet.on
+file_read (Some s) (Some s') f size n buffer quiet is reads len =
+    let same = quiet.reads f in
+    let all : n ≡ length (seen (Some s) f) = omega (arith, ap length same, reads.size) in
+    reads.bytes ∙ ap (λ l. take n l) same ∙ take_all n (seen (Some s) f) (omega arith)
+
+pub file_bytes : (t t' : Option Story) (f size n len : ℕ) (buffer items given : List ℕ) → Quietly t t' → IfSome t (λ _. size ≡ length (seen t f)) → IfSome t' (λ _. Reads (seen t' f) 0 n buffer) → length buffer ≡ len → len ≡ size
+    → given ≡ take n (take len (buffer ++ drop (length buffer) items)) → IfSome t (λ _. given ≡ seen t f)
+file_bytes None t' f size n len buffer items given quiet is reads long same made = tt
+file_bytes (Some s) t' f size n len buffer items given quiet is reads long same made =
+    made ∙ ap (λ l. take n l) (take_at buffer (drop (length buffer) items) len long) ∙ file_read (Some s) t' f size n buffer quiet is reads (long ∙ same)

@@ -1,5 +1,5 @@
 -- What is read after a call more, oldest first.
-use Rattle.std.proofs.Common.{◌≡◌, ℕ, ◌+◌, ◌<◌, ◌^◌, Bool, true, false, cond, List, [], ◌∷◌, ◌++◌, length, take, reverse, nat_lt, Option, Some, Result, Ok, Err, ◌==◌, refl, sym, ◌∙◌, ap, subst}
+use Rattle.std.proofs.Common.{◌≡◌, ℕ, ◌+◌, ◌<◌, ◌^◌, Bool, true, false, cond, List, [], ◌∷◌, ◌++◌, length, take, reverse, nat_lt, Some, Result, Ok, Err, ◌==◌, refl, sym, ◌∙◌, ap, subst}
 use Rattle.std.specs.Prelude.{OnOk, OnErr}
 use Rattle.std.proofs.lemmas.List.{reverse-append}
 use Rattle.std.proofs.Math.Seq.{take-append_seam}
@@ -7,9 +7,9 @@ use Rattle.std.proofs.lemmas.Bool.{cond-true, lt-ltb}
 use Rattle.disk_model.specs.declared.call.Call.{Call}
 use Rattle.disk_model.specs.declared.call.Call.TheVariants.{Look, Write, Cut}
 use Rattle.disk_model.specs.Story.{Image, concerns, changed, overwritten, seen_after}
-use Rattle.disk_model.specs.Left.{LeftAfter, MayHold, unsynced_after}
+use Rattle.disk_model.specs.Left.{unsynced_after}
 use Rattle.disk_model.specs.Moments.{IsSettled}
-use Rattle.disk_model.specs.Files.{MemState, files, story_of}
+use Rattle.disk_model.specs.Files.{MemState, files}
 use Rattle.disk_model.specs.Answers.{write_call}
 use Rattle.disk_model.proofs.Laws.{seen_cons, seen_other}
 use Rattle.disk_model.proofs.Holding.{synced_only}

@@ -22,3 +22,7 @@ pub record Quietly (t u : Option Story) : Type 0 where
   pub reads : (f : ℕ) → seen u f ≡ seen t f
   pub left : (f : ℕ) (c : List ℕ) → Left u f c → Left t f c
   pub images : Always (count t) u (λ image. (f : ℕ) → Left t f (image f))
+
+-- A file was worked on of which nothing is claimed.
+abbrev pub WorksOn : (t u : Option Story) (f : ℕ) → Type 0
+WorksOn t u f = Steps t u f (λ _. Unit {0})
