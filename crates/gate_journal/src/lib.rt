@@ -1,0 +1,8 @@
+//! Records behind gates, in one file of a disk.
+#![tactic(auto)]
+
+mod record;
+mod worked;
+
+pub use record::{HEAD, NextRecord, next_record};
+pub use worked::{damage_by_hand, journals_by_hand};
