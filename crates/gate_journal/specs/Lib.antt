@@ -1,3 +1,4 @@
 pub mod Records
 
+pub mod Journal
 pub mod Worked
