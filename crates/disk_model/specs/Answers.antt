@@ -5,6 +5,10 @@ use Rattle.disk_model.specs.declared.call.Call.{Call}
 use Rattle.disk_model.specs.declared.call.Call.TheVariants.{Look, Write}
 use Rattle.disk_model.specs.declared.refusals.DiskRefusal.{DiskRefusal}
 use Rattle.disk_model.specs.declared.refusals.DiskRefusal.TheVariants.{Failed, NoMemory}
+use Rattle.disk_model.specs.declared.refusals.NodeFault.{NodeFault}
+use Rattle.disk_model.specs.declared.refusals.NodeFault.TheVariants as node
+use Rattle.disk_model.specs.declared.refusals.OpenRefusal.{OpenRefusal}
+use Rattle.disk_model.specs.declared.refusals.OpenRefusal.TheVariants as opening
 use Rattle.disk_model.specs.Story.{Story, then_call}
 
 -- the story after a call: done at Ok, begun at Failed; one that found no memory was no call
@@ -21,6 +25,15 @@ write_call file at piece done = if nat_lt (at + length piece) (2 ^ 64) then Writ
 pub record HasDiskCause {A : Type 0} (before now : ℕ) (result : Result A DiskRefusal) : Type 0 where
   pub later : before ≤ now
   pub failed : result ≡ Err Failed → Rose before now
+
+-- the same of calls over a disk, where the fault is Disk
+pub record HasNodeCause {A : Type 0} (before now : ℕ) (result : Result A NodeFault) : Type 0 where
+  pub later : before ≤ now
+  pub disk : result ≡ Err node.Disk → Rose before now
+
+pub record HasOpenCause {A : Type 0} (before now : ℕ) (result : Result A OpenRefusal) : Type 0 where
+  pub later : before ≤ now
+  pub disk : result ≡ Err opening.Disk → Rose before now
 
 -- as many bytes of the file from the place on as it and the buffer have, at the front of the buffer
 pub record Reads (file : List ℕ) (at n : ℕ) (buffer : List ℕ) : Type 0 where

@@ -1,19 +1,18 @@
 -- The journal's calls on a disk.
-use Rattle.std.proofs.Common.{◌≡◌, ℕ, ◌+◌, ◌<◌, ◌≤◌, ◌^◌, Bool, true, false, cond, max, List, [], ◌∷◌, ◌++◌, length, take, drop, nat_le, Option, Some, None, Result, Ok, Err, refl, sym, ◌∙◌, ap, subst, arith, ◌⊎◌, inl, inr}
+use Rattle.std.proofs.Common.{◌≡◌, ℕ, ◌+◌, ◌<◌, ◌≤◌, ◌^◌, Bool, true, false, max, List, [], ◌∷◌, ◌++◌, length, take, drop, nat_le, Option, Some, None, Result, Ok, Err, refl, sym, ◌∙◌, ap, subst, arith}
 use Rattle.std.specs.Prelude.{IfSome, OnOk, MatchBool}
 use Rattle.std.proofs.lemmas.List.{drop_all}
-use Rattle.std.proofs.lemmas.Bool.{cond-true, le-leb}
-use Rattle.disk_model.specs.declared.refusals.DiskRefusal.{DiskRefusal}
+use Rattle.std.proofs.lemmas.Bool.{cond-true, le-leb, leb-true, leb-false}
 use Rattle.disk_model.specs.Story.{Story, seen, overwritten}
 use Rattle.disk_model.specs.Torn.{Torn}
 use Rattle.disk_model.specs.Moments.{Only, GoesOn}
-use Rattle.disk_model.specs.Claims.{Steps, Puts}
+use Rattle.disk_model.specs.Claims.{Steps, Puts, Quietly}
 use Rattle.disk_model.proofs.Laws.{if_on, if_both, if_all}
 use Rattle.disk_model.proofs.Putting.{steps_map, steps_none}
 use Rattle.gate_journal.specs.declared.journal.Journal.{Journal}
-use Rattle.gate_journal.specs.Records.{none_from, records, with_last, framed}
+use Rattle.gate_journal.specs.Records.{Opened, none_from, records, with_last, framed}
 use Rattle.gate_journal.specs.Journal.{IsAtGate, Rests, IsPrepared, HasStaged, IsFound, SameRecords, MaybeOneMore}
-use Rattle.gate_journal.proofs.Reading.{records_short}
+use Rattle.gate_journal.proofs.Reading.{records_short, present_gate, ok_is}
 use Rattle.gate_journal.proofs.Staging.{stage_torn, stage_done, open_torn, open_done, frame_length}
 
 -- ---- the first gate
@@ -57,7 +56,7 @@ module _ (t u : Option Story) (j : Journal) (fresh : j.fresh ≡ true) (found : 
     room = omega (arith, found.room, gate);
     gate = subst (λ f. IfSome u (λ _. IsAtGate (seen u f) k.gate)) (sym file) (if_on t u (IsAtGate (seen u j.file) k.gate) (IsAtGate (seen u j.file) k.gate) on
         (if_both t (IsShort t j) (seen u j.file ≡ overwritten 0 (0 ∷ []) (seen t j.file)) (IsAtGate (seen u j.file) k.gate) told reads
-          (λ short is. at_first (seen u j.file) k.gate (gate ∙ short.1) (is ∙ first_gate (seen t j.file) short.0))) (λ x. x));
+        (λ short is. at_first (seen u j.file) k.gate (gate ∙ short.1) (is ∙ first_gate (seen t j.file) short.0))) (λ x. x));
   }
 
   pub start_records : IfSome t (λ _. seen u j.file ≡ overwritten 0 (0 ∷ []) (seen t j.file)) → IfSome t (λ _. records (seen u j.file) ≡ records (seen t j.file))
@@ -91,16 +90,16 @@ module _ (t u : Option Story) (j : Journal) (ready : List ℕ) (same : ready ≡
   staged_now : (body : List ℕ) → IsPrepared j body → GoesOn t u → Only u j.file (seen u j.file) → IfSome t (λ _. seen u j.file ≡ overwritten (j.gate + 1) ready (seen t j.file)) → j.gate + 1 + length ready < 2 ^ 64 → HasStaged u j body
   staged_now body prepared on only reads room = record {
     rests = record {
-        durable = only;
-        room = rests.room;
-        gate = if_on t u (Here u j) (Here u j) on (if_both t (Here t j) (seen u j.file ≡ overwritten (j.gate + 1) ready (seen t j.file)) (Here u j) rests.gate reads
-            (λ here is. subst (λ l. IsAtGate l j.gate) (sym (now_is is)) (stage_done (seen t j.file) j.ready j.gate here).0)) (λ x. x);
-      };
+      durable = only;
+      room = rests.room;
+      gate = if_on t u (Here u j) (Here u j) on (if_both t (Here t j) (seen u j.file ≡ overwritten (j.gate + 1) ready (seen t j.file)) (Here u j) rests.gate reads
+          (λ here is. subst (λ l. IsAtGate l j.gate) (sym (now_is is)) (stage_done (seen t j.file) j.ready j.gate here).0)) (λ x. x);
+    };
     prepared = prepared;
     room = omega (arith, room, ap length same);
     staged = if_on t u (take (length j.ready) (drop (j.gate + 1) (seen u j.file)) ≡ j.ready) (take (length j.ready) (drop (j.gate + 1) (seen u j.file)) ≡ j.ready) on
         (if_both t (Here t j) (seen u j.file ≡ overwritten (j.gate + 1) ready (seen t j.file)) (take (length j.ready) (drop (j.gate + 1) (seen u j.file)) ≡ j.ready) rests.gate reads
-          (λ here is. ap (λ l. take (length j.ready) (drop (j.gate + 1) l)) (now_is is) ∙ (stage_done (seen t j.file) j.ready j.gate here).1)) (λ x. x);
+        (λ here is. ap (λ l. take (length j.ready) (drop (j.gate + 1) l)) (now_is is) ∙ (stage_done (seen t j.file) j.ready j.gate here).1)) (λ x. x);
   }
 
   pub stage_stages : {A E : Type 0} (r : Result A E) (body : List ℕ) → IsPrepared j body → GoesOn t u → OnOk r (Only u j.file (seen u j.file))
@@ -137,6 +136,37 @@ module _ (t u : Option Story) (j : Journal) (body : List ℕ) (staged : HasStage
         room = omega (arith, gate, staged.room);
         gate = subst (λ f. IfSome u (λ _. IsAtGate (seen u f) k.gate)) (sym file) (if_on t u (IsAtGate (seen u j.file) k.gate) (IsAtGate (seen u j.file) k.gate) on
             (if_both t There (seen u j.file ≡ overwritten j.gate (1 ∷ []) (seen t j.file)) (IsAtGate (seen u j.file) k.gate) there reads
-              (λ x is. subst (λ l. IsAtGate l k.gate) (sym is) (subst (λ g. IsAtGate (overwritten j.gate (1 ∷ []) (seen t j.file)) g) (sym next)
-                    (open_done (seen t j.file) body j.gate x.0 staged.prepared.fits x.1).1))) (λ x. x));
+            (λ x is. subst (λ l. IsAtGate l k.gate) (sym is) (subst (λ g. IsAtGate (overwritten j.gate (1 ∷ []) (seen t j.file)) g) (sym next)
+            (open_done (seen t j.file) body j.gate x.0 staged.prepared.fits x.1).1))) (λ x. x));
       }
+
+-- ---- a journal that was scanned
+
+at_gate_of : (file : List ℕ) (o : Opened) (b : Bool) → nat_le (length file) 1 ≡ b → records file ≡ Ok o → MatchBool b ((length file ≤ 1) × (o.gate ≡ 0)) (IsAtGate file o.gate)
+at_gate_of file o true e is = (leb-true (length file) 1 e, ap (λ (p : Opened). p.gate) (ok_is (records file) o (none_from 0) is (records_short file (leb-true (length file) 1 e))))
+at_gate_of file o false e is =
+    let present = present_gate file o (leb-false (length file) 1 e) is in
+    record { opened = o; is = is; place = refl; within = present.0; closed = present.1 }
+
+scanned : (t u : Option Story) (f : ℕ) (file : List ℕ) (o : Opened) (j : Journal) → Quietly t u → IfSome t (λ _. file ≡ seen t f) → records file ≡ Ok o → j.file ≡ f → j.gate ≡ o.gate → j.fresh ≡ nat_le (length file) 1
+    → IfSome t (λ _. MatchBool j.fresh ((length (seen u j.file) ≤ 1) × (j.gate ≡ 0)) (IsAtGate (seen u j.file) j.gate))
+scanned None u f file o j quiet read is named place fresh = tt
+scanned (Some s) u f file o j quiet read is named place fresh =
+    let now : file ≡ seen u j.file = read ∙ sym (quiet.reads f) ∙ ap (seen u) (sym named) in
+    subst (λ l. MatchBool j.fresh ((length l ≤ 1) × (j.gate ≡ 0)) (IsAtGate l j.gate)) now
+    (subst (λ g. MatchBool j.fresh ((length file ≤ 1) × (g ≡ 0)) (IsAtGate file g)) (sym place)
+    (subst (λ b. MatchBool b ((length file ≤ 1) × (o.gate ≡ 0)) (IsAtGate file o.gate)) (sym fresh) (at_gate_of file o (nat_le (length file) 1) refl is)))
+
+pub found_scanned : (t u : Option Story) (f : ℕ) (file : List ℕ) (o : Opened) (j : Journal) → Quietly t u → IfSome t (λ _. file ≡ seen t f) → records file ≡ Ok o → o.gate < max 1 (length file) → length file < 2 ^ 64
+    → j.file ≡ f → j.gate ≡ o.gate → j.fresh ≡ nat_le (length file) 1 → IsFound u j
+found_scanned t u f file o j quiet read is within fits named place fresh = record {
+  room = omega (arith, within, fits, place);
+  gate = if_on t u (MatchBool j.fresh ((length (seen u j.file) ≤ 1) × (j.gate ≡ 0)) (IsAtGate (seen u j.file) j.gate)) (MatchBool j.fresh ((length (seen u j.file) ≤ 1) × (j.gate ≡ 0)) (IsAtGate (seen u j.file) j.gate))
+      quiet.on (scanned t u f file o j quiet read is named place fresh) (λ x. x);
+}
+
+-- the same, with the bytes and their length as the code has them
+pub scan_found : (t u : Option Story) (f : ℕ) (file raw : List ℕ) (n : ℕ) (o : Opened) (j : Journal) → Quietly t u → IfSome t (λ _. file ≡ seen t f) → raw ≡ file → records raw ≡ Ok o → o.gate < max 1 (length raw) → n ≡ length file → n < 2 ^ 64
+    → j.file ≡ f → j.gate ≡ o.gate → j.fresh ≡ nat_le n 1 → IsFound u j
+scan_found t u f file raw n o j quiet read same is within size fits named place fresh =
+    found_scanned t u f file o j quiet read (sym (ap records same) ∙ is) (omega (arith, within, ap length same)) (omega (arith, size, fits)) named place (fresh ∙ ap (λ k. nat_le k 1) size)

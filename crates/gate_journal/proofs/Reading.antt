@@ -1,5 +1,5 @@
 -- Reading the records of a file.
-use Rattle.std.proofs.Common.{◌≡◌, ℕ, ◌+◌, ◌*◌, ◌<◌, ◌≤◌, zero, suc, Bool, true, false, ◌==◌, cond, List, [], ◌∷◌, ◌++◌, length, take, drop, get_or, nat_le, nat_lt, Result, Ok, Err, refl, sym, ◌∙◌, ap, subst, arith, append_assoc, ◌⊎◌, inl, inr}
+use Rattle.std.proofs.Common.{◌≡◌, ℕ, ◌+◌, ◌*◌, ◌<◌, ◌≤◌, zero, suc, Bool, true, false, ◌==◌, cond, max, ◌-◌, List, [], ◌∷◌, ◌++◌, length, take, drop, get_or, nat_le, nat_lt, Result, Ok, Err, refl, sym, ◌∙◌, ap, subst, arith, append_assoc}
 use Rattle.std.proofs.lemmas.List.{ext_get_or, length-take, length-drop, get_or-take, get_or-drop}
 use Rattle.std.proofs.Math.ListN.{get_or-eq_default}
 use Rattle.std.proofs.lemmas.Bool.{cond-true, cond-false, eq-eqb, eqb-true, lt-ltb, ltb-true, leb-true, leb-false, lt-leb, le-leb, cases_Bool}
@@ -7,7 +7,7 @@ use Rattle.byteorder.specs.Endian.{little_from}
 use Rattle.byte_fields.specs.Field.{number_at}
 use Rattle.gate_journal.specs.declared.record.NextRecord.{NextRecord}
 use Rattle.gate_journal.specs.declared.record.NextRecord.TheVariants.{End, Record, Damaged}
-use Rattle.gate_journal.specs.Records.{Opened, record_at, none_from, with_first, with_last, and_behind, records_from, records}
+use Rattle.gate_journal.specs.Records.{Opened, record_at, none_from, with_first, and_behind, records_from, records}
 
 -- ---- bytes that agree
 
@@ -26,8 +26,8 @@ slice_agree : (from size : ℕ) (c file : List ℕ) → from + size ≤ length c
 slice_agree from size c file le le' same = ext_get_or 0 (take size (drop from c)) (take size (drop from file))
     (omega (arith, length-take size (drop from c), length-take size (drop from file), length-drop from c, length-drop from file))
     (λ i lt.
-      let low : i < size = omega (arith, length-take size (drop from c)) in
-      get_or-take size (drop from c) i 0 low ∙ get_or-drop from c i 0 ∙ same (from + i) (omega arith) ∙ sym (get_or-drop from file i 0) ∙ sym (get_or-take size (drop from file) i 0 low))
+    let low : i < size = omega (arith, length-take size (drop from c)) in
+    get_or-take size (drop from c) i 0 low ∙ get_or-drop from c i 0 ∙ same (from + i) (omega arith) ∙ sym (get_or-drop from file i 0) ∙ sym (get_or-take size (drop from file) i 0 low))
 
 -- ---- what stands at a gate
 
@@ -185,9 +185,9 @@ module _ (file c : List ℕ) (o : Opened) (k : ℕ) (within : o.gate < length c)
       let grown : at + 5 + size ≤ f.rest.gate = gate_grows n file (at + 5 + size) f.rest f.read in
       let agree : (i : ℕ) → i < at + 5 + size → get_or c i 0 ≡ get_or file i 0 = λ i lt. same i (omega (arith, last, grown, place)) in
       let there : record_at c at ≡ Record size = record_is c at size long
-          (ap (λ b. b == 0) (agree at (omega arith)) ∙ w.open_gate)
-          (number_agree (at + 1) c file (λ i lt. agree i (omega arith)) ∙ w.size_is)
-          (omega (arith, last, grown, place)) in
+      (ap (λ b. b == 0) (agree at (omega arith)) ∙ w.open_gate)
+      (number_agree (at + 1) c file (λ i lt. agree i (omega arith)) ∙ w.size_is)
+      (omega (arith, last, grown, place)) in
       let body : take size (drop (at + 5) c) ≡ take size (drop (at + 5) file) = slice_agree (at + 5) size c file (omega (arith, last, grown, place)) (omega (arith, w.within)) agree in
       ap (λ r. and_behind r c at (records_from m c)) there
       ∙ ap (λ b. with_first b at (records_from m c (at + 5 + size))) body
@@ -231,8 +231,8 @@ one_more file c o size e long same there closed =
     let w = whole c o.gate size there in
     goes_through file c o e (omega (arith, w.within)) long same
     ∙ ap (onto o) (fuel (length c) (suc (length c)) c o.gate (omega arith) (omega arith)
-      ∙ ap (λ r. and_behind r c o.gate (records_from (length c) c)) there
-      ∙ ap (with_first (take size (drop (o.gate + 5) c)) o.gate) (from_closed (length c) c (o.gate + 5 + size) closed))
+    ∙ ap (λ r. and_behind r c o.gate (records_from (length c) c)) there
+    ∙ ap (with_first (take size (drop (o.gate + 5) c)) o.gate) (from_closed (length c) c (o.gate + 5 + size) closed))
 
 -- ---- the present gate is closed and in the file
 
@@ -257,3 +257,77 @@ module _ (file : List ℕ) (long : 1 < length file) where
 pub present_gate : (file : List ℕ) (o : Opened) → 1 < length file → records file ≡ Ok o → (o.gate < length file) × (get_or file o.gate 0 ≡ 0)
 unfolding records
 present_gate file o long e = present file long (length file) 0 o (omega arith) (omega arith) e
+
+-- ---- read one by one
+
+onto_last : (o : Opened) (body : List ℕ) (gate : ℕ) (r : Result Opened ℕ) → onto o (with_first body gate r) ≡ onto (record { bodies = o.bodies ++ body ∷ []; gates = o.gates ++ gate ∷ []; gate = o.gate }) r
+unfolding onto
+onto_last o body gate (Ok p) =
+    ap (λ bs. Ok (record { bodies = bs; gates = o.gates ++ (gate ∷ p.gates); gate = p.gate })) (sym (append_assoc o.bodies (body ∷ []) p.bodies))
+    ∙ ap (λ gs. Ok (record { bodies = (o.bodies ++ body ∷ []) ++ p.bodies; gates = gs; gate = p.gate })) (sym (append_assoc o.gates (gate ∷ []) p.gates))
+onto_last o body gate (Err at) = refl
+
+-- the records so far in front of what is still to be read, by this fuel
+pub record SoFar (bytes : List ℕ) (fuel : ℕ) (bodies : List (List ℕ)) (gates : List ℕ) (gate : ℕ) : Type 0 where
+  pub is : records bytes ≡ onto (record { bodies = bodies; gates = gates; gate = gate }) (records_from fuel bytes gate)
+  pub within : gate < max 1 (length bytes)
+
+pub none_yet : (bytes : List ℕ) (bodies : List (List ℕ)) (gates : List ℕ) → bodies ≡ [] → gates ≡ [] → SoFar bytes (length bytes - 0) bodies gates 0
+unfolding records
+none_yet bytes bodies gates p q =
+    let all : length bytes - 0 ≡ length bytes = omega arith in
+    record {
+      is = sym (onto_none 0 (records_from (length bytes) bytes 0)) ∙ ap (λ bs. onto (record { bodies = bs; gates = []; gate = 0 }) (records_from (length bytes) bytes 0)) (sym p)
+          ∙ ap (λ gs. onto (record { bodies = bodies; gates = gs; gate = 0 }) (records_from (length bytes) bytes 0)) (sym q)
+          ∙ ap (λ n. onto (record { bodies = bodies; gates = gates; gate = 0 }) (records_from n bytes 0)) (sym all);
+      within = omega arith;
+    }
+
+onto_nothing : (o : Opened) (gate : ℕ) → onto o (Ok (none_from gate)) ≡ Ok (record { bodies = o.bodies; gates = o.gates; gate = gate })
+unfolding onto
+onto_nothing o gate = let bodies = Rattle.std.proofs.lemmas.List.append-nil o.bodies in let gates = Rattle.std.proofs.lemmas.List.append-nil o.gates in
+    ap (λ bs. Ok (record { bodies = bs; gates = o.gates ++ []; gate = gate })) bodies ∙ ap (λ gs. Ok (record { bodies = o.bodies; gates = gs; gate = gate })) gates
+
+from_end : (n : ℕ) (bytes : List ℕ) (gate : ℕ) → record_at bytes gate ≡ End → records_from n bytes gate ≡ Ok (none_from gate)
+from_end zero bytes gate is = refl
+from_end (suc n) bytes gate is = ap (λ r. and_behind r bytes gate (records_from n bytes)) is
+
+pub ends_at : (bytes : List ℕ) (fuel : ℕ) (bodies : List (List ℕ)) (gates : List ℕ) (gate : ℕ) → SoFar bytes fuel bodies gates gate → record_at bytes gate ≡ End → records bytes ≡ Ok (record { bodies = bodies; gates = gates; gate = gate })
+ends_at bytes fuel bodies gates gate so_far is = so_far.is ∙ ap (onto (record { bodies = bodies; gates = gates; gate = gate })) (from_end fuel bytes gate is) ∙ onto_nothing (record { bodies = bodies; gates = gates; gate = gate }) gate
+
+pub ends_all : (bytes : List ℕ) (fuel : ℕ) (bodies : List (List ℕ)) (gates : List ℕ) (gate : ℕ) → SoFar bytes fuel bodies gates gate → fuel ≡ 0 → records bytes ≡ Ok (record { bodies = bodies; gates = gates; gate = gate })
+ends_all bytes fuel bodies gates gate so_far none' =
+    so_far.is ∙ ap (λ n. onto (record { bodies = bodies; gates = gates; gate = gate }) (records_from n bytes gate)) none' ∙ onto_nothing (record { bodies = bodies; gates = gates; gate = gate }) gate
+
+onto_err : (o : Opened) (at : ℕ) → onto o (Err at) ≡ Err at
+unfolding onto
+onto_err o at = refl
+
+pub damaged_at : (bytes : List ℕ) (fuel n : ℕ) (bodies : List (List ℕ)) (gates : List ℕ) (gate : ℕ) → SoFar bytes fuel bodies gates gate → fuel ≡ suc n → record_at bytes gate ≡ Damaged → records bytes ≡ Err gate
+damaged_at bytes fuel n bodies gates gate so_far more is =
+    so_far.is ∙ ap (λ n. onto (record { bodies = bodies; gates = gates; gate = gate }) (records_from n bytes gate)) more
+    ∙ ap (λ r. onto (record { bodies = bodies; gates = gates; gate = gate }) (and_behind r bytes gate (records_from n bytes))) is
+    ∙ onto_err (record { bodies = bodies; gates = gates; gate = gate }) gate
+
+onto_same : (bs : List (List ℕ)) (gs : List ℕ) (g h : ℕ) (r : Result Opened ℕ) → onto (record { bodies = bs; gates = gs; gate = g }) r ≡ onto (record { bodies = bs; gates = gs; gate = h }) r
+unfolding onto
+onto_same bs gs g h (Ok p) = refl
+onto_same bs gs g h (Err at) = refl
+
+pub one_read : (bytes : List ℕ) (fuel n : ℕ) (bodies bodies' : List (List ℕ)) (gates gates' : List ℕ) (gate size to : ℕ) (body : List ℕ) → SoFar bytes fuel bodies gates gate → fuel ≡ suc n → record_at bytes gate ≡ Record size
+    → bodies' ≡ bodies ++ body ∷ [] → body ≡ take size (drop (gate + 5) bytes) → gates' ≡ gates ++ gate ∷ [] → to ≡ gate + 5 + size → SoFar bytes n bodies' gates' to
+one_read bytes fuel n bodies bodies' gates gates' gate size to body so_far more is grown same noted next = record {
+  is =
+      so_far.is ∙ ap (λ n. onto (record { bodies = bodies; gates = gates; gate = gate }) (records_from n bytes gate)) more
+      ∙ ap (λ r. onto (record { bodies = bodies; gates = gates; gate = gate }) (and_behind r bytes gate (records_from n bytes))) is
+      ∙ onto_last (record { bodies = bodies; gates = gates; gate = gate }) (take size (drop (gate + 5) bytes)) gate (records_from n bytes (gate + 5 + size))
+      ∙ onto_gate bodies' gates' gate to (records_from n bytes (gate + 5 + size)) (ap (λ b. bodies ++ b ∷ []) (sym same) ∙ sym grown) (sym noted)
+      ∙ ap (λ g. onto (record { bodies = bodies'; gates = gates'; gate = to }) (records_from n bytes g)) (sym next);
+  within = let w = whole bytes gate size is in omega (arith, w.within, next);
+}
+  where
+    onto_gate : (bs : List (List ℕ)) (gs : List ℕ) (g h : ℕ) (r : Result Opened ℕ) → (bodies ++ take size (drop (gate + 5) bytes) ∷ []) ≡ bs → (gates ++ gate ∷ []) ≡ gs
+        → onto (record { bodies = bodies ++ take size (drop (gate + 5) bytes) ∷ []; gates = gates ++ gate ∷ []; gate = g }) r ≡ onto (record { bodies = bs; gates = gs; gate = h }) r
+    onto_gate bs gs g h r p q =
+        onto_same (bodies ++ take size (drop (gate + 5) bytes) ∷ []) (gates ++ gate ∷ []) g h r
+        ∙ ap (λ b. onto (record { bodies = b; gates = gates ++ gate ∷ []; gate = h }) r) p ∙ ap (λ q. onto (record { bodies = bs; gates = q; gate = h }) r) q

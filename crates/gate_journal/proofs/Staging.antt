@@ -1,5 +1,5 @@
 -- A record staged behind the present gate, and the gate opened: what a crash leaves of the file.
-use Rattle.std.proofs.Common.{◌≡◌, ℕ, ◌+◌, ◌-◌, ◌<◌, ◌≤◌, ◌^◌, zero, suc, Bool, true, false, ◌==◌, cond, max, List, [], ◌∷◌, ◌++◌, length, take, drop, get_or, nat_le, Result, Ok, Err, refl, sym, ◌∙◌, ap, subst, arith, append_assoc, ◌⊎◌, inl, inr}
+use Rattle.std.proofs.Common.{◌≡◌, ℕ, ◌+◌, ◌<◌, ◌≤◌, ◌^◌, true, false, ◌==◌, List, [], ◌∷◌, ◌++◌, length, take, drop, get_or, nat_le, Ok, sym, ◌∙◌, ap, subst, arith, append_assoc, ◌⊎◌, inl, inr}
 use Rattle.std.proofs.lemmas.List.{length-append, length-take, length-drop, get_or-take, get_or-drop, drop-drop, take-append-drop}
 use Rattle.std.proofs.Math.Seq.{take-append_seam, drop-append_seam, get_or-append_seam}
 use Rattle.std.proofs.lemmas.Bool.{cond-true, le-leb, cases_Bool, cases_lt, eqb-true}
@@ -8,9 +8,9 @@ use Rattle.byte_fields.specs.Field.{number_at, number_bytes}
 use Rattle.byte_fields.proofs.FieldLaws.{field_again, field_width}
 use Rattle.disk_model.specs.Story.{overwritten}
 use Rattle.disk_model.specs.Torn.{Torn}
-use Rattle.disk_model.proofs.Bytes.{over_length, over_before, over_behind}
+use Rattle.disk_model.proofs.Bytes.{over_length, over_before}
 use Rattle.gate_journal.specs.declared.record.NextRecord.TheVariants.{Record}
-use Rattle.gate_journal.specs.Records.{Opened, record_at, none_from, with_last, records, framed}
+use Rattle.gate_journal.specs.Records.{record_at, with_last, records, framed}
 use Rattle.gate_journal.specs.Journal.{IsAtGate}
 use Rattle.gate_journal.proofs.Reading.{record_is, records_short, closed_same, one_more}
 
@@ -65,10 +65,11 @@ module _ (file ready : List ℕ) (gate : ℕ) (here : IsAtGate file gate) where
       let is = over_is (gate + 1) ready file within in
       let longer : length file ≤ length (take (gate + 1) file ++ ready ++ drop (gate + 1 + length ready) file) = omega (arith, over_length (gate + 1) ready file within) in
       let same : (i : ℕ) → i < gate + 1 → get_or (take (gate + 1) file ++ ready ++ drop (gate + 1 + length ready) file) i 0 ≡ get_or file i 0 = over_before (gate + 1) ready file within in
-      subst (λ (l : List ℕ). IsAtGate l gate × (take (length ready) (drop (gate + 1) l) ≡ ready) × (records l ≡ records file)) (sym is)
-      (still_at_gate file (take (gate + 1) file ++ ready ++ drop (gate + 1 + length ready) file) gate here longer same,
+      subst (λ (l : List ℕ). IsAtGate l gate × (take (length ready) (drop (gate + 1) l) ≡ ready) × (records l ≡ records file)) (sym is) (
+        still_at_gate file (take (gate + 1) file ++ ready ++ drop (gate + 1 + length ready) file) gate here longer same,
         over_piece (gate + 1) ready file within,
-        same_records file (take (gate + 1) file ++ ready ++ drop (gate + 1 + length ready) file) gate here longer same)
+        same_records file (take (gate + 1) file ++ ready ++ drop (gate + 1 + length ready) file) gate here longer same,
+      )
 
 -- ---- the gate is opened before a staged record
 
@@ -120,7 +121,7 @@ module _ (file c body : List ℕ) (gate : ℕ) (here : IsAtGate file gate) (fits
       (subst (λ g. get_or c (g + 5 + length body) 0 ≡ 0) (sym here.place) next_closed) in
       more
       ∙ ap (λ b. Ok (record { bodies = here.opened.bodies ++ b ∷ []; gates = here.opened.gates ++ here.opened.gate ∷ []; gate = here.opened.gate + 5 + length body }))
-        (ap (λ g. take (length body) (drop (g + 5) c)) here.place ∙ body_is)
+      (ap (λ g. take (length body) (drop (g + 5) c)) here.place ∙ body_is)
       ∙ sym (ap (with_last body) here.is)
 
   pub next_gate : (get_or c gate 0 == 0) ≡ false → IsAtGate c (gate + 5 + length body)
@@ -164,6 +165,7 @@ open_done file body gate here fits staged =
     let tail : drop (gate + 1) (take gate file ++ (1 ∷ []) ++ drop (gate + 1) file) ≡ drop (gate + 1) file =
     ap (λ n. drop n (take gate file ++ (1 ∷ []) ++ drop (gate + 1) file)) (sym (omega (arith, length-append (take gate file) (1 ∷ []), front_length gate (1 ∷ []) file within)))
     ∙ drop-append_seam (take gate file ++ (1 ∷ [])) (drop (gate + 1) file) in
-    subst (λ (l : List ℕ). (records l ≡ with_last body (records file)) × IsAtGate l (gate + 5 + length body)) (sym is)
-    (gate_opened file (take gate file ++ (1 ∷ []) ++ drop (gate + 1) file) body gate here fits staged (over_before gate (1 ∷ []) file within) tail opened,
-      next_gate file (take gate file ++ (1 ∷ []) ++ drop (gate + 1) file) body gate here fits staged (over_before gate (1 ∷ []) file within) tail opened)
+    subst (λ (l : List ℕ). (records l ≡ with_last body (records file)) × IsAtGate l (gate + 5 + length body)) (sym is) (
+      gate_opened file (take gate file ++ (1 ∷ []) ++ drop (gate + 1) file) body gate here fits staged (over_before gate (1 ∷ []) file within) tail opened,
+      next_gate file (take gate file ++ (1 ∷ []) ++ drop (gate + 1) file) body gate here fits staged (over_before gate (1 ∷ []) file within) tail opened,
+    )

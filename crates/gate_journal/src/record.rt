@@ -1,5 +1,6 @@
 //! The record at a gate.
-ghost use Rattle.std.specs.Prelude.{◌≡◌};
+ghost use Rattle.std.specs.Prelude.{◌≡◌, ℕ, ◌+◌, ◌<◌, length};
+ghost use Rattle.gate_journal.specs.declared.record.NextRecord.TheVariants.{Record};
 ghost use Rattle.gate_journal.specs.Records.{record_at};
 
 use byte_fields::u32_at;
@@ -21,7 +22,8 @@ pub enum NextRecord {
 
 /// The record at a gate of a journal's file, its end, or the damage.
 pub fn next_record(file: &[u8], gate: usize) -> NextRecord
-    ensures { result ≡ record_at file.now gate }
+    ensures value { result ≡ record_at file.now gate }
+    ensures within { (size : ℕ) → result ≡ Record size → gate + 5 + size < length file.now }
 {
     if file.len() <= 1 {
         return NextRecord::End;

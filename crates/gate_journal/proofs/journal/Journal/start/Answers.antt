@@ -1,5 +1,5 @@
 use Rattle.std.proofs.Common.{refl}
-use Rattle.gate_journal.proofs.Journals.{start_steps, start_rests, start_records, rests_found, no_start}
+use Rattle.gate_journal.proofs.Journals.{start_steps, start_rests, start_records, no_start}
 use Rattle.gate_journal.proofs.journal.Journal.start.Goals as goal
 
 pub returns-in_err-put-clause-steps : goal.returns-in_err-put-clause-steps
