@@ -30,7 +30,12 @@ pub fn put_body<D: Disk>(journal: &mut Journal, d: &mut D, body: &Bytes) -> Resu
 }
 
 /// Puts bodies into the journal of a file, one by one; one that is too long ends it.
-pub fn put_bodies<D: Disk>(alloc: Global, d: &mut D, file: u32, bodies: &List<Bytes>) -> Result<(), OpenRefusal> {
+pub fn put_bodies<D: Disk>(
+    alloc: Global,
+    d: &mut D,
+    file: u32,
+    bodies: &List<Bytes>,
+) -> Result<(), OpenRefusal> {
     let mut journal = opened(alloc, d, file)?;
     for body in bodies.as_slice() {
         if body.len() as u64 > u64::from(u32::MAX) {

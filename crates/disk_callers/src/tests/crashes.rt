@@ -55,7 +55,12 @@ fn image(alloc: Global, calls: &[Call], crash: Crash) -> Bytes {
                 piece,
                 done,
             } => {
-                left = over(alloc, left.as_slice(), *at, left_of(crash, piece.as_slice()));
+                left = over(
+                    alloc,
+                    left.as_slice(),
+                    *at,
+                    left_of(crash, piece.as_slice()),
+                );
                 if *done {
                     now = over(alloc, now.as_slice(), *at, piece.as_slice());
                 }
