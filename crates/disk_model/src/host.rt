@@ -1,10 +1,10 @@
 //! A disk over a folder of the system.
-ghost use Rattle.std.specs.Prelude.{◌≡◌, ◌≤◌, ◌+◌, ◌^◌, ◌<◌, length, IfOk, OnOk, None};
+ghost use Rattle.std.specs.Prelude.{◌≡◌, Ok, IfOk, None};
 ghost use Rattle.disk_model.specs.Answers.{HasDiskCause};
 
 use crate::disk::Disk;
-use crate::host_files::HostFiles;
 use crate::refusals::DiskRefusal;
+use folder_files::{FileFault, FolderFiles};
 use std::alloc::Global;
 use std::fs::File;
 use std::rt::Files;
@@ -16,9 +16,20 @@ use val_types::NoMemory;
 /// of the system is a fault. It does not tell its story: what a real file holds is outside all claims.
 #[derive(Drop)]
 pub struct HostDisk<R> {
-    files: HostFiles<R>,
+    files: FolderFiles<R>,
     calls: u64,
     faults: u64,
+}
+
+/// The answer of a folder's file as a disk gives it.
+fn refused<T>(answer: Result<T, FileFault>) -> Result<T, DiskRefusal>
+    ensures { (value : T) → result ≡ Ok value → answer ≡ Ok value }
+{
+    match answer {
+        Ok(value) => Ok(value),
+        Err(FileFault::Failed) => Err(DiskRefusal::Failed),
+        Err(FileFault::NoMemory) => Err(DiskRefusal::NoMemory),
+    }
 }
 
 impl<R: Drop> HostDisk<R> {
@@ -27,7 +38,7 @@ impl<R: Drop> HostDisk<R> {
         ensures { IfOk result (λ d. d.faults ≡ 0) }
     {
         Ok(HostDisk {
-            files: HostFiles::new(alloc, rt, folder)?,
+            files: FolderFiles::new(alloc, rt, folder)?,
             calls: 0,
             faults: 0,
         })
@@ -54,31 +65,31 @@ impl<R: Files<File = File> + Drop> Disk for HostDisk<R> {
     ghost faults = { λ d. d.faults };
 
     fn length(&mut self, file: u32) -> Result<u64, DiskRefusal> {
-        let answer = self.files.length(file);
+        let answer = refused(self.files.length(file));
         self.count(&answer);
         answer
     }
 
     fn read(&mut self, file: u32, at: u64, buf: &mut [u8]) -> Result<usize, DiskRefusal> {
-        let answer = self.files.read(file, at, buf);
+        let answer = refused(self.files.read(file, at, buf));
         self.count(&answer);
         answer
     }
 
     fn write(&mut self, file: u32, at: u64, piece: &[u8]) -> Result<(), DiskRefusal> {
-        let answer = self.files.write(file, at, piece);
+        let answer = refused(self.files.write(file, at, piece));
         self.count(&answer);
         answer
     }
 
     fn cut(&mut self, file: u32, size: u64) -> Result<(), DiskRefusal> {
-        let answer = self.files.cut(file, size);
+        let answer = refused(self.files.cut(file, size));
         self.count(&answer);
         answer
     }
 
     fn sync(&mut self, file: u32) -> Result<(), DiskRefusal> {
-        let answer = self.files.sync(file);
+        let answer = refused(self.files.sync(file));
         self.count(&answer);
         answer
     }

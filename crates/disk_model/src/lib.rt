@@ -9,8 +9,8 @@
 //! calls or inside one (`specs/Moments`), and a claim on all moments from one on is a `Since`; nothing above
 //! opens these definitions. A disk over real files tells no story: it has its count of faults alone.
 //!
-//! This crate stands on no crate of code but the lists of `val_types`; the journal, the stores and the nodes
-//! stand on it.
+//! This crate stands on the lists of `val_types`, the counts of `fault_counts` and, for the disk over a folder, on
+//! `folder_files`; the journal, the stores and the nodes stand on it.
 //!
 //! - `call`, `refusals`: [`Call`], [`DiskRefusal`], and [`NodeFault`] and [`OpenRefusal`] for those above
 //! - `disk`: the trait [`Disk`]
@@ -20,7 +20,7 @@
 //! - `memory`, `files`: [`MemDisk`], which tells its story
 //! - `fuse`: [`FuseDisk`], whose k-th call fails
 //! - `twist`: [`TwistDisk`], for tests of what is read back
-//! - `host`, `host_files`: [`HostDisk`], over a folder
+//! - `host`: [`HostDisk`], over a folder
 //! - `worked`: images by hand
 //!
 //! # Proved
@@ -48,7 +48,6 @@ mod durable;
 mod files;
 mod fuse;
 mod host;
-mod host_files;
 mod looking;
 mod memory;
 mod refusals;

@@ -1,7 +1,7 @@
 //! Files of a folder of the system, by number.
 ghost use Rattle.std.specs.Prelude.{◌≤◌, ◌+◌, ◌^◌, ◌<◌, length, IfOk, OnOk, IfSome};
 
-use crate::refusals::DiskRefusal;
+use crate::fault::FileFault;
 use std::alloc::Global;
 use std::fs::{self, File, OpenOptions};
 use std::io::{self, ErrorKind};
@@ -22,7 +22,7 @@ struct Handle {
 
 /// Files of a folder; those that were used stay open.
 #[derive(Drop)]
-pub struct HostFiles<R> {
+pub struct FolderFiles<R> {
     rt: R,
     alloc: Global,
     folder: String,
@@ -34,15 +34,15 @@ pub struct HostFiles<R> {
 }
 
 /// An error of the system is a fault of the disk.
-fn or_failed<T>(answer: io::Result<T>) -> Result<T, DiskRefusal> {
+fn or_failed<T>(answer: io::Result<T>) -> Result<T, FileFault> {
     match answer {
         Ok(value) => Ok(value),
-        Err(_) => Err(DiskRefusal::Failed),
+        Err(_) => Err(FileFault::Failed),
     }
 }
 
 /// Reads until the buffer is full or the file ends.
-fn read_fully(handle: &File, at: u64, buf: &mut [u8]) -> Result<usize, DiskRefusal>
+fn read_fully(handle: &File, at: u64, buf: &mut [u8]) -> Result<usize, FileFault>
     ensures { IfOk result (λ n. n ≤ length buf.new) }
 {
     let mut count = 0;
@@ -54,18 +54,18 @@ fn read_fully(handle: &File, at: u64, buf: &mut [u8]) -> Result<usize, DiskRefus
             Ok(0) => break,
             Ok(more) => count += more,
             Err(error) if error.kind() == ErrorKind::Interrupted => {}
-            Err(_) => return Err(DiskRefusal::Failed),
+            Err(_) => return Err(FileFault::Failed),
         }
     }
     Ok(count)
 }
 
-impl<R: Drop> HostFiles<R> {
+impl<R: Drop> FolderFiles<R> {
     /// The files of this folder.
-    pub fn new(alloc: Global, rt: R, folder: String) -> Result<HostFiles<R>, NoMemory> {
+    pub fn new(alloc: Global, rt: R, folder: String) -> Result<FolderFiles<R>, NoMemory> {
         let mut parent = PathBuf::from_str(alloc, folder.as_str())?;
         parent.pop();
-        Ok(HostFiles {
+        Ok(FolderFiles {
             rt,
             alloc,
             folder,
@@ -86,7 +86,7 @@ impl<R: Drop> HostFiles<R> {
     }
 
     /// Keeps a file open, and says where it stands. Where too many are open, those are closed.
-    fn keep(&mut self, file: u32, handle: File) -> Result<usize, DiskRefusal>
+    fn keep(&mut self, file: u32, handle: File) -> Result<usize, FileFault>
         ensures { IfOk result (λ i. i < length self.new.handles) }
     {
         if self.handles.len() >= OPEN_FILES {
@@ -98,14 +98,14 @@ impl<R: Drop> HostFiles<R> {
     }
 
     /// The path of a file.
-    fn path(&self, file: u32) -> Result<String, DiskRefusal> {
+    fn path(&self, file: u32) -> Result<String, FileFault> {
         Ok(format!(in self.alloc; "{}/{file}", self.folder)?)
     }
 }
 
-impl<R: Files<File = File> + Drop> HostFiles<R> {
+impl<R: Files<File = File> + Drop> FolderFiles<R> {
     /// Where an open file stands; it is opened if it was not, None where it does not exist.
-    fn opened(&mut self, file: u32) -> Result<Option<usize>, DiskRefusal>
+    fn opened(&mut self, file: u32) -> Result<Option<usize>, FileFault>
         ensures { IfOk result (λ found. IfSome found (λ i. i < length self.new.handles)) }
     {
         if let Some(place) = self.position(file) {
@@ -119,19 +119,19 @@ impl<R: Files<File = File> + Drop> HostFiles<R> {
         {
             Ok(handle) => Ok(Some(self.keep(file, handle)?)),
             Err(error) if error.kind() == ErrorKind::NotFound => Ok(None),
-            Err(_) => Err(DiskRefusal::Failed),
+            Err(_) => Err(FileFault::Failed),
         }
     }
 
     /// Makes a file that does not exist, with its folder, and says where it stands among those that are open.
-    fn made(&mut self, file: u32) -> Result<usize, DiskRefusal>
+    fn made(&mut self, file: u32) -> Result<usize, FileFault>
         ensures { IfOk result (λ i. i < length self.new.handles) }
     {
         let path = self.path(file)?;
         match fs::create_dir(&self.rt, self.folder.as_str()) {
             Ok(()) => {}
             Err(error) if error.kind() == ErrorKind::AlreadyExists => {}
-            Err(_) => return Err(DiskRefusal::Failed),
+            Err(_) => return Err(FileFault::Failed),
         }
         self.named = false;
         let handle = or_failed(File::create_new(&self.rt, path.as_str()))?;
@@ -139,7 +139,7 @@ impl<R: Files<File = File> + Drop> HostFiles<R> {
     }
 
     /// Makes the names in the folder durable, and the folder's own.
-    fn sync_names(&mut self) -> Result<(), DiskRefusal> {
+    fn sync_names(&mut self) -> Result<(), FileFault> {
         if self.named {
             return Ok(());
         }
@@ -164,7 +164,7 @@ impl<R: Files<File = File> + Drop> HostFiles<R> {
     }
 
     /// How many bytes a file has.
-    pub fn length(&mut self, file: u32) -> Result<u64, DiskRefusal> {
+    pub fn length(&mut self, file: u32) -> Result<u64, FileFault> {
         match self.opened(file)? {
             Some(place) => {
                 let found = or_failed(self.handles[place].handle.metadata())?;
@@ -175,7 +175,7 @@ impl<R: Files<File = File> + Drop> HostFiles<R> {
     }
 
     /// The bytes from a place on, as many as the buffer and the file have.
-    pub fn read(&mut self, file: u32, at: u64, buf: &mut [u8]) -> Result<usize, DiskRefusal>
+    pub fn read(&mut self, file: u32, at: u64, buf: &mut [u8]) -> Result<usize, FileFault>
         ensures { IfOk result (λ n. n ≤ length buf.new) }
     {
         match self.opened(file)? {
@@ -187,11 +187,11 @@ impl<R: Files<File = File> + Drop> HostFiles<R> {
     }
 
     /// Writes a whole piece; a file that did not exist is made, and its name is durable then.
-    pub fn write(&mut self, file: u32, at: u64, piece: &[u8]) -> Result<(), DiskRefusal>
+    pub fn write(&mut self, file: u32, at: u64, piece: &[u8]) -> Result<(), FileFault>
         ensures { OnOk result (at + length piece.now < 2 ^ 64) }
     {
         if at.checked_add(piece.len() as u64).is_none() {
-            return Err(DiskRefusal::Failed);
+            return Err(FileFault::Failed);
         }
         let place = match self.opened(file)? {
             Some(place) => place,
@@ -202,7 +202,7 @@ impl<R: Files<File = File> + Drop> HostFiles<R> {
     }
 
     /// Cuts a file to a length.
-    pub fn cut(&mut self, file: u32, size: u64) -> Result<(), DiskRefusal> {
+    pub fn cut(&mut self, file: u32, size: u64) -> Result<(), FileFault> {
         match self.opened(file)? {
             Some(place) => or_failed(self.handles[place].handle.set_len(size)),
             None => Ok(()),
@@ -210,7 +210,7 @@ impl<R: Files<File = File> + Drop> HostFiles<R> {
     }
 
     /// Makes a file durable, and its name.
-    pub fn sync(&mut self, file: u32) -> Result<(), DiskRefusal> {
+    pub fn sync(&mut self, file: u32) -> Result<(), FileFault> {
         match self.opened(file)? {
             Some(place) => {
                 or_failed(self.handles[place].handle.sync_data())?;
