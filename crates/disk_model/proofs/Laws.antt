@@ -52,6 +52,12 @@ left_sync_call g done first past f c left = record {
   held = sync_step (g == f) g done first past f c (seen_held first past f left.story.1) (held_cons first (Sync g done) past f c left.held);
 }
 
+-- after a sync that succeeds the file is what a read gives
+pub left_synced : (first : Image) (past : List Call) (f : ℕ) (c : List ℕ) → LeftAfter first (Sync f true ∷ past) f c → c ≡ seen_after first past f
+left_synced first past f c left = synced_only (seen_after first past f) c
+    (subst (λ b. MayHold (cond b (then_done (Sync f true) (seen_after first past f) (unsynced_after first past f)) (unsynced_after first past f)) c) (eq-eqb f f refl)
+    (held_cons first (Sync f true) past f c left.held))
+
 -- ---- a call as a crash inside it finds it leaves no more than the call, or than the calls before it
 
 begun_step : (b : Bool) (g at : ℕ) (p : List ℕ) (done : Bool) (first : Image) (past : List Call) (f : ℕ) (c : List ℕ)
@@ -127,7 +133,7 @@ pub write_apart : (g at : ℕ) (p : List ℕ) (f : ℕ) → f ≢ g → (done : 
 write_apart g at p f ne done = apart_write (nat_lt (at + length p) (2 ^ 64)) g at p done f (ne_eqb g f (λ e. ne (sym e)))
 
 module _ (first : Image) (past : List Call) (f at : ℕ) (p : List ℕ) (only : (d : List ℕ) → LeftAfter first past f d → d ≡ seen_after first past f) (within : at ≤ length (seen_after first past f)) where
-  torn_done : (done : Bool) (c : List ℕ) → LeftAfter first (Write f at p done ∷ past) f c → Torn at (length p) (seen_after first past f) c
+  pub torn_done : (done : Bool) (c : List ℕ) → LeftAfter first (Write f at p done ∷ past) f c → Torn at (length p) (seen_after first past f) c
   torn_done done c left =
       let now = seen_held first past f left.story.1 in
       torn_write (unsynced_after first past f) (seen_after first past f) (λ d held. only d (record { story = left.story.1; held = held }))

@@ -21,6 +21,7 @@
 //! - `fuse`: [`FuseDisk`], whose k-th call fails
 //! - `twist`: [`TwistDisk`], for tests of what is read back
 //! - `host`: [`HostDisk`], over a folder
+//! - `image_laws`: [`images_by_law`], what follows of what a crash may leave
 //! - `worked`: images by hand
 //!
 //! # Proved
@@ -33,6 +34,8 @@
 //!   where the count of faults rose.
 //! - [`images_by_hand`], [`lengths_by_hand`]: what a crash may leave and what not, of two writes whose ranges
 //!   overlap, with a sync between them, and of a file that is cut and grown.
+//! - [`images_by_law`]: what is read may always be left, a sync adds no image, one write over a durable file
+//!   leaves it torn; images hold bytes.
 //! - Lemmas that proofs above cite, since they are about claims of every kind (`proofs/`): what is read may
 //!   always be left, a sync adds no image, one write over a durable file leaves it torn (`Holding`, `Torn`,
 //!   `Laws`), claims go on from call to call and join at any moment (`Moments`, `Putting`, `Quiet`).
@@ -48,6 +51,7 @@ mod durable;
 mod files;
 mod fuse;
 mod host;
+mod image_laws;
 mod looking;
 mod memory;
 mod refusals;
@@ -60,6 +64,7 @@ pub use disk::Disk;
 pub use durable::put;
 pub use fuse::FuseDisk;
 pub use host::HostDisk;
+pub use image_laws::images_by_law;
 pub use looking::{settle, whole_file};
 pub use memory::MemDisk;
 pub use refusals::{DiskRefusal, NodeFault, OpenRefusal};

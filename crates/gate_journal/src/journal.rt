@@ -75,6 +75,7 @@ impl Journal {
     pub fn prepare(&mut self, body: &Bytes) -> Result<(), NoMemory>
         requires { length body.now < 2 ^ 32 }
         ensures prepared { OnOk result (IsPrepared self.new body.now) }
+        ensures err { OnErr result (self.new ≡ self.old) }
         ensures file { self.new.file ≡ self.old.file }
         ensures gate { self.new.gate ≡ self.old.gate }
         ensures fresh { self.new.fresh ≡ self.old.fresh }
