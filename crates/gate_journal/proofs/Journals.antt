@@ -1,13 +1,14 @@
 -- The journal's calls on a disk.
-use Rattle.std.proofs.Common.{◌≡◌, ℕ, ◌+◌, ◌<◌, ◌≤◌, ◌^◌, Bool, true, false, max, List, [], ◌∷◌, ◌++◌, length, take, drop, nat_le, Option, Some, None, Result, Ok, Err, refl, sym, ◌∙◌, ap, subst, arith}
+use Rattle.std.proofs.Common.{◌⊎◌, inl, inr, ◌≡◌, ℕ, ◌+◌, ◌<◌, ◌≤◌, ◌^◌, Bool, true, false, max, List, [], ◌∷◌, ◌++◌, length, take, drop, nat_le, Option, Some, None, Result, Ok, Err, refl, sym, ◌∙◌, ap, subst, arith}
 use Rattle.std.specs.Prelude.{IfSome, OnOk, MatchBool}
 use Rattle.std.proofs.lemmas.List.{drop_all}
-use Rattle.std.proofs.lemmas.Bool.{cond-true, le-leb, leb-true, leb-false}
+use Rattle.std.proofs.lemmas.Bool.{cond-true, le-leb, leb-true, leb-false, cases_lt}
 use Rattle.disk_model.specs.Story.{Story, seen, overwritten}
 use Rattle.disk_model.specs.Torn.{Torn}
 use Rattle.disk_model.specs.Moments.{Only, GoesOn}
 use Rattle.disk_model.specs.Claims.{Steps, Puts, Quietly}
 use Rattle.disk_model.proofs.Laws.{if_on, if_both, if_all}
+use Rattle.disk_model.proofs.Quiet.{quiet_none}
 use Rattle.disk_model.proofs.Putting.{steps_map, steps_none}
 use Rattle.gate_journal.specs.declared.journal.Journal.{Journal}
 use Rattle.gate_journal.specs.Records.{Opened, none_from, records, with_last, framed}
@@ -165,8 +166,19 @@ found_scanned t u f file o j quiet read is within fits named place fresh = recor
       quiet.on (scanned t u f file o j quiet read is named place fresh) (λ x. x);
 }
 
--- the same, with the bytes and their length as the code has them
-pub scan_found : (t u : Option Story) (f : ℕ) (file raw : List ℕ) (n : ℕ) (o : Opened) (j : Journal) → Quietly t u → IfSome t (λ _. file ≡ seen t f) → raw ≡ file → records raw ≡ Ok o → o.gate < max 1 (length raw) → n ≡ length file → n < 2 ^ 64
-    → j.file ≡ f → j.gate ≡ o.gate → j.fresh ≡ nat_le n 1 → IsFound u j
-scan_found t u f file raw n o j quiet read same is within size fits named place fresh =
-    found_scanned t u f file o j quiet read (sym (ap records same) ∙ is) (omega (arith, within, ap length same)) (omega (arith, size, fits)) named place (fresh ∙ ap (λ k. nat_le k 1) size)
+-- ---- a journal at the end of what was read
+
+gate_within : (file : List ℕ) (o : Opened) → records file ≡ Ok o → o.gate < max 1 (length file)
+gate_within file o is = by_length (cases_lt 1 (length file))
+  where
+    by_length : (1 < length file) ⊎ (length file ≤ 1) → o.gate < max 1 (length file)
+    by_length (inl long) = omega (arith, (present_gate file o long is).0)
+    by_length (inr short) = omega (arith, ap (λ (p : Opened). p.gate) (ok_is (records file) o (none_from 0) is (records_short file short)))
+
+pub found_at : (t : Option Story) (f : ℕ) (file : List ℕ) (o : Opened) (gate n : ℕ) (j : Journal) → IfSome t (λ _. file ≡ seen t f) → records file ≡ Ok o → o.gate ≡ gate → n ≡ length file → n < 2 ^ 64
+    → j.file ≡ f → j.gate ≡ gate → j.fresh ≡ nat_le n 1 → IsFound t j
+found_at t f file o gate n j read is place size fits named at fresh =
+    found_scanned t t f file o j (quiet_none t) read is (gate_within file o is) (omega (arith, size, fits)) named (at ∙ sym place) (fresh ∙ ap (λ k. nat_le k 1) size)
+
+pub read_now : (t u : Option Story) (f : ℕ) (file raw : List ℕ) → Quietly t u → raw ≡ file → IfSome t (λ _. file ≡ seen t f) → IfSome u (λ _. raw ≡ seen u f)
+read_now t u f file raw quiet same read = if_on t u (file ≡ seen t f) (raw ≡ seen u f) quiet.on read (λ e. same ∙ e ∙ sym (quiet.reads f))

@@ -1,10 +1,10 @@
 //! The journal, as it is written.
-ghost use Rattle.std.specs.Prelude.{◌≡◌, ℕ, ◌+◌, ◌^◌, ◌<◌, ◌≤◌, List, [], length, OnOk, OnErr, IfSome, if◌then◌else◌};
-ghost use Rattle.disk_model.specs.Story.{seen, count};
+ghost use Rattle.std.specs.Prelude.{◌≡◌, ℕ, ◌+◌, ◌^◌, ◌<◌, ◌≤◌, List, [], length, Option, Ok, OnOk, OnErr, IfSome, if◌then◌else◌};
+ghost use Rattle.disk_model.specs.Story.{Story, seen, count};
 ghost use Rattle.disk_model.specs.Moments.{Only};
 ghost use Rattle.disk_model.specs.Claims.{Steps};
 ghost use Rattle.disk_model.specs.Answers.{HasDiskCause};
-ghost use Rattle.gate_journal.specs.Records.{records, with_last};
+ghost use Rattle.gate_journal.specs.Records.{Opened, records, with_last};
 ghost use Rattle.gate_journal.specs.Journal.{Rests, HasStaged, IsPrepared, IsFound, SameRecords, MaybeOneMore};
 
 use byte_fields::bytes_u32;
@@ -25,8 +25,18 @@ pub struct Journal {
 }
 
 impl Journal {
+    /// The journal of a file with these bytes, whose open records were read up to this gate.
+    pub fn found(alloc: Global, file: u32, bytes: &[u8], gate: usize) -> Journal
+        requires { (opened : Opened) × (records bytes.now ≡ Ok opened) × (opened.gate ≡ gate) }
+        ensures file { result.file ≡ file }
+        ensures gate { result.gate ≡ gate }
+        ensures found { (t : Option Story) → IfSome t (λ _. bytes.now ≡ seen t file) → IsFound t result }
+    {
+        Journal::new(alloc, file, gate as u64, bytes.len() <= 1)
+    }
+
     /// The journal of a file with its present gate at a place, or with none yet.
-    pub(crate) fn new(alloc: Global, file: u32, gate: u64, fresh: bool) -> Journal
+    fn new(alloc: Global, file: u32, gate: u64, fresh: bool) -> Journal
         ensures { result ≡ record { alloc = alloc; file = file; gate = gate; fresh = fresh; ready = [] } }
     {
         Journal {

@@ -9,7 +9,8 @@
 //! This crate stands on the disks of `disk_model` and knows nothing of what bodies say; the stores stand on it.
 //!
 //! - `record`: [`next_record`], the record at a gate, the end, or the damage
-//! - `scanning`: [`scan`], all open records of a file with its journal
+//! - `scanning`: [`scan`], all open records of a file with its journal; who reads record by record makes the journal
+//!   at their end by [`Journal::found`]
 //! - `journal`: [`Journal`] with [`Journal::start`], [`Journal::prepare`], [`Journal::stage`] and
 //!   [`Journal::open_gate`]
 //! - `worked`: journals by hand

@@ -47,7 +47,6 @@ impl From<AllocError> for Stop {
 /// The open records of some bytes, one by one.
 fn read_records(alloc: Global, bytes: &[u8]) -> Result<Found, Stop>
     ensures found { IfOk result (λ f. records bytes.now ≡ Ok (record { bodies = f.bodies; gates = f.gates; gate = f.gate })) }
-    ensures within { IfOk result (λ f. f.gate < max 1 (length bytes.now)) }
     ensures damaged { (at : ℕ) → result ≡ Err (Stop.Damaged at) → records bytes.now ≡ Err at }
 {
     let mut bodies = List::new(alloc);
@@ -88,7 +87,8 @@ pub fn scan<D: Disk>(alloc: Global, d: &mut D, file: u32) -> Result<Records, Ope
     ensures cause { HasOpenCause (D.faults d.old) (D.faults d.new) result }
 {
     let bytes = whole_file(alloc, d, file)?;
-    match read_records(alloc, bytes.as_slice()) {
+    let contents = bytes.as_slice();
+    match read_records(alloc, contents) {
         Ok(
             Found {
                 bodies,
@@ -98,7 +98,7 @@ pub fn scan<D: Disk>(alloc: Global, d: &mut D, file: u32) -> Result<Records, Ope
         ) => Ok(Records {
             bodies,
             gates,
-            journal: Journal::new(alloc, file, gate as u64, bytes.len() <= 1),
+            journal: Journal::found(alloc, file, contents, gate),
         }),
         Err(Stop::Damaged(at)) => Err(OpenRefusal::Damaged {
             file,
