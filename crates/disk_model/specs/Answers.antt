@@ -26,11 +26,12 @@ pub record HasDiskCause {A : Type 0} (before now : ℕ) (result : Result A DiskR
   pub later : before ≤ now
   pub failed : result ≡ Err Failed → Rose before now
 
--- the same of calls over a disk, where the fault is Disk
+-- the same of a node's calls, which answer a disk's fault as Disk
 pub record HasNodeCause {A : Type 0} (before now : ℕ) (result : Result A NodeFault) : Type 0 where
   pub later : before ≤ now
   pub disk : result ≡ Err node.Disk → Rose before now
 
+-- the same of openings
 pub record HasOpenCause {A : Type 0} (before now : ℕ) (result : Result A OpenRefusal) : Type 0 where
   pub later : before ≤ now
   pub disk : result ≡ Err opening.Disk → Rose before now

@@ -20,7 +20,9 @@ pub struct TwistDisk {
 
 impl TwistDisk {
     /// This disk, where a read of the file gives the byte at the place.
-    pub fn new(inner: MemDisk, file: u32, at: u64, byte: u8) -> TwistDisk {
+    pub fn new(inner: MemDisk, file: u32, at: u64, byte: u8) -> TwistDisk
+        ensures { result ≡ record { inner = inner; file = file; at = at; byte = byte } }
+    {
         TwistDisk {
             inner,
             file,

@@ -24,11 +24,12 @@ pub record Opened : Type 0 where
 abbrev pub none_from : ℕ → Opened
 none_from gate = record { bodies = []; gates = []; gate = gate }
 
--- a record more in front, or behind
+-- a record more in front
 abbrev pub with_first : List ℕ → ℕ → Result Opened ℕ → Result Opened ℕ
 with_first body gate (Ok o) = Ok (record { bodies = body ∷ o.bodies; gates = gate ∷ o.gates; gate = o.gate })
 with_first body gate (Err at) = Err at
 
+-- a record more behind, at the present gate
 abbrev pub with_last : List ℕ → Result Opened ℕ → Result Opened ℕ
 with_last body (Ok o) = Ok (record { bodies = o.bodies ++ body ∷ []; gates = o.gates ++ o.gate ∷ []; gate = o.gate + 5 + length body })
 with_last body (Err at) = Err at
