@@ -1,0 +1,10 @@
+pub mod Bytes
+pub mod Holding
+pub mod Torn
+pub mod Laws
+pub mod Moments
+pub mod Putting
+pub mod Quiet
+pub mod ByHand
+pub mod Examples
+pub mod Recorded

@@ -1,0 +1,5 @@
+use Rattle.disk_model.proofs.Recorded.{kept}
+use Rattle.disk_model.proofs.memory.MemDisk.keep.Goals as goal
+
+pub invariant_of-self : goal.invariant_of-self
+invariant_of-self c = kept _ _ _ _ _ c.push.result c.requires c.push.ensures.ok c.push.ensures.err c.self.invariant

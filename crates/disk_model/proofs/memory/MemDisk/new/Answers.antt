@@ -1,0 +1,9 @@
+use Rattle.std.proofs.Common.{sym, ◌∙◌}
+use Rattle.disk_model.proofs.Recorded.{begins, begins_settled}
+use Rattle.disk_model.proofs.memory.MemDisk.new.Goals as goal
+
+pub invariant_of-result : goal.invariant_of-result
+invariant_of-result c = begins _ _ _ (c.new-2.ensures ∙ sym c.new.ensures) c.new-3.ensures
+
+pub returns-clause-settled : goal.returns-clause-settled
+returns-clause-settled c = begins_settled c.new.result c.new-3.result c.new-3.ensures

@@ -1,0 +1,8 @@
+use Rattle.disk_model.proofs.Recorded.{begins, begins_settled}
+use Rattle.disk_model.proofs.memory.MemDisk.with_files.Goals as goal
+
+pub invariant_of-result : goal.invariant_of-result
+invariant_of-result c = begins _ _ _ c.in_ok-held.ensures c.new.ensures
+
+pub returns-clause-settled : goal.returns-clause-settled
+returns-clause-settled c = begins_settled c.args.first c.new.result c.new.ensures

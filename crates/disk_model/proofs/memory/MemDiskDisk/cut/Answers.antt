@@ -1,0 +1,5 @@
+use Rattle.disk_model.proofs.Recorded.{shortened}
+use Rattle.disk_model.proofs.memory.MemDiskDisk.cut.Goals as goal
+
+pub invariant_of-self-2 : goal.invariant_of-self-2
+invariant_of-self-2 c = shortened _ _ _ _ _ _ _ c.in_ok-push.ensures.ok c.cut.ensures c.self.invariant
