@@ -99,9 +99,7 @@ pub fn well_expr(expr: &Expr) -> bool
         Expr::Subquery(select) => gives_one(select.get()) && well_select(select.get()),
         Expr::Exists(select) => well_select(select.get()),
         Expr::Call { name, arguments } => is_name(name) && well_exprs(arguments),
-        Expr::FuncN(_, arguments) => {
-            has_expr(arguments) && well_exprs(arguments)
-        }
+        Expr::FuncN(_, arguments) => { has_expr(arguments) && well_exprs(arguments) }
         Expr::Func0(_) => true,
     }
 }

@@ -1,7 +1,5 @@
 //! Expressions and the SELECTs that stand in them.
-use val_types::{
-    Agg, BinOp, Boxed, Bytes, Func0, Func1, Func2, Func3, FuncN, List, UnOp, Value,
-};
+use val_types::{Agg, BinOp, Boxed, Bytes, Func0, Func1, Func2, Func3, FuncN, List, UnOp, Value};
 
 /// An expression. Names are folded to lower case and stand without quotes.
 #[cycle(expression)]
