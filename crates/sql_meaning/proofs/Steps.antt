@@ -1,5 +1,6 @@
 -- What holds between the scene before an action and the one after it, from one action to those that it is made of.
-use Rattle.std.proofs.Common.{◌≡◌, ℕ, zero, suc, List, [], ◌∷◌, ◌++◌, Bool, true, false, cond, Option, Some, None, Result, Ok, Err, ℤ, refl, sym, ap, ◌∙◌, append_assoc, append-nil}
+use Rattle.std.proofs.Common.{◌≡◌, ◌≤◌, ℕ, zero, suc, List, [], ◌∷◌, ◌++◌, Bool, true, false, cond, Option, Some, None, Result, Ok, Err, ℤ, refl, sym, ap, ◌∙◌, append_assoc, append-nil}
+use Rattle.std.proofs.Math.Nat.{le_refl, le_trans, le-suc}
 use Rattle.std.specs.Option.{option_and_then}
 use Rattle.val_types.specs.declared.change.Change.{Change}
 use Rattle.table_rules.specs.Tables.{Table}
@@ -24,9 +25,9 @@ leads_same a b tables changes = record { more = []; added = changes ∙ sym (app
 
 -- ---- what holds of actions, whether they end with a value or with an error
 
--- A relation that holds where tables and changes stay, and from one to the next.
+-- A relation that holds where tables and changes stay and no turn comes back, and from one to the next.
 pub record IsMove (R : Scene → Scene → Type 0) : Type 0 where
-  pub same : (a b : Scene) → b.tables ≡ a.tables → b.changes ≡ a.changes → R a b
+  pub same : (a b : Scene) → b.tables ≡ a.tables → b.changes ≡ a.changes → b.turns ≤ a.turns → R a b
   pub on : (a b c : Scene) → R a b → R b c → R a c
 
 pub record IsMoved (R : Scene → Scene → Type 0) {A : Type 0} (m : Action A) : Type 0 where
@@ -34,7 +35,7 @@ pub record IsMoved (R : Scene → Scene → Type 0) {A : Type 0} (m : Action A) 
 
 -- changes lead on
 pub leading : IsMove Leads
-leading = record { same = leads_same; on = leads_on }
+leading = record { same = λ a b tables changes turns. leads_same a b tables changes; on = leads_on }
 
 abbrev pub IsLed : {A : Type 0} → Action A → Type 0
 IsLed m = IsMoved Leads m
@@ -42,9 +43,16 @@ IsLed m = IsMoved Leads m
 -- tables and changes stay
 pub staying : IsMove StaysAsItWas
 staying = record {
-  same = λ a b tables changes. record { tables = tables; changes = changes };
+  same = λ a b tables changes turns. record { tables = tables; changes = changes };
   on = λ a b c p q. record { tables = q.tables ∙ p.tables; changes = q.changes ∙ p.changes };
 }
+
+-- turns are not given back
+abbrev pub NoMoreTurns : Scene → Scene → Type 0
+NoMoreTurns a b = b.turns ≤ a.turns
+
+pub spending : IsMove NoMoreTurns
+spending = record { same = λ a b tables changes turns. turns; on = λ a b c p q. le_trans q p }
 
 module _ {R : Scene → Scene → Type 0} (law : IsMove R) where
   then_moved : {A B : Type 0} (f : A → Action B) (scene : Scene) (e : Ending A) → R scene (scene_after e) → ((a : A) → IsMoved R (f a)) → R scene (scene_after (then_do e f))
@@ -55,10 +63,10 @@ module _ {R : Scene → Scene → Type 0} (law : IsMove R) where
   bind_moved m f first rest = record { moves = λ scene. then_moved f scene (m scene) (first.moves scene) rest }
 
   pub pure_moved : {A : Type 0} (a : A) → IsMoved R (pure a)
-  pure_moved a = record { moves = λ scene. law.same scene scene refl refl }
+  pure_moved a = record { moves = λ scene. law.same scene scene refl refl (le_refl scene.turns) }
 
   pub fail_moved : (A : Type 0) (code : ℕ) → IsMoved R (fail {A = A} code)
-  fail_moved A code = record { moves = λ scene. law.same scene scene refl refl }
+  fail_moved A code = record { moves = λ scene. law.same scene scene refl refl (le_refl scene.turns) }
 
   pub answered_moved : {A : Type 0} (r : Result A ℕ) → IsMoved R (answered r)
   answered_moved (Ok a) = pure_moved a
@@ -100,23 +108,23 @@ module _ {R : Scene → Scene → Type 0} (law : IsMove R) where
   table_moved name = record { moves = λ scene. (needed_moved 1146 (table_named name scene.tables)).moves scene }
 
   pub counter_moved : (name : List ℕ) → IsMoved R (counter_now name)
-  counter_moved name = record { moves = λ scene. law.same scene scene refl refl }
+  counter_moved name = record { moves = λ scene. law.same scene scene refl refl (le_refl scene.turns) }
 
   pub raise_moved : (name : List ℕ) (v : ℤ) → IsMoved R (raise_counter name v)
-  raise_moved name v = record { moves = λ scene. law.same scene _ refl refl }
+  raise_moved name v = record { moves = λ scene. law.same scene _ refl refl (le_refl scene.turns) }
 
   pub draw_moved : IsMoved R draw
-  draw_moved = record { moves = λ scene. law.same scene _ refl refl }
+  draw_moved = record { moves = λ scene. law.same scene _ refl refl (le_refl scene.turns) }
 
   pub uuid_moved : (first : ℕ) → IsMoved R (next_uuid first)
-  uuid_moved first = record { moves = λ scene. law.same scene _ refl refl }
+  uuid_moved first = record { moves = λ scene. law.same scene _ refl refl (le_refl scene.turns) }
 
-  turn_moved : (n : ℕ) → IsMoved R (turn_spent n)
-  turn_moved zero = fail_moved _ 30004
-  turn_moved (suc n) = record { moves = λ scene. law.same scene _ refl refl }
+  turn_moved : (n : ℕ) (scene : Scene) → scene.turns ≡ n → R scene (scene_after (turn_spent n scene))
+  turn_moved zero scene e = (fail_moved (Unit {0}) 30004).moves scene
+  turn_moved (suc n) scene e = law.same scene _ refl refl (rw e (le-suc n))
 
   pub spend_moved : IsMoved R spend_turn
-  spend_moved = record { moves = λ scene. (turn_moved scene.turns).moves scene }
+  spend_moved = record { moves = λ scene. turn_moved scene.turns scene refl }
 
 -- ---- changes
 
@@ -127,6 +135,22 @@ make_found code change scene (Some tables) e = record { more = change ∷ []; ad
 
 pub make_led : (code : ℕ) (change : Change) → IsLed (make code change)
 make_led code change = record { moves = λ scene. make_found code change scene (applied change scene.tables) refl }
+
+-- A move that a change is, too, whether it can be made or not.
+pub record IsWork (R : Scene → Scene → Type 0) : Type 0 where
+  pub move : IsMove R
+  pub made : (code : ℕ) (change : Change) → IsMoved R (make code change)
+
+pub leading_work : IsWork Leads
+leading_work = record { move = leading; made = make_led }
+
+make_spends : (code : ℕ) (change : Change) (scene : Scene) (o : Option (List Table))
+    → NoMoreTurns scene (scene_after (elim o as (λ _. Ending (Unit {0})) [ None ↦ failed code scene | Some tables ↦ done tt (noted change scene tables) ]))
+make_spends code change scene None = le_refl scene.turns
+make_spends code change scene (Some tables) = le_refl scene.turns
+
+pub spending_work : IsWork NoMoreTurns
+spending_work = record { move = spending; made = λ code change. record { moves = λ scene. make_spends code change scene (applied change scene.tables) } }
 
 -- ---- an error takes back what was done
 

@@ -4,6 +4,7 @@ pub mod Fuel
 pub mod Leading
 pub mod Running
 pub mod Scenes
+pub mod Turns
 pub mod Values
 pub mod Within
 pub mod Worked

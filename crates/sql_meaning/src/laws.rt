@@ -1,6 +1,7 @@
 //! Laws of the definitions: what holds of every statement.
 ghost use Rattle.sql_meaning.specs.Fuel.{EvaluationsKeep, StatementsKeep};
 ghost use Rattle.sql_meaning.specs.Leading.{DosChangeNothing, EvaluationsChangeNothing, EvaluationsEndWell, NoFunctionChanges, SelectsChangeNothing, StatementsEndWell};
+ghost use Rattle.sql_meaning.specs.Turns.{BodiesSpendTurns, EvaluationsSpendTurns, StatementsSpendTurns};
 ghost use Rattle.sql_meaning.specs.Within.{DosAreWell, StepsAreWell};
 
 /// A law: what a statement does to the tables is made by its changes, one after the other, and an error
@@ -15,6 +16,14 @@ pub fn statements_end_well()
 pub fn more_fuel_does_the_same()
     ensures statements { StatementsKeep }
     ensures evaluations { EvaluationsKeep }
+{}
+
+/// A law: turns of WHILE are spent and never given back, by a statement, by a body of a function or trigger and by the
+/// expressions that a session evaluates, whether they are done or end with an error.
+pub fn turns_never_rise()
+    ensures statements { StatementsSpendTurns }
+    ensures bodies { BodiesSpendTurns }
+    ensures evaluations { EvaluationsSpendTurns }
 {}
 
 /// A law: the steps of a well statement are well and less deep, and DO over the values of a SET, the
