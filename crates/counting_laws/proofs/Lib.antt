@@ -1,0 +1,3 @@
+pub mod MovedChanges
+pub mod MovedBodies
+pub mod Counts
