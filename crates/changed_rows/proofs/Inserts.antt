@@ -1,7 +1,6 @@
 -- An INSERT of a row, one step at a time.
 use Rattle.std.proofs.Common.{◌≡◌, ℕ, suc, ◌+◌, ◌*◌, ◌<◌, ◌≤◌, List, [], ◌∷◌, Bool, false, Option, Some, None, ℤ, length, get_or, drop, refl, sym, ap, ◌∙◌, subst, Result, Ok, Err, unwrap_or, zip, find, reverse, ◌++◌, add-one, drop-cons, arith}
-use Rattle.std.specs.Borrow.{Bor, MutBor}
-use Rattle.std.specs.Option.{option_copied}
+use Rattle.std.specs.Borrow.{Bor}
 use Rattle.std.proofs.lemmas.List.{drop_all, length-map, reverse-append, reverse-reverse}
 use Rattle.val_types.specs.declared.value.Value.{Value}
 use Rattle.val_types.specs.declared.refusal.SqlRefusal.{SqlRefusal}
@@ -10,22 +9,16 @@ use Rattle.val_types.specs.declared.definitions.TableDef.{TableDef}
 use Rattle.table_rules.specs.Tables.{Table}
 use Rattle.table_rules.specs.Stored.{table_named, row_in_way, key_tests, has_key_in_way}
 use Rattle.sql_tree.specs.Tree.{Tree}
-use Rattle.sql_tree.specs.declared.statements.Time.{Time}
-use Rattle.sql_tree.specs.declared.statements.Cause.{Cause}
 use Rattle.sql_tree.specs.declared.statements.Cause.TheVariants as causes
 use Rattle.sql_meaning.specs.Scenes.{Scene, Ending, Action, done, failed, then_do, pure, needed, carried_on, ◌>>=◌}
 use Rattle.sql_meaning.specs.Frames.{World, Frame}
-use Rattle.sql_meaning.specs.Values.{value}
 use Rattle.sql_meaning.specs.Changing.{Manner, refusing, ignoring, replacing, updating, Inserting, Counted, put_at, left_out_row, before_row, none_missing, asked_place, count_row, put_row, clear_way, delete_row, settle, place_row, update_row}
-use Rattle.sql_stage.specs.declared.stage.Stage.{Stage}
-use Rattle.sql_stage.specs.declared.running.Running.{Running as UnderWay}
-use Rattle.sql_stage.specs.Stage.{EndsAs, EndsAsBy, scene_of}
+use Rattle.sql_stage.specs.Stage.{EndsAs, EndsAsBy}
 use Rattle.sql_evaluation.specs.declared.world.View.{View as Shown}
 use Rattle.sql_evaluation.specs.declared.world.Around.{Around}
-use Rattle.sql_evaluation.specs.Seen.{Anywhere, value_in, world_of, frame_of, running_of}
+use Rattle.sql_evaluation.specs.Seen.{Anywhere, world_of, frame_of}
 use Rattle.changed_rows.specs.declared.inserting.Inserting.{Inserting as SoFar}
 use Rattle.changed_rows.specs.Changed.{frame_behind, inserting_of, left_in, updated_in, inserted_in}
-use Rattle.changed_rows.specs.Firing.{Fires, left_of}
 use Rattle.changed_rows.specs.Inserted.{IsBehind, InWay, come_to, filled_in, entered_in, placed_in, put_row_in, way_of, one_deleted, cleared_by}
 
 ends_through : (r : Result SoFar SqlRefusal) (scene : Scene) (x y : Ending Inserting) → x ≡ y → EndsAsBy inserting_of r scene y → EndsAsBy inserting_of r scene x
@@ -218,25 +211,13 @@ pub is_behind : (a b : Around) (row : Bor Shown) → b ≡ record a { inserted =
 unfolding world_of frame_of
 is_behind a b row is = subst (λ (c : Around). IsBehind c a row.now) (sym is) (record { world = refl; frame = λ vs. refl })
 
-pub value_behind : (a b : Around) (row : Shown) (vs : List Shown) (t : Tree) (r : Result Value SqlRefusal) (scene last : Scene) → IsBehind b a row
-    → EndsAs r last (value (world_of a) (frame_behind a row vs) t scene) → EndsAs r last (value_in b vs t scene)
-value_behind a b row vs t r scene last is h =
-    subst (λ (w : World). EndsAs r last (value w (frame_of b vs) t scene)) (sym is.world)
-    (subst (λ (f : Frame). EndsAs r last (value (world_of a) f t scene)) (sym (is.frame vs)) h)
-
-pub fires_behind : (post : MutBor Stage → Bor UnderWay → Time → Cause → Bor TableDef → Option (Bor (List Value)) → Option (Bor (List Value)) → Result (Option (List Value)) SqlRefusal → MutBor Stage → Type 0) (a b : Around) (row : Shown)
-    → IsBehind b a row → Fires post a → Fires post b
-fires_behind post a b row is h s g time event d new old r s' met =
-    subst (λ (w : World). EndsAsBy (left_of (option_copied new)) r (scene_of s'.now) (w.below.fire (running_of g.now) time event d.now (option_copied new) (option_copied old) (scene_of s.now)))
-    (sym is.world) (h s g time event d new old r s' met)
-
 pub updated_behind : (a b : Around) (row : Shown) (d : TableDef) (sets : List (List ℕ × Tree)) (old : List Value) (r : Result ℕ SqlRefusal) (scene last : Scene) → IsBehind b a row
     → EndsAs r last (updated_in b d sets old scene) → EndsAs r last (update_row (world_of a) (frame_behind a row []) d sets old scene)
 updated_behind a b row d sets old r scene last is h =
     subst (λ (f : Frame). EndsAs r last (update_row (world_of a) f d sets old scene)) (is.frame [])
     (subst (λ (w : World). EndsAs r last (update_row w (frame_of b []) d sets old scene)) is.world h)
 
-pub ruleset seen_behind = (value_behind, fires_behind, updated_behind)
+pub ruleset seen_behind = (updated_behind)
 
 -- ---- NOT NULL, the AUTO_INCREMENT value and the place
 

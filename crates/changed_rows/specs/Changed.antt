@@ -1,24 +1,18 @@
 -- What the code's values stand for, where a table stands, and what changing a row in some surroundings does.
-use Rattle.std.specs.Prelude.{◌≡◌, ℕ, List, [], Option, Some, None, Result, ℤ, slice_get, unwrap_or}
-use Rattle.std.specs.Borrow.{Bor, MutBor}
+use Rattle.std.specs.Prelude.{◌≡◌, ℕ, List, [], Option, Some, None, ℤ, slice_get, unwrap_or}
 use Rattle.val_types.specs.declared.value.Value.{Value}
-use Rattle.val_types.specs.declared.refusal.SqlRefusal.{SqlRefusal}
 use Rattle.val_types.specs.declared.definitions.TableDef.{TableDef}
 use Rattle.table_rules.specs.Stores.{place_of, definitions_of}
 use Rattle.sql_tree.specs.Tree.{Tree}
-use Rattle.sql_tree.specs.View.{view_tree}
 use Rattle.sql_tree.specs.StatementView.{view_sets}
-use Rattle.sql_tree.specs.declared.expressions.Expr.{Expr}
 use Rattle.sql_tree.specs.declared.statements.Cause.{Cause}
 use Rattle.sql_tree.specs.declared.statements.Cause.TheVariants as causes
 use Rattle.catalog_rules.specs.Names.{place_among}
 use Rattle.catalog_rules.specs.Objects.{columns_of}
 use Rattle.sql_meaning.specs.Scenes.{Action, ◌>>=◌, pure, needed, carried_on}
 use Rattle.sql_meaning.specs.Frames.{Frame}
-use Rattle.sql_meaning.specs.Values.{value}
 use Rattle.sql_meaning.specs.Changing.{Manner, refusing, ignoring, replacing, updating, Inserting, delete_row, update_row, insert_row, updating_frame, put_at, before_row, after_row, assign_column, none_missing, store_update}
 use Rattle.sql_stage.specs.declared.stage.Stage.{Stage}
-use Rattle.sql_stage.specs.Stage.{EndsAs, LeadsOn, scene_of}
 use Rattle.sql_evaluation.specs.declared.world.View.{View as Shown}
 use Rattle.sql_evaluation.specs.declared.world.Around.{Around}
 use Rattle.sql_evaluation.specs.Seen.{frame_of, world_of}
@@ -65,18 +59,6 @@ inserted_in a forced d places manner so_far vs = insert_row (world_of a) (frame_
 -- what is seen there: the row that was to be inserted too
 abbrev pub frame_behind : Around → Shown → List Shown → Frame
 frame_behind a row vs = updating_frame (frame_of a vs) row.definition row.row
-
--- what evaluating by a closure gives where that row is handed in
-abbrev pub EvaluatesBehind : (MutBor Stage → Bor Shown → Bor Expr → Bor (List Shown) → Result Value SqlRefusal → MutBor Stage → Type 0) → Around → Type 0
-EvaluatesBehind post a =
-    (s : MutBor Stage) (row : Bor Shown) (e : Bor Expr) (vs : Bor (List Shown)) (r : Result Value SqlRefusal) (s' : MutBor Stage) → post s row e vs r s'
-    → EndsAs r (scene_of s'.now) (value (world_of a) (frame_behind a row.now vs.now) (view_tree e.now) (scene_of s.now))
-
--- and that it leads on
-abbrev pub LeadsBehind : (MutBor Stage → Bor Shown → Bor Expr → Bor (List Shown) → Result Value SqlRefusal → MutBor Stage → Type 0) → Type 0
-LeadsBehind post =
-    (s : MutBor Stage) (row : Bor Shown) (e : Bor Expr) (vs : Bor (List Shown)) (r : Result Value SqlRefusal) (s' : MutBor Stage) → post s row e vs r s'
-    → LeadsOn s.now s'.now
 
 -- ---- parts of a change that the code takes one by one
 

@@ -6,88 +6,58 @@ ghost use Rattle.sql_meaning.specs.Changing.{after_row, before_row};
 ghost use Rattle.sql_stage.specs.Stage.{EndsAs, EndsAsBy, LeadsOn, scene_of};
 ghost use Rattle.sql_evaluation.specs.Seen.{world_of};
 ghost use Rattle.changed_rows.specs.Changed.{left_in};
-ghost use Rattle.changed_rows.specs.Firing.{Fires, FiresLead, left_of};
+ghost use Rattle.changed_rows.specs.Firing.{left_of};
 
+use crate::executor::Executor;
+use crate::table::ChangedTable;
 use sharing::Shared;
-use sql_evaluation::Around;
-use sql_stage::{Running, Stage};
+use sql_stage::Stage;
 use sql_tree::{Cause, Time};
-use std::alloc::Global;
-use val_types::{Row, SqlRefusal, TableDef};
+use val_types::{Row, SqlRefusal};
 
 /// BEFORE: the row that is left to be stored, None where it is as it was given.
-#[tactic(auto, using(crate::proofs::Triggers::under_way))]
-pub(crate) fn before<
-    T: Fn(
-        &mut Stage,
-        &Running<'_>,
-        Time,
-        Cause,
-        &Shared<TableDef>,
-        Option<&Row>,
-        Option<&Shared<Row>>,
-    ) -> Result<Option<Row>, SqlRefusal>,
->(
-    fire: &T,
-    around: &Around<'_>,
+pub(crate) fn before<E: Executor>(
+    table: &ChangedTable<'_, E>,
     stage: &mut Stage,
     event: Cause,
-    definition: &Shared<TableDef>,
     new: Option<&Row>,
     old: Option<&Shared<Row>>,
 ) -> Result<Option<Row>, SqlRefusal>
-    requires fires { T.IsAlwaysCallable fire.now }
-    requires fired { Fires (T.post fire.now) around.now }
-    requires fire_leads { FiresLead (T.post fire.now) }
+    requires serves { E.serves table.now.executor.now (world_of table.now.around.now).below }
     ensures gives { EndsAsBy (left_of (option_copied new.entry)) result (scene_of stage.new)
-        (before_row (world_of around.now) event definition.now (option_copied new.entry) (option_copied old.entry) (scene_of stage.old)) }
+        (before_row (world_of table.now.around.now) event table.now.definition.now (option_copied new.entry) (option_copied old.entry) (scene_of stage.old)) }
     ensures leads { LeadsOn stage.old stage.new }
 {
-    fire(
+    table.executor.fire(
+        table.around,
         stage,
-        around.running,
         Time::Before,
         event,
-        definition,
+        table.definition,
         new,
         old,
     )
 }
 
 /// AFTER.
-#[tactic(auto, using(crate::proofs::Triggers::under_way))]
-pub(crate) fn after<
-    T: Fn(
-        &mut Stage,
-        &Running<'_>,
-        Time,
-        Cause,
-        &Shared<TableDef>,
-        Option<&Row>,
-        Option<&Shared<Row>>,
-    ) -> Result<Option<Row>, SqlRefusal>,
->(
-    fire: &T,
-    around: &Around<'_>,
+pub(crate) fn after<E: Executor>(
+    table: &ChangedTable<'_, E>,
     stage: &mut Stage,
     event: Cause,
-    definition: &Shared<TableDef>,
     new: Option<&Row>,
     old: Option<&Shared<Row>>,
 ) -> Result<(), SqlRefusal>
-    requires fires { T.IsAlwaysCallable fire.now }
-    requires fired { Fires (T.post fire.now) around.now }
-    requires fire_leads { FiresLead (T.post fire.now) }
+    requires serves { E.serves table.now.executor.now (world_of table.now.around.now).below }
     ensures gives { EndsAs result (scene_of stage.new)
-        (after_row (world_of around.now) event definition.now (option_copied new.entry) (option_copied old.entry) (scene_of stage.old)) }
+        (after_row (world_of table.now.around.now) event table.now.definition.now (option_copied new.entry) (option_copied old.entry) (scene_of stage.old)) }
     ensures leads { LeadsOn stage.old stage.new }
 {
-    fire(
+    table.executor.fire(
+        table.around,
         stage,
-        around.running,
         Time::After,
         event,
-        definition,
+        table.definition,
         new,
         old,
     )?;
@@ -95,79 +65,34 @@ pub(crate) fn after<
 }
 
 /// The row that BEFORE INSERT leaves.
-pub(crate) fn before_insert<
-    T: Fn(
-        &mut Stage,
-        &Running<'_>,
-        Time,
-        Cause,
-        &Shared<TableDef>,
-        Option<&Row>,
-        Option<&Shared<Row>>,
-    ) -> Result<Option<Row>, SqlRefusal>,
->(
-    fire: &T,
-    around: &Around<'_>,
+pub(crate) fn before_insert<E: Executor>(
+    table: &ChangedTable<'_, E>,
     stage: &mut Stage,
-    definition: &Shared<TableDef>,
     row: Row,
 ) -> Result<Row, SqlRefusal>
-    requires fires { T.IsAlwaysCallable fire.now }
-    requires fired { Fires (T.post fire.now) around.now }
-    requires fire_leads { FiresLead (T.post fire.now) }
-    ensures gives { EndsAs result (scene_of stage.new) (left_in around.now causes.Insert definition.now row None (scene_of stage.old)) }
+    requires serves { E.serves table.now.executor.now (world_of table.now.around.now).below }
+    ensures gives { EndsAs result (scene_of stage.new) (left_in table.now.around.now causes.Insert table.now.definition.now row None (scene_of stage.old)) }
     ensures leads { LeadsOn stage.old stage.new }
 {
-    match before(
-        fire,
-        around,
-        stage,
-        Cause::Insert,
-        definition,
-        Some(&row),
-        None,
-    )? {
+    match before(table, stage, Cause::Insert, Some(&row), None)? {
         Some(left) => Ok(left),
         None => Ok(row),
     }
 }
 
 /// The row that BEFORE UPDATE leaves.
-pub(crate) fn before_update<
-    T: Fn(
-        &mut Stage,
-        &Running<'_>,
-        Time,
-        Cause,
-        &Shared<TableDef>,
-        Option<&Row>,
-        Option<&Shared<Row>>,
-    ) -> Result<Option<Row>, SqlRefusal>,
->(
-    alloc: Global,
-    fire: &T,
-    around: &Around<'_>,
+pub(crate) fn before_update<E: Executor>(
+    table: &ChangedTable<'_, E>,
     stage: &mut Stage,
-    definition: &Shared<TableDef>,
     row: Shared<Row>,
     old: &Shared<Row>,
 ) -> Result<Shared<Row>, SqlRefusal>
-    requires fires { T.IsAlwaysCallable fire.now }
-    requires fired { Fires (T.post fire.now) around.now }
-    requires fire_leads { FiresLead (T.post fire.now) }
-    ensures gives { EndsAs result (scene_of stage.new) (left_in around.now causes.Update definition.now row (Some old.now) (scene_of stage.old)) }
+    requires serves { E.serves table.now.executor.now (world_of table.now.around.now).below }
+    ensures gives { EndsAs result (scene_of stage.new) (left_in table.now.around.now causes.Update table.now.definition.now row (Some old.now) (scene_of stage.old)) }
     ensures leads { LeadsOn stage.old stage.new }
 {
-    match before(
-        fire,
-        around,
-        stage,
-        Cause::Update,
-        definition,
-        Some(row.get()),
-        Some(old),
-    )? {
-        Some(left) => Ok(Shared::new(alloc, left)?),
+    match before(table, stage, Cause::Update, Some(row.get()), Some(old))? {
+        Some(left) => Ok(Shared::new(table.alloc, left)?),
         None => Ok(row),
     }
 }

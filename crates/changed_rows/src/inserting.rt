@@ -1,20 +1,19 @@
 //! One row inserted.
 ghost use Rattle.std.specs.Prelude.{◌≡◌, reverse};
 ghost use Rattle.sql_stage.specs.Stage.{EndsAsBy, LeadsOn, scene_of};
-ghost use Rattle.changed_rows.specs.Changed.{EvaluatesBehind, LeadsBehind, StandsAt, inserted_in, inserting_of, manner_of};
-ghost use Rattle.changed_rows.specs.Firing.{Fires, FiresLead};
+ghost use Rattle.changed_rows.specs.Changed.{StandsAt, inserted_in, inserting_of, manner_of};
 ghost use Rattle.changed_rows.specs.Inserted.{entered_in, filled_in};
-ghost use Rattle.sql_evaluation.specs.Seen.{Anywhere};
+ghost use Rattle.sql_evaluation.specs.Seen.{Anywhere, world_of};
 
 use crate::columns::{asked_place, left_out_row, none_missing, put_at};
 use crate::counting::count_row;
+use crate::executor::Executor;
 use crate::firing::before_insert;
 use crate::placing::place_row;
+use crate::table::ChangedTable;
 use auto_inc::StmtSeq;
-use sharing::Shared;
-use sql_evaluation::{Around, View, Views};
-use sql_stage::{Running, Stage};
-use sql_tree::{Cause, ColumnSet, Expr, Time};
+use sql_stage::Stage;
+use sql_tree::ColumnSet;
 use std::alloc::Global;
 use val_types::{List, Row, SqlRefusal, TableDef, Value};
 
@@ -31,6 +30,16 @@ pub enum Manner<'a> {
     Updating(&'a List<ColumnSet>),
 }
 
+/// What an INSERT or REPLACE says of each of its rows.
+#[derive(Clone, Copy)]
+pub struct Insertion<'a> {
+    /// The value that it generates first, if one is forced.
+    pub forced: Option<i64>,
+    /// The places of the columns that it names, in their order.
+    pub places: &'a [usize],
+    pub manner: Manner<'a>,
+}
+
 /// What an INSERT or REPLACE has come to.
 #[derive(Drop)]
 pub struct Inserting {
@@ -42,54 +51,34 @@ pub struct Inserting {
     pub last_id: Option<i64>,
 }
 
-/// Inserts a row into the table at a place: its values in the columns at the places that are named, in their order, the
-/// other columns as they are left out; BEFORE INSERT, NOT NULL, the value of the AUTO_INCREMENT column, the row or what
-/// the manner says of one in its way, AFTER INSERT. `evaluate` evaluates where the row that was to be inserted is seen.
+/// Inserts a row into a table: its values in the columns at the places that are named, in their order, the other columns
+/// as they are left out; BEFORE INSERT, NOT NULL, the value of the AUTO_INCREMENT column, the row or what the manner says
+/// of one in its way, AFTER INSERT.
 ///
 /// 1054 for a place without a column; 30002, 1264 or 1406 for a value that does not fit; 1048 for a NULL in a NOT NULL
 /// column; 1467 where no value can be generated; 1062 for a key that is there; and what `update_row`, evaluation and
 /// the triggers refuse. A count of rows past 64 bits is want of memory.
 #[tactic(auto, using(crate::proofs::Places::standing, crate::proofs::Inserts::inserting))]
-pub fn insert_row<
-    V: Fn(&mut Stage, &View, &Expr, &Views) -> Result<Value, SqlRefusal>,
-    T: Fn(
-        &mut Stage,
-        &Running<'_>,
-        Time,
-        Cause,
-        &Shared<TableDef>,
-        Option<&Row>,
-        Option<&Shared<Row>>,
-    ) -> Result<Option<Row>, SqlRefusal>,
->(
-    alloc: Global,
-    evaluate: &V,
-    fire: &T,
-    around: &Around<'_>,
-    forced: Option<i64>,
+pub fn insert_row<E: Executor>(
+    table: &ChangedTable<'_, E>,
+    insertion: &Insertion<'_>,
     stage: &mut Stage,
-    at: usize,
-    definition: &Shared<TableDef>,
-    places: &[usize],
-    manner: Manner<'_>,
     so_far: Inserting,
     values: List<Value>,
 ) -> Result<Inserting, SqlRefusal>
-    requires callable { V.IsAlwaysCallable evaluate.now }
-    requires gives { EvaluatesBehind (V.post evaluate.now) around.now }
-    requires leads { LeadsBehind (V.post evaluate.now) }
-    requires fires { T.IsAlwaysCallable fire.now }
-    requires fired { Fires (T.post fire.now) around.now }
-    requires fire_leads { FiresLead (T.post fire.now) }
-    requires stands { StandsAt at definition.now stage.old }
-    ensures gives { EndsAsBy inserting_of result (scene_of stage.new) (inserted_in around.now forced definition.now places.now (manner_of manner.entry) (inserting_of so_far) values (scene_of stage.old)) }
+    requires serves { E.serves table.now.executor.now (world_of table.now.around.now).below }
+    requires stands { StandsAt table.now.at table.now.definition.now stage.old }
+    ensures gives { EndsAsBy inserting_of result (scene_of stage.new) (inserted_in table.now.around.now insertion.now.forced table.now.definition.now insertion.now.places.now (manner_of insertion.now.manner) (inserting_of so_far) values (scene_of stage.old)) }
     ensures leads { LeadsOn stage.old stage.new }
 {
-    let filled = filled_row(alloc, definition.get(), places, values)?;
-    let left = before_insert(fire, around, stage, definition, filled)?;
-    enter(
-        alloc, evaluate, fire, around, forced, stage, at, definition, manner, so_far, left,
-    )
+    let filled = filled_row(
+        table.alloc,
+        table.definition.get(),
+        insertion.places,
+        values,
+    )?;
+    let left = before_insert(table, stage, filled)?;
+    enter(table, insertion, stage, so_far, left)
 }
 
 /// Values from the last one on.
@@ -125,38 +114,16 @@ fn filled_row(
 
 /// NOT NULL, the AUTO_INCREMENT value, and the row put in its place.
 #[tactic(auto, using(crate::proofs::Places::standing, crate::proofs::Inserts::entering))]
-fn enter<
-    V: Fn(&mut Stage, &View, &Expr, &Views) -> Result<Value, SqlRefusal>,
-    T: Fn(
-        &mut Stage,
-        &Running<'_>,
-        Time,
-        Cause,
-        &Shared<TableDef>,
-        Option<&Row>,
-        Option<&Shared<Row>>,
-    ) -> Result<Option<Row>, SqlRefusal>,
->(
-    alloc: Global,
-    evaluate: &V,
-    fire: &T,
-    around: &Around<'_>,
-    forced: Option<i64>,
+fn enter<E: Executor>(
+    table: &ChangedTable<'_, E>,
+    insertion: &Insertion<'_>,
     stage: &mut Stage,
-    at: usize,
-    definition: &Shared<TableDef>,
-    manner: Manner<'_>,
     so_far: Inserting,
     left: Row,
 ) -> Result<Inserting, SqlRefusal>
-    requires callable { V.IsAlwaysCallable evaluate.now }
-    requires gives { EvaluatesBehind (V.post evaluate.now) around.now }
-    requires leads { LeadsBehind (V.post evaluate.now) }
-    requires fires { T.IsAlwaysCallable fire.now }
-    requires fired { Fires (T.post fire.now) around.now }
-    requires fire_leads { FiresLead (T.post fire.now) }
-    requires stands { StandsAt at definition.now stage.old }
-    ensures gives { EndsAsBy inserting_of result (scene_of stage.new) (entered_in around.now forced definition.now (manner_of manner.entry) (inserting_of so_far) left (scene_of stage.old)) }
+    requires serves { E.serves table.now.executor.now (world_of table.now.around.now).below }
+    requires stands { StandsAt table.now.at table.now.definition.now stage.old }
+    ensures gives { EndsAsBy inserting_of result (scene_of stage.new) (entered_in table.now.around.now insertion.now.forced table.now.definition.now (manner_of insertion.now.manner) (inserting_of so_far) left (scene_of stage.old)) }
     ensures leads { LeadsOn stage.old stage.new }
 {
     let Inserting {
@@ -164,10 +131,16 @@ fn enter<
         affected,
         last_id,
     } = so_far;
-    let asked = asked_place(definition.get(), &left);
-    none_missing(definition.get(), &left, asked)?;
-    let counted = count_row(around, forced, stage, definition.get(), left, sequence)?;
-    place_row(
-        alloc, evaluate, fire, around, stage, at, definition, manner, counted, affected, last_id,
-    )
+    let definition = table.definition.get();
+    let asked = asked_place(definition, &left);
+    none_missing(definition, &left, asked)?;
+    let counted = count_row(
+        table.around,
+        insertion.forced,
+        stage,
+        definition,
+        left,
+        sequence,
+    )?;
+    place_row(table, insertion.manner, stage, counted, affected, last_id)
 }

@@ -1,11 +1,13 @@
 //! One row changed: INSERT, REPLACE, ON DUPLICATE KEY UPDATE, UPDATE and DELETE, with the triggers of its table.
 //!
 //! Each function changes one row of the table at a place of a `Stage` of `sql_stage`, of which `StandsAt` says that it has
-//! just the definition that is handed in; a statement looks a table up once, for all its rows. What triggers do is
-//! handed in as a closure (`fire`), which leaves the row to be stored, or None where it is as it was given; evaluation
-//! is handed in as in `sql_evaluation`. So programs stand above this crate, as whole statements do.
+//! just the definition that is handed in; a statement looks a table up once, for all its rows. What all calls for a table are
+//! handed is one [`ChangedTable`]. Who evaluates expressions and fires triggers is an [`Executor`], which promises what the
+//! definitions say. So programs stand above this crate, as whole statements do.
 //!
-//! - `deleting`: [`delete_row`]; `updating`: [`update_row`]; `inserting`: [`insert_row`], [`Manner`], [`Inserting`]
+//! - `executor`: [`Executor`]; `table`: [`ChangedTable`]
+//! - `deleting`: [`delete_row`]; `updating`: [`update_row`]; `inserting`: [`insert_row`], [`Insertion`], [`Manner`],
+//!   [`Inserting`]
 //! - `placing`: a row put in, and what is done with those in its way: passed over, replaced or updated
 //! - `counting`: the AUTO_INCREMENT value of a row
 //! - `columns`: values put into columns, what is left out, NOT NULL
@@ -15,13 +17,13 @@
 //! A row is copied where it is stored, where an assignment changes it, and where it is in the way of another and has to
 //! outlive its own change.
 //!
-//! The definitions in specs/ say what the code's values stand for and where a table stands (`Changed`), what is asked of
-//! a closure that runs triggers (`Firing`), and what the parts of an INSERT are (`Inserted`).
+//! The definitions in specs/ say what the code's values stand for and where a table stands (`Changed`), what a trigger leaves
+//! (`Firing`), and what the parts of an INSERT are (`Inserted`).
 //!
 //! # Proved
-//! - [`delete_row`], [`update_row`] and [`insert_row`] end as the definitions do, for every evaluation and every trigger
-//!   that is handed in: the count or what the INSERT has come to, or the error's number, with the scene behind it; or
-//!   memory is short, as where a count of rows outgrows 64 bits (`gives`)
+//! - [`delete_row`], [`update_row`] and [`insert_row`] end as the definitions do, for every executor: the count or what the
+//!   INSERT has come to, or the error's number, with the scene behind it; or memory is short, as where a count of rows
+//!   outgrows 64 bits (`gives`)
 //! - on every way out the stage leads on from the one before: the changes lead from the old rows to the new and can be
 //!   taken back, no counter is lower, no turn came back (`leads`)
 //! - so: the triggers before the tests and the row, and after it; each assignment sees what the earlier ones left; an
@@ -38,14 +40,18 @@
 mod columns;
 mod counting;
 mod deleting;
+mod executor;
 mod firing;
 mod inserting;
 mod looking;
 mod placing;
 mod standing;
+mod table;
 mod updating;
 
 pub use columns::place_of;
 pub use deleting::delete_row;
-pub use inserting::{Inserting, Manner, insert_row};
+pub use executor::Executor;
+pub use inserting::{Inserting, Insertion, Manner, insert_row};
+pub use table::ChangedTable;
 pub use updating::update_row;

@@ -4,58 +4,42 @@
 ghost use Rattle.std.specs.Prelude.{◌≡◌, ◌+◌, ◌*◌, [], IfOk, IfSome};
 ghost use Rattle.table_rules.specs.Stored.{has_key_in_way, key_tests};
 ghost use Rattle.sql_tree.specs.StatementView.{view_sets};
-ghost use Rattle.sql_tree.specs.View.{view_tree};
 ghost use Rattle.sql_meaning.specs.Changing.{clear_way, replacing, update_row, updating};
 ghost use Rattle.sql_stage.specs.Stage.{EndsAs, EndsAsBy, LeadsOn, scene_of};
-ghost use Rattle.sql_evaluation.specs.Seen.{value_in, world_of};
-ghost use Rattle.changed_rows.specs.Changed.{EvaluatesBehind, LeadsBehind, StandsAt, frame_behind, inserting_of, manner_of};
-ghost use Rattle.changed_rows.specs.Firing.{Fires, FiresLead};
+ghost use Rattle.sql_evaluation.specs.Seen.{world_of};
+ghost use Rattle.changed_rows.specs.Changed.{StandsAt, frame_behind, inserting_of, manner_of};
 ghost use Rattle.changed_rows.specs.Inserted.{IsBehind, InWay, cleared_by, counted_of, placed_in, put_row_in};
 
 use crate::counting::Counted;
 use crate::deleting::delete_row;
+use crate::executor::Executor;
 use crate::firing::after;
 use crate::inserting::{Inserting, Manner};
 use crate::looking::{is_in_way, row_in_way, row_on_key};
 use crate::standing::put_in;
+use crate::table::ChangedTable;
 use crate::updating::update_row;
 use sharing::Shared;
-use sql_evaluation::{Around, View, Views};
-use sql_stage::{Running, Stage};
-use sql_tree::{Cause, ColumnSet, Expr, Time};
+use sql_evaluation::{Around, View};
+use sql_stage::Stage;
+use sql_tree::{Cause, ColumnSet};
 use std::alloc::Global;
-use val_types::{List, NoMemory, Row, SqlError, SqlRefusal, TableDef, Value};
+use val_types::{List, NoMemory, Row, SqlError, SqlRefusal, TableDef};
 
 /// A key of the row is that of another.
 const DUPLICATE_KEY: SqlError = 1062;
 
 /// The row put in, and its AFTER trigger.
-fn put_row<
-    T: Fn(
-        &mut Stage,
-        &Running<'_>,
-        Time,
-        Cause,
-        &Shared<TableDef>,
-        Option<&Row>,
-        Option<&Shared<Row>>,
-    ) -> Result<Option<Row>, SqlRefusal>,
->(
-    alloc: Global,
-    fire: &T,
-    around: &Around<'_>,
+fn put_row<E: Executor>(
+    table: &ChangedTable<'_, E>,
     stage: &mut Stage,
-    at: usize,
-    definition: &Shared<TableDef>,
     counted: Counted,
     affected: u64,
     last_id: Option<i64>,
 ) -> Result<Inserting, SqlRefusal>
-    requires fires { T.IsAlwaysCallable fire.now }
-    requires fired { Fires (T.post fire.now) around.now }
-    requires fire_leads { FiresLead (T.post fire.now) }
-    requires stands { StandsAt at definition.now stage.old }
-    ensures gives { EndsAsBy inserting_of result (scene_of stage.new) (put_row_in around.now definition.now (counted_of counted) affected last_id (scene_of stage.old)) }
+    requires serves { E.serves table.now.executor.now (world_of table.now.around.now).below }
+    requires stands { StandsAt table.now.at table.now.definition.now stage.old }
+    ensures gives { EndsAsBy inserting_of result (scene_of stage.new) (put_row_in table.now.around.now table.now.definition.now (counted_of counted) affected last_id (scene_of stage.old)) }
     ensures leads { LeadsOn stage.old stage.new }
 {
     let Counted {
@@ -66,16 +50,8 @@ fn put_row<
     let Some(affected) = affected.checked_add(1) else {
         return Err(SqlRefusal::NoMemory);
     };
-    put_in(alloc, stage, at, definition, &row)?;
-    after(
-        fire,
-        around,
-        stage,
-        Cause::Insert,
-        definition,
-        Some(&row),
-        None,
-    )?;
+    put_in(table.alloc, stage, table.at, table.definition, &row)?;
+    after(table, stage, Cause::Insert, Some(&row), None)?;
     Ok(Inserting {
         sequence,
         affected,
@@ -84,36 +60,20 @@ fn put_row<
 }
 
 /// Deletes the first row that has the key of a number in common with a row; gives 1 where there is one, else 0.
-fn clear_key<
-    T: Fn(
-        &mut Stage,
-        &Running<'_>,
-        Time,
-        Cause,
-        &Shared<TableDef>,
-        Option<&Row>,
-        Option<&Shared<Row>>,
-    ) -> Result<Option<Row>, SqlRefusal>,
->(
-    alloc: Global,
-    fire: &T,
-    around: &Around<'_>,
+fn clear_key<E: Executor>(
+    table: &ChangedTable<'_, E>,
     stage: &mut Stage,
-    at: usize,
-    definition: &Shared<TableDef>,
     row: &Row,
     which: usize,
 ) -> Result<u64, SqlRefusal>
-    requires fires { T.IsAlwaysCallable fire.now }
-    requires fired { Fires (T.post fire.now) around.now }
-    requires fire_leads { FiresLead (T.post fire.now) }
-    requires stands { StandsAt at definition.now stage.old }
-    ensures gives { EndsAs result (scene_of stage.new) (cleared_by around.now definition.now (has_key_in_way definition.now row.now which) (scene_of stage.old)) }
+    requires serves { E.serves table.now.executor.now (world_of table.now.around.now).below }
+    requires stands { StandsAt table.now.at table.now.definition.now stage.old }
+    ensures gives { EndsAs result (scene_of stage.new) (cleared_by table.now.around.now table.now.definition.now (has_key_in_way table.now.definition.now row.now which) (scene_of stage.old)) }
     ensures leads { LeadsOn stage.old stage.new }
 {
-    match row_on_key(alloc, stage, at, definition, row, which)? {
+    match row_on_key(table.alloc, stage, table.at, table.definition, row, which)? {
         Some(found) => {
-            delete_row(alloc, fire, around, stage, at, definition, &found)?;
+            delete_row(table, stage, &found)?;
             Ok(1)
         }
         None => Ok(0),
@@ -122,38 +82,22 @@ fn clear_key<
 
 /// Deletes, for each key of a row in turn, the row that has it; gives how many they are.
 #[tactic(auto, using(crate::proofs::Places::standing, crate::proofs::Inserts::clearing))]
-fn clear_way<
-    T: Fn(
-        &mut Stage,
-        &Running<'_>,
-        Time,
-        Cause,
-        &Shared<TableDef>,
-        Option<&Row>,
-        Option<&Shared<Row>>,
-    ) -> Result<Option<Row>, SqlRefusal>,
->(
-    alloc: Global,
-    fire: &T,
-    around: &Around<'_>,
+fn clear_way<E: Executor>(
+    table: &ChangedTable<'_, E>,
     stage: &mut Stage,
-    at: usize,
-    definition: &Shared<TableDef>,
     row: &Row,
 ) -> Result<u64, SqlRefusal>
-    requires fires { T.IsAlwaysCallable fire.now }
-    requires fired { Fires (T.post fire.now) around.now }
-    requires fire_leads { FiresLead (T.post fire.now) }
-    requires stands { StandsAt at definition.now stage.old }
-    ensures gives { EndsAs result (scene_of stage.new) (clear_way (world_of around.now) definition.now (key_tests definition.now row.now) (scene_of stage.old)) }
+    requires serves { E.serves table.now.executor.now (world_of table.now.around.now).below }
+    requires stands { StandsAt table.now.at table.now.definition.now stage.old }
+    ensures gives { EndsAs result (scene_of stage.new) (clear_way (world_of table.now.around.now) table.now.definition.now (key_tests table.now.definition.now row.now) (scene_of stage.old)) }
     ensures leads { LeadsOn stage.old stage.new }
 {
     let mut deleted: u64 = 0;
-    let Some(keys) = definition.get().uniques.len().checked_add(1) else {
+    let Some(keys) = table.definition.get().uniques.len().checked_add(1) else {
         return Err(SqlRefusal::NoMemory);
     };
     for which in 0..keys {
-        let more = clear_key(alloc, fire, around, stage, at, definition, row, which)?;
+        let more = clear_key(table, stage, row, which)?;
         let Some(sum) = deleted.checked_add(more) else {
             return Err(SqlRefusal::NoMemory);
         };
@@ -163,42 +107,24 @@ fn clear_way<
 }
 
 /// REPLACE: the rows in the way are deleted, and the row is put in.
-fn replace<
-    T: Fn(
-        &mut Stage,
-        &Running<'_>,
-        Time,
-        Cause,
-        &Shared<TableDef>,
-        Option<&Row>,
-        Option<&Shared<Row>>,
-    ) -> Result<Option<Row>, SqlRefusal>,
->(
-    alloc: Global,
-    fire: &T,
-    around: &Around<'_>,
+fn replace<E: Executor>(
+    table: &ChangedTable<'_, E>,
     stage: &mut Stage,
-    at: usize,
-    definition: &Shared<TableDef>,
     counted: Counted,
     affected: u64,
     last_id: Option<i64>,
 ) -> Result<Inserting, SqlRefusal>
-    requires fires { T.IsAlwaysCallable fire.now }
-    requires fired { Fires (T.post fire.now) around.now }
-    requires fire_leads { FiresLead (T.post fire.now) }
-    requires stands { StandsAt at definition.now stage.old }
-    requires in_way { InWay definition.now counted.row (scene_of stage.old) }
-    ensures gives { EndsAsBy inserting_of result (scene_of stage.new) (placed_in around.now definition.now replacing (counted_of counted) affected last_id (scene_of stage.old)) }
+    requires serves { E.serves table.now.executor.now (world_of table.now.around.now).below }
+    requires stands { StandsAt table.now.at table.now.definition.now stage.old }
+    requires in_way { InWay table.now.definition.now counted.row (scene_of stage.old) }
+    ensures gives { EndsAsBy inserting_of result (scene_of stage.new) (placed_in table.now.around.now table.now.definition.now replacing (counted_of counted) affected last_id (scene_of stage.old)) }
     ensures leads { LeadsOn stage.old stage.new }
 {
-    let deleted = clear_way(alloc, fire, around, stage, at, definition, &counted.row)?;
+    let deleted = clear_way(table, stage, &counted.row)?;
     let Some(affected) = affected.checked_add(deleted) else {
         return Err(SqlRefusal::NoMemory);
     };
-    put_row(
-        alloc, fire, around, stage, at, definition, counted, affected, last_id,
-    )
+    put_row(table, stage, counted, affected, last_id)
 }
 
 /// What is round the assignments behind ON DUPLICATE KEY UPDATE: the row that was to be inserted too.
@@ -219,117 +145,45 @@ fn behind<'a>(around: &Around<'a>, row: &'a View) -> Around<'a>
     }
 }
 
-/// The value of an expression in what is round it there.
-#[tactic(auto, using(crate::proofs::Inserts::value_behind))]
-fn value_behind<V: Fn(&mut Stage, &View, &Expr, &Views) -> Result<Value, SqlRefusal>>(
-    evaluate: &V,
-    around: &Around<'_>,
-    inner: &Around<'_>,
-    inserted: &View,
-    stage: &mut Stage,
-    e: &Expr,
-    views: &Views,
-) -> Result<Value, SqlRefusal>
-    requires callable { V.IsAlwaysCallable evaluate.now }
-    requires gives { EvaluatesBehind (V.post evaluate.now) around.now }
-    requires leads { LeadsBehind (V.post evaluate.now) }
-    requires seen { IsBehind inner.now around.now inserted.now }
-    ensures gives { EndsAs result (scene_of stage.new) (value_in inner.now views.now (view_tree e.now) (scene_of stage.old)) }
-    ensures leads { LeadsOn stage.old stage.new }
-{
-    let _ = around;
-    let _ = inner;
-    evaluate(stage, inserted, e, views)
-}
-
 /// Updates a row behind ON DUPLICATE KEY UPDATE.
 #[tactic(auto, using(crate::proofs::Places::standing, crate::proofs::Inserts::seen_behind))]
-fn update_behind<
-    'x,
-    V: Fn(&mut Stage, &View, &Expr, &Views) -> Result<Value, SqlRefusal>,
-    T: Fn(
-        &mut Stage,
-        &Running<'_>,
-        Time,
-        Cause,
-        &Shared<TableDef>,
-        Option<&Row>,
-        Option<&Shared<Row>>,
-    ) -> Result<Option<Row>, SqlRefusal>,
->(
-    alloc: Global,
-    evaluate: &V,
-    fire: &T,
-    around: &Around<'x>,
+fn update_behind<'x, E: Executor>(
+    table: &ChangedTable<'x, E>,
     inserted: &'x View,
     stage: &mut Stage,
-    at: usize,
-    definition: &Shared<TableDef>,
     sets: &List<ColumnSet>,
     old: &Shared<Row>,
 ) -> Result<u64, SqlRefusal>
-    requires callable { V.IsAlwaysCallable evaluate.now }
-    requires gives { EvaluatesBehind (V.post evaluate.now) around.now }
-    requires leads { LeadsBehind (V.post evaluate.now) }
-    requires fires { T.IsAlwaysCallable fire.now }
-    requires fired { Fires (T.post fire.now) around.now }
-    requires fire_leads { FiresLead (T.post fire.now) }
-    requires stands { StandsAt at definition.now stage.old }
-    ensures gives { EndsAs result (scene_of stage.new) (update_row (world_of around.now) (frame_behind around.now inserted.now []) definition.now (view_sets sets.now) old.now (scene_of stage.old)) }
+    requires serves { E.serves table.now.executor.now (world_of table.now.around.now).below }
+    requires stands { StandsAt table.now.at table.now.definition.now stage.old }
+    ensures gives { EndsAs result (scene_of stage.new) (update_row (world_of table.now.around.now) (frame_behind table.now.around.now inserted.now []) table.now.definition.now (view_sets sets.now) old.now (scene_of stage.old)) }
     ensures leads { LeadsOn stage.old stage.new }
 {
-    let inner = behind(around, inserted);
-    let inner = &inner;
-    let seeing = |s: &mut Stage, e: &Expr, vs: &Views| -> Result<Value, SqlRefusal>
-        requires callable { V.IsAlwaysCallable evaluate.now }
-        requires gives { EvaluatesBehind (V.post evaluate.now) around.now }
-        requires leads { LeadsBehind (V.post evaluate.now) }
-        requires seen { IsBehind inner.now around.now inserted.now }
-        ensures gives { EndsAs result (scene_of s.new) (value_in inner.entry.now vs.now (view_tree e.now) (scene_of s.old)) }
-        ensures leads { LeadsOn s.old s.new }
-    { value_behind(evaluate, around, inner, inserted, s, e, vs) };
-    update_row(
-        alloc, &seeing, fire, inner, stage, at, definition, sets, old,
-    )
+    let inner = behind(table.around, inserted);
+    let table = ChangedTable {
+        alloc: table.alloc,
+        executor: table.executor,
+        around: &inner,
+        at: table.at,
+        definition: table.definition,
+    };
+    update_row(&table, stage, sets, old)
 }
 
 /// The same with a row that is seen for that time alone.
-fn update_seeing<
-    V: Fn(&mut Stage, &View, &Expr, &Views) -> Result<Value, SqlRefusal>,
-    T: Fn(
-        &mut Stage,
-        &Running<'_>,
-        Time,
-        Cause,
-        &Shared<TableDef>,
-        Option<&Row>,
-        Option<&Shared<Row>>,
-    ) -> Result<Option<Row>, SqlRefusal>,
->(
-    alloc: Global,
-    evaluate: &V,
-    fire: &T,
-    around: &Around<'_>,
+fn update_seeing<E: Executor>(
+    table: &ChangedTable<'_, E>,
     inserted: &View,
     stage: &mut Stage,
-    at: usize,
-    definition: &Shared<TableDef>,
     sets: &List<ColumnSet>,
     old: &Shared<Row>,
 ) -> Result<u64, SqlRefusal>
-    requires callable { V.IsAlwaysCallable evaluate.now }
-    requires gives { EvaluatesBehind (V.post evaluate.now) around.now }
-    requires leads { LeadsBehind (V.post evaluate.now) }
-    requires fires { T.IsAlwaysCallable fire.now }
-    requires fired { Fires (T.post fire.now) around.now }
-    requires fire_leads { FiresLead (T.post fire.now) }
-    requires stands { StandsAt at definition.now stage.old }
-    ensures gives { EndsAs result (scene_of stage.new) (update_row (world_of around.now) (frame_behind around.now inserted.now []) definition.now (view_sets sets.now) old.now (scene_of stage.old)) }
+    requires serves { E.serves table.now.executor.now (world_of table.now.around.now).below }
+    requires stands { StandsAt table.now.at table.now.definition.now stage.old }
+    ensures gives { EndsAs result (scene_of stage.new) (update_row (world_of table.now.around.now) (frame_behind table.now.around.now inserted.now []) table.now.definition.now (view_sets sets.now) old.now (scene_of stage.old)) }
     ensures leads { LeadsOn stage.old stage.new }
 {
-    update_behind(
-        alloc, evaluate, fire, around, inserted, stage, at, definition, sets, old,
-    )
+    update_behind(table, inserted, stage, sets, old)
 }
 
 /// A row as it is seen.
@@ -343,41 +197,21 @@ fn seen_as(alloc: Global, definition: &Shared<TableDef>, row: Row) -> Result<Vie
 }
 
 /// ON DUPLICATE KEY UPDATE: the first row in the way is updated, which counts 2, or 0 where it stays as it is.
-fn update_other<
-    V: Fn(&mut Stage, &View, &Expr, &Views) -> Result<Value, SqlRefusal>,
-    T: Fn(
-        &mut Stage,
-        &Running<'_>,
-        Time,
-        Cause,
-        &Shared<TableDef>,
-        Option<&Row>,
-        Option<&Shared<Row>>,
-    ) -> Result<Option<Row>, SqlRefusal>,
->(
-    alloc: Global,
-    evaluate: &V,
-    fire: &T,
-    around: &Around<'_>,
+fn update_other<E: Executor>(
+    table: &ChangedTable<'_, E>,
     stage: &mut Stage,
-    at: usize,
-    definition: &Shared<TableDef>,
     sets: &List<ColumnSet>,
     counted: Counted,
     affected: u64,
     last_id: Option<i64>,
 ) -> Result<Inserting, SqlRefusal>
-    requires callable { V.IsAlwaysCallable evaluate.now }
-    requires gives { EvaluatesBehind (V.post evaluate.now) around.now }
-    requires leads { LeadsBehind (V.post evaluate.now) }
-    requires fires { T.IsAlwaysCallable fire.now }
-    requires fired { Fires (T.post fire.now) around.now }
-    requires fire_leads { FiresLead (T.post fire.now) }
-    requires stands { StandsAt at definition.now stage.old }
-    ensures gives { EndsAsBy inserting_of result (scene_of stage.new) (placed_in around.now definition.now (updating (view_sets sets.now)) (counted_of counted) affected last_id (scene_of stage.old)) }
+    requires serves { E.serves table.now.executor.now (world_of table.now.around.now).below }
+    requires stands { StandsAt table.now.at table.now.definition.now stage.old }
+    ensures gives { EndsAsBy inserting_of result (scene_of stage.new) (placed_in table.now.around.now table.now.definition.now (updating (view_sets sets.now)) (counted_of counted) affected last_id (scene_of stage.old)) }
     ensures leads { LeadsOn stage.old stage.new }
 {
-    let Some(other) = row_in_way(alloc, stage, at, definition, &counted.row)? else {
+    let Some(other) = row_in_way(table.alloc, stage, table.at, table.definition, &counted.row)?
+    else {
         return Err(SqlRefusal::NoMemory);
     };
     let Counted {
@@ -385,10 +219,8 @@ fn update_other<
         sequence,
         generated: _,
     } = counted;
-    let inserted = seen_as(alloc, definition, row)?;
-    let count = update_seeing(
-        alloc, evaluate, fire, around, &inserted, stage, at, definition, sets, &other,
-    )?;
+    let inserted = seen_as(table.alloc, table.definition, row)?;
+    let count = update_seeing(table, &inserted, stage, sets, &other)?;
     let Some(affected) = with_twice(affected, count) else {
         return Err(SqlRefusal::NoMemory);
     };
@@ -407,39 +239,18 @@ fn with_twice(affected: u64, count: u64) -> Option<u64>
 }
 
 /// What is done where a row has a key in the way.
-fn settle<
-    V: Fn(&mut Stage, &View, &Expr, &Views) -> Result<Value, SqlRefusal>,
-    T: Fn(
-        &mut Stage,
-        &Running<'_>,
-        Time,
-        Cause,
-        &Shared<TableDef>,
-        Option<&Row>,
-        Option<&Shared<Row>>,
-    ) -> Result<Option<Row>, SqlRefusal>,
->(
-    alloc: Global,
-    evaluate: &V,
-    fire: &T,
-    around: &Around<'_>,
-    stage: &mut Stage,
-    at: usize,
-    definition: &Shared<TableDef>,
+fn settle<E: Executor>(
+    table: &ChangedTable<'_, E>,
     manner: Manner<'_>,
+    stage: &mut Stage,
     counted: Counted,
     affected: u64,
     last_id: Option<i64>,
 ) -> Result<Inserting, SqlRefusal>
-    requires callable { V.IsAlwaysCallable evaluate.now }
-    requires gives { EvaluatesBehind (V.post evaluate.now) around.now }
-    requires leads { LeadsBehind (V.post evaluate.now) }
-    requires fires { T.IsAlwaysCallable fire.now }
-    requires fired { Fires (T.post fire.now) around.now }
-    requires fire_leads { FiresLead (T.post fire.now) }
-    requires stands { StandsAt at definition.now stage.old }
-    requires in_way { InWay definition.now counted.row (scene_of stage.old) }
-    ensures gives { EndsAsBy inserting_of result (scene_of stage.new) (placed_in around.now definition.now (manner_of manner.entry) (counted_of counted) affected last_id (scene_of stage.old)) }
+    requires serves { E.serves table.now.executor.now (world_of table.now.around.now).below }
+    requires stands { StandsAt table.now.at table.now.definition.now stage.old }
+    requires in_way { InWay table.now.definition.now counted.row (scene_of stage.old) }
+    ensures gives { EndsAsBy inserting_of result (scene_of stage.new) (placed_in table.now.around.now table.now.definition.now (manner_of manner.entry) (counted_of counted) affected last_id (scene_of stage.old)) }
     ensures leads { LeadsOn stage.old stage.new }
 {
     match manner {
@@ -449,57 +260,27 @@ fn settle<
             affected,
             last_id,
         }),
-        Manner::Replacing => replace(
-            alloc, fire, around, stage, at, definition, counted, affected, last_id,
-        ),
-        Manner::Updating(sets) => update_other(
-            alloc, evaluate, fire, around, stage, at, definition, sets, counted, affected, last_id,
-        ),
+        Manner::Replacing => replace(table, stage, counted, affected, last_id),
+        Manner::Updating(sets) => update_other(table, stage, sets, counted, affected, last_id),
     }
 }
 
 /// The row put in, or what the manner says of the first row in its way.
-pub(crate) fn place_row<
-    V: Fn(&mut Stage, &View, &Expr, &Views) -> Result<Value, SqlRefusal>,
-    T: Fn(
-        &mut Stage,
-        &Running<'_>,
-        Time,
-        Cause,
-        &Shared<TableDef>,
-        Option<&Row>,
-        Option<&Shared<Row>>,
-    ) -> Result<Option<Row>, SqlRefusal>,
->(
-    alloc: Global,
-    evaluate: &V,
-    fire: &T,
-    around: &Around<'_>,
-    stage: &mut Stage,
-    at: usize,
-    definition: &Shared<TableDef>,
+pub(crate) fn place_row<E: Executor>(
+    table: &ChangedTable<'_, E>,
     manner: Manner<'_>,
+    stage: &mut Stage,
     counted: Counted,
     affected: u64,
     last_id: Option<i64>,
 ) -> Result<Inserting, SqlRefusal>
-    requires callable { V.IsAlwaysCallable evaluate.now }
-    requires gives { EvaluatesBehind (V.post evaluate.now) around.now }
-    requires leads { LeadsBehind (V.post evaluate.now) }
-    requires fires { T.IsAlwaysCallable fire.now }
-    requires fired { Fires (T.post fire.now) around.now }
-    requires fire_leads { FiresLead (T.post fire.now) }
-    requires stands { StandsAt at definition.now stage.old }
-    ensures gives { EndsAsBy inserting_of result (scene_of stage.new) (placed_in around.now definition.now (manner_of manner.entry) (counted_of counted) affected last_id (scene_of stage.old)) }
+    requires serves { E.serves table.now.executor.now (world_of table.now.around.now).below }
+    requires stands { StandsAt table.now.at table.now.definition.now stage.old }
+    ensures gives { EndsAsBy inserting_of result (scene_of stage.new) (placed_in table.now.around.now table.now.definition.now (manner_of manner.entry) (counted_of counted) affected last_id (scene_of stage.old)) }
     ensures leads { LeadsOn stage.old stage.new }
 {
-    if is_in_way(stage, at, definition, &counted.row) {
-        return settle(
-            alloc, evaluate, fire, around, stage, at, definition, manner, counted, affected,
-            last_id,
-        );
+    if is_in_way(stage, table.at, table.definition, &counted.row) {
+        return settle(table, manner, stage, counted, affected, last_id);
     }
-    put_row(
-        alloc, fire, around, stage, at, definition, counted, affected, last_id,
-    )
+    put_row(table, stage, counted, affected, last_id)
 }

@@ -1,74 +1,46 @@
 //! DELETE.
 ghost use Rattle.std.specs.Prelude.{◌≡◌};
 ghost use Rattle.sql_stage.specs.Stage.{EndsAs, EndsAsBy, LeadsOn, scene_of};
-ghost use Rattle.sql_evaluation.specs.Seen.{Evaluates, LeadsAlways};
+ghost use Rattle.sql_evaluation.specs.Seen.{Evaluates, LeadsAlways, world_of};
 ghost use Rattle.changed_rows.specs.Changed.{StandsAt};
-ghost use Rattle.changed_rows.specs.Firing.{Fires, FiresLead};
 ghost use Rattle.sql_statements.specs.Changed.{delete_in, deletes_in};
 ghost use Rattle.sql_statements.specs.Did.{did_of};
 
 use crate::choosing::chosen_rows;
 use crate::did::{Did, affecting};
 use crate::target::{find_target, rows_there};
-use changed_rows::delete_row;
+use changed_rows::{ChangedTable, Executor, delete_row};
 use sharing::Shared;
 use sql_evaluation::{Around, Views};
-use sql_stage::{Running, Stage};
-use sql_tree::{Cause, DeleteStmt, Expr, Time};
+use sql_stage::Stage;
+use sql_tree::{DeleteStmt, Expr};
 use std::alloc::Global;
-use val_types::{Row, SqlRefusal, TableDef, Value};
+use val_types::{Row, SqlRefusal, Value};
 
 /// Deletes rows one after the other; how many they are.
 #[tactic(auto, using(sql_stage::proofs::Leading::leading, crate::proofs::Aimed::standing, crate::proofs::Changes::deleting_rows))]
-fn delete_each<
-    T: Fn(
-        &mut Stage,
-        &Running<'_>,
-        Time,
-        Cause,
-        &Shared<TableDef>,
-        Option<&Row>,
-        Option<&Shared<Row>>,
-    ) -> Result<Option<Row>, SqlRefusal>,
->(
-    alloc: Global,
-    fire: &T,
-    around: &Around<'_>,
+fn delete_each<E: Executor>(
+    table: &ChangedTable<'_, E>,
     stage: &mut Stage,
-    at: usize,
-    definition: &Shared<TableDef>,
     rows: &[Shared<Row>],
 ) -> Result<u64, SqlRefusal>
-    requires fires { T.IsAlwaysCallable fire.now }
-    requires fired { Fires (T.post fire.now) around.now }
-    requires fire_leads { FiresLead (T.post fire.now) }
-    requires stands { StandsAt at definition.now stage.old }
-    ensures gives { EndsAs result (scene_of stage.new) (deletes_in around.now definition.now rows.now (scene_of stage.old)) }
+    requires serves { E.serves table.now.executor.now (world_of table.now.around.now).below }
+    requires stands { StandsAt table.now.at table.now.definition.now stage.old }
+    ensures gives { EndsAs result (scene_of stage.new) (deletes_in table.now.around.now table.now.definition.now rows.now (scene_of stage.old)) }
     ensures leads { LeadsOn stage.old stage.new }
 {
     for row in rows {
-        delete_row(alloc, fire, around, stage, at, definition, row)?;
+        delete_row(table, stage, row)?;
     }
     Ok(rows.len() as u64)
 }
 
 /// DELETE: the rows that it deletes are chosen before the first is deleted.
 #[tactic(auto, using(sql_stage::proofs::Leading::leading, crate::proofs::Aimed::standing, crate::proofs::Changes::delete))]
-pub(crate) fn delete<
-    V: Fn(&mut Stage, &Expr, &Views) -> Result<Value, SqlRefusal>,
-    T: Fn(
-        &mut Stage,
-        &Running<'_>,
-        Time,
-        Cause,
-        &Shared<TableDef>,
-        Option<&Row>,
-        Option<&Shared<Row>>,
-    ) -> Result<Option<Row>, SqlRefusal>,
->(
+pub(crate) fn delete<V: Fn(&mut Stage, &Expr, &Views) -> Result<Value, SqlRefusal>, E: Executor>(
     alloc: Global,
     evaluate: &V,
-    fire: &T,
+    executor: &E,
     around: &Around<'_>,
     stage: &mut Stage,
     statement: &DeleteStmt,
@@ -76,9 +48,7 @@ pub(crate) fn delete<
     requires callable { V.IsAlwaysCallable evaluate.now }
     requires gives { Evaluates (V.post evaluate.now) around.now }
     requires leads { LeadsAlways (V.post evaluate.now) }
-    requires fires { T.IsAlwaysCallable fire.now }
-    requires fired { Fires (T.post fire.now) around.now }
-    requires fire_leads { FiresLead (T.post fire.now) }
+    requires serves { E.serves executor.now (world_of around.now).below }
     ensures gives { EndsAsBy did_of result (scene_of stage.new) (delete_in around.now statement.now (scene_of stage.old)) }
     ensures leads { LeadsOn stage.old stage.new }
 {
@@ -97,14 +67,13 @@ pub(crate) fn delete<
         rows,
         &views,
     )?;
-    let count = delete_each(
+    let table = ChangedTable {
         alloc,
-        fire,
+        executor,
         around,
-        stage,
-        target.at,
-        &target.definition,
-        chosen.as_slice(),
-    )?;
+        at: target.at,
+        definition: &target.definition,
+    };
+    let count = delete_each(&table, stage, chosen.as_slice())?;
     Ok(affecting(count))
 }

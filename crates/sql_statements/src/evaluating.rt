@@ -1,40 +1,62 @@
-//! Evaluation behind ON DUPLICATE KEY UPDATE.
-ghost use Rattle.sql_tree.specs.View.{view_tree};
-ghost use Rattle.sql_meaning.specs.Values.{value};
-ghost use Rattle.sql_stage.specs.Stage.{EndsAs, LeadsOn, scene_of};
-ghost use Rattle.sql_evaluation.specs.Seen.{Calls, CallsLead, world_of};
-ghost use Rattle.changed_rows.specs.Changed.{frame_behind};
+//! Who evaluates and fires triggers for a statement.
+ghost use Rattle.sql_evaluation.specs.Seen.{CallsLead};
+ghost use Rattle.changed_rows.specs.Firing.{FiresLead};
+ghost use Rattle.sql_statements.specs.Served.{CallsBelow, FiresBelow};
 
-use sql_evaluation::{Around, View, Views, value};
+use changed_rows::Executor;
+use sharing::Shared;
+use sql_evaluation::{Around, Views, value};
 use sql_stage::{Running, Stage};
-use sql_tree::Expr;
+use sql_tree::{Cause, Expr, Time};
 use std::alloc::Global;
-use val_types::{Bytes, List, SqlRefusal, Value};
+use val_types::{Bytes, List, Row, SqlRefusal, TableDef, Value};
 
-/// The value of an expression where the row that was to be inserted is seen too.
-#[tactic(auto, unfolding(sql_evaluation::specs::Seen::world_of, sql_evaluation::specs::Seen::frame_of))]
-pub(crate) fn value_behind<
-    'a,
+/// Evaluates by what calls stored functions, and fires triggers; `levels` bounds how deep an expression is evaluated.
+#[derive(Drop)]
+pub(crate) struct Evaluator<'p, F, T> {
+    pub(crate) alloc: Global,
+    pub(crate) run: &'p F,
+    pub(crate) fire: &'p T,
+    pub(crate) levels: u16,
+}
+
+impl<
     F: Fn(&mut Stage, &Running<'_>, &Bytes, List<Value>) -> Result<Value, SqlRefusal>,
->(
-    alloc: Global,
-    run: &F,
-    around: &Around<'a>,
-    levels: u16,
-    stage: &mut Stage,
-    row: &'a View,
-    e: &Expr,
-    views: &Views,
-) -> Result<Value, SqlRefusal>
-    requires calls { F.IsAlwaysCallable run.now }
-    requires called { Calls (F.post run.now) around.now }
-    requires call_leads { CallsLead (F.post run.now) }
-    ensures gives { EndsAs result (scene_of stage.new) (value (world_of around.now) (frame_behind around.now row.now views.now) (view_tree e.now) (scene_of stage.old)) }
-    ensures leads { LeadsOn stage.old stage.new }
-{
-    let behind = Around {
-        inserted: Some(row),
-        ..*around
-    };
-    value(alloc, run, &behind, levels, stage, e, views)
+    T: Fn(
+        &mut Stage,
+        &Running<'_>,
+        Time,
+        Cause,
+        &Shared<TableDef>,
+        Option<&Row>,
+        Option<&Shared<Row>>,
+    ) -> Result<Option<Row>, SqlRefusal>,
+> Executor for Evaluator<'_, F, T> {
+    ghost serves = { λ e below.
+        F.IsAlwaysCallable e.run.now × CallsBelow (F.post e.run.now) below × CallsLead (F.post e.run.now)
+        × T.IsAlwaysCallable e.fire.now × FiresBelow (T.post e.fire.now) below × FiresLead (T.post e.fire.now) };
+
+    fn value(
+        &self,
+        around: &Around<'_>,
+        stage: &mut Stage,
+        e: &Expr,
+        views: &Views,
+    ) -> Result<Value, SqlRefusal> {
+        value(self.alloc, self.run, around, self.levels, stage, e, views)
+    }
+
+    #[tactic(auto, unfolding(sql_evaluation::specs::Seen::world_of))]
+    fn fire(
+        &self,
+        around: &Around<'_>,
+        stage: &mut Stage,
+        time: Time,
+        event: Cause,
+        definition: &Shared<TableDef>,
+        new: Option<&Row>,
+        old: Option<&Shared<Row>>,
+    ) -> Result<Option<Row>, SqlRefusal> {
+        (self.fire)(stage, around.running, time, event, definition, new, old)
+    }
 }

@@ -10,11 +10,11 @@
 //! - `inserting`: INSERT and REPLACE; `columns`: the columns that they name
 //! - `updating`, `deleting`: UPDATE and DELETE; `choosing`: the rows that they change
 //! - `target`: the table that is changed
-//! - `evaluating`: evaluation behind ON DUPLICATE KEY UPDATE
+//! - `evaluating`: who evaluates and fires triggers for the rows that are changed
 //! - `did`: [`Did`], what a statement came to
 //!
 //! The definitions in specs/ say what the code's values stand for (`Did`), and name the parts of a statement that the
-//! code takes one by one (`Changed`).
+//! code takes one by one (`Changed`), and what is asked of what is handed in (`Served`).
 //!
 //! # Proved
 //! - [`perform`] comes to what the definition says, or to its error's number, with the scene behind it, for every

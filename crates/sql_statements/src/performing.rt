@@ -3,10 +3,8 @@ ghost use Rattle.std.specs.Prelude.{◌≡◌, []};
 ghost use Rattle.sql_tree.specs.StatementView.{view, view_sets};
 ghost use Rattle.sql_tree.specs.View.{view_query, view_tree, view_trees};
 ghost use Rattle.sql_meaning.specs.Running.{manner_of, perform};
-ghost use Rattle.sql_meaning.specs.Values.{value};
 ghost use Rattle.sql_stage.specs.Stage.{EndsAs, EndsAsBy, LeadsOn, scene_of};
 ghost use Rattle.sql_evaluation.specs.Seen.{Calls, CallsLead, Evaluates, LeadsAlways, frame_of, value_in, world_of};
-ghost use Rattle.changed_rows.specs.Changed.{frame_behind};
 ghost use Rattle.changed_rows.specs.Changed.{manner_of as way_of};
 ghost use Rattle.changed_rows.specs.Firing.{Fires, FiresLead};
 ghost use Rattle.sql_statements.specs.Changed.{do_in, select_in};
@@ -14,12 +12,12 @@ ghost use Rattle.sql_statements.specs.Did.{did_of};
 
 use crate::deleting::delete;
 use crate::did::{Did, affecting, showing};
-use crate::evaluating::value_behind;
+use crate::evaluating::Evaluator;
 use crate::inserting::insert;
 use crate::updating::update;
 use changed_rows::Manner;
 use sharing::Shared;
-use sql_evaluation::{Around, View, Views, rows_of_query, value, values};
+use sql_evaluation::{Around, Views, rows_of_query, value, values};
 use sql_stage::{Running, Stage};
 use sql_tree::{Cause, ColumnSet, Expr, Select, Stmt, Time};
 use std::alloc::Global;
@@ -121,19 +119,17 @@ pub fn perform<
         ensures gives { EndsAs result (scene_of s.new) (value_in around.entry.now vs.now (view_tree e.now) (scene_of s.old)) }
         ensures leads { LeadsOn s.old s.new }
     { value(alloc, run, around, levels, s, e, vs) };
-    let behind = |s: &mut Stage, row: &View, e: &Expr, vs: &Views| -> Result<Value, SqlRefusal>
-        requires calls { F.IsAlwaysCallable run.now }
-        requires called { Calls (F.post run.now) around.now }
-        requires call_leads { CallsLead (F.post run.now) }
-        ensures gives { EndsAs result (scene_of s.new) (value (world_of around.entry.now) (frame_behind around.entry.now row.now vs.now) (view_tree e.now) (scene_of s.old)) }
-        ensures leads { LeadsOn s.old s.new }
-    { value_behind(alloc, run, around, levels, s, row, e, vs) };
+    let executor = Evaluator {
+        alloc,
+        run,
+        fire,
+        levels,
+    };
     match statement {
         Stmt::Insert(s) => insert(
             alloc,
             &evaluate,
-            &behind,
-            fire,
+            &executor,
             around,
             forced,
             stage,
@@ -145,8 +141,7 @@ pub fn perform<
         Stmt::Replace(s) => insert(
             alloc,
             &evaluate,
-            &behind,
-            fire,
+            &executor,
             around,
             forced,
             stage,
@@ -155,8 +150,8 @@ pub fn perform<
             &s.source,
             Manner::Replacing,
         ),
-        Stmt::Update(s) => update(alloc, &evaluate, fire, around, stage, s),
-        Stmt::Delete(s) => delete(alloc, &evaluate, fire, around, stage, s),
+        Stmt::Update(s) => update(alloc, &evaluate, &executor, around, stage, s),
+        Stmt::Delete(s) => delete(alloc, &evaluate, &executor, around, stage, s),
         Stmt::Select(query) => {
             let views = Views::new(alloc);
             select(alloc, &evaluate, around, stage, query, &views)

@@ -2,62 +2,38 @@
 ghost use Rattle.std.specs.Prelude.{◌≡◌};
 ghost use Rattle.sql_tree.specs.StatementView.{view_sets};
 ghost use Rattle.sql_stage.specs.Stage.{EndsAs, EndsAsBy, LeadsOn, scene_of};
-ghost use Rattle.sql_evaluation.specs.Seen.{Evaluates, LeadsAlways};
+ghost use Rattle.sql_evaluation.specs.Seen.{Evaluates, LeadsAlways, world_of};
 ghost use Rattle.changed_rows.specs.Changed.{StandsAt};
-ghost use Rattle.changed_rows.specs.Firing.{Fires, FiresLead};
 ghost use Rattle.sql_statements.specs.Changed.{update_in, updates_in};
 ghost use Rattle.sql_statements.specs.Did.{did_of};
 
 use crate::choosing::chosen_rows;
 use crate::did::{Did, affecting};
 use crate::target::{find_target, rows_there};
-use changed_rows::update_row;
+use changed_rows::{ChangedTable, Executor, update_row};
 use sharing::Shared;
 use sql_evaluation::{Around, Views};
-use sql_stage::{Running, Stage};
-use sql_tree::{Cause, ColumnSet, Expr, Time, UpdateStmt};
+use sql_stage::Stage;
+use sql_tree::{ColumnSet, Expr, UpdateStmt};
 use std::alloc::Global;
-use val_types::{List, Row, SqlRefusal, TableDef, Value};
+use val_types::{List, Row, SqlRefusal, Value};
 
 /// Updates rows one after the other; how many of them that changes.
 #[tactic(auto, using(sql_stage::proofs::Leading::leading, crate::proofs::Aimed::standing, crate::proofs::Changes::updating))]
-fn update_each<
-    V: Fn(&mut Stage, &Expr, &Views) -> Result<Value, SqlRefusal>,
-    T: Fn(
-        &mut Stage,
-        &Running<'_>,
-        Time,
-        Cause,
-        &Shared<TableDef>,
-        Option<&Row>,
-        Option<&Shared<Row>>,
-    ) -> Result<Option<Row>, SqlRefusal>,
->(
-    alloc: Global,
-    evaluate: &V,
-    fire: &T,
-    around: &Around<'_>,
+fn update_each<E: Executor>(
+    table: &ChangedTable<'_, E>,
     stage: &mut Stage,
-    at: usize,
-    definition: &Shared<TableDef>,
     sets: &List<ColumnSet>,
     rows: &[Shared<Row>],
 ) -> Result<u64, SqlRefusal>
-    requires callable { V.IsAlwaysCallable evaluate.now }
-    requires gives { Evaluates (V.post evaluate.now) around.now }
-    requires leads { LeadsAlways (V.post evaluate.now) }
-    requires fires { T.IsAlwaysCallable fire.now }
-    requires fired { Fires (T.post fire.now) around.now }
-    requires fire_leads { FiresLead (T.post fire.now) }
-    requires stands { StandsAt at definition.now stage.old }
-    ensures gives { EndsAs result (scene_of stage.new) (updates_in around.now definition.now (view_sets sets.now) rows.now (scene_of stage.old)) }
+    requires serves { E.serves table.now.executor.now (world_of table.now.around.now).below }
+    requires stands { StandsAt table.now.at table.now.definition.now stage.old }
+    ensures gives { EndsAs result (scene_of stage.new) (updates_in table.now.around.now table.now.definition.now (view_sets sets.now) rows.now (scene_of stage.old)) }
     ensures leads { LeadsOn stage.old stage.new }
 {
     let mut count = 0u64;
     for row in rows {
-        let more = update_row(
-            alloc, evaluate, fire, around, stage, at, definition, sets, row,
-        )?;
+        let more = update_row(table, stage, sets, row)?;
         count = match count.checked_add(more) {
             Some(count) => count,
             None => return Err(SqlRefusal::NoMemory),
@@ -68,21 +44,10 @@ fn update_each<
 
 /// UPDATE: the rows that it changes are chosen before the first is changed.
 #[tactic(auto, using(sql_stage::proofs::Leading::leading, crate::proofs::Aimed::standing, crate::proofs::Changes::update))]
-pub(crate) fn update<
-    V: Fn(&mut Stage, &Expr, &Views) -> Result<Value, SqlRefusal>,
-    T: Fn(
-        &mut Stage,
-        &Running<'_>,
-        Time,
-        Cause,
-        &Shared<TableDef>,
-        Option<&Row>,
-        Option<&Shared<Row>>,
-    ) -> Result<Option<Row>, SqlRefusal>,
->(
+pub(crate) fn update<V: Fn(&mut Stage, &Expr, &Views) -> Result<Value, SqlRefusal>, E: Executor>(
     alloc: Global,
     evaluate: &V,
-    fire: &T,
+    executor: &E,
     around: &Around<'_>,
     stage: &mut Stage,
     statement: &UpdateStmt,
@@ -90,9 +55,7 @@ pub(crate) fn update<
     requires callable { V.IsAlwaysCallable evaluate.now }
     requires gives { Evaluates (V.post evaluate.now) around.now }
     requires leads { LeadsAlways (V.post evaluate.now) }
-    requires fires { T.IsAlwaysCallable fire.now }
-    requires fired { Fires (T.post fire.now) around.now }
-    requires fire_leads { FiresLead (T.post fire.now) }
+    requires serves { E.serves executor.now (world_of around.now).below }
     ensures gives { EndsAsBy did_of result (scene_of stage.new) (update_in around.now statement.now (scene_of stage.old)) }
     ensures leads { LeadsOn stage.old stage.new }
 {
@@ -111,16 +74,13 @@ pub(crate) fn update<
         rows,
         &views,
     )?;
-    let count = update_each(
+    let table = ChangedTable {
         alloc,
-        evaluate,
-        fire,
+        executor,
         around,
-        stage,
-        target.at,
-        &target.definition,
-        &statement.sets,
-        chosen.as_slice(),
-    )?;
+        at: target.at,
+        definition: &target.definition,
+    };
+    let count = update_each(&table, stage, &statement.sets, chosen.as_slice())?;
     Ok(affecting(count))
 }

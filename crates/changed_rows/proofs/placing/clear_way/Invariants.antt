@@ -8,6 +8,6 @@ use Rattle.changed_rows.proofs.placing.clear_way.Given as goal
 
 abbrev pub invariant-loop-which : goal.invariant-loop-which
 invariant-loop-which g l = record {
-  gives : cleared_left l.around l.definition (drop l.which (key_tests l.definition l.row)) l.deleted (scene_of l.stage) ≡ clear_way (world_of l.around) l.definition (key_tests l.definition l.row) (scene_of l.fn.stage);
+  gives : cleared_left l.table.around.now l.table.definition.now (drop l.which (key_tests l.table.definition.now l.row)) l.deleted (scene_of l.stage) ≡ clear_way (world_of l.table.around.now) l.table.definition.now (key_tests l.table.definition.now l.row) (scene_of l.fn.stage);
   leads : LeadsOn l.fn.stage l.stage;
 }

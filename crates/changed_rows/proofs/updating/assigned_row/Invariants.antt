@@ -8,7 +8,7 @@ use Rattle.changed_rows.proofs.updating.assigned_row.Given as goal
 
 abbrev pub invariant-loop-set : goal.invariant-loop-set
 invariant-loop-set g l = record {
-  gives : assigned_left l.around l.definition (view_sets (drop l.set-index l.set-items)) l.row (scene_of l.stage) ≡ assigned_in l.around l.definition (view_sets l.sets) l.old (scene_of l.fn.stage);
+  gives : assigned_left l.table.around.now l.table.definition.now (view_sets (drop l.set-index l.set-items)) l.row (scene_of l.stage) ≡ assigned_in l.table.around.now l.table.definition.now (view_sets l.sets) l.old (scene_of l.fn.stage);
   leads : LeadsOn l.fn.stage l.stage;
-  inside : Inside l.definition [] l.inner;
+  inside : Inside l.table.definition.now [] l.inner;
 }

@@ -7,7 +7,7 @@ use Rattle.sql_statements.proofs.deleting.delete_each.Given as goal
 
 abbrev pub invariant-loop-row : goal.invariant-loop-row
 invariant-loop-row g l = record {
-  gives : deletes_left l.around l.definition (drop l.row-index l.rows) (length l.rows) (scene_of l.stage) ≡ deletes_in l.around l.definition l.rows (scene_of l.fn.stage);
+  gives : deletes_left l.table.around.now l.table.definition.now (drop l.row-index l.rows) (length l.rows) (scene_of l.stage) ≡ deletes_in l.table.around.now l.table.definition.now l.rows (scene_of l.fn.stage);
   leads : LeadsOn l.fn.stage l.stage;
-  stands : StandsAt l.at l.definition l.stage;
+  stands : StandsAt l.table.at l.table.definition.now l.stage;
 }

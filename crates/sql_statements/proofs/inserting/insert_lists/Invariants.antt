@@ -8,8 +8,8 @@ use Rattle.sql_statements.proofs.inserting.insert_lists.Given as goal
 
 abbrev pub invariant-loop-list : goal.invariant-loop-list
 invariant-loop-list g l = record {
-  gives : lists_in l.around l.forced l.definition l.places (manner_of l.manner) (inserting_of l.so_far) (view_rows (drop l.list-index l.lists)) (scene_of l.stage) ≡ lists_in l.around l.forced l.definition l.places (manner_of l.manner) nothing_inserted (view_rows l.lists) (scene_of l.fn.stage);
+  gives : lists_in l.table.around.now l.insertion.forced l.table.definition.now l.insertion.places.now (manner_of l.insertion.manner) (inserting_of l.so_far) (view_rows (drop l.list-index l.lists)) (scene_of l.stage) ≡ lists_in l.table.around.now l.insertion.forced l.table.definition.now l.insertion.places.now (manner_of l.insertion.manner) nothing_inserted (view_rows l.lists) (scene_of l.fn.stage);
   leads : LeadsOn l.fn.stage l.stage;
-  stands : StandsAt l.at l.definition l.stage;
+  stands : StandsAt l.table.at l.table.definition.now l.stage;
   none : l.views ≡ [];
 }

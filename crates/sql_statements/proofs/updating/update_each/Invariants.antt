@@ -8,7 +8,7 @@ use Rattle.sql_statements.proofs.updating.update_each.Given as goal
 
 abbrev pub invariant-loop-row : goal.invariant-loop-row
 invariant-loop-row g l = record {
-  gives : updates_left l.around l.definition (view_sets l.sets) (drop l.row-index l.rows) l.count (scene_of l.stage) ≡ updates_in l.around l.definition (view_sets l.sets) l.rows (scene_of l.fn.stage);
+  gives : updates_left l.table.around.now l.table.definition.now (view_sets l.sets) (drop l.row-index l.rows) l.count (scene_of l.stage) ≡ updates_in l.table.around.now l.table.definition.now (view_sets l.sets) l.rows (scene_of l.fn.stage);
   leads : LeadsOn l.fn.stage l.stage;
-  stands : StandsAt l.at l.definition l.stage;
+  stands : StandsAt l.table.at l.table.definition.now l.stage;
 }
