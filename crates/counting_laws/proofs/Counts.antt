@@ -24,17 +24,17 @@ use Rattle.sql_meaning.specs.Values.{values, rows_of_query}
 use Rattle.sql_meaning.specs.Changing.{put_at, asked_place, none_missing, before_row, after_row, is_there, take_out, put_in_place, delete_row, assign_column, store_update, update_row, Inserting, nothing_inserted, Manner, refusing, ignoring, replacing, updating, Counted, count_row, put_row, clear_way, passed_by, updating_frame, settle, place_row, left_out_row, insert_row, Did, affected_rows, did_insert, insert_supply, insert_into_table, chosen_rows, update_table, delete_from_table}
 use Rattle.sql_meaning.specs.Running.{manner_of, rows_shown, perform, world_of, forced_for, effect}
 use Rattle.sql_meaning.specs.Leading.{scene_after}
-use Rattle.sql_meaning.proofs.Steps.{IsMove, IsMoved, require_moved, table_moved, carried_moved}
+use Rattle.sql_meaning.proofs.Steps.{IsMove, IsMoved, IsWork, require_moved, table_moved, carried_moved}
 use Rattle.sql_meaning.proofs.Moved.{values_moved, query_moved}
+use Rattle.sql_meaning.proofs.MovedChanges.{ProgramsMoved, put_at_moved, missing_moved, before_moved, after_moved, assign_moved, count_moved, chosen_moved}
+use Rattle.sql_meaning.proofs.MovedBodies.{level_moved}
 use Rattle.counting_laws.specs.Counts.{Grows, CountsChanges, KeepsChanges, LevelsKeepChanges, itself, affected_of, did_affect, DeletedRowsCount, ClearedRowsCount, UpdatedRowsCount, PutRowsCount, PlacedRowsCount, InsertedRowsCount, InsertsCount, UpdatesCount, DeletesCount, PerformedCount, StatementsCount}
-use Rattle.counting_laws.proofs.MovedChanges.{MovedBelow, put_at_moves, missing_moves, before_moves, after_moves, assign_moves, count_moves, chosen_moves}
-use Rattle.counting_laws.proofs.MovedBodies.{level_moves}
 
 -- ---- changes grow in number
 
 growing : IsMove Grows
 growing = record {
-  same = λ a b tables same. record { more = subst (λ (cs : List Change). length a.changes ≤ length cs) (sym same) (omega arith) };
+  same = λ a b tables same turns. record { more = subst (λ (cs : List Change). length a.changes ≤ length cs) (sym same) (omega arith) };
   on = λ a b c p q. record { more = chained (length a.changes) (length b.changes) (length c.changes) p.more q.more };
 }
   where
@@ -54,7 +54,10 @@ make_grows code change = record { moves = λ scene. found scene (applied change 
     found scene None = record { more = omega arith }
     found scene (Some tables) = record { more = longer scene }
 
-moved_below : (below : Below) → KeepsChanges below → MovedBelow Grows below
+growing_work : IsWork Grows
+growing_work = record { move = growing; made = make_grows }
+
+moved_below : (below : Below) → KeepsChanges below → ProgramsMoved Grows below
 moved_below below keeps = record {
   calls = record { calls = λ running n vs. record { moves = λ scene. keeps.calls running n vs scene } };
   fires = λ running time event d new old. record { moves = λ scene. keeps.fires running time event d new old scene };
@@ -62,7 +65,7 @@ moved_below below keeps = record {
 
 pub levels_keep : LevelsKeepChanges
 levels_keep setting nesting =
-    let moves = level_moves growing make_grows setting nesting in
+    let moves = level_moved growing_work setting nesting in
     record {
       calls = λ running n vs scene. (moves.calls.calls running n vs).moves scene;
       fires = λ running time event d new old scene. (moves.fires running time event d new old).moves scene;
@@ -205,21 +208,21 @@ store_counts k d old new =
 abbrev one_put : Counted → Inserting → Inserting
 one_put counted so_far = record { sequence = counted.sequence; affected = so_far.affected + 1; last_id = option_or so_far.last_id counted.generated }
 
-module _ (world : World) (below : MovedBelow Grows world.below) where
+module _ (world : World) (below : ProgramsMoved Grows world.below) where
   after_grows : (event : Cause) (d : TableDef) (new old : Option (List Value)) → IsMoved Grows (after_row world event d new old)
-  after_grows event d new old = after_moves growing make_grows world below event d new old
+  after_grows event d new old = after_moved growing_work world below event d new old
 
   delete_counts : (k : ℕ) (d : TableDef) (row : List Value) → IsWithin (λ (_ : Unit {0}). k + 2) k (delete_row world d row)
   delete_counts k d row =
-      bind_grown (λ (_ : Unit {0}). k + 2) k (before_row world causes.Delete d None (Some row)) _ (before_moves growing make_grows world below causes.Delete d None (Some row)) (λ _.
+      bind_grown (λ (_ : Unit {0}). k + 2) k (before_row world causes.Delete d None (Some row)) _ (before_moved growing_work world below causes.Delete d None (Some row)) (λ _.
       bind_counts (λ (_ : Unit {0}). k + 2) (λ (_ : Unit {0}). k + 2) k (take_out d.name row) _ (take_out_counts k d.name row) (λ _.
       grown (k + 2) (after_row world causes.Delete d None (Some row)) (after_grows causes.Delete d None (Some row))))
 
   update_counts : (k : ℕ) (frame : Frame) (d : TableDef) (sets : List (List ℕ × Tree)) (old : List Value) → IsWithin (λ (n : ℕ). k + 2 * n) k (update_row world frame d sets old)
   update_counts k frame d sets old =
-      bind_grown (λ (n : ℕ). k + 2 * n) k (carried_on (assign_column world frame d) old sets) _ (carried_moved growing (assign_column world frame d) (assign_moves growing make_grows world below frame d) old sets) (λ assigned.
-      bind_grown (λ (n : ℕ). k + 2 * n) k (before_row world causes.Update d (Some assigned) (Some old)) _ (before_moves growing make_grows world below causes.Update d (Some assigned) (Some old)) (λ left.
-      bind_grown (λ (n : ℕ). k + 2 * n) k (none_missing d (unwrap_or left assigned) None) _ (missing_moves growing make_grows d (unwrap_or left assigned) None) (λ _.
+      bind_grown (λ (n : ℕ). k + 2 * n) k (carried_on (assign_column world frame d) old sets) _ (carried_moved growing (assign_column world frame d) (assign_moved growing_work world below frame d) old sets) (λ assigned.
+      bind_grown (λ (n : ℕ). k + 2 * n) k (before_row world causes.Update d (Some assigned) (Some old)) _ (before_moved growing_work world below causes.Update d (Some assigned) (Some old)) (λ left.
+      bind_grown (λ (n : ℕ). k + 2 * n) k (none_missing d (unwrap_or left assigned) None) _ (missing_moved growing_work d (unwrap_or left assigned) None) (λ _.
       bind_counts (λ (n : ℕ). k + 2 * n) (λ (n : ℕ). k + 2 * n) k (store_update d old (unwrap_or left assigned)) _ (store_counts k d old (unwrap_or left assigned)) (λ count.
       bind_grown (λ (n : ℕ). k + 2 * n) (k + 2 * count) (after_row world causes.Update d (Some (unwrap_or left assigned)) (Some old)) _ (after_grows causes.Update d (Some (unwrap_or left assigned)) (Some old)) (λ _.
       pure_counts (λ (n : ℕ). k + 2 * n) (k + 2 * count) count (omega arith))))))
@@ -275,10 +278,10 @@ module _ (world : World) (below : MovedBelow Grows world.below) where
   insert_counts : (frame : Frame) (forced : Option ℤ) (d : TableDef) (places : List ℕ) (manner : Manner) (so_far : Inserting) (vs : List Value)
       → IsWithin affected_of so_far.affected (insert_row world frame forced d places manner so_far vs)
   insert_counts frame forced d places manner so_far vs =
-      bind_grown affected_of so_far.affected (carried_on (put_at d) (left_out_row d) (zip places vs)) _ (carried_moved growing (put_at d) (put_at_moves growing make_grows d) (left_out_row d) (zip places vs)) (λ filled.
-      bind_grown affected_of so_far.affected (before_row world causes.Insert d (Some filled) None) _ (before_moves growing make_grows world below causes.Insert d (Some filled) None) (λ left.
-      bind_grown affected_of so_far.affected (none_missing d (unwrap_or left filled) (asked_place d (unwrap_or left filled))) _ (missing_moves growing make_grows d (unwrap_or left filled) (asked_place d (unwrap_or left filled))) (λ _.
-      bind_grown affected_of so_far.affected (count_row world forced d (unwrap_or left filled) so_far.sequence) _ (count_moves growing make_grows world below forced d (unwrap_or left filled) so_far.sequence) (λ counted.
+      bind_grown affected_of so_far.affected (carried_on (put_at d) (left_out_row d) (zip places vs)) _ (carried_moved growing (put_at d) (put_at_moved growing_work d) (left_out_row d) (zip places vs)) (λ filled.
+      bind_grown affected_of so_far.affected (before_row world causes.Insert d (Some filled) None) _ (before_moved growing_work world below causes.Insert d (Some filled) None) (λ left.
+      bind_grown affected_of so_far.affected (none_missing d (unwrap_or left filled) (asked_place d (unwrap_or left filled))) _ (missing_moved growing_work d (unwrap_or left filled) (asked_place d (unwrap_or left filled))) (λ _.
+      bind_grown affected_of so_far.affected (count_row world forced d (unwrap_or left filled) so_far.sequence) _ (count_moved growing_work world below forced d (unwrap_or left filled) so_far.sequence) (λ counted.
       place_counts frame d manner counted so_far))))
 
   -- ---- whole statements
@@ -302,7 +305,7 @@ module _ (world : World) (below : MovedBelow Grows world.below) where
       → IsWithin (λ (did : Did). 0 + 2 * did_affect did) 0 (update_table world frame t sets condition os limit)
   update_table_counts frame t sets condition os limit =
       bind_grown (λ (did : Did). 0 + 2 * did_affect did) 0 (table_now t) _ (table_moved growing t) (λ table.
-      bind_grown (λ (did : Did). 0 + 2 * did_affect did) 0 (chosen_rows world frame table condition os limit) _ (chosen_moves growing make_grows world below frame table condition os limit) (λ chosen.
+      bind_grown (λ (did : Did). 0 + 2 * did_affect did) 0 (chosen_rows world frame table condition os limit) _ (chosen_moved growing_work world below frame table condition os limit) (λ chosen.
       bind_counts (λ (n : ℕ). 0 + 2 * n) (λ (did : Did). 0 + 2 * did_affect did) 0 (counted (update_row world frame table.definition sets) chosen) _
       (counted_counts (update_row world frame table.definition sets) (λ k old. update_counts k frame table.definition sets old) 0 chosen) (λ n.
       pure_counts (λ (did : Did). 0 + 2 * did_affect did) (0 + 2 * n) (affected_rows n) (omega arith))))
@@ -311,7 +314,7 @@ module _ (world : World) (below : MovedBelow Grows world.below) where
       → IsWithin (λ (did : Did). 0 + 2 * did_affect did) 0 (delete_from_table world frame t condition os limit)
   delete_from_counts frame t condition os limit =
       bind_grown (λ (did : Did). 0 + 2 * did_affect did) 0 (table_now t) _ (table_moved growing t) (λ table.
-      bind_grown (λ (did : Did). 0 + 2 * did_affect did) 0 (chosen_rows world frame table condition os limit) _ (chosen_moves growing make_grows world below frame table condition os limit) (λ chosen.
+      bind_grown (λ (did : Did). 0 + 2 * did_affect did) 0 (chosen_rows world frame table condition os limit) _ (chosen_moved growing_work world below frame table condition os limit) (λ chosen.
       bind_counts (λ (_ : List (Unit {0})). 0 + 2 * length chosen) (λ (did : Did). 0 + 2 * did_affect did) 0 (each (delete_row world table.definition) chosen) _
       (each_counts (delete_row world table.definition) (λ k row. delete_counts k table.definition row) 0 chosen) (λ _.
       pure_counts (λ (did : Did). 0 + 2 * did_affect did) (0 + 2 * length chosen) (affected_rows (length chosen)) (omega arith))))
@@ -397,4 +400,4 @@ unfolding effect
 statements setting nesting locals s =
     let world = world_of setting nesting (nodes_of s) in
     by_two did_affect 0 (undone (perform world (only_locals locals) (forced_for setting.context s) s)) (undone_counts did_affect 0 (perform world (only_locals locals) (forced_for setting.context s) s)
-    (perform_counts world (level_moves growing make_grows setting nesting) (only_locals locals) (forced_for setting.context s) s))
+    (perform_counts world (level_moved growing_work setting nesting) (only_locals locals) (forced_for setting.context s) s))

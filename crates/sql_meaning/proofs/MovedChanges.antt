@@ -52,7 +52,7 @@ module _ {R : Scene → Scene → Type 0} (law : IsWork R) where
       bind_moved law.move (type_at definition cell.0) _ (type_moved definition cell.0) (λ kind.
       bind_moved law.move (fitted kind cell.1) _ (fitted_moved kind cell.1) (λ v. pure_moved law.move _))
 
-  missing_moved : (definition : TableDef) (row : List Value) (asked : Option ℕ) → IsMoved R (none_missing definition row asked)
+  pub missing_moved : (definition : TableDef) (row : List Value) (asked : Option ℕ) → IsMoved R (none_missing definition row asked)
   missing_moved definition row asked = require_moved law.move 1048 (not (has_missing definition row asked))
 
   take_out_moved : (name : List ℕ) (row : List Value) → IsMoved R (take_out name row)
@@ -69,10 +69,10 @@ module _ {R : Scene → Scene → Type 0} (law : IsWork R) where
       law.made 1032 (changes.Update name old new))))
 
   module _ (world : World) (below : ProgramsMoved R world.below) where
-    before_moved : (event : Cause) (definition : TableDef) (new old : Option (List Value)) → IsMoved R (before_row world event definition new old)
+    pub before_moved : (event : Cause) (definition : TableDef) (new old : Option (List Value)) → IsMoved R (before_row world event definition new old)
     before_moved event definition new old = below.fires world.running times.Before event definition new old
 
-    after_moved : (event : Cause) (definition : TableDef) (new old : Option (List Value)) → IsMoved R (after_row world event definition new old)
+    pub after_moved : (event : Cause) (definition : TableDef) (new old : Option (List Value)) → IsMoved R (after_row world event definition new old)
     after_moved event definition new old = bind_moved law.move _ _ (below.fires world.running times.After event definition new old) (λ _. pure_moved law.move tt)
 
     delete_moved : (definition : TableDef) (row : List Value) → IsMoved R (delete_row world definition row)
@@ -81,7 +81,7 @@ module _ {R : Scene → Scene → Type 0} (law : IsWork R) where
         bind_moved law.move (take_out definition.name row) _ (take_out_moved definition.name row) (λ _.
         after_moved causes.Delete definition None (Some row)))
 
-    assign_moved : (frame : Frame) (definition : TableDef) (row : List Value) (set : List ℕ × Tree) → IsMoved R (assign_column world frame definition row set)
+    pub assign_moved : (frame : Frame) (definition : TableDef) (row : List Value) (set : List ℕ × Tree) → IsMoved R (assign_column world frame definition row set)
     assign_moved frame definition row set =
         bind_moved law.move (value world (sees definition row frame) set.1) _ (value_moved law.move world below.calls (sees definition row frame) set.1) (λ v.
         bind_moved law.move (needed 1054 (place_among (columns_of definition) set.0)) _ (needed_moved law.move 1054 (place_among (columns_of definition) set.0)) (λ place.
@@ -123,7 +123,7 @@ module _ {R : Scene → Scene → Type 0} (law : IsWork R) where
     counted_at forced definition row sequence (Some place) =
         if_moved law.move (asks (slice_index_or row place Null)) _ _ (generate_moved forced definition row sequence place) (given_moved definition row sequence (slice_index_or row place Null))
 
-    count_moved : (forced : Option ℤ) (definition : TableDef) (row : List Value) (sequence : Sequence) → IsMoved R (count_row world forced definition row sequence)
+    pub count_moved : (forced : Option ℤ) (definition : TableDef) (row : List Value) (sequence : Sequence) → IsMoved R (count_row world forced definition row sequence)
     count_moved forced definition row sequence = counted_at forced definition row sequence definition.auto
 
     put_moved : (definition : TableDef) (counted : Counted) (so_far : Inserting) → IsMoved R (put_row world definition counted so_far)
@@ -187,7 +187,7 @@ module _ {R : Scene → Scene → Type 0} (law : IsWork R) where
         bind_moved law.move (table_now t) _ (table_moved law.move t) (λ table.
         bind_moved law.move (insert_supply world frame _ supply) _ (supply_moved frame _ (insert_moved frame forced table.definition _ manner) supply) (λ so_far. pure_moved law.move _))
 
-    chosen_moved : (frame : Frame) (table : Table) (condition : Part) (os : Orders) (limit : Option Count) → IsMoved R (chosen_rows world frame table condition os limit)
+    pub chosen_moved : (frame : Frame) (table : Table) (condition : Part) (os : Orders) (limit : Option Count) → IsMoved R (chosen_rows world frame table condition os limit)
     chosen_moved frame table condition os limit =
         bind_moved law.move (kept_by (λ row. is_kept world (sees table.definition row frame) condition) table.rows) _ (kept_moved law.move _ (λ row. is_kept_moved law.move world below.calls (sees table.definition row frame) condition) table.rows) (λ kept.
         bind_moved law.move (each (λ row. order_values world (sees table.definition row frame) os >>= λ by. pure (by, row)) kept) _ (each_moved law.move _ (λ row. bind_moved law.move (order_values world (sees table.definition row frame) os) _ (order_moved law.move world below.calls (sees table.definition row frame) os) (λ by. pure_moved law.move _)) kept) (λ keyed. pure_moved law.move _))
