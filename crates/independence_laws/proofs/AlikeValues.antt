@@ -25,16 +25,12 @@ use Rattle.catalog_rules.specs.Nodes.{Node, Sight, a_user_variable, a_system_var
 use Rattle.sql_meaning.specs.Scenes.{Action, ◌>>=◌, pure, answered, needed, each, kept_by, table_now, draw, fail}
 use Rattle.sql_meaning.specs.Frames.{Running, Below, World, Frame, sees, capped, Setting}
 use Rattle.sql_meaning.specs.Values.{system_value, session_value, function_value, by_manner, holds, unless_known, found_or, only_value, formed, functions_of, value, values, found_among, value_of_arms, value_of_part, value_of_if, value_at, first_known_of, is_kept, order_values, argument_values, shown_rows, row_alone, rows_of_query}
-use Rattle.independence_laws.specs.Relation.{SettingsAlike, SameOfSession, SameFunction, SameAt, IsReach}
+use Rattle.reach_laws.proofs.Members.{both}
+use Rattle.independence_laws.proofs.Relation.{SettingsAlike, SameOfSession, SameFunction, SameAt, IsReach}
 use Rattle.independence_laws.proofs.Alike.{Alike, bind_alike, pure_alike, pure_same, fail_alike, answered_alike, needed_alike, if_alike, each_alike, every_alike, kept_alike, table_alike, draw_alike}
 
 abbrev pub around : Setting → Below → Running → World
 around setting below running = record { setting = setting; below = below; running = running }
-
--- what holds of nodes behind nodes
-pub both : (P : Node → Type 0) (xs ys : List Node) → AllByRecursion P (xs ++ ys) → AllByRecursion P xs × AllByRecursion P ys
-both P [] ys h = (tt, h)
-both P (x ∷ xs) ys h = let p = both P xs ys h.1 in ((h.0, p.0), p.1)
 
 -- What programs do one level further down is done by the other, too: a function that is called, a trigger of what is caused.
 pub record AlikeBelow (random : Type 0) (objects : List Object) (reached : Node → Type 0) (below below' : Below) : Type 0 where
