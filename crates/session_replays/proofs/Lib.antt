@@ -1,4 +1,5 @@
 mod Calling
+mod Defining
 mod Evaluating
 mod Giving
 mod Keeping

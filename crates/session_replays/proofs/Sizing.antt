@@ -28,18 +28,18 @@ AllSized catalog = list_all has_sizes catalog ≡ true
 
 -- ---- tests of lists
 
-and_join : (a b : Bool) → a ≡ true → b ≡ true → (a && b) ≡ true
+pub and_join : (a b : Bool) → a ≡ true → b ≡ true → (a && b) ≡ true
 and_join true b e f = f
 and_join false b e f = cc
 
 pub split_all : {A : Type 0} (test : A → Bool) (xs ys : List A) → list_all test (xs ++ ys) ≡ true → (list_all test xs ≡ true) × (list_all test ys ≡ true)
 split_all test xs ys e = and_parts (list_all test xs) (list_all test ys) (sym (list_all-append test xs ys) ∙ e)
 
-join_all : {A : Type 0} (test : A → Bool) (xs ys : List A) → list_all test xs ≡ true → list_all test ys ≡ true → list_all test (xs ++ ys) ≡ true
+pub join_all : {A : Type 0} (test : A → Bool) (xs ys : List A) → list_all test xs ≡ true → list_all test ys ≡ true → list_all test (xs ++ ys) ≡ true
 join_all test xs ys e f = list_all-append test xs ys ∙ and_join (list_all test xs) (list_all test ys) e f
 
 -- what is left of them
-filter_all : {A : Type 0} (test goes : A → Bool) (xs : List A) → list_all test xs ≡ true → list_all test (filter (λ x. not (goes x)) xs) ≡ true
+pub filter_all : {A : Type 0} (test goes : A → Bool) (xs : List A) → list_all test xs ≡ true → list_all test (filter (λ x. not (goes x)) xs) ≡ true
 filter_all test goes [] e = refl
 filter_all {A = A} test goes (x ∷ xs) e =
     let p = and_parts (test x) (list_all test xs) e in

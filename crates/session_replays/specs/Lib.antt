@@ -1,4 +1,5 @@
 pub mod Again
+pub mod Bodies
 pub mod Replaying
 pub mod Rerun
 pub mod Sizes

@@ -1,11 +1,13 @@
 //! Committed statements, run one transaction after the other, give just the changes of the entries.
 ghost use Rattle.session_replays.specs.Again.{SetsRunAsDos};
+ghost use Rattle.session_replays.specs.Bodies.{CatalogsStayWell, HistoriesStayWell, RunsStayWell, StepsDefineWell};
 ghost use Rattle.session_replays.specs.Replaying.{ReplaysBegin, ReplaysGoOn, ReplaysOpen};
 ghost use Rattle.session_replays.specs.Rerun.{RunsAgain};
 
 use closing_laws::{closed_does_the_same, fitted_values_are_short};
 use session_model::runs_hold;
 use sql_meaning::statements_end_well;
+use text_answers::answers_are_well;
 
 /// A law: the DO over some expressions, as which a SET is logged, ends as their evaluation does, on the same scene.
 pub fn sets_run_as_dos()
@@ -31,3 +33,14 @@ pub fn transactions_replay()
 pub fn statements_make_the_base()
     ensures { RunsAgain }
 {}
+
+/// A law: the definitions that commands put out are statements that the parser can give, where the texts of the commands are
+/// of bytes. So the bodies of functions, procedures and triggers are, in each catalog to which such entries lead.
+pub fn bodies_stay_well()
+    ensures steps { StepsDefineWell }
+    ensures histories { HistoriesStayWell }
+    ensures catalogs { CatalogsStayWell }
+    ensures runs { RunsStayWell }
+{
+    answers_are_well();
+}

@@ -4,7 +4,7 @@
 //! transaction after the other in the order of the entries, each statement gives just its changes.
 //!
 //! The definitions stand in specs/: `Again` (an item, a transaction and entries that give their changes), `Replaying` (what
-//! holds of every run), `Sizes` (the procedures that a run may begin with), `Rerun` (all statements run again, as one function), `Worked` (a script).
+//! holds of every run), `Sizes` (the procedures that a run may begin with), `Bodies` (bodies that the parser can give), `Rerun` (all statements run again, as one function), `Worked` (a script).
 //!
 //! - `laws`: what holds
 //! - `worked`: scripts, whose committed statements the checker runs again
@@ -18,6 +18,8 @@
 //! - Statements of procedures are among them, with their locals closed in: a condition, a DEFAULT or a SET that changed rows is the DO over
 //!   its expressions.
 //! - So what the statements of a run make of the base that it began with is the committed base ([`statements_make_the_base`]).
+//! - The definitions that commands put out are statements that the parser can give, where their texts are of bytes, and so the bodies
+//!   of functions, procedures and triggers are in each catalog that a run comes to, if they are where it began ([`bodies_stay_well`]).
 //! - The DO over the expressions of a SET ends as their evaluation does ([`sets_run_as_dos`]), so that a SET whose expressions
 //!   changed rows is such a statement.
 //! - The worked scripts: statements by themselves, in a transaction, behind a savepoint and rolled back; a procedure's condition.
@@ -28,5 +30,5 @@
 mod laws;
 mod worked;
 
-pub use laws::{sets_run_as_dos, statements_make_the_base, transactions_replay};
+pub use laws::{bodies_stay_well, sets_run_as_dos, statements_make_the_base, transactions_replay};
 pub use worked::{call_run_again, script_run_again};
