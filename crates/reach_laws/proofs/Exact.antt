@@ -1,5 +1,5 @@
 -- A statement ends just the same in settings that are the same to what it reaches.
-use Rattle.std.proofs.Common.{◌≡◌, ◌∙◌, ℕ, inl, inr, Bool, true, false, cond, List, [], ◌∷◌, ◌++◌, flat_map, Option, Some, None, ℤ, refl, sym, ap}
+use Rattle.std.proofs.Common.{◌≡◌, ◌∙◌, ℕ, inr, Bool, true, false, cond, List, [], ◌∷◌, flat_map, Option, Some, None, ℤ, refl, sym, ap}
 use Rattle.std.specs.Prelude.{unwrap_or}
 use Rattle.std.specs.List.{AllByRecursion}
 use Rattle.val_types.specs.declared.definitions.TableDef.{TableDef}
@@ -8,11 +8,10 @@ use Rattle.table_rules.specs.Tables.{Table}
 use Rattle.table_rules.specs.Stored.{has_name, table_named}
 use Rattle.table_rules.proofs.Places.{name_is}
 use Rattle.sql_tree.specs.Statement.{Statement}
-use Rattle.catalog_rules.specs.Objects.{function, reaction, body_of, trigger_body, function_in}
+use Rattle.catalog_rules.specs.Objects.{function, reaction, body_of, trigger_body}
 use Rattle.catalog_rules.specs.Nodes.{Node, a_name, a_column, a_new_column, an_old_column, an_inserted_value, a_user_variable, a_system_variable, a_built_in, a_random_number, a_function_call, a_table_read, a_limit, a_statement, no_sight, nodes_of, nodes_of_tree}
 use Rattle.sql_meaning.specs.Scenes.{Scene, Ending, done, failed, Action, then_do, needed, undone_from}
-use Rattle.sql_meaning.specs.Frames.{Setting, Frame, only_locals}
-use Rattle.sql_meaning.specs.Changing.{Did}
+use Rattle.sql_meaning.specs.Frames.{Setting, only_locals}
 use Rattle.sql_meaning.specs.Running.{perform, world_of, uses_forced, forced_for, effect}
 use Rattle.sql_reach.specs.Reach.{body_nodes, reached_programs, reached_nodes}
 use Rattle.reach_laws.specs.Members.{In}

@@ -1,12 +1,12 @@
 -- Two actions that are alike, from the actions that they are made of. In which way they are alike is left open: what is shown here
 -- and behind it holds of each relation on pairs of actions that is closed under what is in the definitions.
-use Rattle.std.proofs.Common.{◌≡◌, ℕ, zero, suc, ◌+◌, List, [], ◌∷◌, Bool, true, false, cond, Option, Some, None, Result, Ok, Err, ℤ, refl, sym, subst}
+use Rattle.std.proofs.Common.{◌≡◌, ℕ, ◌+◌, List, [], ◌∷◌, Bool, true, false, cond, Option, Some, None, Result, Ok, Err, ℤ, sym, subst}
 use Rattle.std.specs.List.{AllByRecursion}
 use Rattle.val_types.specs.declared.value.Value.{Value}
 use Rattle.val_types.specs.declared.change.Change.{Change}
 use Rattle.val_types.specs.declared.definitions.TableDef.{TableDef}
 use Rattle.table_rules.specs.Tables.{Table}
-use Rattle.sql_meaning.specs.Scenes.{Scene, Action, ◌>>=◌, pure, fail, answered, needed, require, each, kept_by, counted, carried_on, make, table_now, counter_now, raise_counter, draw, next_uuid, spend_turn}
+use Rattle.sql_meaning.specs.Scenes.{Action, ◌>>=◌, pure, fail, answered, needed, require, each, kept_by, counted, carried_on, make, table_now, counter_now, raise_counter, draw, next_uuid, spend_turn}
 
 -- A way in which two actions may be alike. `random` is whether they may draw, `exact` whether their counters are the same, `changing`
 -- whether they may change tables, `Known` what is known of a table that is found under a name.

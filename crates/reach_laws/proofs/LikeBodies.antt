@@ -1,5 +1,5 @@
 -- Bodies of functions and triggers are alike, where what they reach is, and so are statements.
-use Rattle.std.proofs.Common.{◌≡◌, ℕ, zero, suc, ◌==◌, List, [], map, length, zip, drop, flat_map, ◌∷◌, ◌&&◌, ◌||◌, Bool, not, Option, Some, None, ℤ, ◌≤◌, arith, ◌++◌, true, false, refl, sym, ap, subst, ◌∙◌}
+use Rattle.std.proofs.Common.{◌≡◌, ℕ, zero, suc, ◌==◌, List, [], map, length, zip, ◌∷◌, ◌&&◌, Bool, not, Option, Some, None, ℤ, ◌++◌, true, false, refl, sym, ap, subst, ◌∙◌}
 use Rattle.std.specs.List.{AllByRecursion, list_any}
 use Rattle.val_types.specs.declared.value.Value.{Value}
 use Rattle.val_types.specs.declared.value.Value.TheVariants.{Null}
@@ -19,20 +19,20 @@ use Rattle.sql_tree.specs.declared.statements.Cause.TheVariants as causes
 use Rattle.table_rules.proofs.Places.{name_self}
 use Rattle.sql_reach.specs.Reach.{causes_event, is_change}
 use Rattle.catalog_rules.specs.Names.{is_among, place_among, same_name}
-use Rattle.catalog_rules.specs.Objects.{Object, table_in, function_in, trigger_for, parameters_of, result_of, body_of, trigger_body, columns_of, same_event}
+use Rattle.catalog_rules.specs.Objects.{function_in, trigger_for, parameters_of, result_of, body_of, trigger_body, columns_of}
 use Rattle.sql_locals.specs.Types.{column_type}
-use Rattle.catalog_rules.specs.Nodes.{Node, Sight, a_statement, a_function_call, no_sight, in_sight, sight_of_update, count_nodes, count_of_trees, nodes_of, nodes_of_tree, nodes_of_trees, nodes_of_part, nodes_of_query, nodes_of_orders, nodes_of_sets, nodes_of_supply, nodes_of_assignments, nodes_of_declared, nodes_of_steps, nodes_of_branches, nodes_of_otherwise}
+use Rattle.catalog_rules.specs.Nodes.{Node, Sight, a_statement, a_function_call, no_sight, in_sight, sight_of_update, count_nodes, nodes_of, nodes_of_tree, nodes_of_part, nodes_of_orders, nodes_of_sets, nodes_of_supply, nodes_of_declared, nodes_of_steps, nodes_of_branches, nodes_of_otherwise}
 use Rattle.catalog_rules.specs.Checks.{statement_refusal, expression_refusal}
-use Rattle.sql_meaning.specs.Scenes.{Action, ◌>>=◌, pure, fail, needed, require, each, carried_on, spend_turn, Scene}
-use Rattle.sql_meaning.specs.Frames.{World, Setting, Running, Below, Frame, only_locals}
+use Rattle.sql_meaning.specs.Scenes.{Action, ◌>>=◌, pure, fail, needed, require, each, carried_on, spend_turn}
+use Rattle.sql_meaning.specs.Frames.{World, Setting, Running, Below, Frame}
 use Rattle.sql_meaning.specs.Values.{value, values, holds, rows_of_query}
-use Rattle.sql_meaning.specs.Changing.{fitted, put_at, Manner, refusing, ignoring, replacing, updating}
-use Rattle.sql_meaning.specs.Running.{manner_of, perform, Body, Ended, unless_returned, frame_of, scope_of, is_ill_limit, also_running, let_through, checked, body_value, changes_running, body_checked, body_perform, assign_local, assign_new, assign_one, body_set, declare_name, preset_value, declare, turns, turns_left, step, steps, step_of_branches, steps_otherwise, local_for, fitted_result, function_body, in_function, start_function, call_function, seen_as, run_trigger, fire_trigger, level_of, world_of, forced_for, effect, evaluation, tables_named}
+use Rattle.sql_meaning.specs.Changing.{fitted, put_at, replacing}
+use Rattle.sql_meaning.specs.Running.{manner_of, perform, Body, Ended, unless_returned, frame_of, scope_of, is_ill_limit, also_running, let_through, checked, body_value, changes_running, body_checked, body_perform, assign_local, assign_new, assign_one, body_set, declare_name, preset_value, declare, turns, turns_left, step, steps, step_of_branches, steps_otherwise, local_for, fitted_result, function_body, in_function, start_function, call_function, seen_as, run_trigger, fire_trigger, level_of, world_of, tables_named}
 use Rattle.reach_laws.proofs.Members.{both, of_each}
 use Rattle.reach_laws.proofs.Reaching.{table_inserted, expressions_of, Decided, Fired, IsReach, LikeBelow}
 use Rattle.reach_laws.proofs.Like.{IsLikeness, bind_like, pure_like, fail_like, needed_like, require_like, if_like, each_like, every_like, carried_like, carry_like}
 use Rattle.reach_laws.proofs.LikeValues.{around, value_like, values_like, query_like, holds_like}
-use Rattle.reach_laws.proofs.LikeChanges.{Fires, Sets, Settles, Inserts, fitted_like, put_at_like, insert_into_like, update_table_like, delete_from_like}
+use Rattle.reach_laws.proofs.LikeChanges.{Sets, Settles, Inserts, fitted_like, put_at_like, insert_into_like, update_table_like, delete_from_like}
 
 -- a test behind a name that is the same
 named : (on t : List ℕ) (b : Bool) → t ≡ on → b ≡ true → (same_name on t && b) ≡ true

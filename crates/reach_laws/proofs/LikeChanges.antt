@@ -1,6 +1,6 @@
 -- INSERT, REPLACE, UPDATE and DELETE are alike, where what they reach is.
-use Rattle.std.proofs.Common.{◌≡◌, inl, inr, ℕ, ◌+◌, List, [], ◌∷◌, zip, Bool, cond, Option, Some, None, ℤ, refl, sym, ap, subst}
-use Rattle.std.specs.Prelude.{find, unwrap_or, slice_get, slice_index_or, slice_set, flat_map, is_none, not, ◌&&◌}
+use Rattle.std.proofs.Common.{◌≡◌, inl, inr, ℕ, ◌+◌, List, [], ◌∷◌, zip, Bool, cond, Option, Some, None, ℤ, refl, sym, subst}
+use Rattle.std.specs.Prelude.{find, unwrap_or, slice_get, slice_index_or, slice_set, is_none, not, ◌&&◌}
 use Rattle.std.specs.List.{AllByRecursion}
 use Rattle.std.specs.Option.{option_map}
 use Rattle.val_types.specs.declared.value.Value.{Value}
@@ -15,22 +15,22 @@ use Rattle.auto_inc.specs.Generating.{Sequence, next_value, after_generated, aft
 use Rattle.table_rules.specs.Tables.{Table}
 use Rattle.table_rules.specs.Stored.{rows_beside, key_in_way, key_tests, row_in_way}
 use Rattle.sql_tree.specs.Tree.{Tree, Trees, Part, Orders}
-use Rattle.sql_tree.specs.Statement.{Supply, rows, rows_of, Trigger}
+use Rattle.sql_tree.specs.Statement.{Supply, rows, rows_of}
 use Rattle.sql_tree.specs.declared.expressions.Count.{Count}
 use Rattle.sql_tree.specs.declared.statements.Time.{Time}
 use Rattle.sql_tree.specs.declared.statements.Time.TheVariants as times
 use Rattle.sql_tree.specs.declared.statements.Cause.{Cause}
 use Rattle.sql_tree.specs.declared.statements.Cause.TheVariants as causes
 use Rattle.catalog_rules.specs.Names.{place_among}
-use Rattle.catalog_rules.specs.Objects.{Object, columns_of, table_in, trigger_for, trigger_body}
-use Rattle.catalog_rules.specs.Nodes.{Node, Sight, no_sight, in_sight, nodes_of, nodes_of_tree, nodes_of_trees, nodes_of_part, nodes_of_orders, nodes_of_query, nodes_of_rows, nodes_of_supply, nodes_of_sets}
-use Rattle.sql_meaning.specs.Scenes.{Action, ◌>>=◌, pure, answered, needed, require, each, kept_by, counted, carried_on, make, table_now, counter_now, raise_counter, fail}
+use Rattle.catalog_rules.specs.Objects.{columns_of}
+use Rattle.catalog_rules.specs.Nodes.{Node, Sight, no_sight, nodes_of_tree, nodes_of_trees, nodes_of_part, nodes_of_orders, nodes_of_supply}
+use Rattle.sql_meaning.specs.Scenes.{Action, ◌>>=◌, pure, answered, needed, require, each, kept_by, counted, carried_on, make, table_now, raise_counter}
 use Rattle.sql_meaning.specs.Frames.{World, Frame, sees, Setting, Running, Below}
 use Rattle.sql_meaning.specs.Values.{value, values, is_kept, order_values, rows_of_query}
 use Rattle.sql_meaning.specs.Changing.{fitted, type_at, put_at, asks, asked_place, has_missing, none_missing, before_row, after_row, delete_row, assign_column, take_out, put_in_place, is_there, store_update, update_row, Inserting, nothing_inserted, Manner, refusing, ignoring, replacing, updating, generated_next, Counted, generate_at, given_value, count_row, put_row, clear_way, passed_by, updating_frame, settle, place_row, left_out_row, insert_row, insert_supply, insert_into_table, chosen_rows, update_table, delete_from_table}
-use Rattle.reach_laws.proofs.Members.{both, of_each}
+use Rattle.reach_laws.proofs.Members.{of_each}
 use Rattle.reach_laws.proofs.Reaching.{Decided, Fired, IsReach, LikeBelow}
-use Rattle.reach_laws.proofs.Like.{IsLikeness, bind_like, pure_like, fail_like, answered_like, needed_like, require_like, if_like, each_like, every_like, kept_like, counted_like, carried_like, carry_like, make_like, table_like, raise_like}
+use Rattle.reach_laws.proofs.Like.{IsLikeness, bind_like, pure_like, fail_like, answered_like, needed_like, require_like, if_like, every_like, kept_like, counted_like, carried_like, carry_like, make_like, table_like, raise_like}
 use Rattle.reach_laws.proofs.LikeValues.{around, value_like, values_like, is_kept_like, order_like, query_like}
 
 -- a row with its value generated, and one with its value given
