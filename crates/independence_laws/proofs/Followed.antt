@@ -8,12 +8,12 @@ use Rattle.std.proofs.lemmas.Bool.{or_parts}
 use Rattle.val_types.specs.declared.value.Value.TheVariants.{Int}
 use Rattle.val_types.specs.declared.ops.Func.{Func}
 use Rattle.val_types.specs.declared.ops.Func0.{Func0}
-use Rattle.sql_tree.specs.Statement.{Trigger}
 use Rattle.sql_tree.specs.Statement.{Statement, create_table, create_function, create_procedure, create_trigger, drop_table, drop_function, drop_procedure, drop_trigger, truncate, insert_into, replace_into, update_rows, delete_rows, select, evaluate, set_all, call_procedure, begin, commit, rollback, savepoint, rollback_to, release_savepoint, block, if_steps, while_steps, return_value}
 use Rattle.sql_tree.specs.declared.statements.Time.{Time}
 use Rattle.sql_tree.specs.declared.statements.Cause.{Cause}
 use Rattle.catalog_rules.specs.Names.{same_name}
-use Rattle.catalog_rules.specs.Objects.{Object, function, reaction, trigger_body, trigger_for}
+use Rattle.catalog_rules.specs.Objects.{Object, function, reaction, function_in, trigger_for}
+use Rattle.catalog_rules.specs.Checks.{statement_refusal, expression_refusal}
 use Rattle.catalog_rules.specs.Nodes.{Node, a_name, a_column, a_new_column, an_old_column, an_inserted_value, a_user_variable, a_system_variable, a_built_in, a_random_number, a_function_call, a_table_read, a_limit, a_statement, no_sight, in_sight, sight_of_update, count_nodes, nodes_of, nodes_of_trees, nodes_of_part, nodes_of_query, nodes_of_orders, nodes_of_sets, nodes_of_supply}
 use Rattle.log_entries.specs.Variables.{variable_value}
 use Rattle.sql_meaning.specs.Scenes.{Scene, Ending, done, failed, undone_from}
@@ -26,14 +26,19 @@ use Rattle.sql_reach.specs.Carrying.{asks_last_id, draws, user_variable_at, in_b
 use Rattle.sql_reach.specs.Reach.{causes_event, body_nodes, reached_programs, reached_nodes}
 use Rattle.sql_reach.specs.Reasons.{is_unsafe_function, names_server_id, inserts_counted}
 use Rattle.session_ctx.specs.Carrying.{StandsIn}
-use Rattle.independence_laws.proofs.Relation.{AreAlike, EndsAlike, SettingsAlike, SameOfSession, SameFunction, SameAt, IsReach}
+use Rattle.independence_laws.proofs.Relation.{AreAlike, EndsAlike}
+use Rattle.independence_laws.proofs.Alike.{Known, alike_law}
 use Rattle.independence_laws.specs.Followed.{names_own_function, reach_nothing_own, is_followed}
 use Rattle.independence_laws.specs.Laws.{AreAlikeFor, EndsAs, FirstValueIsForced, StatementsAreFollowed}
-use Rattle.independence_laws.proofs.AlikeBodies.{Causes, Reads, statement_alike}
+use Rattle.reach_laws.specs.Agreeing.{SameOfSession, SameFunction, SameAt}
+use Rattle.reach_laws.proofs.Reaching.{expressions_of, Fired, IsReach}
+use Rattle.reach_laws.proofs.Expressions.{IsNoStatement, expressions_plain, expressions_in}
+use Rattle.reach_laws.proofs.LikeBodies.{Causes, statement_like}
 use Rattle.independence_laws.proofs.Forcing.{Goes, first_forced}
-use Rattle.reach_laws.specs.Laws.{In}
+use Rattle.reach_laws.specs.Members.{In}
 use Rattle.reach_laws.proofs.Members.{in_front, in_made, any_in, none_in, all_in}
-use Rattle.independence_laws.proofs.Quiet.{own_node, Quiet, joined, counted_quiet, part_quiet, orders_quiet, trees_quiet, query_quiet, sets_quiet, supply_quiet, quiet_by}
+use Rattle.independence_laws.proofs.Quiet.{Quiet, quiet_plain, quiet_by}
+use Rattle.reach_laws.proofs.Named.{own_node}
 use Rattle.reach_laws.proofs.Found.{calls_reached, triggers_reached, bodies_reached}
 use Rattle.independence_laws.proofs.Variables.{in_order, looked_up, variable_in, if_some}
 
@@ -76,15 +81,6 @@ module _ (setting setting' : Setting) (s : Statement) (first : Option ℤ) (same
   no_id : list_any names_server_id all ≡ false
   no_id = (or_parts (list_any names_own_function all) (list_any names_server_id all) nothing.0).1
 
-  like : SettingsAlike setting setting'
-  like = record {
-    catalog = same_objects;
-    stamp = stands.stamp;
-    connection = stands.connection;
-    increment = stands.increment;
-    offset = stands.offset;
-  }
-
   asked_some : {A : Type 0} (b : Bool) (a : A) → b ≡ true → if_asked b a ≡ Some a
   asked_some true a e = refl
   asked_some false a e = cc
@@ -100,14 +96,14 @@ module _ (setting setting' : Setting) (s : Statement) (first : Option ℤ) (same
   never e = cc
 
   session_same : (g : Func0) → In (a_built_in (Func.Zero g)) all → SameOfSession setting setting' g
+  session_same Func0.Now h = stands.stamp
+  session_same Func0.UnixTimestamp h = stands.stamp
+  session_same Func0.ConnectionId h = stands.connection
+  session_same Func0.LastInsertId h = last_same (a_built_in (Func.Zero Func0.LastInsertId)) h refl
   session_same Func0.SysDate h = never (own_function (Func.Zero Func0.SysDate) h)
   session_same Func0.User h = never (own_function (Func.Zero Func0.User) h)
   session_same Func0.Uuid h = never (own_function (Func.Zero Func0.Uuid) h)
   session_same Func0.RowCount h = never (own_function (Func.Zero Func0.RowCount) h)
-  session_same Func0.LastInsertId h = last_same (a_built_in (Func.Zero Func0.LastInsertId)) h refl
-  session_same Func0.Now h = tt
-  session_same Func0.UnixTimestamp h = tt
-  session_same Func0.ConnectionId h = tt
 
   function_same : (g : Func) → In (a_built_in g) all → SameFunction setting setting' g
   function_same (Func.Zero g) h = session_same g h
@@ -136,7 +132,7 @@ module _ (setting setting' : Setting) (s : Statement) (first : Option ℤ) (same
       if_some (λ v. variable_value context'.variables n ≡ v) (lookup (pointwise nat_eq n) (variables_reached context.variables all)) (variable_value context.variables n)
       (looked_up (variable_value context.variables) n (in_byte_order (filter_map user_variable_at all)) (in_order n (filter_map user_variable_at all) (variable_in n all h))) (stands.variables n)
 
-  node_same : (node : Node) → reached node → SameAt random setting setting' node
+  node_same : (node : Node) → reached node → SameAt setting setting' node
   node_same (a_name sight n) r = tt
   node_same (a_column sight t c) r = tt
   node_same (a_new_column c) r = tt
@@ -145,7 +141,7 @@ module _ (setting setting' : Setting) (s : Statement) (first : Option ℤ) (same
   node_same (a_user_variable n) r = variable_same n r.0
   node_same (a_system_variable n) r = system_same n r.0
   node_same (a_built_in g) r = function_same g r.0
-  node_same a_random_number r = any_in draws a_random_number all r.0 refl
+  node_same a_random_number r = tt
   node_same (a_function_call n count) r = tt
   node_same (a_table_read t) r = tt
   node_same (a_limit c) r = tt
@@ -158,56 +154,32 @@ module _ (setting setting' : Setting) (s : Statement) (first : Option ℤ) (same
       let inside = in_made body_nodes o node (reached_programs catalog (nodes_of s)) is h in
       (bodies_reached catalog (nodes_of s) o node is h, quiet_by catalog node (none_in (inserts_counted catalog) node bodies nothing.1 inside)))
 
-  fires_all : (x : Statement) (on : List ℕ) (event : Cause) (time : Time) (t : Trigger) → In (a_statement x) all → causes_event on event x ≡ true → trigger_for catalog on time event ≡ Some t → AllByRecursion reached (nodes_of (trigger_body t))
-  fires_all x on event time t h e is = body_reached (reaction t) (triggers_reached catalog (nodes_of s) x on event time t h e is)
+  fires_all : (x : Statement) (on : List ℕ) (event : Cause) (time : Time) → In (a_statement x) all → causes_event on event x ≡ true → Fired setting setting' reached on time event
+  fires_all x on event time h e = (λ i. trigger_for (same_objects i) on time event, λ t is. body_reached (reaction t) (triggers_reached catalog (nodes_of s) x on event time t h e is))
 
-  is_reach : IsReach random setting setting' reached
+  is_reach : IsReach random ⊥ (Unit {0}) (Known random catalog) setting setting' reached
   is_reach = record {
+    increment = stands.increment;
+    offset = stands.offset;
     same = node_same;
+    draws = λ r. any_in draws a_random_number all r.0 refl;
+    uuids = λ r. never (own_function (Func.Zero Func0.Uuid) r.0);
+    functions = λ n count r i. function_in (same_objects i) n;
     calls = λ n count p r is. body_reached (function p) (calls_reached catalog (nodes_of s) n count p r.0 is);
-    fires = λ x on event time t r e is. fires_all x on event time t r.0 e is;
-    counts = λ x t d r i is. r.1 t d i is;
+    fires = λ x on event time r e. fires_all x on event time r.0 e;
+    writes = λ x r e. tt;
+    generates = λ x t d r i is. inl (r.1 t d i is);
+    expressions = λ scope e all i. expression_refusal (same_objects i) scope e;
+    statements = λ scope one all i. statement_refusal (same_objects i) scope one;
   }
 
-  quiet_reached : (ns : List Node) → AllByRecursion (Quiet catalog) ns → ((node : Node) → In node ns → In node (nodes_of s)) → AllByRecursion reached ns
-  quiet_reached [] q i = tt
-  quiet_reached (x ∷ xs) q i = ((in_front x (nodes_of s) bodies (i x (inl refl)), q.0), quiet_reached xs q.1 (λ node h. i node (inr h)))
+  -- expressions of the statement are reached
+  plain : (ns : List Node) → AllByRecursion IsNoStatement ns → ((node : Node) → In node ns → In node (nodes_of s)) → AllByRecursion reached ns
+  plain [] h i = tt
+  plain (x ∷ xs) h i = ((in_front x (nodes_of s) bodies (i x (inl refl)), quiet_plain catalog x h.0), plain xs h.1 (λ node j. i node (inr j)))
 
-  causes_all : Causes random setting setting' reached like is_reach s
-  causes_all on event time t e is = fires_all s on event time t (in_front (a_statement s) (nodes_of s) bodies (own_node s)) e is
-
--- ---- its expressions
-
-module _ (setting setting' : Setting) (first : Option ℤ) (same_objects : setting'.catalog ≡ setting.catalog) where
-  reads_all : (s : Statement) (f : reach_nothing_own setting.catalog (nodes_of s) ≡ true) (stands : StandsIn setting'.context (carried_by setting.context (reached_nodes setting.catalog (nodes_of s)) first))
-      → Reads (random setting setting' s first same_objects f stands) setting setting' (reached setting setting' s first same_objects f stands) (like setting setting' s first same_objects f stands) (is_reach setting setting' s first same_objects f stands) s
-  reads_all (create_table x) f stands = tt
-  reads_all (create_function x) f stands = tt
-  reads_all (create_procedure x) f stands = tt
-  reads_all (create_trigger x) f stands = tt
-  reads_all (drop_table x) f stands = tt
-  reads_all (drop_function x) f stands = tt
-  reads_all (drop_procedure x) f stands = tt
-  reads_all (drop_trigger x) f stands = tt
-  reads_all (truncate x) f stands = tt
-  reads_all (insert_into ignore t names supply sets) f stands = quiet_reached setting setting' (insert_into ignore t names supply sets) first same_objects f stands (nodes_of_supply supply no_sight ++ nodes_of_sets sets (sight_of_update t)) (joined setting.catalog (nodes_of_supply supply no_sight) (nodes_of_sets sets (sight_of_update t)) (supply_quiet setting.catalog supply) (sets_quiet setting.catalog sets (sight_of_update t))) (λ node h. inr h)
-  reads_all (replace_into t names supply) f stands = quiet_reached setting setting' (replace_into t names supply) first same_objects f stands (nodes_of_supply supply no_sight) (supply_quiet setting.catalog supply) (λ node h. inr h)
-  reads_all (update_rows t sets condition os limit) f stands = quiet_reached setting setting' (update_rows t sets condition os limit) first same_objects f stands (nodes_of_sets sets (in_sight t no_sight) ++ nodes_of_part condition (in_sight t no_sight) ++ nodes_of_orders os (in_sight t no_sight) ++ count_nodes limit) (joined setting.catalog (nodes_of_sets sets (in_sight t no_sight) ++ nodes_of_part condition (in_sight t no_sight) ++ nodes_of_orders os (in_sight t no_sight)) (count_nodes limit) (joined setting.catalog (nodes_of_sets sets (in_sight t no_sight) ++ nodes_of_part condition (in_sight t no_sight)) (nodes_of_orders os (in_sight t no_sight)) (joined setting.catalog (nodes_of_sets sets (in_sight t no_sight)) (nodes_of_part condition (in_sight t no_sight)) (sets_quiet setting.catalog sets (in_sight t no_sight)) (part_quiet setting.catalog condition (in_sight t no_sight))) (orders_quiet setting.catalog os (in_sight t no_sight))) (counted_quiet setting.catalog limit)) (λ node h. inr h)
-  reads_all (delete_rows t condition os limit) f stands = quiet_reached setting setting' (delete_rows t condition os limit) first same_objects f stands (nodes_of_part condition (in_sight t no_sight) ++ nodes_of_orders os (in_sight t no_sight) ++ count_nodes limit) (joined setting.catalog (nodes_of_part condition (in_sight t no_sight) ++ nodes_of_orders os (in_sight t no_sight)) (count_nodes limit) (joined setting.catalog (nodes_of_part condition (in_sight t no_sight)) (nodes_of_orders os (in_sight t no_sight)) (part_quiet setting.catalog condition (in_sight t no_sight)) (orders_quiet setting.catalog os (in_sight t no_sight))) (counted_quiet setting.catalog limit)) (λ node h. inr h)
-  reads_all (select q) f stands = quiet_reached setting setting' (select q) first same_objects f stands (nodes_of_query q no_sight) (query_quiet setting.catalog q no_sight) (λ node h. inr h)
-  reads_all (evaluate ts) f stands = quiet_reached setting setting' (evaluate ts) first same_objects f stands (nodes_of_trees ts no_sight) (trees_quiet setting.catalog ts no_sight) (λ node h. inr h)
-  reads_all (set_all as') f stands = tt
-  reads_all (call_procedure x ts) f stands = tt
-  reads_all begin f stands = tt
-  reads_all commit f stands = tt
-  reads_all rollback f stands = tt
-  reads_all (savepoint x) f stands = tt
-  reads_all (rollback_to x) f stands = tt
-  reads_all (release_savepoint x) f stands = tt
-  reads_all (block ds ss) f stands = tt
-  reads_all (if_steps bs o) f stands = tt
-  reads_all (while_steps c ss) f stands = tt
-  reads_all (return_value x) f stands = tt
+  causes_all : Causes (alike_law random catalog) setting setting' reached is_reach s
+  causes_all on event time e = fires_all s on event time (in_front (a_statement s) (nodes_of s) bodies (own_node s)) e
 
 -- ---- the first generated value, forced
 
@@ -306,9 +278,10 @@ statements_followed keep setting setting' nesting nesting' locals s a b after di
     let b0 : Scene = with_turns a.turns b in
     let drawn : Type 0 = random setting setting' s did.first same_objects f stands in
     let start : AreAlike drawn setting.catalog a b0 = record { tables = begins.tables; changes = begins.changes; turns = refl; seeds = begins.seeds; theirs = begins.theirs } in
-    let same = statement_alike drawn setting setting' (reached setting setting' s did.first same_objects f stands)
-    (like setting setting' s did.first same_objects f stands) (is_reach setting setting' s did.first same_objects f stands) nesting frame (Some v) s
-    (causes_all setting setting' s did.first same_objects f stands) (λ t d i is. tt) (reads_all setting setting' did.first same_objects s f stands) in
+    let same = statement_like (alike_law drawn setting.catalog) setting setting' (reached setting setting' s did.first same_objects f stands)
+    (is_reach setting setting' s did.first same_objects f stands) nesting frame (Some v) s
+    (λ e. tt) (causes_all setting setting' s did.first same_objects f stands) (λ t d i is. tt)
+    (plain setting setting' s did.first same_objects f stands (expressions_of s) (expressions_plain s) (expressions_in s)) in
     let went = went_by drawn setting.catalog did after (perform world' frame (Some v) s b0)
     (subst (λ (o : Ending Did). EndsAlike drawn setting.catalog o (perform world' frame (Some v) s b0)) own (same.alike a b0 start)) in
     let theirs = forced_perform (forced_for setting'.context s) world' frame (Some v) s b0 did went.scene went.ends

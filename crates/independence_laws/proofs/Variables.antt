@@ -13,7 +13,7 @@ use Rattle.val_types.specs.declared.value.Value.{Value}
 use Rattle.table_rules.proofs.Places.{name_is, name_self}
 use Rattle.catalog_rules.specs.Nodes.{Node, a_user_variable}
 use Rattle.sql_reach.specs.Carrying.{user_variable_at, put_by_order, put_name, in_byte_order}
-use Rattle.reach_laws.specs.Laws.{In}
+use Rattle.reach_laws.specs.Members.{In}
 use Rattle.reach_laws.proofs.Members.{clash}
 
 tied : (a b : List ℕ) (o : Ordering) → o ≡ slice_cmp nat_cmp a b → is_eq o ≡ pointwise nat_eq a b

@@ -6,7 +6,8 @@ use Rattle.std.proofs.Common.{◌≡◌, ◌≤◌, ◌<◌, ℕ, zero, suc, ◌
 use Rattle.catalog_rules.specs.Objects.{Object, table, function, procedure, reaction, name_of}
 use Rattle.catalog_rules.specs.Nodes.{Node, a_function_call, a_statement}
 use Rattle.sql_reach.specs.Reach.{calls_function, fires_trigger, body_nodes, is_reached_from, one_round, rounds, reached_programs, reached_nodes}
-use Rattle.reach_laws.specs.Laws.{In, CallsAreReached, TriggersAreReached, BodiesAreReached}
+use Rattle.reach_laws.specs.Members.{In}
+use Rattle.reach_laws.specs.Laws.{CallsAreReached, TriggersAreReached, BodiesAreReached}
 use Rattle.reach_laws.proofs.Members.{in_front, in_back, in_either, in_made, more_made, in_kept, kept_in, any_in, more_any, clash}
 use Rattle.reach_laws.proofs.Named.{function_is, named_same, trigger_is, fired}
 

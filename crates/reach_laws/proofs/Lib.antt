@@ -1,6 +1,12 @@
+pub mod Exact
+pub mod Expressions
 pub mod Found
+pub mod Like
+pub mod LikeBodies
+pub mod LikeChanges
+pub mod LikeValues
 pub mod Members
 pub mod Named
+pub mod Reaching
 pub mod Readers
-pub mod StillBodies
-pub mod StillValues
+pub mod Refusals

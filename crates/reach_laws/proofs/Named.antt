@@ -1,17 +1,46 @@
--- What is found by its name is of the catalog and has that name.
+-- A statement is its own first node; what is found by its name is of the catalog and has that name.
 use Rattle.std.proofs.Common.{◌≡◌, ℕ, inl, inr, Bool, true, false, ◌&&◌, List, [], ◌∷◌, cond, Option, Some, None, refl, sym, ap, ◌∙◌}
 use Rattle.std.proofs.lemmas.Bool.{and_parts}
 use Rattle.table_rules.proofs.Places.{name_is, name_self}
 use Rattle.sql_tree.specs.Statement.{Program, Trigger, trigger}
-use Rattle.sql_tree.specs.Statement.{Statement}
+use Rattle.sql_tree.specs.Statement.{Statement, create_table, create_function, create_procedure, create_trigger, drop_table, drop_function, drop_procedure, drop_trigger, truncate, insert_into, replace_into, update_rows, delete_rows, select, evaluate, set_all, call_procedure, begin, commit, rollback, savepoint, rollback_to, release_savepoint, block, if_steps, while_steps, return_value}
 use Rattle.sql_tree.specs.declared.statements.Time.{Time}
 use Rattle.sql_tree.specs.declared.statements.Cause.{Cause}
 use Rattle.sql_tree.specs.declared.statements.Cause.TheVariants as causes
 use Rattle.catalog_rules.specs.Names.{same_name}
 use Rattle.catalog_rules.specs.Objects.{Object, table, function, procedure, reaction, name_of, function_in, trigger_for, waits_for, same_time, same_event}
-use Rattle.catalog_rules.specs.Nodes.{a_statement}
+use Rattle.catalog_rules.specs.Nodes.{a_statement, nodes_of}
 use Rattle.sql_reach.specs.Reach.{causes_event, fires_trigger}
-use Rattle.reach_laws.specs.Laws.{In}
+use Rattle.reach_laws.specs.Members.{In}
+
+pub own_node : (s : Statement) → In (a_statement s) (nodes_of s)
+own_node (create_table x) = inl refl
+own_node (create_function x) = inl refl
+own_node (create_procedure x) = inl refl
+own_node (create_trigger x) = inl refl
+own_node (drop_table x) = inl refl
+own_node (drop_function x) = inl refl
+own_node (drop_procedure x) = inl refl
+own_node (drop_trigger x) = inl refl
+own_node (truncate x) = inl refl
+own_node (insert_into ignore t names supply sets) = inl refl
+own_node (replace_into t names supply) = inl refl
+own_node (update_rows t sets condition os limit) = inl refl
+own_node (delete_rows t condition os limit) = inl refl
+own_node (select q) = inl refl
+own_node (evaluate ts) = inl refl
+own_node (set_all as') = inl refl
+own_node (call_procedure x ts) = inl refl
+own_node begin = inl refl
+own_node commit = inl refl
+own_node rollback = inl refl
+own_node (savepoint x) = inl refl
+own_node (rollback_to x) = inl refl
+own_node (release_savepoint x) = inl refl
+own_node (block ds ss) = inl refl
+own_node (if_steps bs o) = inl refl
+own_node (while_steps c ss) = inl refl
+own_node (return_value x) = inl refl
 
 pub named_same : (a b : List ℕ) → same_name a b ≡ true → same_name b a ≡ true
 named_same a b e = ap (same_name b) (name_is a b e) ∙ name_self b

@@ -1,24 +1,21 @@
 -- All that a statement can run is reached; and a statement that does not write changes nothing.
-use Rattle.std.specs.Prelude.{◌≡◌, ◌⊎◌, ℕ, true, false, List, [], ◌∷◌, Some}
+use Rattle.std.specs.Prelude.{◌≡◌, ℕ, true, false, List, Some}
 use Rattle.sql_tree.specs.Tree.{Trees}
 use Rattle.sql_tree.specs.Statement.{Program, Trigger, Statement, evaluate}
 use Rattle.sql_tree.specs.declared.statements.Time.{Time}
 use Rattle.sql_tree.specs.declared.statements.Cause.{Cause}
 use Rattle.sql_locals.specs.declared.locals.Local.{Local}
 use Rattle.catalog_rules.specs.Objects.{Object, function, reaction, function_in, trigger_for}
-use Rattle.catalog_rules.specs.Nodes.{Node, a_function_call, a_statement}
+use Rattle.catalog_rules.specs.Nodes.{Node, a_function_call, a_statement, nodes_of}
 use Rattle.sql_meaning.specs.Scenes.{Scene}
 use Rattle.sql_meaning.specs.Frames.{Setting}
 use Rattle.sql_meaning.specs.Running.{effect, evaluation}
 use Rattle.sql_meaning.specs.Leading.{scene_after, StaysAsItWas}
 use Rattle.sql_reach.specs.Reach.{causes_event, body_nodes, reached_programs, reached_nodes, writes}
+use Rattle.reach_laws.specs.Members.{In}
+use Rattle.reach_laws.specs.Agreeing.{AgreeOn}
 
 -- ---- reach is closed
-
--- an item is among some
-abbrev pub In : {A : Type 0} → A → List A → Type 0
-In a [] = ⊥
-In a (x ∷ xs) = (x ≡ a) ⊎ In a xs
 
 -- a function that is found under a name which something reached calls is reached
 abbrev pub CallsAreReached : Type 0
@@ -39,6 +36,16 @@ abbrev pub BodiesAreReached : Type 0
 BodiesAreReached =
     (catalog : List Object) (nodes : List Node) (o : Object) (node : Node)
     → In o (reached_programs catalog nodes) → In node (body_nodes o) → In node (reached_nodes catalog nodes)
+
+-- ---- what is reached is what runs
+
+-- a statement ends just the same, in whatever scene and whether with an error or without, in each setting that is the same to all
+-- that it reaches
+abbrev pub ReachedIsWhatRuns : Type 0
+ReachedIsWhatRuns =
+    (setting setting' : Setting) (nesting : ℕ) (locals : List Local) (s : Statement) (scene : Scene)
+    → AgreeOn (reached_nodes setting.catalog (nodes_of s)) setting setting'
+    → effect setting nesting locals s scene ≡ effect setting' nesting locals s scene
 
 -- ---- who does not write
 
