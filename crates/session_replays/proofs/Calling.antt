@@ -1,5 +1,5 @@
 -- What a CALL leaves: each thing that its procedure asks gives its changes where it runs again, behind those before it.
-use Rattle.std.proofs.Common.{◌≡◌, ℕ, true, List, [], Option, Some, None, Result, Ok, Err, refl, ◌∙◌, ap}
+use Rattle.std.proofs.Common.{◌≡◌, ◌≤◌, ℕ, true, List, [], Option, Some, None, Result, Ok, Err, refl, ◌∙◌, ap}
 use Rattle.std.specs.List.{list_all}
 use Rattle.val_types.specs.declared.value.Value.{Value}
 use Rattle.port_traits.specs.declared.identity.Identity.{Identity}
@@ -11,8 +11,8 @@ use Rattle.sql_print.specs.StatementSpelling.{spelling}
 use Rattle.catalog_rules.specs.Checks.{session_scope}
 use Rattle.sql_meaning.specs.Scenes.{Scene, Ending, done, failed}
 use Rattle.sql_meaning.specs.Frames.{Setting}
-use Rattle.sql_meaning.specs.Changing.{Did}
-use Rattle.sql_meaning.specs.Running.{effect, evaluation}
+use Rattle.sql_meaning.specs.Changing.{Did, affected_rows}
+use Rattle.sql_meaning.specs.Running.{most_turns, effect, evaluation}
 use Rattle.sql_meaning.specs.Leading.{StatementsEndWell, EvaluationsEndWell}
 use Rattle.sql_reach.specs.Closing.{closed}
 use Rattle.sql_reach.specs.Defining.{number_of_bytes}
@@ -31,8 +31,9 @@ use Rattle.session_replays.specs.Again.{AllGive, without_values}
 use Rattle.session_replays.specs.Sizes.{has_sizes}
 use Rattle.session_replays.proofs.Evaluating.{sets_run_as_dos}
 use Rattle.session_replays.proofs.Keeping.{Kept, TurnKept, nothing_kept, kept_on, ended_kept}
-use Rattle.session_replays.proofs.Locals.{AllFit, all_short, Any, talk_keeps_where, called_only}
+use Rattle.session_replays.proofs.Locals.{AllFit, all_short, Any, such, talk_keeps_where, called_only}
 use Rattle.session_replays.proofs.Sizing.{entries_keep}
+use Rattle.session_replays.proofs.Spending.{IsWithin, full_within, left_within, Spend, statement_turns, values_turns, told_turns}
 
 -- What holds where a CALL stands.
 record CallKept (n : ℕ) (shared : Shared) (format : Format) (at : Reached Whole) : Type 0 where
@@ -55,35 +56,35 @@ module _ (identity : Identity) (draw : Draw) (number : ℕ) where
   -- ---- a statement, and expressions
 
   module _ (shared : Shared) (session : Session Whole) (h : SharedHolds shared) (o : Owns number shared session.format session.transaction) (g : AllGive shared.base [] (items_of session.transaction)) where
-    pub statement_kept : StatementsEndWell → (left : Left) (text : List ℕ) (s : Statement) → TurnKept number shared (statement_run call left text s shared session)
-    statement_kept statements left text s =
+    pub statement_kept : StatementsEndWell → (left : Left) → IsWithin left → (text : List ℕ) (s : Statement) → TurnKept number shared (statement_run call left text s shared session)
+    statement_kept statements left low text s =
         let before = scene_for number left session.vars.context shared in
         let setting = setting_of shared.base.catalog session.vars.context (number_of_bytes 0 draw.uuid) in
-        ended_kept call left text s shared session (λ (did : Did). did.first) (λ (did : Did). did.last_id) (effect setting left.nesting [] s before) refl h o g (done_well before _ (statements setting left.nesting [] s before))
-        (λ did scene e. record { did = did; ends = e })
+        ended_kept call left low text s shared session (λ (did : Did). did.first) (λ (did : Did). did.last_id) (effect setting left.nesting [] s before) refl h o g (done_well before _ (statements setting left.nesting [] s before))
+        (λ did scene e. record { did = did; first = refl; ends = e })
 
     -- expressions, where their item does without locals what the DO over them does
-    pub values_kept : EvaluationsEndWell → (left : Left) (text : List ℕ) (item : Statement) (locals : List Local) (ts : Trees)
+    pub values_kept : EvaluationsEndWell → (left : Left) → IsWithin left → (text : List ℕ) (item : Statement) (locals : List Local) (ts : Trees)
         → ((setting : Setting) (nesting : ℕ) (scene : Scene) → effect setting nesting [] item scene ≡ effect setting nesting locals (evaluate ts) scene) → TurnKept number shared (values_run call left text item locals ts shared session)
-    values_kept evaluations left text item locals ts same =
+    values_kept evaluations left low text item locals ts same =
         let before = scene_for number left session.vars.context shared in
         let setting = setting_of shared.base.catalog session.vars.context (number_of_bytes 0 draw.uuid) in
-        ended_kept call left text item shared session (λ (vs : List Value). None) (λ (vs : List Value). None) (evaluation setting left.nesting locals ts before) refl h o g
+        ended_kept call left low text item shared session (λ (vs : List Value). None) (λ (vs : List Value). None) (evaluation setting left.nesting locals ts before) refl h o g
         (done_well before _ (evaluations setting left.nesting locals ts before))
-        (λ vs scene e. record { did = _; ends = same setting left.nesting before ∙ (sets_run_as_dos setting left.nesting locals ts before ∙ ap without_values e) })
+        (λ vs scene e. record { did = affected_rows 0; first = refl; ends = same setting left.nesting before ∙ (sets_run_as_dos setting left.nesting locals ts before ∙ ap without_values e) })
 
     -- expressions of a SET, whose values may be refused
-    pub fitted_kept : EvaluationsEndWell → (left : Left) (text : List ℕ) (ts : Trees) (misfit : List Value → Option ℕ) → TurnKept number shared (fitted_run call left text ts misfit shared session)
-    fitted_kept evaluations left text ts misfit =
+    pub fitted_kept : EvaluationsEndWell → (left : Left) → IsWithin left → (text : List ℕ) (ts : Trees) (misfit : List Value → Option ℕ) → TurnKept number shared (fitted_run call left text ts misfit shared session)
+    fitted_kept evaluations left low text ts misfit =
         let before = scene_for number left session.vars.context shared in
         let setting = setting_of shared.base.catalog session.vars.context (number_of_bytes 0 draw.uuid) in
-        ended_kept call left text (evaluate ts) shared session (λ (vs : List Value). None) (λ (vs : List Value). None) (fitted misfit (evaluation setting left.nesting [] ts before)) refl h o g
+        ended_kept call left low text (evaluate ts) shared session (λ (vs : List Value). None) (λ (vs : List Value). None) (fitted misfit (evaluation setting left.nesting [] ts before)) refl h o g
         (fitted_well misfit before _ (evaluations setting left.nesting [] ts before))
-        (λ vs scene e. record { did = _; ends = sets_run_as_dos setting left.nesting [] ts before ∙ ap without_values (fitted_done misfit (evaluation setting left.nesting [] ts before) vs scene e) })
+        (λ vs scene e. record { did = affected_rows 0; first = refl; ends = sets_run_as_dos setting left.nesting [] ts before ∙ ap without_values (fitted_done misfit (evaluation setting left.nesting [] ts before) vs scene e) })
 
     pub arguments_kept : EvaluationsEndWell → (text : List ℕ) (ts : Trees) → TurnKept number shared (arguments_run call text ts shared session)
     arguments_kept evaluations text no_tree = nothing_kept number shared session.transaction g
-    arguments_kept evaluations text (tree t ts) = values_kept evaluations full text (evaluate (tree t ts)) [] (tree t ts) (λ setting nesting scene. refl)
+    arguments_kept evaluations text (tree t ts) = values_kept evaluations full full_within text (evaluate (tree t ts)) [] (tree t ts) (λ setting nesting scene. refl)
 
   -- ---- a procedure
 
@@ -104,32 +105,37 @@ module _ (identity : Identity) (draw : Draw) (number : ℕ) where
     counted_kept (Ok did) old t k = k
     counted_kept (Err code) old t k = k
 
-    module _ (statements : StatementsEndWell) (evaluations : EvaluationsEndWell) (closes : ClosedDoesTheSame) (fits : FittedIsShort) where
-      run_kept : (left : Left) (s : Statement) (at : Reached Whole) → CallKept number shared format at → CallKept number shared format (run_step call left s at).1
-      run_kept left s at h =
-          let t : Turn Whole (Given Did) = statement_run call left (spelling s) s at.shared at.session in
-          checked (step_check number session_scope s at.shared) left at _ h
-          (reached at (with_counted t) h (ran_holds (Unit {0}) identity draw number shared format statements evaluations left s at h.stands)
-          (counted_kept t.given.result at.shared t (statement_kept at.shared at.session h.stands.left.holds h.stands.left.own h.kept.items statements left (spelling s) s)))
+    module _ (statements : StatementsEndWell) (evaluations : EvaluationsEndWell) (closes : ClosedDoesTheSame) (fits : FittedIsShort) (spend : Spend) where
+      run_kept : (left : Left) (s : Statement) (at : Reached Whole) → such.run left s → CallKept number shared format at
+          → CallKept number shared format (run_step call left s at).1 × ((run_step call left s at).0.turns ≤ left.turns)
+      run_kept left s at low h =
+          let t : Turn Whole (Given Did) = statement_run call left (spelling s) s at.shared at.session in (
+            checked (step_check number session_scope s at.shared) left at _ h
+                (reached at (with_counted t) h (ran_holds (Unit {0}) identity draw number shared format statements evaluations left s at h.stands)
+                (counted_kept t.given.result at.shared t (statement_kept at.shared at.session h.stands.left.holds h.stands.left.own h.kept.items statements left low (spelling s) s))),
+            told_turns (step_check number session_scope s at.shared) left at _ (statement_turns spend call left (spelling s) s at.shared at.session),
+          )
 
-      evaluate_kept : (left : Left) (locals : List Local) (ts : Trees) (at : Reached Whole) → AllFit locals → CallKept number shared format at
-          → CallKept number shared format (evaluate_step call left locals ts at).1
+      evaluate_kept : (left : Left) (locals : List Local) (ts : Trees) (at : Reached Whole) → such.give left locals ts → CallKept number shared format at
+          → CallKept number shared format (evaluate_step call left locals ts at).1 × ((evaluate_step call left locals ts at).0.turns ≤ left.turns)
       evaluate_kept left locals ts at f h =
           let item : Statement = closed (evaluate ts) locals in
-          let t : Turn Whole (Given (List Value)) = values_run call left (spelling item) item locals ts at.shared at.session in
-          checked (step_check number (scope_of locals) (evaluate ts) at.shared) left at _ h
-          (reached at t h (gave_holds (Unit {0}) identity draw number shared format statements evaluations left (spelling item) item locals ts at h.stands)
-          (values_kept at.shared at.session h.stands.left.holds h.stands.left.own h.kept.items evaluations left (spelling item) item locals ts
-          (λ setting nesting scene. closes setting nesting locals (evaluate ts) scene (all_short locals f))))
+          let t : Turn Whole (Given (List Value)) = values_run call left (spelling item) item locals ts at.shared at.session in (
+            checked (step_check number (scope_of locals) (evaluate ts) at.shared) left at _ h
+                (reached at t h (gave_holds (Unit {0}) identity draw number shared format statements evaluations left (spelling item) item locals ts at h.stands)
+                (values_kept at.shared at.session h.stands.left.holds h.stands.left.own h.kept.items evaluations left f.0 (spelling item) item locals ts
+                (λ setting nesting scene. closes setting nesting locals (evaluate ts) scene (all_short locals f.1)))),
+            told_turns (step_check number (scope_of locals) (evaluate ts) at.shared) left at _ (values_turns spend call left (spelling item) item locals ts at.shared at.session),
+          )
 
       assign_kept : (n : List ℕ) (v : Value) (at : Reached Whole) → CallKept number shared format at → CallKept number shared format (assign_step n v at)
       assign_kept n v at h = record { stands = assign_holds (Unit {0}) identity draw number shared format statements evaluations n v at h.stands; kept = h.kept }
 
       pub called_kept : (name : List ℕ) (r : Result (List Value) ℕ) (t : Turn Whole (Given (List Value))) → list_all has_sizes shared.base.catalog ≡ true → t.session.format ≡ format
-          → TurnLeft (Unit {0}) number shared format t → TurnKept number shared t → TurnKept number shared (called_by call name r t)
-      called_kept name (Err code) t sized same l k = k
-      called_kept name (Ok vs) t sized same l k =
-          (talk_keeps_where (steps_of call) (λ (at : Reached Whole). CallKept number shared format at) AllFit Any run_kept evaluate_kept assign_kept
+          → t.given.fuel.turns ≤ most_turns → TurnLeft (Unit {0}) number shared format t → TurnKept number shared t → TurnKept number shared (called_by call name r t)
+      called_kept name (Err code) t sized same low l k = k
+      called_kept name (Ok vs) t sized same low l k =
+          (talk_keeps_where (steps_of call) (λ (at : Reached Whole). CallKept number shared format at) such Any run_kept evaluate_kept assign_kept
           (called t.shared.base.catalog (left_with t.given.fuel) name vs) (record { shared = t.shared; session = t.session; committed = t.committed; given = tt })
-          (called_only fits t.shared.base.catalog (entries_keep t.committed shared.base t.shared.base l.entries sized) (left_with t.given.fuel) name vs)
+          (called_only fits t.shared.base.catalog (entries_keep t.committed shared.base t.shared.base l.entries sized) (left_with t.given.fuel) (left_within t.given.fuel low) name vs)
           (record { stands = record { same = same; left = l }; kept = k })).kept

@@ -3,6 +3,7 @@ use Rattle.std.proofs.Common.{◌≡◌, ℕ, ◌⊎◌, inl, inr, Bool, true, f
 use Rattle.val_types.specs.declared.change.Change.{Change}
 use Rattle.proc_model.specs.Talk.{Left}
 use Rattle.sql_tree.specs.Statement.{Statement}
+use Rattle.catalog_rules.specs.Objects.{Object}
 use Rattle.log_entries.specs.declared.entries.Entry.{Entry}
 use Rattle.sql_meaning.specs.Scenes.{Scene, Ending, done, failed}
 use Rattle.sql_meaning.specs.Frames.{Context}
@@ -10,12 +11,14 @@ use Rattle.sql_meaning.specs.Changing.{Did}
 use Rattle.sql_meaning.specs.Running.{effect, context_after}
 use Rattle.session_ctx.specs.declared.session.SessionVars.{SessionVars}
 use Rattle.session_model.specs.Sessions.{Open, Session, Shared, tables_with}
+use Rattle.sql_reach.specs.Carrying.{carried}
 use Rattle.sql_reach.specs.Defining.{number_of_bytes}
 use Rattle.session_model.specs.Running.{Known, Call, Turn, Given, is_other, items_of, keep, made_behind, with_counters, scene_for, takes_too_much, undone, settle, ended, item_of, fuel_of, with_context, setting_of}
 use Rattle.session_model.specs.declared.format.Format.{Format}
 use Rattle.session_model.specs.Machine.{Whole, whole}
 use Rattle.session_model.specs.Holding.{changes_in, Owns, SharedHolds}
 use Rattle.session_model.proofs.Keeping.{DoneWell}
+use Rattle.session_replays.proofs.Spending.{IsWithin}
 use Rattle.session_model.proofs.Owning.{Frame, StillHolds, own_changes, made_kept}
 use Rattle.session_replays.specs.Again.{Gives, AllGive, EntriesGive}
 use Rattle.session_replays.proofs.Giving.{all_behind, entries_behind}
@@ -72,15 +75,21 @@ seen_again n left context shared b q e =
       uuids = left.uuids;
     }) (q ∙ e)
 
--- A statement of a session that was done on a scene.
-pub record WasDone (call : Call Whole) (left : Left) (shared : Shared) (context : Context) (tree : Statement) (before after : Scene) : Type 0 where
+-- A statement of a session that was done on a scene, where it generated this value first.
+pub record WasDone (call : Call Whole) (left : Left) (shared : Shared) (context : Context) (tree : Statement) (value : Option ℤ) (before after : Scene) : Type 0 where
   pub did : Did
+  pub first : did.first ≡ value
   pub ends : effect (setting_of shared.base.catalog context (number_of_bytes 0 call.draw.uuid)) left.nesting [] tree before ≡ done did after
 
-module _ (call : Call Whole) (left : Left) (text : List ℕ) (tree : Statement) (shared : Shared) where
+-- what is carried has the first value that was generated
+carries_first : (catalog : List Object) (s : Statement) (context : Context) (first : Option ℤ) → first ≡ (carried catalog s context first).first
+unfolding carried
+carries_first catalog s context first = refl
+
+module _ (call : Call Whole) (left : Left) (low : IsWithin left) (text : List ℕ) (tree : Statement) (shared : Shared) where
   -- its item gives its changes behind those of the items before
   item_gives : (format : Format) (context : Context) (scene : Scene) (first : Option ℤ) (cs before : List Change) → call.known ≡ whole → is_other call.number shared.writer ≡ false
-      → shared.changes ≡ before → scene.changes ≡ shared.changes ++ cs → WasDone call left shared context tree (scene_for call.number left context shared) scene
+      → shared.changes ≡ before → scene.changes ≡ shared.changes ++ cs → WasDone call left shared context tree first (scene_for call.number left context shared) scene
       → Gives shared.base before (item_of call format left text tree context shared first cs)
   item_gives format context scene first cs before noted q own f d =
       subst (λ (known : Known Whole). Gives shared.base before (item_of (record call { known = known }) format left text tree context shared first cs)) (sym noted)
@@ -91,6 +100,10 @@ module _ (call : Call Whole) (left : Left) (text : List ℕ) (tree : Statement) 
         ends = ap (effect (setting_of shared.base.catalog context (number_of_bytes 0 call.draw.uuid)) left.nesting [] tree) (sym (seen_again call.number left context shared (is_other call.number shared.writer) refl q)) ∙ d.ends;
         changes = f;
         catalog = refl;
+        first = d.first ∙ carries_first shared.base.catalog tree context first;
+        carries = ap (λ (v : Option ℤ). carried shared.base.catalog tree context v) (sym d.first);
+        nesting = low.nesting;
+        turns = low.turns;
       }))
 
   -- ---- kept
@@ -108,7 +121,7 @@ module _ (call : Call Whole) (left : Left) (text : List ℕ) (tree : Statement) 
   -- a statement that changed nothing leaves no item, and so does one whose item is too much
   settle_kept : {A : Type 0} (context : Context) (scene : Scene) (first : Option ℤ) (made : List Change) (session : Session Whole) (given : Given A) (refusal : Turn Whole (Given A)) → call.known ≡ whole
       → SharedHolds shared → Owns call.number shared session.format session.transaction → AllGive shared.base [] (items_of session.transaction)
-      → WasDone call left shared context tree (scene_for call.number left context shared) scene → TurnKept call.number shared refusal
+      → WasDone call left shared context tree first (scene_for call.number left context shared) scene → TurnKept call.number shared refusal
       → ((c : Change) (cs : List Change) → made ≡ c ∷ cs → (is_other call.number shared.writer ≡ false) × (scene.changes ≡ shared.changes ++ made))
       → TurnKept call.number shared (settle call (item_of call session.format left text tree context shared first) made scene (with_counters scene shared) session given refusal)
   settle_kept context scene first [] session given refusal noted h o g d taken some = record { entries = tt; items = g; frame = inl refl }
@@ -124,7 +137,7 @@ module _ (call : Call Whole) (left : Left) (text : List ℕ) (tree : Statement) 
   -- a statement that ended, done or with an error
   pub ended_kept : {A : Type 0} (session : Session Whole) (first last_id : A → Option ℤ) (e : Ending A) → call.known ≡ whole → SharedHolds shared → Owns call.number shared session.format session.transaction
       → AllGive shared.base [] (items_of session.transaction) → DoneWell (scene_for call.number left session.vars.context shared) e
-      → ((a : A) (scene : Scene) → e ≡ done a scene → WasDone call left shared session.vars.context tree (scene_for call.number left session.vars.context shared) scene)
+      → ((a : A) (scene : Scene) → e ≡ done a scene → WasDone call left shared session.vars.context tree (first a) (scene_for call.number left session.vars.context shared) scene)
       → let turn : Turn Whole (Given A) = ended call left text tree shared session first last_id (scene_for call.number left session.vars.context shared) e in
       Kept call.number shared turn.shared turn.session.transaction turn.committed
   ended_kept session first last_id (done a scene) noted h o g ends was =

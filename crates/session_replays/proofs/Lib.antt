@@ -7,5 +7,6 @@ mod Locals
 mod Locking
 mod Rerunning
 mod Sizing
+mod Spending
 mod Stepping
 mod Turning

@@ -1,9 +1,11 @@
--- A procedure evaluates its expressions where each local holds a value that NAME_CONST can say, whatever it is told.
-use Rattle.std.proofs.Common.{◌≡◌, ℕ, zero, suc, Bool, true, false, List, [], ◌∷◌, ◌++◌, map, length, take, zip, Option, Some, None, Result, Ok, Err, refl, ◌∙◌, subst, cond}
+-- A procedure asks for what it runs and evaluates with no more left than a command has, and evaluates where each local holds a value
+-- that NAME_CONST can say, whatever it is told.
+use Rattle.std.proofs.Common.{◌≡◌, ◌≤◌, ℕ, zero, suc, Bool, true, false, List, [], ◌∷◌, ◌++◌, map, length, take, zip, Option, Some, None, Result, Ok, Err, refl, ◌∙◌, subst, cond}
 use Rattle.std.specs.Prelude.{◌==◌, nat_eq, nat_le, not, is_some, option_to_list}
 use Rattle.std.specs.List.{list_all}
 use Rattle.std.specs.Cmp.Lexicographic.{pointwise}
 use Rattle.std.proofs.lemmas.Bool.{and_parts}
+use Rattle.std.proofs.Math.Nat.{le_trans, le_of_suc-le}
 use Rattle.val_types.specs.declared.value.Value.{Value}
 use Rattle.val_types.specs.declared.definitions.ColType.{ColType}
 use Rattle.val_types.specs.declared.definitions.ColType.TheVariants as kinds
@@ -25,6 +27,7 @@ use Rattle.catalog_rules.specs.Checks.{statement_refusal}
 use Rattle.catalog_rules.specs.Creating.{program_types}
 use Rattle.catalog_rules.specs.Names.{first_made, is_among, same_name}
 use Rattle.catalog_rules.specs.Objects.{Object, table, function, procedure, reaction, as_procedure, procedure_in, name_of, parameters_of, result_of, body_of}
+use Rattle.sql_meaning.specs.Running.{most_nested, most_turns}
 use Rattle.sql_meaning.specs.Within.{values_assigned}
 use Rattle.sql_reach.specs.Closing.{closed}
 use Rattle.closing_laws.specs.Laws.{is_short, holds_short, FittedIsShort}
@@ -33,35 +36,44 @@ use Rattle.proc_model.specs.Talk.{Left, Refusal, Effect, Told, Talk, ends, runs,
 use Rattle.proc_model.specs.Procedures.{Held, Ending, done, failed, Action, unless_failed, ◌>>=◌, pure, fail, answered, let_through, carried_on, then_try, all_tried, turn_spent, spend_turn, heard_with, heard_as, run_closed, evaluate_with, World, checked_values, first_value, value_of, holds_here, local_of, add_local, preset_value, declare, add_parameter, misfit, local_refusal, assignment_refusal, assign_one, assignments_of, assign_all, set_step, is_plain, note, plain_step, other_step, argument_values, scope_of, call_step, turns, step, steps, step_of_branches, steps_otherwise, procedure_body, free_procedure, started, call_at, begins, came, called}
 use Rattle.session_replays.specs.Sizes.{has_sizes}
 use Rattle.session_replays.proofs.Sizing.{split_all}
+use Rattle.session_replays.proofs.Spending.{IsWithin}
 
--- ---- talks that evaluate only where locals are such
+-- ---- talks that ask only what is such
 
--- expressions are evaluated only where locals are such, and the end is such
-abbrev pub Only : {A : Type 0} → (List Local → Type 0) → (A → Type 0) → Talk A → Type 0
-Only such end (ends a) = end a
-Only such end (runs left s go) = (told : Told Effect) → Only such end (go told)
-Only such end (evaluates left locals ts go) = such locals × ((told : Told (List Value)) → Only such end (go told))
-Only such end (assigns n v go) = Only such end go
+-- What holds of each statement and of the expressions that a talk asks for.
+pub record Asked : Type 1 where
+  pub run : Left → Statement → Type 0
+  pub give : Left → List Local → Trees → Type 0
 
--- what each step keeps, where it evaluates only so, the talk keeps
-pub talk_keeps_where : {S A : Type 0} (steps : Steps S) (holds : S → Type 0) (such : List Local → Type 0) (end : A → Type 0)
-    → ((left : Left) (s : Statement) (state : S) → holds state → holds (steps.run left s state).1)
-    → ((left : Left) (locals : List Local) (ts : Trees) (state : S) → such locals → holds state → holds (steps.evaluate left locals ts state).1)
+-- only such things are asked, where no turn comes back, and the end is such
+abbrev pub Only : {A : Type 0} → Asked → (A → Type 0) → Talk A → Type 0
+Only asked end (ends a) = end a
+Only asked end (runs left s go) = asked.run left s × ((told : Told Effect) → told.turns ≤ left.turns → Only asked end (go told))
+Only asked end (evaluates left locals ts go) = asked.give left locals ts × ((told : Told (List Value)) → told.turns ≤ left.turns → Only asked end (go told))
+Only asked end (assigns n v go) = Only asked end go
+
+-- what each step keeps, where only that is asked and no turn comes back, the talk keeps
+pub talk_keeps_where : {S A : Type 0} (steps : Steps S) (holds : S → Type 0) (asked : Asked) (end : A → Type 0)
+    → ((left : Left) (s : Statement) (state : S) → asked.run left s → holds state → holds (steps.run left s state).1 × ((steps.run left s state).0.turns ≤ left.turns))
+    → ((left : Left) (locals : List Local) (ts : Trees) (state : S) → asked.give left locals ts → holds state
+    → holds (steps.evaluate left locals ts state).1 × ((steps.evaluate left locals ts state).0.turns ≤ left.turns))
     → ((n : List ℕ) (v : Value) (state : S) → holds state → holds (steps.assign n v state))
-    → (talk : Talk A) (state : S) → Only such end talk → holds state → holds (brought steps talk state).1
-talk_keeps_where steps holds such end r g a (ends x) state o h = h
-talk_keeps_where steps holds such end r g a (runs left s go) state o h =
-    talk_keeps_where steps holds such end r g a (go (steps.run left s state).0) (steps.run left s state).1 (o (steps.run left s state).0) (r left s state h)
-talk_keeps_where steps holds such end r g a (evaluates left locals ts go) state o h =
-    talk_keeps_where steps holds such end r g a (go (steps.evaluate left locals ts state).0) (steps.evaluate left locals ts state).1 (o.1 (steps.evaluate left locals ts state).0) (g left locals ts state o.0 h)
-talk_keeps_where steps holds such end r g a (assigns n v go) state o h = talk_keeps_where steps holds such end r g a go (steps.assign n v state) o (a n v state h)
+    → (talk : Talk A) (state : S) → Only asked end talk → holds state → holds (brought steps talk state).1
+talk_keeps_where steps holds asked end r g a (ends x) state o h = h
+talk_keeps_where steps holds asked end r g a (runs left s go) state o h =
+    let m = r left s state o.0 h in
+    talk_keeps_where steps holds asked end r g a (go (steps.run left s state).0) (steps.run left s state).1 (o.1 (steps.run left s state).0 m.1) m.0
+talk_keeps_where steps holds asked end r g a (evaluates left locals ts go) state o h =
+    let m = g left locals ts state o.0 h in
+    talk_keeps_where steps holds asked end r g a (go (steps.evaluate left locals ts state).0) (steps.evaluate left locals ts state).1 (o.1 (steps.evaluate left locals ts state).0 m.1) m.0
+talk_keeps_where steps holds asked end r g a (assigns n v go) state o h = talk_keeps_where steps holds asked end r g a go (steps.assign n v state) o (a n v state h)
 
-only_then : {A B : Type 0} (such : List Local → Type 0) (first : A → Type 0) (last : B → Type 0) (m : Talk A) (next : A → Talk B) → Only such first m → ((a : A) → first a → Only such last (next a))
-    → Only such last (and_then m next)
-only_then such first last (ends a) next o k = k a o
-only_then such first last (runs left s go) next o k = λ told. only_then such first last (go told) next (o told) k
-only_then such first last (evaluates left locals ts go) next o k = (o.0, λ told. only_then such first last (go told) next (o.1 told) k)
-only_then such first last (assigns n v go) next o k = only_then such first last go next o k
+only_then : {A B : Type 0} (asked : Asked) (first : A → Type 0) (last : B → Type 0) (m : Talk A) (next : A → Talk B) → Only asked first m → ((a : A) → first a → Only asked last (next a))
+    → Only asked last (and_then m next)
+only_then asked first last (ends a) next o k = k a o
+only_then asked first last (runs left s go) next o k = (o.0, λ told t. only_then asked first last (go told) next (o.1 told t) k)
+only_then asked first last (evaluates left locals ts go) next o k = (o.0, λ told t. only_then asked first last (go told) next (o.1 told t) k)
+only_then asked first last (assigns n v go) next o k = only_then asked first last go next o k
 
 -- any end
 abbrev pub Any : {A : Type 0} → A → Type 0
@@ -82,6 +94,10 @@ pub record Fits (l : Local) : Type 0 where
 abbrev pub AllFit : List Local → Type 0
 AllFit [] = Unit {0}
 AllFit (l ∷ ls) = Fits l × AllFit ls
+
+-- no more is left than a command has, and locals are such
+abbrev pub such : Asked
+such = record { run = λ left s. IsWithin left; give = λ left locals ts. IsWithin left × AllFit locals }
 
 pub all_short : (ls : List Local) → AllFit ls → list_all holds_short ls ≡ true
 all_short [] f = refl
@@ -180,76 +196,78 @@ module _ (law : FittedIsShort) where
   -- ---- actions
 
   abbrev DoneAs : {A : Type 0} → (A → Type 0) → Ending A → Type 0
-  DoneAs end (done a held) = end a
+  DoneAs end (done a held) = end a × (held.turns ≤ most_turns)
   DoneAs end (failed refusal held) = Unit {0}
 
   -- an action evaluates only so, and gives what is such
   abbrev Acts : {A : Type 0} → (A → Type 0) → Action A → Type 0
-  Acts end m = (held : Held) → Only AllFit (DoneAs end) (m held)
+  Acts end m = (held : Held) → held.turns ≤ most_turns → Only such (DoneAs end) (m held)
 
   goes_on : {A B : Type 0} (first : A → Type 0) (last : B → Type 0) (m : Action A) (next : A → Action B) → Acts first m → ((a : A) → first a → Acts last (next a)) → Acts last (m >>= next)
-  goes_on {A = A} first last m next h k held = only_then AllFit (DoneAs first) (DoneAs last) (m held) (unless_failed next) (h held) by
+  goes_on {A = A} first last m next h k held few = only_then such (DoneAs first) (DoneAs last) (m held) (unless_failed next) (h held few) by
     where
-      by : (e : Ending A) → DoneAs first e → Only AllFit (DoneAs last) (unless_failed next e)
-      by (done a now) x = k a x now
+      by : (e : Ending A) → DoneAs first e → Only such (DoneAs last) (unless_failed next e)
+      by (done a now) x = k a x.0 now x.1
       by (failed refusal now) x = tt
 
   answered_acts : {A : Type 0} (end : A → Type 0) (r : Result A ℕ) → ((a : A) → r ≡ Ok a → end a) → Acts end (answered r)
-  answered_acts end (Ok a) h held = h a refl
-  answered_acts end (Err code) h held = tt
+  answered_acts end (Ok a) h held few = (h a refl, few)
+  answered_acts end (Err code) h held few = tt
 
   -- behind a check
   behind_check : {B : Type 0} (last : B → Type 0) (code : Option ℕ) (next : Action B) → (code ≡ None → Acts last next) → Acts last (let_through code >>= λ _. next)
-  behind_check last None next h held = h refl held
-  behind_check last (Some code) next h held = tt
+  behind_check last None next h held few = h refl held few
+  behind_check last (Some code) next h held few = tt
 
-  heard_any : {A : Type 0} (r : Result A Refusal) (held : Held) → DoneAs Any (heard_as r held)
-  heard_any (Ok a) held = tt
-  heard_any (Err refusal) held = tt
+  heard_any : {A : Type 0} (r : Result A Refusal) (held : Held) → held.turns ≤ most_turns → DoneAs Any (heard_as r held)
+  heard_any (Ok a) held few = (tt, few)
+  heard_any (Err refusal) held few = tt
 
-  run_acts : (nesting : ℕ) (s : Statement) → Acts Any (run_closed nesting s)
-  run_acts nesting s held told = heard_any told.result (heard_with told held)
+  run_acts : (nesting : ℕ) → nesting ≤ most_nested → (s : Statement) → Acts Any (run_closed nesting s)
+  run_acts nesting low s held few =
+      (record { nesting = low; turns = few }, λ told t. heard_any told.result (heard_with told held) (le_trans t few))
 
-  evaluate_acts : (nesting : ℕ) (locals : List Local) (ts : Trees) → AllFit locals → Acts Any (evaluate_with nesting locals ts)
-  evaluate_acts nesting locals ts f held = (f, λ told. heard_any told.result (heard_with told held))
+  evaluate_acts : (nesting : ℕ) → nesting ≤ most_nested → (locals : List Local) (ts : Trees) → AllFit locals → Acts Any (evaluate_with nesting locals ts)
+  evaluate_acts nesting low locals ts f held few =
+      ((record { nesting = low; turns = few }, f), λ told t. heard_any told.result (heard_with told held) (le_trans t few))
 
-  values_act : (world : World) (locals : List Local) (ts : Trees) → AllFit locals → Acts Any (checked_values world locals ts)
-  values_act world locals ts f = behind_check Any (closing_refusal (evaluate ts) locals) (evaluate_with world.nesting locals ts) (λ _. evaluate_acts world.nesting locals ts f)
+  values_act : (world : World) (low : world.nesting ≤ most_nested) (locals : List Local) (ts : Trees) → AllFit locals → Acts Any (checked_values world locals ts)
+  values_act world low locals ts f = behind_check Any (closing_refusal (evaluate ts) locals) (evaluate_with world.nesting locals ts) (λ _. evaluate_acts world.nesting low locals ts f)
 
-  value_acts : (world : World) (locals : List Local) (t : Tree) → AllFit locals → Acts Any (value_of world locals t)
-  value_acts world locals t f = goes_on Any Any (checked_values world locals (tree t no_tree)) (λ vs. pure (first_value vs)) (values_act world locals (tree t no_tree) f) (λ vs x held. tt)
+  value_acts : (world : World) (low : world.nesting ≤ most_nested) (locals : List Local) (t : Tree) → AllFit locals → Acts Any (value_of world locals t)
+  value_acts world low locals t f = goes_on Any Any (checked_values world locals (tree t no_tree)) (λ vs. pure (first_value vs)) (values_act world low locals (tree t no_tree) f) (λ vs x held few. (tt, few))
 
-  holds_acts : (world : World) (locals : List Local) (t : Tree) → AllFit locals → Acts Any (holds_here world locals t)
-  holds_acts world locals t f =
-      goes_on Any Any (value_of world locals t) (λ v. answered (with_value is_known_true (truth_of v))) (value_acts world locals t f)
+  holds_acts : (world : World) (low : world.nesting ≤ most_nested) (locals : List Local) (t : Tree) → AllFit locals → Acts Any (holds_here world locals t)
+  holds_acts world low locals t f =
+      goes_on Any Any (value_of world locals t) (λ v. answered (with_value is_known_true (truth_of v))) (value_acts world low locals t f)
       (λ v x. answered_acts Any (with_value is_known_true (truth_of v)) (λ a e. tt))
 
   -- ---- DECLARE and SET
 
-  preset_acts : (world : World) (locals : List Local) (p : Part) → AllFit locals → Acts Any (preset_value world locals p)
-  preset_acts world locals no_part f = λ held. tt
-  preset_acts world locals (part t) f = value_acts world locals t f
+  preset_acts : (world : World) (low : world.nesting ≤ most_nested) (locals : List Local) (p : Part) → AllFit locals → Acts Any (preset_value world locals p)
+  preset_acts world low locals no_part f = λ held few. (tt, few)
+  preset_acts world low locals (part t) f = value_acts world low locals t f
 
-  declare_acts : (world : World) (locals : List Local) (d : Declared) → has_size d.kind ≡ true → AllFit locals → Acts AllFit (declare world locals d)
-  declare_acts world locals d size f =
-      goes_on Any AllFit (preset_value world locals d.preset) (λ v. answered (all_tried (add_local d.kind v) locals d.names)) (preset_acts world locals d.preset f)
+  declare_acts : (world : World) (low : world.nesting ≤ most_nested) (locals : List Local) (d : Declared) → has_size d.kind ≡ true → AllFit locals → Acts AllFit (declare world locals d)
+  declare_acts world low locals d size f =
+      goes_on Any AllFit (preset_value world locals d.preset) (λ v. answered (all_tried (add_local d.kind v) locals d.names)) (preset_acts world low locals d.preset f)
       (λ v x. answered_acts AllFit (all_tried (add_local d.kind v) locals d.names) (λ out e. tried_names d.kind v d.names locals out size f e))
 
-  declares_act : (world : World) (ds : List Declared) (locals : List Local) → list_all has_size (map (λ (d : Declared). d.kind) ds) ≡ true → AllFit locals → Acts AllFit (carried_on (declare world) locals ds)
-  declares_act world [] locals size f = λ held. f
-  declares_act world (d ∷ ds) locals size f =
+  declares_act : (world : World) (low : world.nesting ≤ most_nested) (ds : List Declared) (locals : List Local) → list_all has_size (map (λ (d : Declared). d.kind) ds) ≡ true → AllFit locals → Acts AllFit (carried_on (declare world) locals ds)
+  declares_act world low [] locals size f = λ held few. (f, few)
+  declares_act world low (d ∷ ds) locals size f =
       let s = and_parts (has_size d.kind) (list_all has_size (map (λ (k : Declared). k.kind) ds)) size in
-      goes_on AllFit AllFit (declare world locals d) (λ next. carried_on (declare world) next ds) (declare_acts world locals d s.0 f) (λ next g. declares_act world ds next s.1 g)
+      goes_on AllFit AllFit (declare world locals d) (λ next. carried_on (declare world) next ds) (declare_acts world low locals d s.0 f) (λ next g. declares_act world low ds next s.1 g)
 
   assign_acts : (locals : List Local) (target : Target) (v : Value) → (assignment_refusal locals (target, v) ≡ None → (now : List Local) → AllFit locals → AllFit now → Acts AllFit (assign_one now (target, v)))
-  assign_acts locals (Target.Plain n) v e now f g = λ held. set_fits n v now (assigned_short locals n v f e) g
-  assign_acts locals (Target.User n) v e now f g = λ held. g
-  assign_acts locals (Target.New c) v e now f g = λ held. g
-  assign_acts locals (Target.System n) v e now f g = λ held. g
+  assign_acts locals (Target.Plain n) v e now f g = λ held few. (set_fits n v now (assigned_short locals n v f e) g, few)
+  assign_acts locals (Target.User n) v e now f g = λ held few. (g, few)
+  assign_acts locals (Target.New c) v e now f g = λ held few. (g, few)
+  assign_acts locals (Target.System n) v e now f g = λ held few. (g, few)
 
   -- assignments that were let through where the locals were others
   assigns_act : (locals : List Local) (as' : List (Target × Value)) (now : List Local) → first_made (assignment_refusal locals) as' ≡ None → AllFit locals → AllFit now → Acts AllFit (carried_on assign_one now as')
-  assigns_act locals [] now e f g = λ held. g
+  assigns_act locals [] now e f g = λ held few. (g, few)
   assigns_act locals (a ∷ as') now e f g = by (assignment_refusal locals a) refl e (λ x next k. assigns_act locals as' next x f k)
     where
       by : (o : Option ℕ) → assignment_refusal locals a ≡ o → elim o as (λ _. Option ℕ) [ None ↦ first_made (assignment_refusal locals) as' | Some b ↦ Some b ] ≡ None
@@ -257,40 +275,40 @@ module _ (law : FittedIsShort) where
       by None q x more = goes_on AllFit AllFit (assign_one now a) (λ next. carried_on assign_one next as') (assign_acts locals a.0 a.1 q now f g) (more x)
       by (Some code) q x more = cc
 
-  set_acts : (world : World) (locals : List Local) (as' : List (Target × Tree)) → AllFit locals → Acts AllFit (set_step world locals as')
-  set_acts world locals as' f =
-      goes_on Any AllFit (checked_values world locals (values_assigned as')) (λ vs. assign_all locals (assignments_of as' vs)) (values_act world locals (values_assigned as') f)
+  set_acts : (world : World) (low : world.nesting ≤ most_nested) (locals : List Local) (as' : List (Target × Tree)) → AllFit locals → Acts AllFit (set_step world locals as')
+  set_acts world low locals as' f =
+      goes_on Any AllFit (checked_values world locals (values_assigned as')) (λ vs. assign_all locals (assignments_of as' vs)) (values_act world low locals (values_assigned as') f)
       (λ vs x. behind_check AllFit (first_made (assignment_refusal locals) (assignments_of as' vs)) (carried_on assign_one locals (assignments_of as' vs))
       (λ e. assigns_act locals (assignments_of as' vs) locals e f f))
 
   -- ---- changes, SELECT and DO
 
-  plain_acts : (world : World) (locals : List Local) (s : Statement) → AllFit locals → Acts AllFit (plain_step world locals s)
-  plain_acts world locals s f =
+  plain_acts : (world : World) (low : world.nesting ≤ most_nested) (locals : List Local) (s : Statement) → AllFit locals → Acts AllFit (plain_step world locals s)
+  plain_acts world low locals s f =
       behind_check AllFit (closing_refusal s locals) (run_closed world.nesting (closed s locals) >>= note >>= λ _. pure locals)
       (λ _. goes_on Any AllFit (run_closed world.nesting (closed s locals) >>= note) (λ _. pure locals)
-      (goes_on Any Any (run_closed world.nesting (closed s locals)) note (run_acts world.nesting (closed s locals)) (λ effect x held. tt)) (λ u x held. f))
+      (goes_on Any Any (run_closed world.nesting (closed s locals)) note (run_acts world.nesting low (closed s locals)) (λ effect x held few. (tt, few))) (λ u x held few. (f, few)))
 
-  other_acts : (world : World) (locals : List Local) (s : Statement) → AllFit locals → Acts AllFit (other_step world locals s)
-  other_acts world locals s f = by (is_plain s)
+  other_acts : (world : World) (low : world.nesting ≤ most_nested) (locals : List Local) (s : Statement) → AllFit locals → Acts AllFit (other_step world locals s)
+  other_acts world low locals s f = by (is_plain s)
     where
       by : (b : Bool) → Acts AllFit (cond b (plain_step world locals s) (fail 30005))
-      by true = plain_acts world locals s f
-      by false = λ held. tt
+      by true = plain_acts world low locals s f
+      by false = λ held few. tt
 
   -- ---- steps
 
-  module _ (world : World) (calls : (n : List ℕ) (vs : List Value) → Acts Any (world.call n vs)) where
+  module _ (world : World) (low : world.nesting ≤ most_nested) (calls : (n : List ℕ) (vs : List Value) → Acts Any (world.call n vs)) where
     arguments_act : (locals : List Local) (ts : Trees) → AllFit locals → Acts Any (argument_values world locals ts)
-    arguments_act locals no_tree f = λ held. tt
-    arguments_act locals (tree t ts) f = evaluate_acts world.nesting locals (tree t ts) f
+    arguments_act locals no_tree f = λ held few. (tt, few)
+    arguments_act locals (tree t ts) f = evaluate_acts world.nesting low locals (tree t ts) f
 
     call_acts : (locals : List Local) (n : List ℕ) (ts : Trees) → AllFit locals → Acts AllFit (call_step world locals n ts)
     call_acts locals n ts f =
         behind_check AllFit (closing_refusal (evaluate ts) locals) _ (λ _.
         behind_check AllFit (statement_refusal world.catalog (scope_of locals) (call_procedure n ts)) _ (λ _.
         goes_on Any AllFit (argument_values world locals ts) (λ vs. world.call n vs >>= λ _. pure locals) (arguments_act locals ts f)
-        (λ vs x. goes_on Any AllFit (world.call n vs) (λ _. pure locals) (calls n vs) (λ u y held. f))))
+        (λ vs x. goes_on Any AllFit (world.call n vs) (λ _. pure locals) (calls n vs) (λ u y held few. (f, few)))))
 
     -- a loop, by its condition and its body
     turns_act : (n : ℕ) (test : List Local → Action Bool) (body : List Local → Action (List Local)) → ((now : List Local) → AllFit now → Acts Any (test now)) → ((now : List Local) → AllFit now → Acts AllFit (body now))
@@ -299,60 +317,60 @@ module _ (law : FittedIsShort) where
         goes_on Any AllFit (test locals) (λ goes. cond goes (fail 30004) (pure locals)) (t locals f) (λ goes x. by goes)
       where
         by : (goes : Bool) → Acts AllFit (cond goes (fail 30004) (pure locals))
-        by true = λ held. tt
-        by false = λ held. f
+        by true = λ held few. tt
+        by false = λ held few. (f, few)
     turns_act (suc n) test body t b locals f =
         goes_on Any AllFit (test locals) (λ goes. cond goes (spend_turn >>= λ _. body locals >>= λ after. turns n test body after) (pure locals)) (t locals f) (λ goes x. by goes (λ after g. turns_act n test body t b after g))
       where
-        spent : (left : ℕ) (held : Held) → Only AllFit (DoneAs Any) (turn_spent left held)
-        spent zero held = tt
-        spent (suc k) held = tt
+        spent : (left : ℕ) (held : Held) → left ≤ most_turns → Only such (DoneAs Any) (turn_spent left held)
+        spent zero held few = tt
+        spent (suc k) held few = (tt, le_of_suc-le few)
 
         by : (goes : Bool) → ((after : List Local) → AllFit after → Acts AllFit (turns n test body after))
             → Acts AllFit (cond goes (spend_turn >>= λ _. body locals >>= λ after. turns n test body after) (pure locals))
         by true more =
-            goes_on Any AllFit spend_turn (λ _. body locals >>= λ after. turns n test body after) (λ held. spent held.turns held)
+            goes_on Any AllFit spend_turn (λ _. body locals >>= λ after. turns n test body after) (λ held few. spent held.turns held few)
             (λ u x. goes_on AllFit AllFit (body locals) (λ after. turns n test body after) (b locals f) more)
-        by false more = λ held. f
+        by false more = λ held few. (f, few)
 
     mutual
       step_acts : (s : Statement) (locals : List Local) → list_all has_size (declared_types s) ≡ true → AllFit locals → Acts AllFit (step world locals s)
       step_acts (block ds ss) locals size f =
           let s = split_all has_size (map (λ (d : Declared). d.kind) ds) (types_in_steps ss) size in
-          goes_on AllFit AllFit (carried_on (declare world) locals ds) (λ inner. steps world inner ss >>= λ after. pure (take (length locals) after)) (declares_act world ds locals s.0 f)
-          (λ inner g. goes_on AllFit AllFit (steps world inner ss) (λ after. pure (take (length locals) after)) (steps_act ss inner s.1 g) (λ after k held. first_ones (length locals) after k))
+          goes_on AllFit AllFit (carried_on (declare world) locals ds) (λ inner. steps world inner ss >>= λ after. pure (take (length locals) after)) (declares_act world low ds locals s.0 f)
+          (λ inner g. goes_on AllFit AllFit (steps world inner ss) (λ after. pure (take (length locals) after)) (steps_act ss inner s.1 g) (λ after k held few. (first_ones (length locals) after k, few)))
       step_acts (if_steps bs o) locals size f =
           let s = split_all has_size (types_in_branches bs) (types_in_otherwise o) size in
           branches_act bs locals (steps_otherwise world locals o) s.0 f (otherwise_acts o locals s.1 f)
       step_acts (while_steps c ss) locals size f =
-          λ held. turns_act held.turns (λ now. holds_here world now c) (λ now. steps world now ss) (λ now g. holds_acts world now c g) (λ now g. steps_act ss now size g) locals f held
-      step_acts (set_all as') locals size f = set_acts world locals as' f
+          λ held few. turns_act held.turns (λ now. holds_here world now c) (λ now. steps world now ss) (λ now g. holds_acts world low now c g) (λ now g. steps_act ss now size g) locals f held few
+      step_acts (set_all as') locals size f = set_acts world low locals as' f
       step_acts (call_procedure n ts) locals size f = call_acts locals n ts f
-      step_acts (create_table t) locals size f = other_acts world locals (create_table t) f
-      step_acts (create_function p) locals size f = other_acts world locals (create_function p) f
-      step_acts (create_procedure p) locals size f = other_acts world locals (create_procedure p) f
-      step_acts (create_trigger t) locals size f = other_acts world locals (create_trigger t) f
-      step_acts (drop_table n) locals size f = other_acts world locals (drop_table n) f
-      step_acts (drop_function n) locals size f = other_acts world locals (drop_function n) f
-      step_acts (drop_procedure n) locals size f = other_acts world locals (drop_procedure n) f
-      step_acts (drop_trigger n) locals size f = other_acts world locals (drop_trigger n) f
-      step_acts (truncate n) locals size f = other_acts world locals (truncate n) f
-      step_acts (insert_into ignore t names supply sets) locals size f = other_acts world locals (insert_into ignore t names supply sets) f
-      step_acts (replace_into t names supply) locals size f = other_acts world locals (replace_into t names supply) f
-      step_acts (update_rows t sets condition os limit) locals size f = other_acts world locals (update_rows t sets condition os limit) f
-      step_acts (delete_rows t condition os limit) locals size f = other_acts world locals (delete_rows t condition os limit) f
-      step_acts (select q) locals size f = other_acts world locals (select q) f
-      step_acts (evaluate ts) locals size f = other_acts world locals (evaluate ts) f
-      step_acts begin locals size f = other_acts world locals begin f
-      step_acts commit locals size f = other_acts world locals commit f
-      step_acts rollback locals size f = other_acts world locals rollback f
-      step_acts (savepoint n) locals size f = other_acts world locals (savepoint n) f
-      step_acts (rollback_to n) locals size f = other_acts world locals (rollback_to n) f
-      step_acts (release_savepoint n) locals size f = other_acts world locals (release_savepoint n) f
-      step_acts (return_value v) locals size f = other_acts world locals (return_value v) f
+      step_acts (create_table t) locals size f = other_acts world low locals (create_table t) f
+      step_acts (create_function p) locals size f = other_acts world low locals (create_function p) f
+      step_acts (create_procedure p) locals size f = other_acts world low locals (create_procedure p) f
+      step_acts (create_trigger t) locals size f = other_acts world low locals (create_trigger t) f
+      step_acts (drop_table n) locals size f = other_acts world low locals (drop_table n) f
+      step_acts (drop_function n) locals size f = other_acts world low locals (drop_function n) f
+      step_acts (drop_procedure n) locals size f = other_acts world low locals (drop_procedure n) f
+      step_acts (drop_trigger n) locals size f = other_acts world low locals (drop_trigger n) f
+      step_acts (truncate n) locals size f = other_acts world low locals (truncate n) f
+      step_acts (insert_into ignore t names supply sets) locals size f = other_acts world low locals (insert_into ignore t names supply sets) f
+      step_acts (replace_into t names supply) locals size f = other_acts world low locals (replace_into t names supply) f
+      step_acts (update_rows t sets condition os limit) locals size f = other_acts world low locals (update_rows t sets condition os limit) f
+      step_acts (delete_rows t condition os limit) locals size f = other_acts world low locals (delete_rows t condition os limit) f
+      step_acts (select q) locals size f = other_acts world low locals (select q) f
+      step_acts (evaluate ts) locals size f = other_acts world low locals (evaluate ts) f
+      step_acts begin locals size f = other_acts world low locals begin f
+      step_acts commit locals size f = other_acts world low locals commit f
+      step_acts rollback locals size f = other_acts world low locals rollback f
+      step_acts (savepoint n) locals size f = other_acts world low locals (savepoint n) f
+      step_acts (rollback_to n) locals size f = other_acts world low locals (rollback_to n) f
+      step_acts (release_savepoint n) locals size f = other_acts world low locals (release_savepoint n) f
+      step_acts (return_value v) locals size f = other_acts world low locals (return_value v) f
 
       steps_act : (ss : Statements) (locals : List Local) → list_all has_size (types_in_steps ss) ≡ true → AllFit locals → Acts AllFit (steps world locals ss)
-      steps_act no_statement locals size f = λ held. f
+      steps_act no_statement locals size f = λ held few. (f, few)
       steps_act (statement s ss) locals size f =
           let p = split_all has_size (declared_types s) (types_in_steps ss) size in
           goes_on AllFit AllFit (step world locals s) (λ after. steps world after ss) (step_acts s locals p.0 f) (λ after g. steps_act ss after p.1 g)
@@ -362,7 +380,7 @@ module _ (law : FittedIsShort) where
       branches_act no_branch locals otherwise size f o = o
       branches_act (branch c ss bs) locals otherwise size f o =
           let p = split_all has_size (types_in_steps ss) (types_in_branches bs) size in
-          goes_on Any AllFit (holds_here world locals c) (λ is_true. cond is_true (steps world locals ss) (step_of_branches world locals bs otherwise)) (holds_acts world locals c f)
+          goes_on Any AllFit (holds_here world locals c) (λ is_true. cond is_true (steps world locals ss) (step_of_branches world locals bs otherwise)) (holds_acts world low locals c f)
           (λ is_true x. by is_true (steps_act ss locals p.0 f) (branches_act bs locals otherwise p.1 f o))
         where
           by : (b : Bool) → Acts AllFit (steps world locals ss) → Acts AllFit (step_of_branches world locals bs otherwise) → Acts AllFit (cond b (steps world locals ss) (step_of_branches world locals bs otherwise))
@@ -370,7 +388,7 @@ module _ (law : FittedIsShort) where
           by false x y = y
 
       otherwise_acts : (o : Otherwise) (locals : List Local) → list_all has_size (types_in_otherwise o) ≡ true → AllFit locals → Acts AllFit (steps_otherwise world locals o)
-      otherwise_acts no_else locals size f = λ held. f
+      otherwise_acts no_else locals size f = λ held few. (f, few)
       otherwise_acts (else_steps ss) locals size f = steps_act ss locals size f
 
     procedure_acts : (p : Program) (vs : List Value) → list_all has_size (program_types p) ≡ true → Acts Any (procedure_body world p vs)
@@ -380,7 +398,7 @@ module _ (law : FittedIsShort) where
         let b = split_all has_size kinds (option_to_list (result_of p)) a.0 in
         goes_on AllFit Any (answered (all_tried add_parameter [] (zip (parameters_of p) vs))) (λ locals. step world locals (body_of p) >>= λ _. pure tt)
         (answered_acts AllFit (all_tried add_parameter [] (zip (parameters_of p) vs)) (λ out e. tried_parameters (parameters_of p) vs [] out b.0 tt e))
-        (λ locals f. goes_on AllFit Any (step world locals (body_of p)) (λ _. pure tt) (step_acts (body_of p) locals a.1 f) (λ after g held. tt))
+        (λ locals f. goes_on AllFit Any (step world locals (body_of p)) (λ _. pure tt) (step_acts (body_of p) locals a.1 f) (λ after g held few. (tt, few)))
 
   -- ---- procedures
 
@@ -422,17 +440,18 @@ module _ (law : FittedIsShort) where
         by None q x = cc
         by (Some found) q x = subst (λ (r : Program). list_all has_size (program_types r) ≡ true) (free found x) (procedure_sized catalog n found sized q)
 
-    calls_act : (nesting : ℕ) (running : List (List ℕ)) (n : List ℕ) (vs : List Value) → Acts Any (call_at catalog nesting running n vs)
+    calls_act : (nesting : ℕ) → nesting ≤ most_nested → (running : List (List ℕ)) (n : List ℕ) (vs : List Value) → Acts Any (call_at catalog nesting running n vs)
     unfolding call_at
-    calls_act zero running n vs =
-        goes_on Any Any (answered (started catalog running n vs)) (λ p. fail 30003) (answered_acts Any (started catalog running n vs) (λ p e. tt)) (λ p x held. tt)
-    calls_act (suc below) running n vs =
+    calls_act zero low running n vs =
+        goes_on Any Any (answered (started catalog running n vs)) (λ p. fail 30003) (answered_acts Any (started catalog running n vs) (λ p e. tt)) (λ p x held few. tt)
+    calls_act (suc below) low running n vs =
         let world : World = record { catalog = catalog; nesting = below; call = call_at catalog below (n ∷ running) } in
         goes_on (λ (p : Program). list_all has_size (program_types p) ≡ true) Any (answered (started catalog running n vs)) (λ p. procedure_body world p vs)
         (answered_acts (λ (p : Program). list_all has_size (program_types p) ≡ true) (started catalog running n vs) (λ p e. started_sized running n vs p e))
-        (λ p size. procedure_acts world (λ m ws. calls_act below (n ∷ running) m ws) p vs size)
+        (λ p size. procedure_acts world (le_of_suc-le low) (λ m ws. calls_act below (le_of_suc-le low) (n ∷ running) m ws) p vs size)
 
-    -- a CALL of a session evaluates only where locals fit
-    pub called_only : (left : Left) (n : List ℕ) (vs : List Value) → Only AllFit Any (called catalog left n vs)
+    -- a CALL of a session asks only what is such
+    pub called_only : (left : Left) → IsWithin left → (n : List ℕ) (vs : List Value) → Only such Any (called catalog left n vs)
     unfolding called
-    called_only left n vs = only_then AllFit (DoneAs Any) Any (call_at catalog left.nesting [] n vs (begins left)) (λ e. ends (came e)) (calls_act left.nesting [] n vs (begins left)) (λ e x. tt)
+    called_only left within n vs =
+        only_then such (DoneAs Any) Any (call_at catalog left.nesting [] n vs (begins left)) (λ e. ends (came e)) (calls_act left.nesting within.nesting [] n vs (begins left) within.turns) (λ e x. tt)

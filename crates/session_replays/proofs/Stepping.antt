@@ -19,6 +19,7 @@ use Rattle.session_replays.specs.Again.{AllGive}
 use Rattle.session_replays.specs.Replaying.{ReplaysBegin, ReplaysOpen, ReplaysGoOn}
 use Rattle.session_replays.proofs.Giving.{none_give, entries_behind}
 use Rattle.session_replays.proofs.Sizing.{entries_keep}
+use Rattle.session_replays.proofs.Spending.{Spend}
 use Rattle.session_replays.proofs.Turning.{command_kept}
 
 -- for a session of another number: the base stays, or it has no item
@@ -42,9 +43,9 @@ each_gives n k old base sessions session within own frame owns each = by (k == n
         subst (λ (s : Option (Session Whole)). AllGive base [] (items_of (transaction_of s))) (sym (get_or-set_other sessions n k (Some session) None differ))
         (other_gives n k old base _ _ differ frame (owns k) (each k))
 
-pub replays_go_on : StatementsEndWell → EvaluationsEndWell → ClosedDoesTheSame → FittedIsShort → RunsGoOn → ReplaysGoOn
+pub replays_go_on : StatementsEndWell → EvaluationsEndWell → ClosedDoesTheSame → FittedIsShort → Spend → RunsGoOn → ReplaysGoOn
 unfolding step
-replays_go_on statements evaluations closes fits goes_on from m identity n text draw r within short =
+replays_go_on statements evaluations closes fits spend goes_on from m identity n text draw r within short =
     let call : Call Whole = record { identity = identity; draw = draw; number = n; known = whole } in
     let session : Session Whole = at_work call (slice_index_or m.state.sessions n None) in
     let same : session.transaction ≡ transaction_of (slice_index_or m.state.sessions n None) = work_same call (slice_index_or m.state.sessions n None) in
@@ -53,7 +54,7 @@ replays_go_on statements evaluations closes fits goes_on from m identity n text 
     subst (λ (t : Option (Open Whole)). AllGive m.state.shared.base [] (items_of t)) (sym same) (r.open_ones n) in
     let turn : Turn Whole Answer = with_count (text_turn call text (text_answer text) m.state.shared session) in
     let sized = entries_keep m.history from.base m.state.shared.base r.holds.entries r.sizes in
-    let kept = command_kept identity draw n m.state.shared session r.holds.shared own open_items statements evaluations closes fits sized text in
+    let kept = command_kept identity draw n m.state.shared session r.holds.shared own open_items statements evaluations closes fits spend sized text in
     record {
       holds = goes_on from m identity n text draw r.holds within short;
       sizes = r.sizes;

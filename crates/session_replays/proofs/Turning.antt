@@ -34,6 +34,7 @@ use Rattle.session_replays.specs.Sizes.{has_sizes}
 use Rattle.session_replays.proofs.Calling.{statement_kept, fitted_kept, arguments_kept, called_kept}
 use Rattle.session_replays.proofs.Giving.{all_front, define_behind}
 use Rattle.session_replays.proofs.Locking.{released_base, commit_other, dropped_base, cut_base}
+use Rattle.session_replays.proofs.Spending.{full_within, Spend, arguments_turns}
 use Rattle.session_replays.proofs.Keeping.{Kept, TurnKept, nothing_kept}
 
 module _ (identity : Identity) (draw : Draw) (number : ℕ) (shared : Shared) (session : Session Whole) (h : SharedHolds shared) (o : Owns number shared session.format session.transaction)
@@ -134,7 +135,7 @@ module _ (identity : Identity) (draw : Draw) (number : ℕ) (shared : Shared) (s
   definition_kept text s = define_kept text s (commit_open call shared session) (refl, commit_kept, commit_other call session.vars.context shared (items_of session.transaction))
 
   -- ---- statements that are run
-  module _ (statements : StatementsEndWell) (evaluations : EvaluationsEndWell) (closes : ClosedDoesTheSame) (fits : FittedIsShort) (sized : list_all has_sizes shared.base.catalog ≡ true) where
+  module _ (statements : StatementsEndWell) (evaluations : EvaluationsEndWell) (closes : ClosedDoesTheSame) (fits : FittedIsShort) (spend : Spend) (sized : list_all has_sizes shared.base.catalog ≡ true) where
     set_by_kept : (as' : List (Target × Tree)) (r : Result (List Value) ℕ) (t : Turn Whole (Given (List Value))) → TurnKept call.number shared t → TurnKept call.number shared (set_by as' r t)
     set_by_kept as' (Err code) t k = k
     set_by_kept as' (Ok vs) t k = record {
@@ -153,7 +154,7 @@ module _ (identity : Identity) (draw : Draw) (number : ℕ) (shared : Shared) (s
         long_kept (is_too_long text) (refused 1153) _
         (unless_kept (code_answer (statement_refusal shared.base.catalog session_scope (set_all as'))) _
         (unless_kept (lock_refusal call.number shared (evaluate ts)) _
-        (set_by_kept as' run.given.result run (fitted_kept identity draw number shared session h o g evaluations full text ts misfit))))
+        (set_by_kept as' run.given.result run (fitted_kept identity draw number shared session h o g evaluations full full_within text ts misfit))))
 
     call_kept : (name : List ℕ) (ts : Trees) → TurnKept call.number shared (call_turn call name ts shared session)
     call_kept name ts =
@@ -162,14 +163,14 @@ module _ (identity : Identity) (draw : Draw) (number : ℕ) (shared : Shared) (s
         long_kept (is_too_long text) (refused 1153) _
         (unless_kept (code_answer (statement_refusal shared.base.catalog session_scope (call_procedure name ts))) _
         (unless_kept (lock_refusal call.number shared (evaluate ts)) _
-        (called_kept identity draw number shared session.format statements evaluations closes fits name run.given.result run sized
-        (arguments_format (Unit {0}) identity draw number shared session h o evaluations text ts) (arguments_left (Unit {0}) identity draw number shared session h o evaluations text ts)
+        (called_kept identity draw number shared session.format statements evaluations closes fits spend name run.given.result run sized
+        (arguments_format (Unit {0}) identity draw number shared session h o evaluations text ts) (arguments_turns spend call text ts shared session) (arguments_left (Unit {0}) identity draw number shared session h o evaluations text ts)
         (arguments_kept identity draw number shared session h o g evaluations text ts))))
 
     plain_kept : (text : List ℕ) (s : Statement) → TurnKept call.number shared (plain_turn call text s shared session)
     plain_kept text s =
         unless_kept (code_answer (statement_refusal shared.base.catalog session_scope s)) _
-        (unless_kept (lock_refusal call.number shared s) _ (statement_kept identity draw number shared session h o g statements full text s))
+        (unless_kept (lock_refusal call.number shared s) _ (statement_kept identity draw number shared session h o g statements full full_within text s))
 
     -- ---- one command
     any_kept : (text : List ℕ) (s : Statement) → TurnKept call.number shared (statement_turn call text s shared session)

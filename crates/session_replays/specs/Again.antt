@@ -1,5 +1,5 @@
 -- What an item's statement gives where it runs again, with what it began with.
-use Rattle.std.specs.Prelude.{◌≡◌, ℕ, List, [], ◌∷◌, ◌++◌, Some}
+use Rattle.std.specs.Prelude.{◌≡◌, ◌≤◌, ℕ, List, [], ◌∷◌, ◌++◌, Some}
 use Rattle.val_types.specs.declared.change.Change.{Change}
 use Rattle.val_types.specs.declared.value.Value.{Value}
 use Rattle.sql_tree.specs.Tree.{Trees}
@@ -12,8 +12,9 @@ use Rattle.log_entries.specs.Entries.{entry_applied}
 use Rattle.sql_meaning.specs.Scenes.{Scene, Ending, done, failed}
 use Rattle.sql_meaning.specs.Frames.{Setting}
 use Rattle.sql_meaning.specs.Changing.{Did, affected_rows}
-use Rattle.sql_meaning.specs.Running.{effect, evaluation}
+use Rattle.sql_meaning.specs.Running.{most_nested, most_turns, effect, evaluation}
 use Rattle.session_model.specs.Sessions.{tables_with}
+use Rattle.sql_reach.specs.Carrying.{carried}
 use Rattle.sql_reach.specs.Defining.{number_of_bytes}
 use Rattle.session_model.specs.Running.{Began, setting_of}
 use Rattle.session_model.specs.Machine.{Whole}
@@ -39,13 +40,19 @@ run_again base before began =
     effect (setting_of began.catalog began.context (number_of_bytes 0 began.draw.uuid)) began.nesting [] began.tree (scene_again base before began)
 
 -- An item gives its changes on a base, behind the changes before it: its statement runs again without an error and makes just
--- them, and the catalog that it began with is that of the base.
+-- them, and the catalog that it began with is that of the base. What it says of itself is so: the first value that it generated is
+-- its statement's, it carries just the parts that this reaches of the context before it, and it began with no more nesting and turns
+-- than a command has.
 pub record Gives (base : Base) (before : List Change) (i : Whole) : Type 0 where
   pub did : Did
   pub scene : Scene
   pub ends : run_again base before i.began ≡ done did scene
   pub changes : scene.changes ≡ before ++ changes_of i
   pub catalog : i.began.catalog ≡ base.catalog
+  pub first : did.first ≡ i.kept.carried.first
+  pub carries : i.kept.carried ≡ carried i.began.catalog i.began.tree i.began.context did.first
+  pub nesting : i.began.nesting ≤ most_nested
+  pub turns : i.began.turns ≤ most_turns
 
 -- ---- items and entries
 

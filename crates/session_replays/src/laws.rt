@@ -6,7 +6,7 @@ ghost use Rattle.session_replays.specs.Rerun.{RunsAgain};
 
 use closing_laws::{closed_does_the_same, fitted_values_are_short};
 use session_model::runs_hold;
-use sql_meaning::statements_end_well;
+use sql_meaning::{statements_end_well, turns_never_rise};
 use text_answers::answers_are_well;
 
 /// A law: the DO over some expressions, as which a SET is logged, ends as their evaluation does, on the same scene.
@@ -25,6 +25,7 @@ pub fn transactions_replay()
     statements_end_well();
     closed_does_the_same();
     fitted_values_are_short();
+    turns_never_rise();
     runs_hold();
 }
 

@@ -13,7 +13,9 @@
 //! - In every run, whatever the commands are, each committed statement that changed rows ends without an error where it runs
 //!   again with what it began with, on what the entries before its transaction made and behind the statements before it in its
 //!   transaction, and gives just the changes that its entry has; the catalog that it began with is the one that stands there.
-//!   So do the statements of each open transaction on the committed base ([`transactions_replay`]). A run may begin with any
+//!   So do the statements of each open transaction on the committed base ([`transactions_replay`]). The first value that an item has
+//!   is the one that its statement generates, it carries just the parts of the context before it that this reaches, and it began with
+//!   no more levels of nesting and turns than a command has, in a CALL too. A run may begin with any
 //!   base in which the types of procedures have sizes that there are, as those that CREATE PROCEDURE made have.
 //! - Statements of procedures are among them, with their locals closed in: a condition, a DEFAULT or a SET that changed rows is the DO over
 //!   its expressions.
@@ -24,7 +26,7 @@
 //!   changed rows is such a statement.
 //! - The worked scripts: statements by themselves, in a transaction, behind a savepoint and rolled back; a procedure's condition.
 //!
-//! Nothing is said here of statements that changed no row, and nothing of the text and the context that the log has of an item.
+//! Nothing is said here of statements that changed no row, and nothing of the text that the log has of an item.
 #![tactic(auto)]
 
 mod laws;

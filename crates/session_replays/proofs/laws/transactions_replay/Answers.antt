@@ -9,4 +9,5 @@ returns-clause-opens c = replays_open c.runs_hold.ensures.opens
 
 pub returns-clause-goes_on : goal.returns-clause-goes_on
 returns-clause-goes_on c =
-    replays_go_on c.statements_end_well.ensures.statements c.statements_end_well.ensures.evaluations c.closed_does_the_same.ensures.statements c.fitted_values_are_short.ensures c.runs_hold.ensures.goes_on
+    replays_go_on c.statements_end_well.ensures.statements c.statements_end_well.ensures.evaluations c.closed_does_the_same.ensures.statements c.fitted_values_are_short.ensures
+    (record { statements = c.turns_never_rise.ensures.statements; evaluations = c.turns_never_rise.ensures.evaluations }) c.runs_hold.ensures.goes_on
