@@ -46,7 +46,7 @@ impl<
         value(self.alloc, self.run, around, self.levels, stage, e, views)
     }
 
-    #[tactic(auto, unfolding(sql_evaluation::specs::Seen::world_of))]
+    #[tactic(auto, using(changed_rows::proofs::Triggers::under_way))]
     fn fire(
         &self,
         around: &Around<'_>,
