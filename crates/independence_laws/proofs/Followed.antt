@@ -1,5 +1,5 @@
 -- A statement that reaches nothing of a node's own does the same from what its item carries.
-use Rattle.std.proofs.Common.{◌≡◌, ◌+◌, ◌-◌, ℕ, inl, inr, Bool, true, false, not, ◌||◌, nat_eq, List, [], ◌∷◌, ◌++◌, flat_map, cond, Option, Some, None, ℤ, pos, refl, sym, ap, ◌∙◌, subst, arith}
+use Rattle.std.proofs.Common.{◌≡◌, ◌+◌, ◌-◌, ℕ, inl, inr, Bool, true, false, not, ◌||◌, nat_eq, List, [], ◌∷◌, flat_map, cond, Option, Some, None, ℤ, pos, refl, sym, ap, ◌∙◌, subst, arith}
 use Rattle.std.specs.Prelude.{codes, filter_map, unwrap_or, IfSome}
 use Rattle.std.specs.List.{AllByRecursion, list_any}
 use Rattle.std.specs.Map.{lookup}
@@ -14,7 +14,7 @@ use Rattle.sql_tree.specs.declared.statements.Cause.{Cause}
 use Rattle.catalog_rules.specs.Names.{same_name}
 use Rattle.catalog_rules.specs.Objects.{Object, function, reaction, function_in, trigger_for}
 use Rattle.catalog_rules.specs.Checks.{statement_refusal, expression_refusal}
-use Rattle.catalog_rules.specs.Nodes.{Node, a_name, a_column, a_new_column, an_old_column, an_inserted_value, a_user_variable, a_system_variable, a_built_in, a_random_number, a_function_call, a_table_read, a_limit, a_statement, no_sight, in_sight, sight_of_update, count_nodes, nodes_of, nodes_of_trees, nodes_of_part, nodes_of_query, nodes_of_orders, nodes_of_sets, nodes_of_supply}
+use Rattle.catalog_rules.specs.Nodes.{Node, a_name, a_column, a_new_column, an_old_column, an_inserted_value, a_user_variable, a_system_variable, a_built_in, a_random_number, a_function_call, a_table_read, a_limit, a_statement, nodes_of}
 use Rattle.log_entries.specs.Variables.{variable_value}
 use Rattle.sql_meaning.specs.Scenes.{Scene, Ending, done, failed, undone_from}
 use Rattle.sql_meaning.specs.Frames.{Context, Setting, World, Frame, only_locals}
@@ -29,7 +29,7 @@ use Rattle.session_ctx.specs.Carrying.{StandsIn}
 use Rattle.independence_laws.proofs.Relation.{AreAlike, EndsAlike}
 use Rattle.independence_laws.proofs.Alike.{Known, alike_law}
 use Rattle.independence_laws.specs.Followed.{names_own_function, reach_nothing_own, is_followed}
-use Rattle.independence_laws.specs.Laws.{AreAlikeFor, EndsAs, FirstValueIsForced, StatementsAreFollowed}
+use Rattle.independence_laws.specs.Laws.{AreAlikeFor, FirstValueIsForced, StatementsAreFollowed}
 use Rattle.reach_laws.specs.Agreeing.{SameOfSession, SameFunction, SameAt}
 use Rattle.reach_laws.proofs.Reaching.{expressions_of, Fired, IsReach}
 use Rattle.reach_laws.proofs.Expressions.{IsNoStatement, expressions_plain, expressions_in}

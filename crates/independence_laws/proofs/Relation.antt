@@ -1,5 +1,5 @@
 -- Two scenes in which a statement does the same, whoever runs it: what they have in common.
-use Rattle.std.specs.Prelude.{◌≡◌, ℕ, List}
+use Rattle.std.specs.Prelude.{◌≡◌, List}
 use Rattle.table_rules.specs.Stores.{definitions_of}
 use Rattle.catalog_rules.specs.Bases.{definitions_in}
 use Rattle.catalog_rules.specs.Objects.{Object}

@@ -1,5 +1,5 @@
 -- A user variable that is reached is carried.
-use Rattle.std.proofs.Common.{◌≡◌, ◌-◌, ℕ, inl, inr, Bool, true, false, nat_eq, List, [], ◌∷◌, map, cond, Option, Some, None, refl, sym, ap, ◌∙◌, subst, arith}
+use Rattle.std.proofs.Common.{◌≡◌, ℕ, inl, inr, Bool, true, false, nat_eq, List, [], ◌∷◌, map, cond, Option, Some, None, refl, sym, ap, ◌∙◌, subst, arith}
 use Rattle.std.specs.Prelude.{filter_map, IfSome}
 use Rattle.std.specs.List.{cons_option}
 use Rattle.std.specs.Map.{lookup}
