@@ -96,12 +96,13 @@ fn insert_all<V: Fn(&mut Stage, &Expr, &Views) -> Result<Value, SqlRefusal>, E: 
     ensures gives { EndsAsBy inserting_of result (scene_of stage.new) (supply_in table.now.around.now insertion.now.forced table.now.definition.now insertion.now.places.now (manner_of insertion.now.manner) (view_supply source.now) (scene_of stage.old)) }
     ensures leads { LeadsOn stage.old stage.new }
 {
-    let views = Views::new(table.alloc);
     match source {
         Source::Rows(lists) => {
+            let views = Views::new(table.alloc);
             insert_lists(evaluate, table, insertion, stage, lists.as_slice(), &views)
         }
         Source::Select(select) => {
+            let views = Views::new(table.alloc);
             let rows = rows_of_query(table.alloc, evaluate, table.around, stage, select, &views)?;
             insert_rows(table, insertion, stage, rows.as_slice())
         }
