@@ -70,13 +70,7 @@ undone_still m still scene = still_from scene (m scene) (still.moves scene)
 
 session_self : (setting : Setting) (f : Func0) → SameOfSession setting setting f
 session_self setting Func0.Now = refl
-session_self setting Func0.UnixTimestamp = refl
-session_self setting Func0.SysDate = refl
-session_self setting Func0.User = refl
-session_self setting Func0.Uuid = refl
-session_self setting Func0.ConnectionId = refl
-session_self setting Func0.LastInsertId = refl
-session_self setting Func0.RowCount = refl
+session_self setting f = refl
 
 function_self : (setting : Setting) (f : Func) → SameFunction setting setting f
 function_self setting (Func.Zero f) = session_self setting f
