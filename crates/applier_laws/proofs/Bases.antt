@@ -1,14 +1,12 @@
 -- What holds of bases holds behind each entry.
-use Rattle.std.proofs.Common.{◌≡◌, ℕ, true, List, [], ◌∷◌, Option, Some, None, refl, sym, ap, subst, ◌∙◌}
+use Rattle.std.proofs.Common.{◌≡◌, ℕ, true, List, Option, Some, None, refl, sym, ap, subst, ◌∙◌}
 use Rattle.std.specs.List.{list_any}
 use Rattle.std.specs.Option.{option_map}
 use Rattle.val_types.specs.declared.change.Change.{Change}
 use Rattle.table_rules.specs.Tables.{Table}
-use Rattle.table_rules.specs.Changes.{applied}
 use Rattle.table_rules.specs.Stored.{all_applied}
 use Rattle.table_rules.specs.Stores.{definitions_of, names_differ}
-use Rattle.table_rules.proofs.Equations.{applied_none, applied_front}
-use Rattle.table_rules.proofs.Storing.{some_same, definitions_kept, turn_back}
+use Rattle.table_rules.proofs.Storing.{some_same, turn_back}
 use Rattle.sql_tree.specs.Statement.{Statement, create_table, create_function, create_procedure, create_trigger, drop_table, drop_function, drop_procedure, drop_trigger, truncate}
 use Rattle.catalog_rules.specs.Objects.{Object, function, procedure, reaction}
 use Rattle.catalog_rules.specs.Defined.{definition_of}
@@ -19,9 +17,10 @@ use Rattle.log_entries.specs.declared.entries.Entry.TheVariants.{Transaction, De
 use Rattle.log_entries.specs.Entries.{with_tables, entry_applied}
 use Rattle.session_model.specs.Machine.{Whole}
 use Rattle.session_model.specs.Holding.{changes_of, define, changes_in}
-use Rattle.applier_laws.specs.Laws.{BaseHolds, BasesHold}
+use Rattle.applier_laws.specs.Following.{BaseHolds}
+use Rattle.applier_laws.specs.Laws.{BasesHold}
 use Rattle.applier_laws.proofs.Catalogs.{named, beside, created_free, names_more, definitions_more, definitions_behind, kept_more, tables_beside_are, objects_beside_are, names_fewer, kept_fewer, cleared_are, kept_cleared, functions_out, procedures_out, triggers_out, program_made}
-use Rattle.applier_laws.proofs.Changes.{then_some}
+use Rattle.applier_laws.proofs.Changes.{all_definitions}
 
 -- ---- definitions
 
@@ -69,13 +68,6 @@ pub definition_holds : (s : Statement) (base next : Base) → BaseHolds base →
 definition_holds s base next h e = by_refusal s base next (ddl_refusal base.catalog s) refl h e
 
 -- ---- transactions
-
--- changes leave the definitions
-all_definitions : (xs : List Change) (ts after : List Table) → all_applied xs ts ≡ Some after → definitions_of after ≡ definitions_of ts
-all_definitions [] ts after e = ap definitions_of (sym (some_same ts after (sym (applied_none ts) ∙ e)))
-all_definitions (x ∷ xs) ts after e =
-    let mid = then_some (all_applied xs) (applied x ts) after (sym (applied_front x xs ts) ∙ e) in
-    all_definitions xs mid.0 after mid.2 ∙ definitions_kept x ts mid.0 mid.1
 
 by_tables : (changes : List Change) (base next : Base) (o : Option (List Table)) → all_applied changes base.tables ≡ o → BaseHolds base
     → option_map (with_tables base) o ≡ Some next → BaseHolds next

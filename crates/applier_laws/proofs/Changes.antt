@@ -20,7 +20,7 @@ use Rattle.table_rules.specs.Changes.{without, with_row, may_put, put, rows_afte
 use Rattle.table_rules.specs.Stored.{table_named, all_applied}
 use Rattle.table_rules.specs.Stores.{definitions_of}
 use Rattle.table_rules.proofs.Equations.{applied_none, applied_front}
-use Rattle.table_rules.proofs.Storing.{applied_where, named_kept, some_same, definitions_kept}
+use Rattle.table_rules.proofs.Storing.{applied_where, named_kept, some_same, definitions_kept, turn_back}
 use Rattle.table_rules.proofs.Taking.{Kept, as_kept, taken_out, tables_reversible}
 use Rattle.event_codec.specs.declared.event.RowsKind.{RowsKind}
 use Rattle.event_codec.specs.declared.event.RowsKind.TheVariants.{Write, Update, Delete}
@@ -143,6 +143,20 @@ change_carried place m c s next kept e types =
 pub record Stands (all : List TableDef) (p : Progress) : Type 0 where
   pub kept : AreKept p.store.tables
   pub theirs : definitions_of p.store.tables ≡ all
+
+-- changes leave the definitions
+pub all_definitions : (xs : List Change) (ts after : List Table) → all_applied xs ts ≡ Some after → definitions_of after ≡ definitions_of ts
+all_definitions [] ts after e = ap definitions_of (sym (some_same ts after (sym (applied_none ts) ∙ e)))
+all_definitions (x ∷ xs) ts after e =
+    let mid = then_some (all_applied xs) (applied x ts) after (sym (applied_front x xs ts) ∙ e) in
+    all_definitions xs mid.0 after mid.2 ∙ definitions_kept x ts mid.0 mid.1
+
+-- what stood still stands behind changes
+pub stands_behind : (all : List TableDef) (cs : List Change) (p q : Progress) (next : List Table) → Stands all p → all_applied cs p.store.tables ≡ Some next → q.store.tables ≡ next → Stands all q
+stands_behind all cs p q next stands made same = record {
+  kept = subst (λ (ts : List Table). AreKept ts) (sym same) (turn_back cs p.store.tables next stands.kept made).1;
+  theirs = ap definitions_of same ∙ all_definitions cs p.store.tables next made ∙ stands.theirs;
+}
 
 -- What changes lead to: these tables and these changes.
 pub record Reaches (all : List TableDef) (next : List Table) (made : List Change) (p : Progress) : Type 0 where

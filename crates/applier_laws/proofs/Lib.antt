@@ -1,6 +1,12 @@
 pub mod Catalogs
 pub mod Columns
 pub mod Changes
+pub mod Steps
 pub mod Items
+pub mod Carrying
+pub mod Needs
+pub mod Texts
+pub mod Transactions
 pub mod Bases
+pub mod Following
 pub mod Entries

@@ -67,7 +67,7 @@ fn ill_limit(alloc: Global, s: &Stmt, locals: &Locals) -> Result<Option<SqlError
 
 /// What refuses to close a statement, without closing it: 1153 where the canonical text of the closed statement
 /// is too long, else 1327 where a LIMIT is a name that is no local, else 30002 where a LIMIT is a local that is no
-/// number from 0.
+/// number from 0. Each local is one that a literal can say.
 pub fn check_closing(alloc: Global, s: &Stmt, locals: &Locals) -> Result<(), SqlRefusal>
     ensures { CanClose result (view s.now) locals.now }
 {
@@ -77,5 +77,6 @@ pub fn check_closing(alloc: Global, s: &Stmt, locals: &Locals) -> Result<(), Sql
     if let Some(error) = ill_limit(alloc, s, locals)? {
         return Err(SqlRefusal::Sql(error));
     }
+    locals.hold_literals();
     Ok(())
 }

@@ -6,7 +6,8 @@
 //!
 //! # Proved
 //! - [`check_closing`] lets a statement be closed, or refuses it with 1153, 1327 or 30002 in this order, each exactly where its
-//!   condition holds, or finds no memory. It closes nothing.
+//!   condition holds, or finds no memory. It closes nothing. That a local holds what no literal can say, which would refuse
+//!   it too, never comes.
 //!
 //! # Only tested
 //! That calls succeed with ample memory, in `proc_callers` and `repl_tests`.

@@ -10,6 +10,7 @@ use Rattle.log_model.specs.Groups.{Form, start, ddl, txn, Group}
 use Rattle.log_model.specs.Items.{query_of, item_events, AreCarried}
 use Rattle.log_model.specs.Log.{LogPlace, begin_query, transaction, definition, behind, counted}
 use Rattle.log_model.specs.Written.{placed, total, CanWriteAll}
+use Rattle.entry_groups.specs.Ids.{AllSayIds}
 
 -- ---- groups of entries
 
@@ -53,9 +54,11 @@ StaysInLog (Transaction stamp server is) = Unit {0}
 StaysInLog (Definition stamp server i) = Unit {0}
 StaysInLog (LogStart stamp server) = ⊥
 
--- an entry that can be written at a place and is read again: a transaction has items, and no definition reads BEGIN
+-- an entry that can be written at a place and is read again: a transaction has items, whose ids a log can say, and no definition
+-- reads BEGIN
 abbrev pub CanLog : Entry Item → (number : ℕ) → LogPlace → Type 0
-CanLog (Transaction stamp server is) number p = (1 ≤ length is) × AreCarried is × CanWriteAll p.pos (transaction stamp (number + 1) is)
+CanLog (Transaction stamp server is) number p =
+    (1 ≤ length is) × AreCarried is × CanWriteAll p.pos (transaction stamp (number + 1) is) × AllSayIds is
 CanLog (Definition stamp server i) number p = CanWriteAll p.pos (definition stamp i) × (bytes_eq i.text (codes "BEGIN") ≡ false)
 CanLog (LogStart stamp server) number p = stamp < 2 ^ 32
 

@@ -2,6 +2,7 @@
 //! them has been fetched: definitions and laws over those of `log_model`, and no code.
 //!
 //! - `specs/Entries`: the group that an entry is read as, and which entries can be logged at a place
+//! - `specs/Ids`: the ids that a log can say of a text
 //! - `specs/Laws`: what is proved of them
 //! - `laws`: the laws, as functions that do nothing
 //!

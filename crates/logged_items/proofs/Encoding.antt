@@ -18,6 +18,7 @@ use Rattle.row_events.specs.Sizes.{bounded}
 use Rattle.row_events.proofs.GoingOn.{total_append}
 use Rattle.row_laws.proofs.Writable.{writable}
 use Rattle.transaction_sizes.specs.Sizes.{all_sizes, most_bytes}
+use Rattle.entry_groups.specs.Ids.{AllSayIds, SaysIds}
 use Rattle.logged_items.specs.Items.{item_by_text}
 use Rattle.logged_items.specs.Logged.{AreLogged, Encodes, HaveForms, IsLogged, IsLoggedBy}
 
@@ -44,6 +45,14 @@ pub all_carried : (is : List Item) → AreLogged is → AreCarried is
 all_carried [] are = tt
 all_carried (i ∷ is) are = (carried_by i.rows i are.0.form, all_carried is are.1)
 
+ids_by : (rows : Bool) (i : Item) → IsLoggedBy rows i → SaysIds rows i
+ids_by true i form = tt
+ids_by false i form = form.1
+
+all_ids : (is : List Item) → AreLogged is → AllSayIds is
+all_ids [] are = tt
+all_ids (i ∷ is) are = (ids_by i.rows i are.0.form, all_ids is are.1)
+
 -- ---- events
 
 can_join : (pos : ℕ) (xs ys : List Stamped) → CanWriteAll pos xs → CanWriteAll (pos + total xs) ys → CanWriteAll pos (xs ++ ys)
@@ -64,7 +73,7 @@ events_by rows i = at_time i.carried.stamp (bodies_of (if rows then changes_item
 
 can_by : (rows : Bool) (i : Item) (pos : ℕ) → IsLoggedBy rows i → i.carried.stamp < 2 ^ 32 → pos + total (events_by rows i) ≤ 1200000000 → CanWriteAll pos (events_by rows i)
 can_by true i pos form low end = writable i.defs i.changes i.carried.stamp pos form.named form.can low end
-can_by false i pos form low end = forms_can (bodies_of (text_of i.text i.carried)) i.carried.stamp pos form low end
+can_by false i pos form low end = forms_can (bodies_of (text_of i.text i.carried)) i.carried.stamp pos form.0 low end
 
 item_can : (i : Item) (pos : ℕ) → IsLogged i → pos + item_size i ≤ 1200000000 → CanWriteAll pos (item_events i)
 item_can i pos logged end = can_by i.rows i pos logged.form logged.stamp end
@@ -114,7 +123,7 @@ encodes : (is : List Item) (stamp server committed number pos : ℕ) (out : List
     → out ≡ bytes_of server pos (transaction stamp number is) → Encodes (Transaction stamp server is) committed pos out
 encodes is stamp server committed number pos out are some next can is-out = record {
   bytes = is-out ∙ ap (λ (n : ℕ). bytes_of server pos (transaction stamp n is)) next;
-  can = (some, all_carried is are, subst (λ (n : ℕ). CanWriteAll pos (transaction stamp n is)) next can);
+  can = (some, all_carried is are, subst (λ (n : ℕ). CanWriteAll pos (transaction stamp n is)) next can, all_ids is are);
 }
 
 pub encodes_if : {E : Type 0} (r : Result (List ℕ) E) (is : List Item) (stamp server committed number pos : ℕ) → AreLogged is → 1 ≤ length is → number ≡ committed + 1 → CanWriteAll pos (transaction stamp number is)

@@ -11,6 +11,7 @@ use Rattle.log_model.specs.Log.{LogPlace, entry_bytes}
 use Rattle.log_model.specs.Spelling.{bodies_of}
 use Rattle.row_laws.specs.Laws.{AreNamed}
 use Rattle.entry_groups.specs.Entries.{CanLog}
+use Rattle.entry_groups.specs.Ids.{HasIds}
 
 -- ---- items
 
@@ -30,10 +31,10 @@ pub record HasRows (i : Item) : Type 0 where
   pub named : AreNamed i.defs
   pub can : CanCarryAll i.defs i.changes
 
--- by its rows, or by its text
+-- by its rows, or by its text with ids that a log can say
 abbrev pub IsLoggedBy : (rows : Bool) → Item → Type 0
 IsLoggedBy true i = HasRows i
-IsLoggedBy false i = HaveForms (bodies_of (text_of i.text i.carried))
+IsLoggedBy false i = HaveForms (bodies_of (text_of i.text i.carried)) × HasIds i.carried
 
 -- It can be logged as its flag says, and its numbers have 32 bits.
 pub record IsLogged (i : Item) : Type 0 where

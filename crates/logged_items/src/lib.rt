@@ -1,7 +1,8 @@
 //! What a source logs: the item of a statement that changed rows, the items of a transaction, and the bytes of entries.
 //!
 //! This crate stands on `binlog_cache` and on what statements reach (`unsafe_rules`); a source stands on it. A log can carry
-//! every item that [`Items`] holds: that is looked at where an item is put in, so that a commit needs no look at each row.
+//! every item that [`Items`] holds, by a text with ids from 0 and below 2^63: that is looked at where an item is put in, so that a
+//! commit needs no look at each row.
 //!
 //! - `making`: [`item_of`], with `before` ([`Before`]) and `tables` ([`definitions_changed`])
 //! - `items`: [`Items`]; `carrying` and `texts`: whether a log can carry an item, by its rows or by its text

@@ -4,6 +4,7 @@ ghost use Rattle.std.specs.Bool.{OnTrue};
 ghost use Rattle.std.specs.Int.{w64, cast_unsigned};
 ghost use Rattle.std.specs.Option.{option_map};
 ghost use Rattle.event_codec.specs.Laws.{FitsValue};
+ghost use Rattle.entry_groups.specs.Ids.{HasIds, IsId};
 ghost use Rattle.log_model.specs.Items.{text_of};
 ghost use Rattle.log_model.specs.Spelling.{bodies_of};
 ghost use Rattle.logged_items.specs.Logged.{AreValues, HaveForms};
@@ -15,9 +16,10 @@ use val_types::{Bytes, Value};
 /// The modulus of RAND()'s seeds.
 const SEED_MODULUS: u64 = 1_073_741_823;
 
-/// Whether a number, where there is one, is not below 0.
+/// Whether a number, where there is one, is not below 0; it has 64 bits.
 fn is_natural(number: Option<i64>) -> bool
-    ensures { OnTrue result (IfSome (option_map (cast_unsigned w64) number) (λ n. n ≤ 9223372036854775807)) }
+    ensures bits { OnTrue result (IfSome (option_map (cast_unsigned w64) number) (λ n. n ≤ 9223372036854775807)) }
+    ensures id { OnTrue result (IfSome number IsId) }
 {
     match number {
         None => true,
@@ -73,7 +75,7 @@ fn have_widths(vars: &Vars)
 
 /// Whether a log can carry a text with what its statement needs.
 pub(crate) fn can_carry_text(text: &Bytes, carried: &Carried) -> bool
-    ensures { OnTrue result (HaveForms (bodies_of (text_of text.now carried.now))) }
+    ensures { OnTrue result (HaveForms (bodies_of (text_of text.now carried.now)) × HasIds carried.now) }
 {
     let _ = text;
     have_words(carried.stamp, carried.connection);

@@ -1,6 +1,6 @@
 //! What commands are answered.
-ghost use Rattle.std.specs.Prelude.{◌≡◌, [], IfOk};
-ghost use Rattle.session_model.specs.Answers.{ok, refused, refused_at, refused_by, row_count_after, showing};
+ghost use Rattle.std.specs.Prelude.{◌≡◌, [], false, IfOk};
+ghost use Rattle.session_model.specs.Answers.{end_warned, ok, refused, refused_at, refused_by, row_count_after, showing, with_warning};
 ghost use Rattle.node_answers.specs.Telling.{told_answer};
 
 use answer_text::{Answer, End};
@@ -87,7 +87,7 @@ fn copies(alloc: Global, rows: &[Shared<Row>]) -> Result<List<Row>, NoMemory>
 
 /// The rows of a SELECT.
 pub fn showing(alloc: Global, rows: &List<Shared<Row>>) -> Result<Answer, NoMemory>
-    ensures { IfOk result (λ answer. answer ≡ showing rows.now) }
+    ensures { IfOk result (λ answer. answer ≡ showing false rows.now) }
 {
     let mut sets = List::new(alloc);
     sets.push(copies(alloc, rows.as_slice())?)?;
@@ -95,6 +95,27 @@ pub fn showing(alloc: Global, rows: &List<Shared<Row>>) -> Result<Answer, NoMemo
         sets,
         end: End::Rows { warned: false },
     })
+}
+
+/// The end of an answer, which shows whether something is warned; an error shows no warning.
+fn end_warned(end: End, warned: bool) -> End
+    ensures { result ≡ end_warned warned end }
+{
+    match end {
+        End::Ok { affected, .. } => End::Ok { affected, warned },
+        End::Rows { .. } => End::Rows { warned },
+        End::Refused { code, at, holder } => End::Refused { code, at, holder },
+    }
+}
+
+/// An answer that shows whether something is warned.
+pub fn with_warning(answer: Answer, warned: bool) -> Answer
+    ensures { result ≡ with_warning warned answer }
+{
+    Answer {
+        sets: answer.sets,
+        end: end_warned(answer.end, warned),
+    }
 }
 
 /// What ROW_COUNT() is behind an answer.
@@ -107,7 +128,7 @@ pub fn row_count_after(end: &End) -> i64
     }
 }
 
-/// The answer of a statement that came to something.
+/// The answer of a statement that came to something, without a warning.
 pub fn told(alloc: Global, outcome: &Outcome) -> Result<Answer, NoMemory>
     ensures { IfOk result (λ answer. answer ≡ told_answer outcome.now) }
 {

@@ -2,7 +2,7 @@
 //!
 //! - `reading`: [`statement_of`], the statement that a text is
 //! - `answers`: [`Answer`](answer_text::Answer)s made: [`ok`], [`refused`], [`refused_at`], [`refused_by`], [`showing`] and
-//!   [`told`]; [`row_count_after`], what ROW_COUNT() is behind one
+//!   [`told`]; [`with_warning`], one that shows whether something is warned; [`row_count_after`], what ROW_COUNT() is behind one
 //! - `fault`: [`NodeFault`], why a node gives no answer
 //!
 //! The definitions stand in specs/: `ReadTexts` (why a text is no statement), `Telling` (the answer of what a statement came to);
@@ -21,6 +21,8 @@ mod answers;
 mod fault;
 mod reading;
 
-pub use answers::{ok, refused, refused_at, refused_by, row_count_after, showing, told};
+pub use answers::{
+    ok, refused, refused_at, refused_by, row_count_after, showing, told, with_warning,
+};
 pub use fault::NodeFault;
 pub use reading::statement_of;

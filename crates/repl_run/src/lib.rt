@@ -15,7 +15,12 @@
 //! - [`top`] answers BadWords exactly where the words ask for none of `run`, `print` and `replay`, and then reads and touches
 //!   nothing (`words`, `unread`, `untouched`). In a run, at BadScript and ReadFault all but the input is as before (`idle`). `print`
 //!   touches no environment and no report, and `replay` none of a source (`print_alone`, `replay_alone`).
-//! - What a run comes to (`run`) is what `script_run` says of it, by its status.
+//! - What a run comes to (`run`) is what `script_run` says of it, by its status. At Done each session's transactions are logged in the
+//!   format that it had before: under MIXED the text items are exactly those without a reason (field `formats`). The replica has
+//!   carried out the first entries that the source committed, each once, and its base and counters are what the definition of an
+//!   applier makes of their groups, each at the draw of its APPLY (`follows`). Where no item of them is warned, or by RAND() alone, its
+//!   base is what they make of an empty one, whatever its clock, seeds, identity and counters; and no APPLY stopped where this holds of
+//!   the entries carried out and of the next one (`unstopped`). Under MIXED and ROW nothing is warned.
 //! - What `print` comes to (`print`). At Done, LogDamaged and LogForeign the log on the input ends so, at this place, and the lines of
 //!   all its groups were written; at ReadFault, WriteFault and NoMemory a front of them. No other status comes.
 //! - What `replay` comes to (`replay`). At Done, LogDamaged and LogForeign the log on the input ends so, at this place, and all its

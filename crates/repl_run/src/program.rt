@@ -22,8 +22,11 @@ use std::alloc::Global;
 /// source in the one environment and a replica in the other.
 ///
 /// - `run` carries out the script on the input: each command is carried out by the source or the replica, which begin without
-///   tables, and what it is told is written before the next begins. The replica fetches the log of the source and carries out what
-///   stands there; it follows the source, however the log is cut, and no APPLY stops as long as all is logged by its rows.
+///   tables, and what it is told is written before the next begins. What a session commits is logged in its format: by its text under
+///   STATEMENT, by its rows under ROW, and under MIXED by its text exactly where it has no reason for which that is unsafe. The
+///   replica fetches the log of the source and carries out what stands there; it follows the source, however the log is cut, and
+///   whatever its clock, its seeds, its identity and its counters are. No APPLY stops, and once all is carried out the tables are
+///   equal, as long as nothing is warned, or by RAND() alone; under MIXED and ROW nothing is.
 /// - `print` shows the binary log on the input, a line for each event of each whole group.
 /// - `replay` carries out the binary log on the input, by a replica that begins without tables and is gone behind the call, and writes
 ///   how many groups these were and the place behind them.
@@ -43,8 +46,9 @@ pub fn top<S: Source, K: Sink, E: Env, F: Env>(
     ensures words { (result ≡ Status.BadWords) ↔ (word_asked (map string_bytes words.now) ≡ None) }
 
     // What `run` comes to: each status only by its cause. At Done each command was told what both nodes of the definition tell,
-    // all lines of that were written, the report tells the draws, and the replica follows the source; at any other status a front
-    // of these lines was written.
+    // all lines of that were written, the report tells the draws, each session's transactions are logged in the format that it had
+    // (under MIXED the items without a reason by their texts, and no others), and the replica follows the source; at any other status
+    // a front of these lines was written.
     ensures run { word_asked (map string_bytes words.now) ≡ Some Run → EndsBy result (S.left input.old) (S.left input.new)
         report.new (K.written out.old) (K.written out.new) }
 

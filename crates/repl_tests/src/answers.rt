@@ -21,7 +21,7 @@ static A: Frame = Frame {
 };
 
 /// Scripts behind the table `t`, and the lines behind `1 ok 0`.
-static OF_T: [(&str, &str); 13] = [
+static OF_T: [(&str, &str); 15] = [
     // a savepoint
     (
         "s1: BEGIN //\ns1: INSERT INTO t VALUES (1, 10) //\ns1: SAVEPOINT x //\ns1: INSERT INTO t VALUES (2, 20) //\ns1: ROLLBACK TO x //\ns1: COMMIT //\nreplica: FETCH 100000 //\nreplica: APPLY 100 //\nreplica: SELECT * FROM t //\n",
@@ -47,6 +47,16 @@ static OF_T: [(&str, &str); 13] = [
         "s1: BEGIN //\ns1: INSERT INTO t VALUES (1, 1) //\ns1: BEGIN //\ns1: ROLLBACK //\ns1: SELECT COUNT(*) FROM t //\ns1: BEGIN //\ns1: INSERT INTO t VALUES (2, 2) //\ns1: DROP TABLE nosuch //\ns1: ROLLBACK //\ns1: SELECT COUNT(*) FROM t //\n",
         "2 ok 0\n3 ok 1\n4 ok 0\n5 ok 0\n6 row 1\n6 rows 1\n7 ok 0\n8 ok 1\n9 error 1051\n10 ok 0\n11 row 2\n11 rows 1\n",
     ),
+    // savepoints of no name, outside a transaction and in one
+    (
+        "s1: RELEASE SAVEPOINT a //\ns1: BEGIN //\ns1: SAVEPOINT a //\ns1: RELEASE SAVEPOINT b //\ns1: ROLLBACK TO b //\ns1: RELEASE SAVEPOINT a //\ns1: ROLLBACK TO a //\ns1: COMMIT //\n",
+        "2 error 1305\n3 ok 0\n4 ok 0\n5 error 1305\n6 error 1305\n7 ok 0\n8 error 1305\n9 ok 0\n",
+    ),
+    // a primary key is changed, by the text and by the row; a key in the way refuses it
+    (
+        "s1: INSERT INTO t VALUES (1, 10), (2, 20) //\ns1: UPDATE t SET id = 2 WHERE id = 1 //\ns1: UPDATE t SET id = 3 WHERE id = 1 //\ns1: SET binlog_format = ROW //\ns1: UPDATE t SET id = 0 WHERE v = 20 //\ns1: SELECT * FROM t //\nreplica: FETCH 100000 //\nreplica: APPLY 100 //\nreplica: SELECT * FROM t //\n",
+        "2 ok 2\n3 error 1062\n4 ok 1\n5 ok 0\n6 ok 1\n7 row 0, 20\n7 row 3, 10\n7 rows 2\n8 fetched 631\n9 applied 4 1:635\n10 row 0, 20\n10 row 3, 10\n10 rows 2\n",
+    ),
     // changes that are none, and rows that are replaced
     (
         "s1: INSERT INTO t VALUES (1, 10) //\ns1: INSERT INTO t VALUES (1, 10) ON DUPLICATE KEY UPDATE v = 10 //\ns1: INSERT INTO t VALUES (1, 20) ON DUPLICATE KEY UPDATE v = VALUES(v) + 1 //\ns1: SELECT v FROM t //\ns1: REPLACE INTO t VALUES (1, 5) //\ns1: UPDATE t SET v = 5 //\n",
@@ -59,8 +69,8 @@ static OF_T: [(&str, &str); 13] = [
     ),
     // the format: which values it takes, in any case, and that it stays within a transaction
     (
-        "s1: SET binlog_format = MIXED //\ns1: SET binlog_format = 1 //\ns1: SET binlog_format = 'row' //\ns1: BEGIN //\ns1: SET binlog_format = STATEMENT //\ns1: SET binlog_format = MIXED //\ns1: SET @a = 1, binlog_format = STATEMENT //\ns1: SELECT @a //\ns1: COMMIT //\ns1: SET SESSION binlog_format = Statement //\ns1: SELECT @@binlog_format //\n",
-        "2 error 1231\n3 error 1231\n4 ok 0\n5 ok 0\n6 error 30006\n7 error 1231\n8 error 30006\n9 row NULL\n9 rows 1\n10 ok 0\n11 ok 0\n12 error 1193\n",
+        "s1: SET binlog_format = MIXED //\ns1: SET binlog_format = 1 //\ns1: SET binlog_format = 'row' //\ns1: BEGIN //\ns1: SET binlog_format = STATEMENT //\ns1: SET binlog_format = MIXED //\ns1: SET binlog_format = 'both' //\ns1: SET @a = 1, binlog_format = STATEMENT //\ns1: SELECT @a //\ns1: COMMIT //\ns1: SET SESSION binlog_format = Statement //\ns1: SET @@session.binlog_format = 'Mixed' //\ns1: SELECT @@binlog_format //\n",
+        "2 ok 0\n3 error 1231\n4 ok 0\n5 ok 0\n6 error 30006\n7 error 30006\n8 error 1231\n9 error 30006\n10 row NULL\n10 rows 1\n11 ok 0\n12 ok 0\n13 ok 0\n14 error 1193\n",
     ),
     // a statement that fails at its second row leaves none, and those before it stay
     (
@@ -176,9 +186,9 @@ struct Long {
     lines: &'static [u8],
 }
 
-/// A sum of so many terms besides the first, so many parentheses around a number, so many names besides the first: a SET with these
+/// A sum of so many terms besides the first, so many parentheses around a number, so many names besides the first: a SET or a CALL with these
 /// prints longer than it is written, at 200,000 names a million bytes and at 220,000 more than 2^20.
-static LONG: [Long; 6] = [
+static LONG: [Long; 9] = [
     Long {
         front: "s1: SELECT 1",
         piece: " + 1",
@@ -232,6 +242,33 @@ static LONG: [Long; 6] = [
         other: "",
         end: ") //",
         lines: b"1 error 1153\n",
+    },
+    Long {
+        front: "s1: CALL p(CONCAT(a",
+        piece: ",a",
+        times: 199_999,
+        middle: "",
+        other: "",
+        end: ")) //",
+        lines: b"1 error 1054\n",
+    },
+    Long {
+        front: "s1: CALL p(CONCAT(a",
+        piece: ",a",
+        times: 219_999,
+        middle: "",
+        other: "",
+        end: ")) //",
+        lines: b"1 error 1153\n",
+    },
+    Long {
+        front: "replica: SELECT 1",
+        piece: " + 1",
+        times: 199,
+        middle: "",
+        other: "",
+        end: " //",
+        lines: b"1 error 30007\n",
     },
 ];
 

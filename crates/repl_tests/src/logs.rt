@@ -27,7 +27,7 @@ static SCRIPTS: [(&str, u8, usize); 5] = [
 
 /// Whether a script's log ends with a status and has so many bytes, which begin as a log does where there are any.
 fn is_written(alloc: Global, script: &str, number: u8, size: usize) -> bool {
-    let (status, log) = write_log_of(alloc, script);
+    let (status, log) = write_log_of(alloc, script.as_bytes());
     status == number && log.len() == size && log.as_slice().starts_with(b"\xFEbin") == (size > 0)
 }
 

@@ -27,22 +27,38 @@ pub fn joined(alloc: Global, parts: &[&str]) -> Bytes {
     all
 }
 
-/// The n-th draw of a node whose first moment is given.
-pub fn draw(first: u32, n: u32) -> Draw {
-    let now = first.saturating_add(n);
-    Draw {
-        now,
-        sys: now,
-        seed1: 1,
-        seed2: 2,
-        uuid: [0; 16],
-    }
-}
-
 /// The moments of the first draws of both nodes.
 pub const SOURCE_MOMENT: u32 = 1_700_000_000;
 
 pub const REPLICA_MOMENT: u32 = 1_600_000_000;
+
+/// The seeds of a node whose first moment is given, and the number of its first identifier: the replica's are its own.
+fn own_numbers(first: u32) -> (u64, u64, u32) {
+    if first == REPLICA_MOMENT {
+        (7, 9, 1000)
+    } else {
+        (1, 2, 0)
+    }
+}
+
+/// A number as the sixteen bytes of an identifier, the most significant first.
+fn identifier_of(number: u32) -> [u8; 16] {
+    let [a, b, c, d] = number.to_be_bytes();
+    [0, 0, 0, 0, 0, 0, 0, 0, 0, 0, 0, 0, a, b, c, d]
+}
+
+/// The n-th draw of a node whose first moment is given.
+pub fn draw(first: u32, n: u32) -> Draw {
+    let now = first.saturating_add(n);
+    let (seed1, seed2, identifier) = own_numbers(first);
+    Draw {
+        now,
+        sys: now,
+        seed1,
+        seed2,
+        uuid: identifier_of(identifier.saturating_add(n)),
+    }
+}
 
 /// Whether a node is the source, or the replica, that every test has.
 pub fn is_root(identity: &Identity) -> bool {
@@ -53,33 +69,38 @@ pub fn is_rep(identity: &Identity) -> bool {
     identity.server_id == 2 && identity.user.as_slice() == b"rep@localhost".as_slice()
 }
 
-/// An environment with three draws.
-fn environment(alloc: Global, identity: Identity, first: u32) -> Option<MemEnv> {
-    match List::from_slice(alloc, &[draw(first, 0), draw(first, 1), draw(first, 2)]) {
-        Ok(draws) => Some(MemEnv::new(identity, draws)),
-        Err(_) => None,
+/// An environment with so many draws.
+fn environment(alloc: Global, identity: Identity, first: u32, count: u32) -> Option<MemEnv> {
+    let mut draws = List::new(alloc);
+    for n in 0..count {
+        let _ = draws.push(draw(first, n));
+    }
+    if 0 < draws.len() {
+        Some(MemEnv::new(identity, draws))
+    } else {
+        None
     }
 }
 
-/// The environments of the source and of the replica.
-fn source_env(alloc: Global) -> Option<MemEnv> {
+/// The environments of the source and of the replica, with so many draws.
+fn source_env(alloc: Global, draws: u32) -> Option<MemEnv> {
     let root = Identity {
         server_id: 1,
         user: bytes(alloc, b"root@localhost"),
     };
-    environment(alloc, root, SOURCE_MOMENT)
+    environment(alloc, root, SOURCE_MOMENT, draws)
 }
 
-fn replica_env(alloc: Global) -> Option<MemEnv> {
+fn replica_env(alloc: Global, draws: u32) -> Option<MemEnv> {
     let rep = Identity {
         server_id: 2,
         user: bytes(alloc, b"rep@localhost"),
     };
-    environment(alloc, rep, REPLICA_MOMENT)
+    environment(alloc, rep, REPLICA_MOMENT, draws)
 }
 
-/// What the program is called with: a command line, what is on its input, whether a read or a write moves at most 10 bytes, and the read
-/// and the write that fail, 0 for none.
+/// What the program is called with: a command line, what is on its input, whether a read or a write moves at most 10 bytes, the read
+/// and the write that fail, 0 for none, and how many draws each node has, of which the last repeats.
 #[derive(Clone, Copy)]
 pub struct Call<'a> {
     pub line: &'a str,
@@ -87,6 +108,7 @@ pub struct Call<'a> {
     pub in_pieces: bool,
     pub read_fault: u64,
     pub write_fault: u64,
+    pub draws: u32,
 }
 
 /// A command line over an input, in few reads and writes that do not fail.
@@ -97,6 +119,7 @@ pub fn asked<'a>(line: &'a str, input: &'a [u8]) -> Call<'a> {
         in_pieces: false,
         read_fault: 0,
         write_fault: 0,
+        draws: 3,
     }
 }
 
@@ -113,6 +136,7 @@ pub fn asked_in_pieces<'a>(
         in_pieces: true,
         read_fault,
         write_fault,
+        draws: 3,
     }
 }
 
@@ -194,8 +218,8 @@ fn output_of(alloc: Global, asked: &Call<'_>) -> MemSink {
 }
 
 fn stage_of(alloc: Global, asked: &Call<'_>) -> Option<Stage> {
-    let source = source_env(alloc)?;
-    let replica = replica_env(alloc)?;
+    let source = source_env(alloc, asked.draws)?;
+    let replica = replica_env(alloc, asked.draws)?;
     Some(Stage {
         words: words_of(alloc, asked.line),
         source,
@@ -299,8 +323,8 @@ pub fn report_of(alloc: Global, asked: &Call<'_>) -> Report {
 }
 
 /// The number of the status with which a script's log is written, and what was written.
-pub fn write_log_of(alloc: Global, script: &str) -> (u8, Bytes) {
-    match stage_of(alloc, &asked_in_pieces("log", script.as_bytes(), 0, 0)) {
+pub fn write_log_of(alloc: Global, script: &[u8]) -> (u8, Bytes) {
+    match stage_of(alloc, &asked_in_pieces("log", script, 0, 0)) {
         Some(mut stage) => {
             let number = logged(alloc, &mut stage);
             (number, bytes(alloc, stage.out.written().as_slice()))
@@ -310,7 +334,7 @@ pub fn write_log_of(alloc: Global, script: &str) -> (u8, Bytes) {
 }
 
 /// The log of a script.
-pub fn log_of(alloc: Global, script: &str) -> Bytes {
+pub fn log_of(alloc: Global, script: &[u8]) -> Bytes {
     let (_, log) = write_log_of(alloc, script);
     log
 }

@@ -643,7 +643,7 @@ fn logs_of_another_server(rt: HostRuntime) {
 #[test]
 fn a_log_of_its_own(rt: HostRuntime) {
     let alloc = rt.alloc();
-    let log = log_of(alloc, SCRIPT);
+    let log = log_of(alloc, SCRIPT.as_bytes());
     assert!(rt; log.len() == 482);
     expect_all(
         &rt,

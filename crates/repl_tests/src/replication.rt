@@ -7,7 +7,7 @@ use val_types::Bytes;
 /// Scripts and what they write. A log begins with a magic of 4 bytes and an event of 119; the CREATE of `t` has 83 bytes. The
 /// transaction of one row has 130 bytes by its text: 40, 63 for a text of 28, 27; and 146 by its row: 40, 39 and 40 for the map and
 /// the row, 27.
-static SCRIPTS: [(&str, &str); 16] = [
+static SCRIPTS: [(&str, &str); 17] = [
     // a table and a row
     (
         "s1: CREATE TABLE t (id INT, v INT, PRIMARY KEY (id)) //\ns1: INSERT INTO t VALUES (1, 10) //\nreplica: FETCH 1000 //\nreplica: APPLY 10 //\nreplica: SELECT * FROM t //\n",
@@ -38,10 +38,11 @@ static SCRIPTS: [(&str, &str); 16] = [
         "s1: CREATE TABLE a (id INT NOT NULL AUTO_INCREMENT, k INT NOT NULL, PRIMARY KEY (id), UNIQUE KEY uk (k)) //\ns1: BEGIN //\ns1: INSERT INTO a (k) VALUES (1) //\ns1: ROLLBACK //\ns1: INSERT INTO a (k) VALUES (1) //\nreplica: FETCH 1000 //\nreplica: APPLY 10 //\nreplica: SELECT * FROM a //\n",
         "1 ok 0\n2 ok 0\n3 ok 1\n4 ok 0\n5 ok 1\n6 fetched 412\n7 applied 2 1:416\n8 row 2, 1\n8 rows 1\n",
     ),
-    // a trigger runs again on the replica for texts, and not for rows
+    // a trigger runs again on the replica for texts, and not for rows: it inserts into a table with generated values, which is by
+    // rows unless a session asks for texts, and then warned
     (
-        "s1: CREATE TABLE t (id INT, v INT, PRIMARY KEY (id)) //\ns1: CREATE TABLE l (id INT AUTO_INCREMENT, w INT NOT NULL, PRIMARY KEY (id)) //\ns1: CREATE TRIGGER tr AFTER INSERT ON t FOR EACH ROW INSERT INTO l (w) VALUES (NEW.id) //\ns1: INSERT INTO t VALUES (1, 1) //\ns1: SET binlog_format = 'ROW' //\ns1: INSERT INTO t VALUES (2, 2) //\nreplica: FETCH 1000 //\nreplica: APPLY 10 //\nreplica: SELECT * FROM l //\n",
-        "1 ok 0\n2 ok 0\n3 ok 0\n4 ok 1\n5 ok 0\n6 ok 1\n7 fetched 780\n8 applied 5 1:784\n9 row 1, 1\n9 row 2, 2\n9 rows 2\n",
+        "s1: CREATE TABLE t (id INT, v INT, PRIMARY KEY (id)) //\ns1: CREATE TABLE l (id INT AUTO_INCREMENT, w INT NOT NULL, PRIMARY KEY (id)) //\ns1: CREATE TRIGGER tr AFTER INSERT ON t FOR EACH ROW INSERT INTO l (w) VALUES (NEW.id) //\ns1: SET binlog_format = 'STATEMENT' //\ns1: INSERT INTO t VALUES (1, 1) //\ns1: SET binlog_format = 'MIXED' //\ns1: INSERT INTO t VALUES (2, 2) //\nreplica: FETCH 1000 //\nreplica: APPLY 10 //\nreplica: SELECT * FROM l //\n",
+        "1 ok 0\n2 ok 0\n3 ok 0\n4 ok 0\n5 ok 1 warning 1592\n6 ok 0\n7 ok 1\n8 fetched 780\n9 applied 5 1:784\n10 row 1, 1\n10 row 2, 2\n10 rows 2\n",
     ),
     // what a statement that fails changed is not in the log, also in its triggers and functions
     (
@@ -65,13 +66,13 @@ static SCRIPTS: [(&str, &str); 16] = [
     ),
     // connection and moment are the source's; user and server are the replica's own, and such a statement differs there
     (
-        "s1: CREATE TABLE t (id INT, v INT, PRIMARY KEY (id)) //\ns2: INSERT INTO t VALUES (CONNECTION_ID(), UNIX_TIMESTAMP()) //\ns2: INSERT INTO t VALUES (LENGTH(USER()), @@server_id) //\nreplica: FETCH 1000 //\nreplica: APPLY 10 //\ns1: SELECT * FROM t //\nreplica: SELECT * FROM t //\n",
-        "1 ok 0\n2 ok 1\n3 ok 1\n4 fetched 512\n5 applied 3 1:516\n6 row 2, 1700000002\n6 row 14, 1\n6 rows 2\n7 row 2, 1700000002\n7 row 13, 2\n7 rows 2\n",
+        "s1: CREATE TABLE t (id INT, v INT, PRIMARY KEY (id)) //\ns2: SET binlog_format = STATEMENT //\ns2: INSERT INTO t VALUES (CONNECTION_ID(), UNIX_TIMESTAMP()) //\ns2: INSERT INTO t VALUES (LENGTH(USER()), @@server_id) //\nreplica: FETCH 1000 //\nreplica: APPLY 10 //\ns1: SELECT * FROM t //\nreplica: SELECT * FROM t //\n",
+        "1 ok 0\n2 ok 0\n3 ok 1\n4 ok 1 warning 1592\n5 fetched 512\n6 applied 3 1:516\n7 row 2, 1700000002\n7 row 14, 1\n7 rows 2\n8 row 2, 1700000002\n8 row 13, 2\n8 rows 2\n",
     ),
-    // seeds are carried
+    // seeds are carried: such a statement does the same, and is warned all the same
     (
-        "s1: CREATE TABLE t (id INT, v INT, PRIMARY KEY (id)) //\ns1: SET rand_seed1 = 1, rand_seed2 = 2 //\ns1: INSERT INTO t VALUES (1, FLOOR(RAND() * 1073741823)), (2, FLOOR(RAND() * 1073741823)) //\ns1: UPDATE t SET v = v + 1 //\nreplica: FETCH 1000 //\nreplica: APPLY 10 //\ns1: SELECT * FROM t //\nreplica: SELECT * FROM t //\n",
-        "1 ok 0\n2 ok 0\n3 ok 2\n4 ok 2\n5 fetched 548\n6 applied 3 1:552\n7 row 1, 6\n7 row 2, 56\n7 rows 2\n8 row 1, 6\n8 row 2, 56\n8 rows 2\n",
+        "s1: CREATE TABLE t (id INT, v INT, PRIMARY KEY (id)) //\ns1: SET binlog_format = 'STATEMENT' //\ns1: SET rand_seed1 = 1, rand_seed2 = 2 //\ns1: INSERT INTO t VALUES (1, FLOOR(RAND() * 1073741823)), (2, FLOOR(RAND() * 1073741823)) //\ns1: UPDATE t SET v = v + 1 //\nreplica: FETCH 1000 //\nreplica: APPLY 10 //\ns1: SELECT * FROM t //\nreplica: SELECT * FROM t //\n",
+        "1 ok 0\n2 ok 0\n3 ok 0\n4 ok 2 warning 1592\n5 ok 2\n6 fetched 548\n7 applied 3 1:552\n8 row 1, 6\n8 row 2, 56\n8 rows 2\n9 row 1, 6\n9 row 2, 56\n9 rows 2\n",
     ),
     // SELECT, DO and SET that change rows run again
     (
@@ -80,13 +81,18 @@ static SCRIPTS: [(&str, &str); 16] = [
     ),
     // a text that has no effect on a replica that differs stops APPLY there, and again when more was fetched
     (
-        "s1: CREATE TABLE t (id INT, v INT, PRIMARY KEY (id)) //\ns1: INSERT INTO t VALUES (LENGTH(USER()), 1) //\ns1: INSERT INTO t VALUES (13, 2) //\nreplica: FETCH 1000 //\nreplica: APPLY 10 //\ns1: INSERT INTO t VALUES (5, 5) //\nreplica: FETCH 1000 //\nreplica: APPLY 10 //\nreplica: SELECT * FROM t //\n",
-        "1 ok 0\n2 ok 1\n3 ok 1\n4 fetched 474\n5 applied 2 1:348 stopped differs 388 1062 - ()\n6 ok 1\n7 fetched 129\n8 applied 0 1:348 stopped differs 388 1062 - ()\n9 row 13, 1\n9 rows 1\n",
+        "s1: CREATE TABLE t (id INT, v INT, PRIMARY KEY (id)) //\ns1: SET binlog_format = STATEMENT //\ns1: INSERT INTO t VALUES (LENGTH(USER()), 1) //\ns1: INSERT INTO t VALUES (13, 2) //\nreplica: FETCH 1000 //\nreplica: APPLY 10 //\ns1: INSERT INTO t VALUES (5, 5) //\nreplica: FETCH 1000 //\nreplica: APPLY 10 //\nreplica: SELECT * FROM t //\n",
+        "1 ok 0\n2 ok 0\n3 ok 1 warning 1592\n4 ok 1\n5 fetched 474\n6 applied 2 1:348 stopped differs 388 1062 - ()\n7 ok 1\n8 fetched 129\n9 applied 0 1:348 stopped differs 388 1062 - ()\n10 row 13, 1\n10 rows 1\n",
     ),
     // and so does a row that is not there; the event of an UPDATE has 50 bytes
     (
-        "s1: CREATE TABLE t (id INT, v INT, PRIMARY KEY (id)) //\ns1: INSERT INTO t VALUES (LENGTH(USER()), 1) //\ns1: SET binlog_format = 'ROW' //\ns1: UPDATE t SET v = 2 //\nreplica: FETCH 1000 //\nreplica: APPLY 10 //\ns1: DELETE FROM t //\nreplica: FETCH 1000 //\nreplica: APPLY 10 //\nreplica: SELECT * FROM t //\n",
-        "1 ok 0\n2 ok 1\n3 ok 0\n4 ok 1\n5 fetched 500\n6 applied 2 1:348 stopped differs 427 1032 t (14)\n7 ok 1\n8 fetched 146\n9 applied 0 1:348 stopped differs 427 1032 t (14)\n10 row 13, 1\n10 rows 1\n",
+        "s1: CREATE TABLE t (id INT, v INT, PRIMARY KEY (id)) //\ns1: SET binlog_format = STATEMENT //\ns1: INSERT INTO t VALUES (LENGTH(USER()), 1) //\ns1: SET binlog_format = 'ROW' //\ns1: UPDATE t SET v = 2 //\nreplica: FETCH 1000 //\nreplica: APPLY 10 //\ns1: DELETE FROM t //\nreplica: FETCH 1000 //\nreplica: APPLY 10 //\nreplica: SELECT * FROM t //\n",
+        "1 ok 0\n2 ok 0\n3 ok 1 warning 1592\n4 ok 0\n5 ok 1\n6 fetched 500\n7 applied 2 1:348 stopped differs 427 1032 t (14)\n8 ok 1\n9 fetched 146\n10 applied 0 1:348 stopped differs 427 1032 t (14)\n11 row 13, 1\n11 rows 1\n",
+    ),
+    // keys that are changed by rows: a primary one, a unique one, two of both that change places, and all of both moved by a statement
+    (
+        "s1: CREATE TABLE u (id INT, k INT, PRIMARY KEY (id), UNIQUE KEY uk (k)) //\ns1: SET binlog_format = ROW //\ns1: INSERT INTO u VALUES (1, 10), (2, 20), (3, 30) //\ns1: UPDATE u SET id = 4 WHERE id = 1 //\ns1: UPDATE u SET k = 40 WHERE id = 2 //\ns1: BEGIN //\ns1: UPDATE u SET id = 9 WHERE id = 2 //\ns1: UPDATE u SET id = 2 WHERE id = 3 //\ns1: UPDATE u SET id = 3 WHERE id = 9 //\ns1: UPDATE u SET k = NULL WHERE id = 3 //\ns1: UPDATE u SET k = 40 WHERE id = 2 //\ns1: UPDATE u SET k = 30 WHERE id = 3 //\ns1: COMMIT //\ns1: UPDATE u SET id = id + 1 ORDER BY id DESC //\ns1: UPDATE u SET k = k + 10 ORDER BY k DESC //\nreplica: FETCH 100000 //\nreplica: APPLY 100 //\ns1: SELECT * FROM u //\nreplica: SELECT * FROM u //\n",
+        "1 ok 0\n2 ok 0\n3 ok 3\n4 ok 1\n5 ok 1\n6 ok 0\n7 ok 1\n8 ok 1\n9 ok 1\n10 ok 1\n11 ok 1\n12 ok 1\n13 ok 0\n14 ok 3\n15 ok 3\n16 fetched 1674\n17 applied 7 1:1678\n18 row 3, 50\n18 row 4, 40\n18 row 5, 20\n18 rows 3\n19 row 3, 50\n19 row 4, 40\n19 row 5, 20\n19 rows 3\n",
     ),
 ];
 

@@ -10,7 +10,7 @@ const FIRST_LINE: &str = "4 FORMAT_DESCRIPTION 5.7.44-log\n";
 /// Scripts, the lines that show their logs behind the first, and that of their replay. Places are sums of the lengths of events: 35
 /// and the text for a statement, and 5 where increment and offset stand before it, 40 for BEGIN, 27 for XID, 28 for a number, 35 for
 /// seeds. Each moment is that of the third draw, but that of the first command.
-static LOGS: [(&str, &str, &str); 17] = [
+static LOGS: [(&str, &str, &str); 21] = [
     // a table and a row
     (
         "s1: CREATE TABLE t (id INT, v INT, PRIMARY KEY (id)) //\ns1: INSERT INTO t VALUES (1, 10) //\n",
@@ -79,7 +79,7 @@ static LOGS: [(&str, &str, &str); 17] = [
     ),
     // seeds, and a statement that carries nothing
     (
-        "s1: CREATE TABLE t (id INT, v INT, PRIMARY KEY (id)) //\ns1: SET rand_seed1 = 1, rand_seed2 = 2 //\ns1: INSERT INTO t VALUES (1, FLOOR(RAND() * 1073741823)), (2, FLOOR(RAND() * 1073741823)) //\ns1: UPDATE t SET v = v + 1 //\n",
+        "s1: CREATE TABLE t (id INT, v INT, PRIMARY KEY (id)) //\ns1: SET binlog_format = STATEMENT //\ns1: SET rand_seed1 = 1, rand_seed2 = 2 //\ns1: INSERT INTO t VALUES (1, FLOOR(RAND() * 1073741823)), (2, FLOOR(RAND() * 1073741823)) //\ns1: UPDATE t SET v = v + 1 //\n",
         "123 QUERY thread=1 time=1700000001 CREATE TABLE t (id INT, v INT, PRIMARY KEY (id))\n206 QUERY thread=1 time=1700000002 BEGIN\n246 RAND 1 2\n281 QUERY thread=1 time=1700000002 INSERT INTO t VALUES (1, FLOOR(RAND() * 1073741823)), (2, FLOOR(RAND() * 1073741823))\n401 XID 2\n428 QUERY thread=1 time=1700000002 BEGIN\n468 QUERY thread=1 time=1700000002 UPDATE t SET v = v + 1\n525 XID 3\n",
         "applied 3 1:552\n",
     ),
@@ -107,11 +107,35 @@ static LOGS: [(&str, &str, &str); 17] = [
         "123 QUERY thread=1 time=1700000001 CREATE TABLE t (id INT, v INT, PRIMARY KEY (id))\n206 QUERY thread=1 time=1700000002 CREATE FUNCTION f(n INT) RETURNS INT BEGIN INSERT INTO t VALUES (n, 0); RETURN n; END\n326 QUERY thread=1 time=1700000002 CREATE PROCEDURE p(a INT) BEGIN DECLARE b INT DEFAULT f(a + 1); IF f(3) = b THEN DO 1; ELSEIF f(4) THEN SET b = f(5), @y = 'x'; END IF; SELECT f(b + 1), @y; END\n521 QUERY thread=1 time=1700000002 BEGIN\n561 QUERY thread=1 time=1700000002 DO `f`(1)\n605 XID 4\n632 QUERY thread=1 time=1700000002 BEGIN\n672 QUERY thread=1 time=1700000002 DO `f`((NAME_CONST('a', 1) + 1))\n739 XID 5\n766 QUERY thread=1 time=1700000002 BEGIN\n806 QUERY thread=1 time=1700000002 DO (`f`(3) = NAME_CONST('b', 2))\n873 XID 6\n900 QUERY thread=1 time=1700000002 BEGIN\n940 QUERY thread=1 time=1700000002 DO `f`(4)\n984 XID 7\n1011 QUERY thread=1 time=1700000002 BEGIN\n1051 QUERY thread=1 time=1700000002 DO `f`(5), 'x'\n1100 XID 8\n1127 QUERY thread=1 time=1700000002 BEGIN\n1167 USER_VAR y 'x'\n1203 QUERY thread=1 time=1700000002 SELECT `f`((NAME_CONST('b', 5) + 1)), @`y`\n1280 XID 9\n",
         "applied 9 1:1307\n",
     ),
-    // in a transaction, with a LIMIT, and behind an error
+    // in a transaction, with a LIMIT, which is by rows, and behind an error
     (
         "s1: CREATE TABLE a (id INT NOT NULL AUTO_INCREMENT, k INT, PRIMARY KEY (id)) //\ns1: CREATE PROCEDURE p(n INT) BEGIN INSERT INTO a (k) VALUES (LAST_INSERT_ID()), (n); SET @x = n; UPDATE a SET k = @x ORDER BY id LIMIT n; INSERT INTO a VALUES (1, n); END //\ns1: BEGIN //\ns1: CALL p(1) //\ns1: SAVEPOINT s //\ns1: CALL p(2) //\ns1: ROLLBACK TO s //\ns1: CALL p(NULL) //\ns1: COMMIT //\n",
-        "123 QUERY thread=1 time=1700000001 CREATE TABLE a (id INT NOT NULL AUTO_INCREMENT, k INT, PRIMARY KEY (id))\n230 QUERY thread=1 time=1700000002 CREATE PROCEDURE p(n INT) BEGIN INSERT INTO a (k) VALUES (LAST_INSERT_ID()), (n); SET @x = n; UPDATE a SET k = @x ORDER BY id LIMIT n; INSERT INTO a VALUES (1, n); END\n432 QUERY thread=1 time=1700000002 BEGIN\n472 INTVAR LAST_INSERT_ID 0\n500 INTVAR INSERT_ID 1\n528 QUERY thread=1 time=1700000002 INSERT INTO `a` (`k`) VALUES (LAST_INSERT_ID()), (NAME_CONST('n', 1))\n632 USER_VAR x 1\n675 QUERY thread=1 time=1700000002 UPDATE `a` SET `k` = @`x` ORDER BY `id` LIMIT 1\n757 INTVAR LAST_INSERT_ID 3\n785 INTVAR INSERT_ID 5\n813 QUERY thread=1 time=1700000002 INSERT INTO `a` (`k`) VALUES (LAST_INSERT_ID()), (NAME_CONST('n', NULL))\n920 XID 3\n",
-        "applied 3 1:947\n",
+        "123 QUERY thread=1 time=1700000001 CREATE TABLE a (id INT NOT NULL AUTO_INCREMENT, k INT, PRIMARY KEY (id))\n230 QUERY thread=1 time=1700000002 CREATE PROCEDURE p(n INT) BEGIN INSERT INTO a (k) VALUES (LAST_INSERT_ID()), (n); SET @x = n; UPDATE a SET k = @x ORDER BY id LIMIT n; INSERT INTO a VALUES (1, n); END\n432 QUERY thread=1 time=1700000002 BEGIN\n472 INTVAR LAST_INSERT_ID 0\n500 INTVAR INSERT_ID 1\n528 QUERY thread=1 time=1700000002 INSERT INTO `a` (`k`) VALUES (LAST_INSERT_ID()), (NAME_CONST('n', 1))\n632 TABLE_MAP 1 a\n671 UPDATE_ROWS 1 end (1, 0)->(1, 1)\n721 INTVAR LAST_INSERT_ID 3\n749 INTVAR INSERT_ID 5\n777 QUERY thread=1 time=1700000002 INSERT INTO `a` (`k`) VALUES (LAST_INSERT_ID()), (NAME_CONST('n', NULL))\n884 XID 3\n",
+        "applied 3 1:911\n",
+    ),
+    // a trigger that inserts into a table with generated values: by its text where texts are asked for, else by rows
+    (
+        "s1: CREATE TABLE t (id INT, v INT, PRIMARY KEY (id)) //\ns1: CREATE TABLE l (id INT AUTO_INCREMENT, w INT NOT NULL, PRIMARY KEY (id)) //\ns1: CREATE TRIGGER tr AFTER INSERT ON t FOR EACH ROW INSERT INTO l (w) VALUES (NEW.id) //\ns1: SET binlog_format = 'STATEMENT' //\ns1: INSERT INTO t VALUES (1, 1) //\ns1: SET binlog_format = 'MIXED' //\ns1: INSERT INTO t VALUES (2, 2) //\n",
+        "123 QUERY thread=1 time=1700000001 CREATE TABLE t (id INT, v INT, PRIMARY KEY (id))\n206 QUERY thread=1 time=1700000002 CREATE TABLE l (id INT AUTO_INCREMENT, w INT NOT NULL, PRIMARY KEY (id))\n313 QUERY thread=1 time=1700000002 CREATE TRIGGER tr AFTER INSERT ON t FOR EACH ROW INSERT INTO l (w) VALUES (NEW.id)\n430 QUERY thread=1 time=1700000002 BEGIN\n470 QUERY thread=1 time=1700000002 INSERT INTO t VALUES (1, 1)\n532 XID 4\n559 QUERY thread=1 time=1700000002 BEGIN\n599 TABLE_MAP 1 t\n638 TABLE_MAP 2 l\n677 WRITE_ROWS 1 (2, 2)\n717 WRITE_ROWS 2 end (2, 2)\n757 XID 5\n",
+        "applied 5 1:784\n",
+    ),
+    // a transaction of both kinds: each item by itself
+    (
+        "s1: CREATE TABLE t (id INT, v INT, PRIMARY KEY (id)) //\ns1: INSERT INTO t VALUES (1, 10) //\ns1: BEGIN //\ns1: INSERT INTO t VALUES (2, 20) //\ns1: UPDATE t SET v = v + 1 LIMIT 1 //\ns1: INSERT INTO t VALUES (3, @@server_id) //\ns1: DELETE FROM t WHERE id = 2 //\ns1: COMMIT //\n",
+        "123 QUERY thread=1 time=1700000001 CREATE TABLE t (id INT, v INT, PRIMARY KEY (id))\n206 QUERY thread=1 time=1700000002 BEGIN\n246 QUERY thread=1 time=1700000002 INSERT INTO t VALUES (1, 10)\n309 XID 2\n336 QUERY thread=1 time=1700000002 BEGIN\n376 QUERY thread=1 time=1700000002 INSERT INTO t VALUES (2, 20)\n439 TABLE_MAP 1 t\n478 UPDATE_ROWS 1 end (1, 10)->(1, 11)\n528 TABLE_MAP 1 t\n567 WRITE_ROWS 1 end (3, 1)\n607 QUERY thread=1 time=1700000002 DELETE FROM t WHERE id = 2\n668 XID 3\n",
+        "applied 3 1:695\n",
+    ),
+    // what reading, a SET, arguments and a condition change, by rows; a statement of the same procedure by its text
+    (
+        "s1: CREATE TABLE t (id INT, v INT, PRIMARY KEY (id)) //\ns1: CREATE FUNCTION f(n INT) RETURNS INT BEGIN INSERT INTO t VALUES (n, @@server_id); RETURN n; END //\ns1: CREATE PROCEDURE p(n INT) IF f(n) THEN DELETE FROM t WHERE id = n; END IF //\ns1: SELECT f(1) //\ns1: DO f(2) //\ns1: SET @a = f(3) //\ns1: CALL p(f(4) + 1) //\n",
+        "123 QUERY thread=1 time=1700000001 CREATE TABLE t (id INT, v INT, PRIMARY KEY (id))\n206 QUERY thread=1 time=1700000002 CREATE FUNCTION f(n INT) RETURNS INT BEGIN INSERT INTO t VALUES (n, @@server_id); RETURN n; END\n336 QUERY thread=1 time=1700000002 CREATE PROCEDURE p(n INT) IF f(n) THEN DELETE FROM t WHERE id = n; END IF\n444 QUERY thread=1 time=1700000002 BEGIN\n484 TABLE_MAP 1 t\n523 WRITE_ROWS 1 end (1, 1)\n563 XID 4\n590 QUERY thread=1 time=1700000002 BEGIN\n630 TABLE_MAP 1 t\n669 WRITE_ROWS 1 end (2, 1)\n709 XID 5\n736 QUERY thread=1 time=1700000002 BEGIN\n776 TABLE_MAP 1 t\n815 WRITE_ROWS 1 end (3, 1)\n855 XID 6\n882 QUERY thread=1 time=1700000002 BEGIN\n922 TABLE_MAP 1 t\n961 WRITE_ROWS 1 end (4, 1)\n1001 XID 7\n1028 QUERY thread=1 time=1700000002 BEGIN\n1068 TABLE_MAP 1 t\n1107 WRITE_ROWS 1 end (5, 1)\n1147 XID 8\n1174 QUERY thread=1 time=1700000002 BEGIN\n1214 QUERY thread=1 time=1700000002 DELETE FROM `t` WHERE (`id` = NAME_CONST('n', 5))\n1298 XID 9\n",
+        "applied 9 1:1325\n",
+    ),
+    // what has a reason and changes no row is not in the log, in no format
+    (
+        "s1: CREATE TABLE t (id INT, v INT, PRIMARY KEY (id)) //\ns1: INSERT INTO t VALUES (1, 10) //\ns1: SET binlog_format = STATEMENT //\ns1: UPDATE t SET v = @@server_id WHERE id = 2 //\ns1: DELETE FROM t WHERE id = 2 LIMIT 1 //\ns1: INSERT IGNORE INTO t SELECT id, v FROM t //\ns1: DO LENGTH(UUID()) //\ns1: SET binlog_format = ROW //\ns1: UPDATE t SET v = 10 LIMIT 1 //\n",
+        "123 QUERY thread=1 time=1700000001 CREATE TABLE t (id INT, v INT, PRIMARY KEY (id))\n206 QUERY thread=1 time=1700000002 BEGIN\n246 QUERY thread=1 time=1700000002 INSERT INTO t VALUES (1, 10)\n309 XID 2\n",
+        "applied 2 1:336\n",
     ),
 ];
 
@@ -122,7 +146,7 @@ fn shows(alloc: Global, word: &str, log: &[u8], shown: &[u8]) -> bool {
 
 /// Whether `print` shows of a script's log these lines behind the first, and `replay` writes this one.
 fn has_log(alloc: Global, script: &str, lines: &str, replayed: &str) -> bool {
-    let log = log_of(alloc, script);
+    let log = log_of(alloc, script.as_bytes());
     let lines = joined(alloc, &[FIRST_LINE, lines]);
     shows(alloc, "print", log.as_slice(), lines.as_slice())
         && shows(alloc, "replay", log.as_slice(), replayed.as_bytes())

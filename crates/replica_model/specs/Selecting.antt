@@ -27,9 +27,9 @@ abbrev pub select_scene : List Counter → Context → Base → Scene
 select_scene counters context base =
     record { tables = base.tables; changes = []; counters = counters; seeds = context.seeds; turns = full.turns; uuids = full.uuids }
 
--- how a statement ended
+-- how a statement ended; nothing is logged, so nothing is warned
 abbrev pub ending_answer : Ending Did → Answer
-ending_answer (done did scene) = did_answer did
+ending_answer (done did scene) = did_answer false did
 ending_answer (failed code scene) = refused code
 
 -- one that nothing refuses

@@ -1,26 +1,27 @@
 -- What a source committed can be carried out, entry after entry.
-use Rattle.std.proofs.Common.{◌≡◌, ℕ, List, [], ◌∷◌, ◌++◌, Option, Some, None, Ok, refl, sym, ◌∙◌, ap}
+use Rattle.std.proofs.Common.{◌≡◌, ℕ, List, [], ◌∷◌, ◌++◌, Option, Some, None, Ok, refl, sym, ◌∙◌, ap, subst, arith}
 use Rattle.std.specs.Option.{option_and_then}
-use Rattle.val_types.specs.declared.change.Change.{Change}
 use Rattle.auto_inc.specs.declared.counters.Counter.{Counter}
 use Rattle.port_traits.specs.declared.identity.Identity.{Identity}
 use Rattle.port_traits.specs.declared.identity.Draw.{Draw}
-use Rattle.catalog_rules.specs.Bases.{Base, empty_base}
+use Rattle.catalog_rules.specs.Bases.{Base}
 use Rattle.log_entries.specs.declared.entries.Entry.{Entry}
 use Rattle.log_entries.specs.declared.entries.Entry.TheVariants.{Transaction, Definition, LogStart}
 use Rattle.log_entries.specs.Entries.{entry_applied, after}
 use Rattle.log_model.specs.Log.{LogPlace}
 use Rattle.applier_model.specs.Groups.{group_carried}
 use Rattle.entry_groups.specs.Entries.{group_of_entry, StaysInLog, CanLog}
-use Rattle.applier_laws.specs.Laws.{BaseHolds, BasesHold, AllOnCatalog, OnCatalog, EntryIsCarried}
+use Rattle.applier_laws.specs.Following.{BaseHolds, CanFollow, EntriesOfRunsFollow}
+use Rattle.applier_laws.specs.Laws.{BasesHold, EntryIsCarried}
 use Rattle.session_model.specs.Machine.{Whole, kept_entry, Machine}
-use Rattle.session_model.specs.Holding.{changes_of, define, EntriesIn, EntriesMade, with_nothing}
-use Rattle.session_model.specs.declared.format.Format.{Format}
-use Rattle.session_model.specs.declared.format.Format.TheVariants.{Row}
-use Rattle.session_replays.specs.Again.{AllGive, EntryGives, EntriesGive}
+use Rattle.session_model.specs.Holding.{changes_of, define, EntriesMade}
+use Rattle.session_replays.specs.Again.{EntriesGive}
+use Rattle.session_replays.specs.Followed.{EntriesFollow}
+use Rattle.session_replays.specs.Texts.{EntriesSay}
 use Rattle.session_replays.specs.Replaying.{Replays}
-use Rattle.run_model.specs.Following.{AreCommitted}
-use Rattle.run_laws.proofs.Places.{begun}
+use Rattle.run_model.specs.Run.{Read, nothing, bytes_to, Starts, source_from}
+use Rattle.run_model.specs.Following.{AreCommitted, head_entries}
+use Rattle.run_laws.specs.Laws.{IsBehind, NothingIsOwed}
 
 -- ---- one entry
 
@@ -45,14 +46,17 @@ first_ones (Transaction stamp server items ∷ es) back committed = first_ones e
 first_ones (Definition stamp server item ∷ es) back committed = first_ones es back committed
 first_ones (LogStart stamp server ∷ es) back committed = committed
 
-all_on_catalog : (base : Base) (before : List Change) (items : List Whole) → AllGive base before items → AllOnCatalog base.catalog items
-all_on_catalog base before [] give = tt
-all_on_catalog base before (i ∷ is) give = (give.0.catalog, all_on_catalog base (before ++ changes_of i) is give.1)
+-- ---- entries that say what they are
 
-on_catalog : (base : Base) (e : Entry Whole) → EntryGives base e → OnCatalog base e
-on_catalog base (Transaction stamp server items) give = all_on_catalog base [] items give
-on_catalog base (Definition stamp server item) give = tt
-on_catalog base (LogStart stamp server) give = tt
+say_one : (e : Entry Whole) (es : List (Entry Whole)) → EntriesSay (e ∷ es) → EntriesSay (e ∷ [])
+say_one (Transaction stamp server items) es say = (say.0, tt)
+say_one (Definition stamp server item) es say = tt
+say_one (LogStart stamp server) es say = tt
+
+say_others : (e : Entry Whole) (es : List (Entry Whole)) → EntriesSay (e ∷ es) → EntriesSay es
+say_others (Transaction stamp server items) es say = say.1
+say_others (Definition stamp server item) es say = say
+say_others (LogStart stamp server) es say = say
 
 -- ---- entries on their bases
 
@@ -61,6 +65,7 @@ pub record Ready (base last : Base) (es : List (Entry Whole)) : Type 0 where
   pub holds : BaseHolds base
   pub made : EntriesMade es
   pub give : EntriesGive base es
+  pub say : EntriesSay es
   pub makes : after changes_of define es base ≡ Some last
 
 -- the base behind the first of them
@@ -77,7 +82,13 @@ step_on hold base last e es ready = by (entry_applied changes_of define e base) 
     by (Some next) is makes = record {
       next = next;
       makes = is;
-      ready = record { holds = hold.1 e base next ready.holds is; made = ready.made.1; give = ready.give.1 next is; makes = makes };
+      ready = record {
+        holds = hold.1 e base next ready.holds is;
+        made = ready.made.1;
+        give = ready.give.1 next is;
+        say = say_others e es ready.say;
+        makes = makes;
+      };
     }
 
 -- the entries behind the first ones
@@ -90,30 +101,97 @@ ready_behind hold (e ∷ es) back base middle last is ready =
     let s : Stepped base last e (es ++ back) = step_on hold base last e (es ++ back) ready in
     ready_behind hold es back s.next middle last (sym (ap (option_and_then (after changes_of define es)) s.makes) ∙ is) s.ready
 
--- what a sound source has committed behind its first entries
-pub history_ready : BasesHold → (m : Machine) (stamp server : ℕ) (front back : List (Entry Whole)) (base : Base) → Replays with_nothing m → m.history ≡ begun stamp server (front ++ back)
-    → after changes_of define front empty_base ≡ Some base → Ready base m.state.shared.base back
-history_ready hold m stamp server front back base replays is at =
-    let made : EntriesMade (begun stamp server (front ++ back)) = rw is at replays.holds.made in
-    let give : EntriesGive empty_base (begun stamp server (front ++ back)) = rw is at replays.history in
-    let makes : after changes_of define (begun stamp server (front ++ back)) empty_base ≡ Some m.state.shared.base = rw is at replays.holds.entries in
-    ready_behind hold front back empty_base base m.state.shared.base at (record { holds = hold.0; made = made.1; give = give.1 empty_base refl; makes = makes })
+-- ---- what was owed, and what was put out since
 
--- ---- entries in a format
+made_both : (front back : List (Entry Whole)) → EntriesMade front → EntriesMade back → EntriesMade (front ++ back)
+made_both [] back first last = last
+made_both (e ∷ es) back first last = (first.0, made_both es back first.1 last)
 
-pub in_front : (format : Format) (front back : List (Entry Whole)) → EntriesIn format (front ++ back) → EntriesIn format front
-in_front format [] back m = tt
-in_front format (Transaction stamp server items ∷ es) back m = (m.0, in_front format es back m.1)
-in_front format (Definition stamp server item ∷ es) back m = in_front format es back m
-in_front format (LogStart stamp server ∷ es) back m = in_front format es back m
+say_both : (front back : List (Entry Whole)) → EntriesSay front → EntriesSay back → EntriesSay (front ++ back)
+say_both [] back first last = last
+say_both (Transaction stamp server items ∷ es) back first last = (first.0, say_both es back first.1 last)
+say_both (Definition stamp server item ∷ es) back first last = say_both es back first last
+say_both (LogStart stamp server ∷ es) back first last = say_both es back first last
 
-pub in_back : (format : Format) (front back : List (Entry Whole)) → EntriesIn format (front ++ back) → EntriesIn format back
-in_back format [] back m = m
-in_back format (Transaction stamp server items ∷ es) back m = in_back format es back m.1
-in_back format (Definition stamp server item ∷ es) back m = in_back format es back m
-in_back format (LogStart stamp server ∷ es) back m = in_back format es back m
+give_both : (front back : List (Entry Whole)) (base middle : Base) → EntriesGive base front → after changes_of define front base ≡ Some middle → EntriesGive middle back → EntriesGive base (front ++ back)
+give_both [] back base middle first makes last = at base middle makes last
+  where
+    at : (a b : Base) → Some a ≡ Some b → EntriesGive b back → EntriesGive a back
+    at a b same give = let e : a ≡ b = cc in rw e give
+give_both (e ∷ es) back base middle first makes last =
+    (first.0, λ next is. give_both es back next middle (first.1 next is) (sym (ap (option_and_then (after changes_of define es)) is) ∙ makes) last)
+
+makes_both : (front back : List (Entry Whole)) (base middle last : Base) → after changes_of define front base ≡ Some middle → after changes_of define back middle ≡ Some last
+    → after changes_of define (front ++ back) base ≡ Some last
+makes_both [] back base middle last first rest = at base middle first rest
+  where
+    at : (a b : Base) → Some a ≡ Some b → after changes_of define back b ≡ Some last → after changes_of define back a ≡ Some last
+    at a b same makes = let e : a ≡ b = cc in rw e makes
+makes_both (e ∷ es) back base middle last first rest = by (λ next makes. makes_both es back next middle last makes rest) (entry_applied changes_of define e base) first
+  where
+    by : ((next : Base) → after changes_of define es next ≡ Some middle → after changes_of define (es ++ back) next ≡ Some last)
+        → (o : Option Base) → option_and_then (after changes_of define es) o ≡ Some middle → option_and_then (after changes_of define (es ++ back)) o ≡ Some last
+    by more None makes = cc
+    by more (Some next) makes = more next makes
+
+behind_ready : (from : Starts) (m : Machine) → IsBehind from → Replays (source_from from) m → Ready from.replica.base m.state.shared.base (from.owed ++ m.history)
+behind_ready from m behind replays = record {
+  holds = behind.holds;
+  made = made_both from.owed m.history behind.made replays.holds.made;
+  give = give_both from.owed m.history from.replica.base from.base behind.give behind.makes replays.history;
+  say = say_both from.owed m.history behind.say replays.says;
+  makes = makes_both from.owed m.history from.replica.base from.base m.state.shared.base behind.makes replays.holds.entries;
+}
+
+-- the head of a log changes nothing
+past_head : (read : Read) (stamp server : ℕ) (base last : Base) (es : List (Entry Whole)) → Ready base last (head_entries read stamp server ++ es) → Ready base last es
+past_head nothing stamp server base last es ready =
+    record { holds = ready.holds; made = ready.made.1; give = ready.give.1 base refl; say = ready.say; makes = ready.makes }
+past_head (bytes_to bytes number) stamp server base last es ready = ready
+
+-- all of it
+pub all_ready : (from : Starts) (m : Machine) (stamp server : ℕ) (es : List (Entry Whole)) → IsBehind from → Replays (source_from from) m → from.owed ++ m.history ≡ head_entries from.read stamp server ++ es
+    → Ready from.replica.base m.state.shared.base es
+all_ready from m stamp server es behind replays is =
+    past_head from.read stamp server from.replica.base m.state.shared.base es (subst (Ready from.replica.base m.state.shared.base) is (behind_ready from m behind replays))
+
+-- what was owed and what a sound source has committed, behind the first entries of that
+pub history_ready : BasesHold → (from : Starts) (m : Machine) (stamp server : ℕ) (front back : List (Entry Whole)) (base : Base) → IsBehind from → Replays (source_from from) m
+    → from.owed ++ m.history ≡ head_entries from.read stamp server ++ (front ++ back) → after changes_of define front from.replica.base ≡ Some base → Ready base m.state.shared.base back
+history_ready hold from m stamp server front back base behind replays is at =
+    ready_behind hold front back from.replica.base base m.state.shared.base at (all_ready from m stamp server (front ++ back) behind replays is)
+
+-- where neither has anything nothing is owed
+pub nothing_is_owed : BasesHold → NothingIsOwed
+nothing_is_owed hold = record { holds = hold.0; made = tt; give = tt; say = tt; makes = refl; place = refl; number = omega arith }
+
+-- ---- entries that follow
+
+pub in_front : (front back : List (Entry Whole)) → EntriesFollow (front ++ back) → EntriesFollow front
+in_front [] back follow = tt
+in_front (Transaction stamp server items ∷ es) back follow = (follow.0, in_front es back follow.1)
+in_front (Definition stamp server item ∷ es) back follow = in_front es back follow
+in_front (LogStart stamp server ∷ es) back follow = in_front es back follow
+
+pub in_back : (front back : List (Entry Whole)) → EntriesFollow (front ++ back) → EntriesFollow back
+in_back [] back follow = follow
+in_back (Transaction stamp server items ∷ es) back follow = in_back es back follow.1
+in_back (Definition stamp server item ∷ es) back follow = in_back es back follow
+in_back (LogStart stamp server ∷ es) back follow = in_back es back follow
+
+pub in_both : (front back : List (Entry Whole)) → EntriesFollow front → EntriesFollow back → EntriesFollow (front ++ back)
+in_both [] back first last = last
+in_both (Transaction stamp server items ∷ es) back first last = (first.0, in_both es back first.1 last)
+in_both (Definition stamp server item ∷ es) back first last = in_both es back first last
+in_both (LogStart stamp server ∷ es) back first last = in_both es back first last
 
 -- ---- entries carried out
+
+-- What the proofs take from the laws on appliers.
+pub record Appliers : Type 0 where
+  pub hold : BasesHold
+  pub carried : EntryIsCarried
+  pub runs : EntriesOfRunsFollow
 
 -- An entry that a replica carries out on a base, and what is known of the others on the base behind it.
 pub record Carries (identity : Identity) (draw : Draw) (base last : Base) (counters : List Counter) (e : Entry Whole) (es : List (Entry Whole)) (number : ℕ) (p : LogPlace) : Type 0 where
@@ -123,10 +201,17 @@ pub record Carries (identity : Identity) (draw : Draw) (base last : Base) (count
   pub counters' : List Counter
   pub does : group_carried identity draw base counters (group_of_entry (kept_entry e) number p) ≡ Ok (record { base = next; counters = counters' })
 
--- one that is logged by its rows, if it is a transaction
-pub entry_carried : BasesHold → EntryIsCarried → (identity : Identity) (draw : Draw) (base last : Base) (counters : List Counter) (e : Entry Whole) (es : List (Entry Whole)) (number : ℕ) (p : LogPlace)
-    → Ready base last (e ∷ es) → EntriesIn Row (e ∷ []) → AreCommitted (e ∷ es) → CanLog (kept_entry e) number p → Carries identity draw base last counters e es number p
-entry_carried hold law identity draw base last counters e es number p ready rows committed can =
-    let s : Stepped base last e es = step_on hold base last e es ready in
-    let does = law identity draw base s.next counters e number p ready.holds ready.made.0 rows (on_catalog base e ready.give.0) can s.makes (stays e es committed) in
+-- one whose items do the same at every replica, if it is a transaction
+pub entry_carried : Appliers → (identity : Identity) (draw : Draw) (base last : Base) (counters : List Counter) (e : Entry Whole) (es : List (Entry Whole)) (number : ℕ) (p : LogPlace)
+    → Ready base last (e ∷ es) → EntriesFollow (e ∷ []) → AreCommitted (e ∷ es) → CanLog (kept_entry e) number p → Carries identity draw base last counters e es number p
+entry_carried appliers identity draw base last counters e es number p ready follow committed can =
+    let s : Stepped base last e es = step_on appliers.hold base last e es ready in
+    let follows : CanFollow base e number p = record {
+      holds = ready.holds;
+      made = ready.made.0;
+      items = appliers.runs base e ready.give.0 (say_one e es ready.say) follow;
+      can = can;
+      group = stays e es committed;
+    } in
+    let does = appliers.carried identity draw base s.next counters e number p follows s.makes in
     record { next = s.next; makes = s.makes; ready = s.ready; counters' = does.0; does = does.1 }

@@ -1,5 +1,5 @@
 -- A step puts out transactions and definitions, and no beginning of a log.
-use Rattle.std.proofs.Common.{ℕ, Bool, true, false, List, [], ◌∷◌, ◌++◌, map, Option, Some, None, Result, Ok, Err}
+use Rattle.std.proofs.Common.{ℕ, Bool, true, false, List, [], ◌∷◌, ◌++◌, Option, Some, None, Result, Ok, Err}
 use Rattle.std.specs.Prelude.{if◌then◌else◌, find, is_some, slice_index_or, ℤ}
 use Rattle.std.specs.Option.{option_map}
 use Rattle.val_types.specs.declared.change.Change.{Change}
@@ -30,7 +30,7 @@ use Rattle.proc_model.proofs.Leading.{talk_keeps}
 use Rattle.text_answers.specs.Answers.{TextAnswer, a_statement, a_syntax_error, too_deep, text_answer}
 use Rattle.session_model.specs.Answers.{ok, refused}
 use Rattle.session_model.specs.Sessions.{Save, Open, Session, Shared, State}
-use Rattle.session_model.specs.Running.{Call, full, Turn, Given, is_other, items_of, commit_open, commit_entries, kept_entries, keep, settle, ended, takes_too_much, undone, setting_of, scene_for, made_behind, item_of, with_counters, with_context, fuel_of, statement_run, values_run, fitted, fitted_run, writing_refusal, lock_refusal}
+use Rattle.session_model.specs.Running.{Call, full, Turn, Given, is_other, items_of, commit_open, commit_entries, kept_entries, keep, settle, ended, takes_too_much, undone, setting_of, scene_for, made_behind, item_of, with_counters, with_context, given_by, is_warned, statement_run, values_run, fitted, fitted_run, writing_refusal, lock_refusal}
 use Rattle.session_model.specs.Commands.{is_too_long, definition_turn, define_turn, made_turn, unless_answered, unless_refused, code_answer, is_open, set_by, set_given, set_misfit, set_turn, set_expressions, plain_turn, given_turn, answered, back_in, back_to_save, release_in, definition_entry, is_save_of, saves_but}
 use Rattle.session_model.specs.Calling.{Reached, reached_by, step_check, unless_checked, with_counted, steps_of, left_with, arguments_run, called_by, called_with, call_turn}
 use Rattle.session_model.specs.Machine.{Whole, whole, step, text_turn, statement_turn, at_work}
@@ -110,9 +110,10 @@ settle_puts call item (c ∷ cs) scene shared session given refusal p =
 ended_puts : {A : Type 0} (call : Call Whole) (left : Left) (text : List ℕ) (made_of : Statement) (shared : Shared) (session : Session Whole) (first last_id : A → Option ℤ) (before : Scene) (ending : Ending A)
     → Puts (ended call left text made_of shared session first last_id before ending)
 ended_puts call left text made_of shared session first last_id before (done a scene) =
-    settle_puts call (item_of call session.format left text made_of session.vars.context shared (first a)) (made_behind (is_other call.number shared.writer) before scene) scene (with_counters scene shared)
-    (with_context (context_after session.vars.context made_of scene.seeds (last_id a)) session) (record { result = Ok a; fuel = fuel_of scene })
-    (undone 1197 made_of shared session scene) tt
+    let made : List Change = made_behind (is_other call.number shared.writer) before scene in
+    settle_puts call (item_of call session.format left text made_of session.vars.context shared (first a)) made scene (with_counters scene shared)
+    (with_context (context_after session.vars.context made_of scene.seeds (last_id a)) session)
+    (given_by a scene (is_warned session.format shared.base.catalog made_of made)) (undone 1197 made_of shared session scene) tt
 ended_puts call left text made_of shared session first last_id before (failed code scene) = tt
 
 statement_puts : (call : Call Whole) (left : Left) (text : List ℕ) (s : Statement) (shared : Shared) (session : Session Whole) → Puts (statement_run call left text s shared session)
@@ -133,7 +134,7 @@ fitted_put call left text ts misfit shared session =
 
 -- ---- CALL
 
-reached_puts : {A : Type 0} (at : Reached Whole) (t : Turn Whole A) → Puts at → Puts t → Puts (reached_by at t)
+reached_puts : {A : Type 0} (at : Reached Whole) (t : Turn Whole (Given A)) → Puts at → Puts t → Puts (reached_by at t)
 reached_puts at t p q = committed_behind at.committed t.committed p q
 
 checked_puts : {A : Type 0} (refusal : Option Refusal) (left : Left) (at : Reached Whole) (next : Told A × Reached Whole) → Puts at → Puts next.1 → Puts (unless_checked refusal left at next).1
@@ -144,7 +145,7 @@ called_puts : (call : Call Whole) (name : List ℕ) (r : Result (List Value) ℕ
 called_puts call name (Err code) t p = p
 called_puts call name (Ok vs) t p =
     talk_keeps (steps_of call) (λ (at : Reached Whole). Puts at) ran gave (λ n v at h. h) (called t.shared.base.catalog (left_with t.given.fuel) name vs)
-    (record { shared = t.shared; session = t.session; committed = t.committed; given = tt }) p
+    (record { shared = t.shared; session = t.session; committed = t.committed; given = t.given.warned }) p
   where
     ran : (left : Left) (s : Statement) (at : Reached Whole) → Puts at → Puts ((steps_of call).run left s at).1
     ran left s at h =

@@ -11,10 +11,11 @@ use Rattle.log_model.specs.Log.{LogPlace, moved, behind, counted, description, e
 use Rattle.log_model.specs.Written.{bytes_of}
 use Rattle.entry_groups.specs.Entries.{group_of_entry, start_group, StaysInLog, CanLog, CanLogAll}
 use Rattle.entry_groups.specs.Laws.{Fetched, partly, wholly, EntriesCanLogOn, FewAreCut, GroupsHaveBounds, RelayIsRead, StartRelayIsRead}
-use Rattle.session_model.specs.Machine.{Whole, kept_entry, Machine, log_of, log_bytes, nowhere, first_place}
+use Rattle.session_model.specs.Machine.{Whole, kept_entry, Machine, log_bytes, first_place}
 use Rattle.replica_model.specs.Replica.{Replica, behind_group, size_of, past_next, past_groups, want, log_begin}
-use Rattle.run_model.specs.Following.{AreCommitted, reader_at}
-use Rattle.run_laws.proofs.Places.{begun, count_of, place_of, front_place, behind_front, behind_magic, first_event_length}
+use Rattle.run_model.specs.Run.{Read, nothing, bytes_to, number_before, place_before, Starts, log_with}
+use Rattle.run_model.specs.Following.{AreCommitted, head_entries, place_behind, reader_at, reader_from}
+use Rattle.run_laws.proofs.Places.{Line, front_of, count_of, place_of, front_place, behind_front, first_event_length, head_log, log_is}
 use Rattle.run_laws.proofs.Carrying.{stays, others, first_ones, last_ones}
 
 -- ---- bytes
@@ -130,34 +131,85 @@ past_all below (suc most) stamp server es bytes rest committed fits can is =
 
 -- ---- what can be logged
 
+-- the head of a log that was not read has a stamp that a log can say
+abbrev pub HeadFits : Read → (stamp : ℕ) → Type 0
+HeadFits nothing stamp = stamp < 2 ^ 32
+HeadFits (bytes_to bytes number) stamp = Unit {0}
+
+-- the entries behind what stands before them
+pub can_head : (read : Read) (stamp server : ℕ) (es : List (Entry Whole)) → CanLogAll (map kept_entry (head_entries read stamp server ++ es)) (number_before read) (place_before read)
+    → HeadFits read stamp × CanLogAll (map kept_entry es) (number_before read) (place_behind read)
+can_head nothing stamp server es can = can
+can_head (bytes_to bytes number) stamp server es can = (tt, can)
+
 -- each of the entries behind the first ones
-pub can_behind : Below → (stamp server : ℕ) (front back : List (Entry Whole)) → CanLogAll (map kept_entry (begun stamp server (front ++ back))) 0 nowhere
-    → CanLogAll (map kept_entry back) (count_of stamp server front) (place_of stamp server front)
-can_behind below stamp server front back can =
-    (below.can_on.0 (map kept_entry (begun stamp server front)) (map kept_entry back) 0 nowhere
-    (subst (λ (es : List (Entry Item)). CanLogAll es 0 nowhere) (map-append kept_entry (begun stamp server front) back) can)).1
+pub can_behind : Below → (l : Line) (front back : List (Entry Whole)) → CanLogAll (map kept_entry (front ++ back)) (number_before l.read) (place_behind l.read)
+    → CanLogAll (map kept_entry back) (count_of l front) (place_of l front)
+can_behind below l front back can =
+    (below.can_on.0 (map kept_entry front) (map kept_entry back) (number_before l.read) (place_behind l.read)
+    (subst (λ (es : List (Entry Item)). CanLogAll es (number_before l.read) (place_behind l.read)) (map-append kept_entry front back) can)).1
+
+-- ---- a reader that has carried out nothing
+
+-- It stands before the head of the log, or behind what was read of it, and these bytes come next.
+pub data Starting (l : Line) (more : List (Entry Whole)) (place : LogPlace) (bytes : List ℕ) : Type 0 where
+  unread : place ≡ log_begin 1 → number_before l.read ≡ 0 → place_behind l.read ≡ first_place → l.stamp < 2 ^ 32
+      → bytes ≡ bytes_of l.server 4 (description l.stamp) ++ log (map kept_entry more) 0 first_place → Starting l more place bytes
+  there : place ≡ place_behind l.read → bytes ≡ log (map kept_entry more) (number_before l.read) (place_behind l.read) → Starting l more place bytes
+
+pub starting : (read : Read) (stamp server : ℕ) (more : List (Entry Whole)) (place : LogPlace) (whole : List ℕ) → HeadFits read stamp → place ≡ reader_from read
+    → whole ≡ front_of (record { read = read; stamp = stamp; server = server }) more → Starting (record { read = read; stamp = stamp; server = server }) more place (drop place.pos whole)
+starting nothing stamp server more place whole fits at is =
+    unread at refl refl fits (ap (λ (q : LogPlace). drop q.pos whole) at ∙ ap (drop 4) is)
+starting (bytes_to bytes number) stamp server more place whole fits at is =
+    there at (ap (λ (q : LogPlace). drop q.pos whole) at ∙ ap (drop (length bytes)) is ∙ drop-append_seam bytes (log (map kept_entry more) number (record { log = 1; pos = length bytes })))
 
 -- ---- a replica that follows
 
--- where it fetches
-pub want_at : Below → (m : Machine) (r : Replica) (stamp server : ℕ) (carried more : List (Entry Whole)) (rest : List ℕ) → m.history ≡ begun stamp server (carried ++ more) → AreCommitted (carried ++ more)
-    → CanLogAll (map kept_entry (begun stamp server (carried ++ more))) 0 nowhere → r.place ≡ record { log = 1; pos = reader_at (LogStart stamp server) carried }
-    → r.relay ++ rest ≡ drop r.place.pos (log_of m) → want r ≡ record { log = 1; pos = r.place.pos + length r.relay }
+-- where it fetches, behind what was carried out
+want_behind : Below → (r : Replica) (more : List (Entry Whole)) (number : ℕ) (p : LogPlace) (rest : List ℕ) → AreCommitted more → CanLogAll (map kept_entry more) number p → r.place ≡ p → p.log ≡ 1
+    → r.relay ++ rest ≡ log (map kept_entry more) number p → want r ≡ record { log = 1; pos = r.place.pos + length r.relay }
 unfolding want
-want_at below m r stamp server [] more rest is committed can place relay =
-    let bytes : r.relay ++ rest ≡ bytes_of server 4 (description stamp) ++ log (map kept_entry more) 0 first_place =
-    relay ∙ ap (λ (q : LogPlace). drop q.pos (log_of m)) place ∙ behind_magic m stamp server more is in
-    ap (λ (q : LogPlace). past_groups (length r.relay) q r.relay) place ∙ past_all below (length r.relay) stamp server more r.relay rest committed can.0 can.1 bytes
+want_behind below r more number p rest committed can at first bytes =
+    past_entries below (length r.relay) more number p r.place r.relay rest committed can bytes at
+    ∙ ap (λ (n : ℕ). record { log = n; pos = r.place.pos + length r.relay }) (ap (λ (q : LogPlace). q.log) at ∙ first)
+
+-- and before anything was
+want_first : Below → (l : Line) (r : Replica) (more : List (Entry Whole)) (rest : List ℕ) → AreCommitted more → CanLogAll (map kept_entry more) (number_before l.read) (place_behind l.read)
+    → Starting l more r.place (r.relay ++ rest) → want r ≡ record { log = 1; pos = r.place.pos + length r.relay }
+unfolding want
+want_first below l r more rest committed can (unread place number behind fits bytes) =
+    let here : CanLogAll (map kept_entry more) 0 first_place = subst (λ (n : ℕ). CanLogAll (map kept_entry more) n first_place) number (subst (λ (q : LogPlace). CanLogAll (map kept_entry more) (number_before l.read) q) behind can) in
+    ap (λ (q : LogPlace). past_groups (length r.relay) q r.relay) place ∙ past_all below (length r.relay) l.stamp l.server more r.relay rest committed fits here bytes
     ∙ ap (λ (k : ℕ). record { log = 1; pos = k + length r.relay }) (sym (ap (λ (q : LogPlace). q.pos) place))
-want_at below m r stamp server (x ∷ xs) more rest is committed can place relay =
-    let carried : List (Entry Whole) = x ∷ xs in
-    let number : ℕ = count_of stamp server carried in
-    let p : LogPlace = place_of stamp server carried in
-    let at : r.place ≡ p = place ∙ sym (front_place below.have below.heads stamp server carried (first_ones carried more committed)) in
-    let bytes : r.relay ++ rest ≡ log (map kept_entry more) number p =
-    relay ∙ ap (λ (q : LogPlace). drop q.pos (log_of m)) place ∙ behind_front below.goes_on m stamp server carried more is in
-    past_entries below (length r.relay) more number p r.place r.relay rest (last_ones carried more committed) (can_behind below stamp server carried more can) bytes at
-    ∙ ap (λ (q : LogPlace). record { log = q.log; pos = r.place.pos + length r.relay }) place
+want_first below l r more rest committed can (there place bytes) = want_behind below r more (number_before l.read) (place_behind l.read) rest committed can place (head_log l.read) bytes
+
+-- where it fetches
+pub want_at : Below → (from : Starts) (m : Machine) (r : Replica) (stamp server : ℕ) (carried more : List (Entry Whole)) (rest : List ℕ)
+    → from.owed ++ m.history ≡ head_entries from.read stamp server ++ (carried ++ more) → AreCommitted (carried ++ more)
+    → CanLogAll (map kept_entry (from.owed ++ m.history)) (number_before from.read) (place_before from.read) → r.place ≡ reader_at from.read stamp server carried
+    → r.relay ++ rest ≡ drop r.place.pos (log_with from m) → want r ≡ record { log = 1; pos = r.place.pos + length r.relay }
+want_at below from m r stamp server carried more rest is committed all place relay =
+    by carried is committed can place
+  where
+    l : Line
+    l = record { read = from.read; stamp = stamp; server = server }
+
+    can : HeadFits from.read stamp × CanLogAll (map kept_entry (carried ++ more)) (number_before from.read) (place_behind from.read)
+    can = can_head from.read stamp server (carried ++ more) (subst (λ (es : List (Entry Whole)). CanLogAll (map kept_entry es) (number_before from.read) (place_before from.read)) is all)
+
+    by : (carried : List (Entry Whole)) → from.owed ++ m.history ≡ head_entries from.read stamp server ++ (carried ++ more) → AreCommitted (carried ++ more)
+        → HeadFits from.read stamp × CanLogAll (map kept_entry (carried ++ more)) (number_before from.read) (place_behind from.read) → r.place ≡ reader_at from.read stamp server carried
+        → want r ≡ record { log = 1; pos = r.place.pos + length r.relay }
+    by [] is committed can place =
+        want_first below (record { read = from.read; stamp = stamp; server = server }) r more rest committed can.1
+        (subst (Starting (record { read = from.read; stamp = stamp; server = server }) more r.place) (sym relay) (starting from.read stamp server more r.place (log_with from m) can.0 place (log_is from m stamp server more is)))
+    by (x ∷ xs) is committed can place =
+        let front : List (Entry Whole) = x ∷ xs in
+        let line : Line = record { read = from.read; stamp = stamp; server = server } in
+        let end : place_of line front ≡ record { log = 1; pos = length (front_of line front) } = front_place below.have below.heads line front (first_ones front more committed) in
+        want_behind below r more (count_of line front) (place_of line front) rest (last_ones front more committed) (can_behind below line front more can.1) (place ∙ sym end) (ap (λ (q : LogPlace). q.log) end)
+        (relay ∙ ap (λ (q : LogPlace). drop q.pos (log_with from m)) place ∙ behind_front below.goes_on from m stamp server front more is)
 
 -- what FETCH takes is what comes next
 pub piece_is : (w : LogPlace) (bytes relay rest : List ℕ) (pos n : ℕ) → w ≡ record { log = 1; pos = pos + length relay } → relay ++ rest ≡ drop pos bytes → log_bytes bytes w n ≡ take n rest

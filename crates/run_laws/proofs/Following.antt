@@ -1,114 +1,166 @@
 -- The replica follows its source behind each command.
-use Rattle.std.proofs.Common.{◌≡◌, ℕ, List, [], ◌++◌, map, drop, take, Some, refl, sym, ap, ◌∙◌, subst, append_assoc, append-nil}
-use Rattle.port_traits.specs.declared.identity.Identity.{Identity}
+use Rattle.std.proofs.Common.{◌≡◌, ◌≤◌, ◌^◌, ℕ, ◌+◌, ◌-◌, false, List, [], ◌∷◌, ◌++◌, map, length, drop, take, Some, Ok, refl, sym, ap, ◌∙◌, subst, append_assoc, append-nil, arith}
+use Rattle.std.specs.Prelude.{min}
 use Rattle.port_traits.specs.declared.identity.Draw.{Draw}
-use Rattle.catalog_rules.specs.Bases.{Base, empty_base}
+use Rattle.catalog_rules.specs.Bases.{Base}
 use Rattle.log_entries.specs.declared.entries.Entry.{Entry}
 use Rattle.log_entries.specs.Entries.{after}
-use Rattle.log_model.specs.Log.{LogPlace, log, counted_all, written_to}
-use Rattle.entry_groups.specs.Entries.{CanLogAll}
-use Rattle.applier_laws.specs.Laws.{BasesHold, EntryIsCarried}
-use Rattle.session_model.specs.Machine.{Whole, whole, kept_entry, Machine, machine_after, Step, step, log_of, log_bytes, nowhere}
-use Rattle.session_model.specs.Holding.{changes_of, define}
-use Rattle.replica_model.specs.Replica.{want, fetched}
+use Rattle.log_model.specs.Log.{log}
+use Rattle.applier_laws.specs.Laws.{BasesHold}
+use Rattle.session_model.specs.Machine.{Whole, whole, kept_entry, Machine, machine_after, Step, step, log_bytes}
+use Rattle.session_model.specs.declared.format.Format.{Format}
+use Rattle.session_model.specs.declared.format.Format.TheVariants.{Statement, Mixed, Row}
+use Rattle.session_model.specs.Holding.{changes_of, define, EntriesIn, format_of, session_at}
+use Rattle.session_replays.specs.Followed.{EntriesFollow, UnwarnedFollow, MixedIsUnwarned, RowsAreUnwarned}
+use Rattle.replica_model.specs.Replica.{Replica, want, fetched}
 use Rattle.replica_model.specs.Applying.{apply}
-use Rattle.run_model.specs.Asked.{say, select, take_bytes, take_groups}
-use Rattle.run_model.specs.Run.{Both, first_both}
-use Rattle.run_model.specs.Following.{AreCommitted, Follows}
-use Rattle.run_laws.specs.Laws.{IsSound, FollowsBegins, FollowsGoOn, NoApplyStops, NothingIsDamaged, AllCarriedIsEqual}
-use Rattle.run_laws.proofs.Places.{begun, log_grows}
+use Rattle.run_model.specs.Asked.{Asked, say, select, take_bytes, take_groups}
+use Rattle.run_model.specs.Run.{Names, Both, Starts, first_both, log_with, next}
+use Rattle.run_model.specs.Following.{AreCommitted, applied_of, Follows, head_entries}
+use Rattle.run_laws.specs.Laws.{IsSound, FollowsBegins, FollowsOpened, FollowsGoOn, NoApplyStops, NothingIsDamaged, AllCarriedIsEqual, IsLoggedAsSet, IsUnderOther, OthersFollow, WarnedAsShown, may_warn}
+use Rattle.run_laws.proofs.Places.{Line, count_of, log_grows, place_of}
 use Rattle.run_laws.proofs.Committing.{committed_behind, step_puts}
 use Rattle.run_laws.proofs.Fetching.{Below, want_at, piece_is, fetched_rest}
-use Rattle.run_laws.proofs.Applying.{Came, apply_from}
+use Rattle.run_laws.proofs.Carrying.{Appliers, all_ready, in_both, nothing_is_owed}
+use Rattle.run_laws.proofs.Applying.{Came, Round, apply_from}
 
 pub follows_begins : FollowsBegins
-follows_begins names src = record {
-  stamp = src.now;
-  server = names.source.server_id;
+follows_begins names b stamp server es rest behind same none history committed relay = record {
+  stamp = stamp;
+  server = server;
   carried = [];
-  more = [];
-  history = refl;
-  committed = tt;
-  base = λ rows. refl;
-  number = refl;
-  place = refl;
-  rest = drop 4 (log_of (first_both names src).machine);
-  relay = refl;
+  more = es;
+  history = history;
+  committed = committed;
+  draws = ap length none;
+  makes = ap Ok (ap applied_of (sym same));
+  base = λ follow. ap (λ (r : Replica). Some r.base) (sym same);
+  number = ap (λ (r : Replica). r.number) same ∙ small b.from.replica.number behind.number;
+  place = ap (λ (r : Replica). r.place) same ∙ behind.place;
+  rest = rest;
+  relay = relay;
 }
+  where
+    small : (n : ℕ) → n ≤ 2 ^ 64 - 1 → n ≡ min (n + 0) (2 ^ 64 - 1)
+    small n within = omega (arith, within)
+
+pub follows_opened : BasesHold → FollowsOpened
+follows_opened hold names src =
+    let b : Both = first_both names src in
+    follows_begins names b src.now names.source.server_id [] (drop 4 (log_with b.from b.machine)) (nothing_is_owed hold) refl refl refl tt refl
 
 -- ---- a session's text
 
 -- what it put out stands behind all that was there
-said_follows : Below → (b : Both) (s : Step Whole) → AreCommitted s.committed → Follows b → Follows (record b { machine = machine_after b.machine s })
-said_follows below b s puts f =
+said_follows : Below → (names : Names) (b : Both) (s : Step Whole) → AreCommitted s.committed → Follows names b → Follows names (record b { machine = machine_after b.machine s })
+said_follows below names b s puts f =
     let m : Machine = b.machine in
-    let committed : List ℕ = log (map kept_entry s.committed) (counted_all (map kept_entry m.history) 0) (written_to (map kept_entry m.history) 0 nowhere) in
+    let from : Starts = b.from in
     let on : List (Entry Whole) = f.more ++ s.committed in
+    let l : Line = record { read = from.read; stamp = f.stamp; server = f.server } in
+    let committed : List ℕ = log (map kept_entry s.committed) (count_of l (f.carried ++ f.more)) (place_of l (f.carried ++ f.more)) in
     let assoc : (f.carried ++ f.more) ++ s.committed ≡ f.carried ++ on = append_assoc f.carried f.more s.committed in
+    let history : from.owed ++ (m.history ++ s.committed) ≡ head_entries from.read f.stamp f.server ++ (f.carried ++ on) =
+    sym (append_assoc from.owed m.history s.committed) ∙ ap (λ (es : List (Entry Whole)). es ++ s.committed) f.history
+    ∙ append_assoc (head_entries from.read f.stamp f.server) (f.carried ++ f.more) s.committed ∙ ap (λ (es : List (Entry Whole)). head_entries from.read f.stamp f.server ++ es) assoc in
     record {
       stamp = f.stamp;
       server = f.server;
       carried = f.carried;
       more = on;
-      history = ap (λ (es : List (Entry Whole)). es ++ s.committed) f.history ∙ ap (begun f.stamp f.server) assoc;
+      history = history;
       committed = subst AreCommitted assoc (committed_behind (f.carried ++ f.more) s.committed f.committed puts);
+      draws = f.draws;
+      makes = f.makes;
       base = f.base;
       number = f.number;
       place = f.place;
       rest = f.rest ++ committed;
       relay = sym (append_assoc b.replica.relay f.rest committed) ∙ ap (λ (bs : List ℕ). bs ++ committed) f.relay
-          ∙ sym (log_grows below.heads below.goes_on m f.stamp f.server f.carried f.more s.committed b.replica.place.pos f.history (ap (λ (q : LogPlace). q.pos) f.place));
+          ∙ sym (log_grows below.heads below.goes_on from m f.stamp f.server f.carried f.more s.committed b.replica.place f.history history f.place);
     }
 
 -- ---- FETCH
 
-fetch_follows : Below → (b : Both) (n : ℕ) → Follows b → IsSound b.machine → Follows (record b { replica = fetched (log_bytes (log_of b.machine) (want b.replica) n) b.replica })
-fetch_follows below b n f sound =
-    let can : CanLogAll (map kept_entry (begun f.stamp f.server (f.carried ++ f.more))) 0 nowhere = subst (λ (es : List (Entry Whole)). CanLogAll (map kept_entry es) 0 nowhere) f.history sound.logs in
-    let at = want_at below b.machine b.replica f.stamp f.server f.carried f.more f.rest f.history f.committed can f.place f.relay in
-    let piece : log_bytes (log_of b.machine) (want b.replica) n ≡ take n f.rest = piece_is (want b.replica) (log_of b.machine) b.replica.relay f.rest b.replica.place.pos n at f.relay in
-    subst (λ (bs : List ℕ). Follows (record b { replica = fetched bs b.replica })) (sym piece) (record {
+fetch_follows : Below → (names : Names) (b : Both) (n : ℕ) → Follows names b → IsSound b.from b.machine → Follows names (record b { replica = fetched (log_bytes (log_with b.from b.machine) (want b.replica) n) b.replica })
+fetch_follows below names b n f sound =
+    let at = want_at below b.from b.machine b.replica f.stamp f.server f.carried f.more f.rest f.history f.committed sound.logs f.place f.relay in
+    let piece : log_bytes (log_with b.from b.machine) (want b.replica) n ≡ take n f.rest = piece_is (want b.replica) (log_with b.from b.machine) b.replica.relay f.rest b.replica.place.pos n at f.relay in
+    subst (λ (bs : List ℕ). Follows names (record b { replica = fetched bs b.replica })) (sym piece) (record {
       stamp = f.stamp;
       server = f.server;
       carried = f.carried;
       more = f.more;
       history = f.history;
       committed = f.committed;
+      draws = f.draws;
+      makes = f.makes;
       base = f.base;
       number = f.number;
       place = f.place;
       rest = drop n f.rest;
-      relay = fetched_rest b.replica.relay f.rest (drop b.replica.place.pos (log_of b.machine)) n f.relay;
+      relay = fetched_rest b.replica.relay f.rest (drop b.replica.place.pos (log_with b.from b.machine)) n f.relay;
     })
 
 -- ---- APPLY
 
-apply_came : Below → BasesHold → EntryIsCarried → (identity : Identity) (draw : Draw) (wanted : ℕ) (b : Both) → Follows b → IsSound b.machine → Came b.machine (apply wanted identity draw b.replica)
-apply_came below hold law identity draw wanted b f sound =
-    let can : CanLogAll (map kept_entry (begun f.stamp f.server (f.carried ++ f.more))) 0 nowhere = subst (λ (es : List (Entry Whole)). CanLogAll (map kept_entry es) 0 nowhere) f.history sound.logs in
-    apply_from below hold law identity draw b.machine f.stamp f.server sound.replays wanted f.carried f.more f.rest b.replica f.history f.committed f.base f.number f.place f.relay can
+apply_came : Below → Appliers → (names : Names) (draw : Draw) (wanted : ℕ) (b : Both) → Follows names b → IsSound b.from b.machine
+    → Came (record { names = names; draw = draw; before = b.draws }) b.from b.machine (apply wanted names.replica draw b.replica)
+apply_came below appliers names draw wanted b f sound =
+    let t : Round = record { names = names; draw = draw; before = b.draws } in
+    apply_from below appliers t b.from b.machine f.stamp f.server sound wanted f.carried f.more f.rest b.replica f.history f.committed f.draws f.makes f.base f.number f.place f.relay
 
 -- ---- each command
 
-pub follows_go_on : Below → BasesHold → EntryIsCarried → FollowsGoOn
-follows_go_on below hold law names b (say n text) draw f sound = said_follows below b (step whole names.source b.machine.state n text draw) (step_puts names.source b.machine.state n text draw) f
-follows_go_on below hold law names b (select text) draw f sound = f
-follows_go_on below hold law names b (take_bytes n) draw f sound = fetch_follows below b n f sound
-follows_go_on below hold law names b (take_groups n) draw f sound = (apply_came below hold law names.replica draw n b f sound).follows
+pub follows_go_on : Below → Appliers → FollowsGoOn
+follows_go_on below appliers names b (say n text) draw f sound =
+    said_follows below names b (step whole names.source b.machine.state n text draw) (step_puts names.source b.machine.state n text draw) f
+follows_go_on below appliers names b (select text) draw f sound = f
+follows_go_on below appliers names b (take_bytes n) draw f sound = fetch_follows below names b n f sound
+follows_go_on below appliers names b (take_groups n) draw f sound = (apply_came below appliers names draw n b f sound).follows
 
-pub no_apply_stops : Below → BasesHold → EntryIsCarried → NoApplyStops
-no_apply_stops below hold law identity draw wanted b f sound rows = (apply_came below hold law identity draw wanted b f sound).through rows
+pub no_apply_stops : Below → Appliers → NoApplyStops
+no_apply_stops below appliers names draw wanted b f sound follow = (apply_came below appliers names draw wanted b f sound).through follow
 
-pub nothing_is_damaged : Below → BasesHold → EntryIsCarried → NothingIsDamaged
-nothing_is_damaged below hold law identity draw wanted b f sound = (apply_came below hold law identity draw wanted b f sound).stop
+pub nothing_is_damaged : Below → Appliers → NothingIsDamaged
+nothing_is_damaged below appliers names draw wanted b f sound = (apply_came below appliers names draw wanted b f sound).stop
 
 -- ---- all carried out
 
 pub all_carried_is_equal : AllCarriedIsEqual
-all_carried_is_equal b f replays none rows =
-    let history : b.machine.history ≡ begun f.stamp f.server f.carried = f.history ∙ ap (λ (es : List (Entry Whole)). begun f.stamp f.server (f.carried ++ es)) none ∙ ap (begun f.stamp f.server) (append-nil f.carried) in
-    let made : after changes_of define f.carried empty_base ≡ Some b.machine.state.shared.base = rw history at replays.holds.entries in
-    same (sym (f.base rows) ∙ made)
+all_carried_is_equal names b f behind replays none follow =
+    let history : b.from.owed ++ b.machine.history ≡ head_entries b.from.read f.stamp f.server ++ f.carried =
+    f.history ∙ ap (λ (es : List (Entry Whole)). head_entries b.from.read f.stamp f.server ++ (f.carried ++ es)) none
+    ∙ ap (λ (es : List (Entry Whole)). head_entries b.from.read f.stamp f.server ++ es) (append-nil f.carried) in
+    let made : after changes_of define f.carried b.from.replica.base ≡ Some b.machine.state.shared.base = (all_ready b.from b.machine f.stamp f.server f.carried behind replays history).makes in
+    same (sym (f.base follow) ∙ made)
   where
     same : {x y : Base} → Some x ≡ Some y → x ≡ y
     same q = cc
+
+-- ---- how a run is logged
+
+pub warned_as_shown : WarnedAsShown
+warned_as_shown format i logged = rw logged.0 refl
+
+-- what is put out in a format that logs nothing unsafe by its text
+put_follows : UnwarnedFollow → MixedIsUnwarned → RowsAreUnwarned → (format : Format) (es : List (Entry Whole)) → may_warn format ≡ false → EntriesIn format es → EntriesFollow es
+put_follows unwarned mixed rows Statement es none logged = cc
+put_follows unwarned mixed rows Mixed es none logged = unwarned es (mixed es logged)
+put_follows unwarned mixed rows Row es none logged = unwarned es (rows es logged)
+
+-- one command
+other_follows : UnwarnedFollow → MixedIsUnwarned → RowsAreUnwarned → (names : Names) (b : Both) (c : Asked) (draw : Draw) → EntriesFollow b.machine.history → IsLoggedAsSet names b c draw → IsUnderOther b c draw
+    → EntriesFollow (next names b c draw).both.machine.history
+other_follows unwarned mixed rows names b (say n text) draw before logged other =
+    let s : Step Whole = step whole names.source b.machine.state n text draw in
+    in_both b.machine.history s.committed before (put_follows unwarned mixed rows (format_of (session_at n b.machine)) s.committed other logged)
+other_follows unwarned mixed rows names b (select text) draw before logged other = before
+other_follows unwarned mixed rows names b (take_bytes n) draw before logged other = before
+other_follows unwarned mixed rows names b (take_groups n) draw before logged other = before
+
+pub others_follow : UnwarnedFollow → MixedIsUnwarned → RowsAreUnwarned → OthersFollow
+others_follow unwarned mixed rows names b [] ds before logged other = before
+others_follow unwarned mixed rows names b (c ∷ cs) [] before logged other = before
+others_follow unwarned mixed rows names b (c ∷ cs) (d ∷ ds) before logged other =
+    others_follow unwarned mixed rows names (next names b c d).both cs ds (other_follows unwarned mixed rows names b c d before logged.0 other.0) logged.1 other.1

@@ -3,5 +3,6 @@ pub mod Carrying
 pub mod Committing
 pub mod Fetching
 pub mod Following
+pub mod Groups
 pub mod Places
 pub mod Replaying

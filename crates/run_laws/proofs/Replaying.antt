@@ -12,18 +12,21 @@ use Rattle.entry_groups.specs.Entries.{group_of_entry, start_group, StaysInLog, 
 use Rattle.entry_groups.specs.Laws.{EntryIsRead, GroupsHaveBounds, StartIsRead}
 use Rattle.whole_logs.specs.Passing.{EndIsSeen, GroupIsPassed, MagicIsPassed, Passed, ending_with, names_next}
 use Rattle.whole_logs.specs.Walk.{ended, grouped, Grouped, Piece}
-use Rattle.applier_laws.specs.Laws.{BasesHold, EntryIsCarried}
 use Rattle.applier_model.specs.Stops.{Differs}
 use Rattle.applier_model.specs.Groups.{Applied, group_carried}
 use Rattle.session_model.specs.Machine.{Whole, kept_entry, log_of, first_place, nowhere}
-use Rattle.session_model.specs.Holding.{EntriesIn}
-use Rattle.session_model.specs.declared.format.Format.TheVariants.{Row}
+use Rattle.session_replays.specs.Followed.{EntriesFollow}
 use Rattle.replica_model.specs.Replaying.{Replay, all_replayed, by_form, carried, first_replay, replayed, unless_stopped}
-use Rattle.run_model.specs.Following.{AreCommitted}
-use Rattle.run_laws.specs.Replays.{LogIsItsEntries, ReplayIsEqual, groups_in, groups_of}
-use Rattle.run_laws.proofs.Carrying.{stays, others, in_front, in_back, Ready, history_ready, entry_carried}
+use Rattle.run_model.specs.Following.{AreCommitted, groups_of}
+use Rattle.run_laws.specs.Replays.{LogIsItsEntries, ReplayIsEqual, groups_in}
+use Rattle.run_laws.proofs.Carrying.{Appliers, stays, others, in_front, in_back, Ready, history_ready, entry_carried, nothing_is_owed}
 use Rattle.run_laws.proofs.Fetching.{entry_moves}
-use Rattle.run_laws.proofs.Places.{begun, first_event_length}
+use Rattle.run_laws.proofs.Places.{first_event_length}
+use Rattle.run_model.specs.Run.{from_nothing}
+
+-- a log with its beginning and entries
+abbrev begun : (stamp server : ℕ) → List (Entry Whole) → List (Entry Whole)
+begun stamp server es = LogStart stamp server ∷ es
 
 -- ---- a log is its entries
 
@@ -144,27 +147,27 @@ module _ (identity : Identity) (draw : Draw) where
   form_ends more last (Definition stamp server i) number p r stay can ends = ends
   form_ends more last (LogStart stamp server) number p r stay can ends = absurd stay
 
-  entries_replayed : BasesHold → EntryIsCarried → (es : List (Entry Whole)) (number : ℕ) (p : LogPlace) (last : Base) (r : Replay) → Ready r.base last es → AreCommitted es
-      → CanLogAll (map kept_entry es) number p → EntriesIn Row es → r.stop ≡ None → Ends (all_by (groups_of (map kept_entry es) number p) r) last
-  entries_replayed hold law [] number p last r ready committed can rows through = (through, same ready.makes)
+  entries_replayed : Appliers → (es : List (Entry Whole)) (number : ℕ) (p : LogPlace) (last : Base) (r : Replay) → Ready r.base last es → AreCommitted es
+      → CanLogAll (map kept_entry es) number p → EntriesFollow es → r.stop ≡ None → Ends (all_by (groups_of (map kept_entry es) number p) r) last
+  entries_replayed appliers [] number p last r ready committed can follow through = (through, same ready.makes)
     where
       same : {x y : Base} → Some x ≡ Some y → x ≡ y
       same q = cc
-  entries_replayed hold law (e ∷ es) number p last r ready committed can rows through =
-      let c = entry_carried hold law identity draw r.base last r.counters e es number p ready (in_front Row (e ∷ []) es rows) committed can.0 in
+  entries_replayed appliers (e ∷ es) number p last r ready committed can follow through =
+      let c = entry_carried appliers identity draw r.base last r.counters e es number p ready (in_front (e ∷ []) es follow) committed can.0 in
       let g : Group = group_of_entry (kept_entry e) number p in
       let more : Replay → Replay = all_by (groups_of (map kept_entry es) (counted (kept_entry e) number) (behind (kept_entry e) number p)) in
       form_ends more last e number p r (stays e es committed) can.0
       (subst (λ (x : Result Applied Differs). Ends (goes more (carried g r x)) last) (sym c.does)
-      (entries_replayed hold law es (counted (kept_entry e) number) (behind (kept_entry e) number p) last _ c.ready (others e es committed) can.1 (in_back Row (e ∷ []) es rows) refl))
+      (entries_replayed appliers es (counted (kept_entry e) number) (behind (kept_entry e) number p) last _ c.ready (others e es committed) can.1 (in_back (e ∷ []) es follow) refl))
 
-pub replay_is_equal : LogIsItsEntries → BasesHold → EntryIsCarried → ReplayIsEqual
+pub replay_is_equal : LogIsItsEntries → Appliers → ReplayIsEqual
 unfolding replayed
-replay_is_equal entries hold law identity draw m stamp server committed logged replays rows =
+replay_is_equal entries appliers identity draw m stamp server committed logged replays follow =
     let can : CanLogAll (map kept_entry (begun stamp server committed)) 0 nowhere = subst (λ (es : List (Entry Whole)). CanLogAll (map kept_entry es) 0 nowhere) logged.history logged.can in
-    let all : EntriesIn Row (begun stamp server committed) = subst (EntriesIn Row) logged.history rows in
-    let ready = history_ready hold m stamp server [] committed empty_base replays logged.history refl in
+    let all : EntriesFollow (begun stamp server committed) = subst EntriesFollow logged.history follow in
+    let ready = history_ready appliers.hold from_nothing m stamp server [] committed empty_base (nothing_is_owed appliers.hold) replays logged.history refl in
     let is : all_replayed identity draw (grouped (log_of m)).pieces first_replay ≡ all_by identity draw (groups_of (map kept_entry committed) 0 first_place) first_replay =
     by_groups identity draw (grouped (log_of m)).pieces first_replay ∙ ap (λ (gs : List Group). all_by identity draw gs first_replay) (entries m stamp server committed logged).0 in
     subst (λ (r : Replay). (r.stop ≡ None) × (r.base ≡ m.state.shared.base)) (sym is)
-    (entries_replayed identity draw hold law committed 0 first_place m.state.shared.base first_replay ready logged.are can.1 all refl)
+    (entries_replayed identity draw appliers committed 0 first_place m.state.shared.base first_replay ready logged.are can.1 all refl)

@@ -1,20 +1,18 @@
 -- A source's whole log: it is the groups of its entries, and a replica that has nothing makes the source's base of it.
-use Rattle.std.specs.Prelude.{◌≡◌, ℕ, List, [], ◌∷◌, map, None}
+use Rattle.std.specs.Prelude.{◌≡◌, ℕ, List, ◌∷◌, map, None}
 use Rattle.port_traits.specs.declared.identity.Identity.{Identity}
 use Rattle.port_traits.specs.declared.identity.Draw.{Draw}
-use Rattle.log_entries.specs.declared.entries.Item.{Item}
 use Rattle.log_entries.specs.declared.entries.Entry.{Entry}
 use Rattle.log_entries.specs.declared.entries.Entry.TheVariants.{LogStart}
 use Rattle.log_model.specs.Groups.{Group}
-use Rattle.log_model.specs.Log.{LogPlace, behind, counted}
-use Rattle.entry_groups.specs.Entries.{CanLogAll, group_of_entry, start_group}
+use Rattle.entry_groups.specs.Entries.{CanLogAll, start_group}
 use Rattle.whole_logs.specs.Walk.{ended, grouped, Piece}
 use Rattle.session_model.specs.Machine.{Machine, Whole, first_place, kept_entry, log_of, nowhere}
-use Rattle.session_model.specs.Holding.{EntriesIn, with_nothing}
-use Rattle.session_model.specs.declared.format.Format.TheVariants.{Row}
+use Rattle.session_model.specs.Holding.{with_nothing}
+use Rattle.session_replays.specs.Followed.{EntriesFollow}
 use Rattle.session_replays.specs.Replaying.{Replays}
 use Rattle.replica_model.specs.Replaying.{replayed}
-use Rattle.run_model.specs.Following.{AreCommitted}
+use Rattle.run_model.specs.Following.{AreCommitted, groups_of}
 
 -- A source that began its log and has put out these transactions and definitions, of which each can be read again from the log.
 pub record HasLogged (m : Machine) (stamp server : ℕ) (committed : List (Entry Whole)) : Type 0 where
@@ -23,11 +21,6 @@ pub record HasLogged (m : Machine) (stamp server : ℕ) (committed : List (Entry
   pub can : CanLogAll (map kept_entry m.history) 0 nowhere
 
 -- ---- a log is its entries
-
--- the groups that entries are read as, each at its place
-abbrev pub groups_of : List (Entry Item) → (number : ℕ) → LogPlace → List Group
-groups_of [] number p = []
-groups_of (e ∷ es) number p = group_of_entry e number p ∷ groups_of es (counted e number) (behind e number p)
 
 abbrev pub groups_in : List Piece → List Group
 groups_in ps = map (λ (p : Piece). p.group) ps
@@ -42,10 +35,10 @@ LogIsItsEntries =
 
 -- ---- its replay
 
--- Where all of it was logged by its rows, a replica that has nothing, whoever it is and whatever its draw, carries out the log to its
--- end, and then has the source's committed base: the same objects in the same order, with equal rows.
+-- Where each item of it does the same at every replica, a replica that has nothing, whoever it is and whatever its draw, carries out
+-- the log to its end, and then has the source's committed base: the same objects in the same order, with equal rows.
 abbrev pub ReplayIsEqual : Type 0
 ReplayIsEqual =
     (identity : Identity) (draw : Draw) (m : Machine) (stamp server : ℕ) (committed : List (Entry Whole)) → HasLogged m stamp server committed
-    → Replays with_nothing m → EntriesIn Row m.history
+    → Replays with_nothing m → EntriesFollow m.history
     → ((replayed identity draw (log_of m)).stop ≡ None) × ((replayed identity draw (log_of m)).base ≡ m.state.shared.base)

@@ -1,19 +1,24 @@
 //! The replica follows its source.
-ghost use Rattle.run_laws.specs.Laws.{AllCarriedIsEqual, FollowsBegins, FollowsGoOn, NoApplyStops, NothingIsDamaged};
+ghost use Rattle.run_laws.specs.Laws.{AllCarriedIsEqual, FollowsBegins, FollowsGoOn, FollowsOpened, NoApplyStops, NothingIsDamaged, NothingIsOwed, OthersFollow, WarnedAsShown};
 ghost use Rattle.run_laws.specs.Replays.{LogIsItsEntries, ReplayIsEqual};
 
-use applier_laws::{bases_hold, entry_is_carried};
+use applier_laws::{bases_hold, entries_of_runs_follow, entry_is_carried};
 use entry_groups::{
     entries_can_log_on, entry_is_read, few_are_cut, groups_have_bounds, relay_is_read,
     start_is_read, start_relay_is_read,
 };
 use log_model::{entries_have_length, heads_have_length, log_goes_on};
+use session_replays::unwarned_items_follow;
 use whole_logs::{end_is_seen, group_is_passed, magic_is_passed};
 
-/// A law: a replica that begins with nothing follows its source behind each command, however FETCH cuts the log. No APPLY of
-/// it stops where all is logged by rows, and whatever is logged, one stops at nothing but an item that has no effect there.
+/// A law: a replica that begins behind its source, owing it some entries, or with nothing as it does, follows it behind each command,
+/// however FETCH cuts the log. No APPLY of
+/// it stops where each item that it comes to does the same at every replica, and whatever is logged, one stops at nothing but an item
+/// that has no effect there.
 pub fn replica_follows()
     ensures begins { FollowsBegins }
+    ensures opens { FollowsOpened }
+    ensures owes { NothingIsOwed }
     ensures goes_on { FollowsGoOn }
     ensures stops { NoApplyStops }
     ensures damaged { NothingIsDamaged }
@@ -28,9 +33,10 @@ pub fn replica_follows()
     entries_can_log_on();
     bases_hold();
     entry_is_carried();
+    entries_of_runs_follow();
 }
 
-/// A law: a replica that has carried out all that its source committed has its base, where all was logged by rows.
+/// A law: a replica that has carried out all that its source committed has its base, where each item does the same at every replica.
 pub fn all_carried_is_equal()
     ensures { AllCarriedIsEqual }
 {}
@@ -49,11 +55,26 @@ pub fn log_is_its_entries()
     end_is_seen();
 }
 
-/// A law: where all was logged by rows, a replica that has nothing and carries out the whole log has the base of its source.
+/// A law: where each item of a log does the same at every replica, one that has nothing and carries out the whole log has the base of
+/// its source.
 pub fn replay_is_equal()
     ensures { ReplayIsEqual }
 {
     log_is_its_entries();
     bases_hold();
     entry_is_carried();
+    entries_of_runs_follow();
 }
+
+/// A law: where no session is under STATEMENT as it says something, each item that is committed does the same at every replica,
+/// whatever was said.
+pub fn others_follow()
+    ensures { OthersFollow }
+{
+    unwarned_items_follow();
+}
+
+/// A law: an item that is logged as a format says is warned exactly where the answer of a statement in that format shows the warning.
+pub fn warned_as_shown()
+    ensures { WarnedAsShown }
+{}

@@ -10,21 +10,28 @@
 //! stands on it.
 //!
 //! # Proved
-//! - A replica follows its source behind each command of a run (`replica_follows`): it has carried out the first entries that the
-//!   source committed, each once and in their order, and its place is behind the last of them in the source's log, of which it has
-//!   what follows, as far as it has fetched. Where these are definitions and transactions logged by their rows, its base is what they
-//!   make of an empty base.
-//! - As long as all is logged by its rows, no APPLY stops; whatever is logged, one stops at nothing but an item that has no effect at
-//!   the replica (`replica_follows`). Of a log that its source wrote, what is not whole is left for the next APPLY.
-//! - Where all was logged by its rows, a replica that has carried out all entries has the source's committed base: the same objects in
-//!   the same order, with equal rows (`all_carried_is_equal`).
+//! - A replica follows its source behind each command of a run (`replica_follows`), wherever both began: with nothing, or with what
+//!   each had, where the replica owed some entries. It has carried out the first of these and of those that the source has committed
+//!   since, each once and in their order, and its place is behind the last of them in the source's log, of which it has
+//!   what follows, as far as it has fetched. Its base and counters are what the definition of an applier makes of the groups of these
+//!   entries, each at the draw of the APPLY that carried it out, whatever texts are among them. Where each item of them does the same
+//!   at every replica, its base is what they make of the one that it began with.
+//! - No APPLY stops where each item that it comes to does the same at every replica: those of the entries that were carried out before
+//!   and by it, and of the next one. Whatever is logged, one stops at nothing but an item that has no effect at the replica
+//!   (`replica_follows`). Of a log that its source wrote, what is not whole is left for the next APPLY.
+//! - Where each item does the same at every replica, one that has carried out all entries has the source's committed base: the same
+//!   objects in the same order, with equal rows (`all_carried_is_equal`).
 //! - The log of a source, read from its bytes alone, is its start and then just the groups of the entries (`log_is_its_entries`).
-//!   Where all was logged by its rows, who has nothing and carries out the whole log goes through to its end and has the source's
-//!   committed base (`replay_is_equal`).
-//!
-//! Nothing is said here of what a replica makes of a transaction that is logged by its text.
+//!   Where each item does the same at every replica, who has nothing and carries out the whole log goes through to its end and has the
+//!   source's committed base (`replay_is_equal`).
+//! - An item does the same at every replica where it is logged by its rows, or where it is not warned, or by RAND() alone
+//!   (`session_replays::unwarned_items_follow`). So in a run each does in which no session is under STATEMENT as it says something
+//!   (`others_follow`), and what is warned is what the answers show as warned (`warned_as_shown`).
 #![tactic(auto)]
 
 mod laws;
 
-pub use laws::{all_carried_is_equal, log_is_its_entries, replay_is_equal, replica_follows};
+pub use laws::{
+    all_carried_is_equal, log_is_its_entries, others_follow, replay_is_equal, replica_follows,
+    warned_as_shown,
+};

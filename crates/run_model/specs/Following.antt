@@ -1,20 +1,30 @@
 -- A replica that follows its source: what equals what.
 --
--- A source and a replica that began without tables. The replica has carried out the first entries that the source put out, each just
--- once and in their order. Where these are definitions and transactions logged by their rows, its base is what they make of an empty
--- one: the same objects in the same order, with equal rows. What it makes of a transaction that is logged by its text, the definition
--- of an applier says alone. Its place is behind the last of them in the source's log, and what it has fetched is what the log has from
--- there on, as far as it has fetched. Its counters and its identity are not in this, nor is the way in which FETCH cut the log.
-use Rattle.std.specs.Prelude.{◌≡◌, ℕ, ◌^◌, ◌-◌, min, List, [], ◌∷◌, ◌++◌, map, length, drop, Some}
+-- A source and a replica, of which each began with nothing or with what it had, where the replica owed some entries. It has carried
+-- out the first of these and of those that the source has put out since, each just once and in their order. Its base and its counters
+-- are what the definition of an applier makes of their groups, one after the other, each at the draw of the APPLY that carried it out,
+-- whatever texts are among them. Where each item of these entries does the same at every replica (it is logged by its rows, or what its
+-- statement does follows from its tables and from what it carries), its base is what they make of the one that it began with: the same
+-- objects in the same order, with equal rows. Its place is behind the last of them in the source's log, and what it has fetched is what
+-- the log has from there on, as far as it has fetched. Its counters, its draws and its identity need not be the source's, and the way
+-- in which FETCH cut the log is not in this.
+use Rattle.std.specs.Prelude.{◌≡◌, ℕ, ◌^◌, ◌+◌, ◌-◌, min, List, [], ◌∷◌, ◌++◌, map, length, drop, Some, Result, Ok}
+use Rattle.port_traits.specs.declared.identity.Identity.{Identity}
+use Rattle.port_traits.specs.declared.identity.Draw.{Draw}
+use Rattle.log_entries.specs.declared.entries.Item.{Item}
 use Rattle.log_entries.specs.declared.entries.Entry.{Entry}
 use Rattle.log_entries.specs.declared.entries.Entry.TheVariants.{Transaction, Definition, LogStart}
 use Rattle.log_entries.specs.Entries.{after}
-use Rattle.log_model.specs.Log.{log}
-use Rattle.catalog_rules.specs.Bases.{empty_base}
-use Rattle.session_model.specs.Machine.{Whole, kept_entry, log_of, nowhere}
-use Rattle.session_model.specs.Holding.{EntriesIn, changes_of, define}
-use Rattle.session_model.specs.declared.format.Format.TheVariants.{Row}
-use Rattle.run_model.specs.Run.{Both}
+use Rattle.log_model.specs.Groups.{Group}
+use Rattle.log_model.specs.Log.{LogPlace, behind, counted, head, log}
+use Rattle.entry_groups.specs.Entries.{group_of_entry}
+use Rattle.applier_model.specs.Stops.{Differs}
+use Rattle.applier_model.specs.Groups.{Applied, and_then, group_carried}
+use Rattle.session_model.specs.Machine.{Whole, first_place, kept_entry}
+use Rattle.session_model.specs.Holding.{changes_of, define}
+use Rattle.session_replays.specs.Followed.{EntriesFollow}
+use Rattle.replica_model.specs.Replica.{Replica, log_begin}
+use Rattle.run_model.specs.Run.{Both, Names, Read, nothing, bytes_to, log_with, number_before}
 
 -- transactions and definitions
 abbrev pub AreCommitted : List (Entry Whole) → Type 0
@@ -23,23 +33,69 @@ AreCommitted (Transaction stamp server items ∷ es) = AreCommitted es
 AreCommitted (Definition stamp server item ∷ es) = AreCommitted es
 AreCommitted (LogStart stamp server ∷ es) = ⊥
 
--- where a reader stands who has carried out entries of the first log behind its beginning: behind the magic as long as there are none
-abbrev pub reader_at : Entry Whole → List (Entry Whole) → ℕ
-reader_at beginning [] = 4
-reader_at beginning (e ∷ es) = length (log (map kept_entry (beginning ∷ e ∷ es)) 0 nowhere)
+-- ---- places in the first log
 
-pub record Follows (b : Both) : Type 0 where
+-- before the first entry that is carried out stands the head of the log, where nothing of it was read
+abbrev pub head_entries : Read → (stamp server : ℕ) → List (Entry Whole)
+head_entries nothing stamp server = LogStart stamp server ∷ []
+head_entries (bytes_to bytes number) stamp server = []
+
+abbrev pub head_bytes : Read → (stamp server : ℕ) → List ℕ
+head_bytes nothing stamp server = head stamp server
+head_bytes (bytes_to bytes number) stamp server = bytes
+
+-- behind that stands a writer
+abbrev pub place_behind : Read → LogPlace
+place_behind nothing = first_place
+place_behind (bytes_to bytes number) = record { log = 1; pos = length bytes }
+
+-- a reader stands there, or before the head that it has not read
+abbrev pub reader_from : Read → LogPlace
+reader_from nothing = log_begin 1
+reader_from (bytes_to bytes number) = record { log = 1; pos = length bytes }
+
+-- a reader who has carried out entries stands behind their bytes
+abbrev pub reader_at : Read → (stamp server : ℕ) → List (Entry Whole) → LogPlace
+reader_at read stamp server [] = reader_from read
+reader_at read stamp server (e ∷ es) =
+    record { log = 1; pos = length (head_bytes read stamp server ++ log (map kept_entry (e ∷ es)) (number_before read) (place_behind read)) }
+
+-- ---- what an applier makes of groups
+
+-- the groups that entries are read as, each at its place
+abbrev pub groups_of : List (Entry Item) → (number : ℕ) → LogPlace → List Group
+groups_of [] number p = []
+groups_of (e ∷ es) number p = group_of_entry e number p ∷ groups_of es (counted e number) (behind e number p)
+
+-- groups carried out one after the other, each at its own draw; or where one stops
+abbrev pub all_carried : Identity → List Group → List Draw → Applied → Result Applied Differs
+all_carried identity [] ds x = Ok x
+all_carried identity (g ∷ gs) [] x = Ok x
+all_carried identity (g ∷ gs) (d ∷ ds) x = and_then (all_carried identity gs ds) (group_carried identity d x.base x.counters g)
+
+-- what a replica has come to
+abbrev pub applied_of : Replica → Applied
+applied_of r = record { base = r.base; counters = r.counters }
+
+-- ---- a replica behind its source
+
+pub record Follows (names : Names) (b : Both) : Type 0 where
   pub stamp : ℕ
   pub server : ℕ
   pub carried : List (Entry Whole)
   pub more : List (Entry Whole)
-  -- what the source put out: the beginning of its log, what the replica has carried out, and what it has not
-  pub history : b.machine.history ≡ LogStart stamp server ∷ (carried ++ more)
+  -- what was owed and what the source put out: the head of the log, if nothing of it was read, what the replica has carried out, and
+  -- what it has not
+  pub history : b.from.owed ++ b.machine.history ≡ head_entries b.from.read stamp server ++ (carried ++ more)
   pub committed : AreCommitted (carried ++ more)
-  -- the replica's base is what the first part makes of an empty one, where it is logged by its rows
-  pub base : EntriesIn Row carried → after changes_of define carried empty_base ≡ Some b.replica.base
-  pub number : b.replica.number ≡ min (length carried) (2 ^ 64 - 1)
+  -- the replica's base and counters are what an applier makes of the groups of the first part, each at the draw of its APPLY
+  pub draws : length b.draws ≡ length carried
+  pub makes : all_carried names.replica (groups_of (map kept_entry carried) (number_before b.from.read) (place_behind b.from.read)) b.draws (applied_of b.from.replica)
+      ≡ Ok (applied_of b.replica)
+  -- and its base is what the first part makes of the one that it began with, where each item of it does the same at every replica
+  pub base : EntriesFollow carried → after changes_of define carried b.from.replica.base ≡ Some b.replica.base
+  pub number : b.replica.number ≡ min (b.from.replica.number + length carried) (2 ^ 64 - 1)
   -- it stands behind them in the log, of which it has fetched what follows, up to some place
-  pub place : b.replica.place ≡ record { log = 1; pos = reader_at (LogStart stamp server) carried }
+  pub place : b.replica.place ≡ reader_at b.from.read stamp server carried
   pub rest : List ℕ
-  pub relay : b.replica.relay ++ rest ≡ drop b.replica.place.pos (log_of b.machine)
+  pub relay : b.replica.relay ++ rest ≡ drop b.replica.place.pos (log_with b.from b.machine)

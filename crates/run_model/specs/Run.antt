@@ -1,16 +1,63 @@
 -- A run of commands over a source and a replica: what they are told, the lines that show it, and whose draw each took.
-use Rattle.std.specs.Prelude.{ℕ, ◌+◌, Bool, true, false, List, [], ◌∷◌, ◌++◌, length}
+use Rattle.std.specs.Prelude.{ℕ, ◌+◌, Bool, true, false, List, [], ◌∷◌, ◌++◌, length, map, replicate}
 use Rattle.port_traits.specs.declared.identity.Identity.{Identity}
 use Rattle.port_traits.specs.declared.identity.Draw.{Draw}
+use Rattle.log_entries.specs.declared.entries.Entry.{Entry}
+use Rattle.log_model.specs.Log.{LogPlace, counted_all, log, written_to}
+use Rattle.catalog_rules.specs.Bases.{Base, empty_base}
 use Rattle.answer_text.specs.declared.answer.Answer.{Answer}
 use Rattle.answer_text.specs.declared.report.Mark.{Mark}
 use Rattle.answer_text.specs.Shown.{shown}
-use Rattle.session_model.specs.Machine.{Whole, whole, Step, step, Machine, machine_after, opened, log_of, log_bytes}
+use Rattle.session_model.specs.Machine.{Whole, whole, kept_entry, nowhere, Step, step, Machine, machine_after, opened, log_bytes}
+use Rattle.session_model.specs.Holding.{Beginning}
 use Rattle.replica_model.specs.Replica.{Replica, first_replica, fetched, want}
 use Rattle.replica_model.specs.Applying.{Going, apply}
 use Rattle.replica_model.specs.Selecting.{select_answer}
 use Rattle.replica_model.specs.Lines.{fetched_line, going_line}
 use Rattle.run_model.specs.Asked.{Asked, say, select, take_bytes, take_groups}
+
+-- ---- where both nodes began
+
+-- How much of its source's first log a replica had read: nothing, or these bytes of it, with so many transactions and definitions.
+pub data Read : Type 0 where
+  nothing : Read
+  bytes_to : List ℕ → ℕ → Read
+
+abbrev pub bytes_before : Read → List ℕ
+bytes_before nothing = []
+bytes_before (bytes_to bytes number) = bytes
+
+abbrev pub number_before : Read → ℕ
+number_before nothing = 0
+number_before (bytes_to bytes number) = number
+
+-- where a writer stands behind that; before the first log where nothing was read
+abbrev pub place_before : Read → LogPlace
+place_before nothing = nowhere
+place_before (bytes_to bytes number) = record { log = 1; pos = length bytes }
+
+-- Where both nodes began: what the replica had read, the entries that it owed, the base of the source behind these, and the replica.
+pub record Starts : Type 0 where
+  pub read : Read
+  pub owed : List (Entry Whole)
+  pub base : Base
+  pub replica : Replica
+
+-- the source behind the entries that are owed
+abbrev pub source_from : Starts → Beginning
+source_from from = record {
+  base = from.base;
+  committed = counted_all (map kept_entry from.owed) (number_before from.read);
+  place = written_to (map kept_entry from.owed) (number_before from.read) (place_before from.read);
+}
+
+-- the source's first log: what was read of it, the entries that were owed, and those that were put out since
+abbrev pub log_with : Starts → Machine → List ℕ
+log_with from m = bytes_before from.read ++ log (map kept_entry (from.owed ++ m.history)) (number_before from.read) (place_before from.read)
+
+-- neither has anything
+abbrev pub from_nothing : Starts
+from_nothing = record { read = nothing; owed = []; base = empty_base; replica = first_replica }
 
 -- ---- both nodes
 
@@ -19,14 +66,17 @@ pub record Names : Type 0 where
   pub source : Identity
   pub replica : Identity
 
--- A source with all that it committed, and a replica.
+-- A source with all that it committed since both began, and a replica; for each group that it carried out, the draw of the APPLY that
+-- did.
 pub record Both : Type 0 where
+  pub from : Starts
   pub machine : Machine
   pub replica : Replica
+  pub draws : List Draw
 
 -- a source without tables, which has begun its log at the draw of its opening, and a replica that has nothing of it
 abbrev pub first_both : Names → Draw → Both
-first_both names src = record { machine = opened names.source src; replica = first_replica }
+first_both names src = record { from = from_nothing; machine = opened names.source src; replica = first_replica; draws = [] }
 
 -- ---- one command
 
@@ -48,16 +98,17 @@ said b s = record { both = record b { machine = machine_after b.machine s }; tol
 abbrev pub handed : Both → List ℕ → Next
 handed b piece = record { both = record b { replica = fetched piece b.replica }; told = got (length piece) }
 
-abbrev pub applied : Both → Going → Next
-applied b a = record { both = record b { replica = a.replica }; told = went a }
+-- each group that was carried out took the draw of the APPLY
+abbrev pub applied : Both → Draw → Going → Next
+applied b draw a = record { both = record b { replica = a.replica; draws = b.draws ++ replicate a.count draw }; told = went a }
 
 -- a session's text is a step of the source; FETCH takes the next bytes of its log; APPLY carries out groups of those that were fetched;
 -- the replica's SELECT reads its rows
 abbrev pub next : Names → Both → Asked → Draw → Next
 next names b (say n text) draw = said b (step whole names.source b.machine.state n text draw)
 next names b (select text) draw = record { both = b; told = answered (select_answer names.replica draw b.replica.counters b.replica.base text) }
-next names b (take_bytes n) draw = handed b (log_bytes (log_of b.machine) (want b.replica) n)
-next names b (take_groups n) draw = applied b (apply n names.replica draw b.replica)
+next names b (take_bytes n) draw = handed b (log_bytes (log_with b.from b.machine) (want b.replica) n)
+next names b (take_groups n) draw = applied b draw (apply n names.replica draw b.replica)
 
 -- the lines that show it
 abbrev pub told_lines : ℕ → Told → List ℕ

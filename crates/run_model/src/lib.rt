@@ -4,8 +4,8 @@
 //! machine of `session_model`, which puts out what was committed; the log of the source is the bytes of that. The replica fetches bytes
 //! of the log, carries out the groups among them and shows its rows (`replica_model`).
 //!
-//! The definitions stand in specs/: `Asked` (what a script asks), `Run` (what commands lead to, the lines that show it, whose draw each
-//! took), `Following` (a replica that follows its source: what equals what), `Worked`.
+//! The definitions stand in specs/: `Asked` (what a script asks), `Run` (where both nodes began, what commands lead to, the lines that show it, whose draw each
+//! took, and at which draw each group was carried out), `Following` (a replica that follows its source: what equals what), `Worked`.
 //!
 //! - `worked`: runs by hand, which the checker computes from their texts to their lines
 //!

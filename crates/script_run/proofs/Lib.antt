@@ -1,5 +1,6 @@
 pub mod Asking
 pub mod Drawing
+pub mod Lengths
 pub mod Logged
 pub mod Running
 pub mod Scripts

@@ -1,16 +1,16 @@
 -- The log behind commands.
-use Rattle.std.proofs.Common.{◌≡◌, ◌<◌, ℕ, zero, suc, List, [], ◌∷◌, length, map, take, Option, Result, Ok, Err, IfOk, refl, sym, ap, ◌∙◌, subst, arith}
+use Rattle.std.proofs.Common.{◌≡◌, ℕ, List, [], ◌∷◌, length, map, Option, Result, Ok, Err, IfOk, refl, sym, ◌∙◌, arith}
 use Rattle.std.proofs.lemmas.List.{length-map}
 use Rattle.port_traits.specs.declared.identity.Draw.{Draw}
 use Rattle.port_traits.specs.Streams.{ended_after, is_end}
 use Rattle.answer_text.specs.declared.report.Report.{Report}
 use Rattle.answer_text.specs.declared.status.Status.{Status}
 use Rattle.answer_text.specs.declared.status.Status.TheVariants.{Done, BadWords, BadScript, ReadFault, WriteFault, SourceDisk, ReplicaDisk, SourceDamaged, ReplicaDamaged, LogDamaged, LogForeign, Differs, NoMemory}
-use Rattle.session_model.specs.Machine.{log_of, log_bytes}
+use Rattle.session_model.specs.Machine.{log_of}
 use Rattle.run_model.specs.Asked.{Asked}
 use Rattle.run_model.specs.Run.{Names, Both, first_both, end_of}
 use Rattle.run_streams.specs.Reports.{DrewUntil, StaysHandedOut}
-use Rattle.run_streams.specs.Stops.{StopsWriting, with_status}
+use Rattle.run_streams.specs.Stops.{StopsWriting}
 use Rattle.script_run.specs.declared.nodes.Nodes.{Nodes}
 use Rattle.script_run.specs.Together.{Together}
 use Rattle.script_run.specs.Running.{Going}
@@ -59,21 +59,6 @@ handed_until NoMemory before after old new drew = drew
 
 -- ---- the log
 
--- what was given holds of it also as a status
-pub given_log : {A E : Type 0} (P : A → Type 0) (r : Result A E) (s : Result A Status) (log : A) → s ≡ with_status r → s ≡ Ok log → IfOk r P → P log
-given_log P (Ok given) s log is was holds = let same : given ≡ log = cc in subst P same holds
-given_log P (Err e) s log is was holds = cc
-
--- where fewer came than were asked for, they are all
-all_taken : {A : Type 0} (n : ℕ) (xs : List A) → length (take n xs) < n → take n xs ≡ xs
-all_taken zero xs less = absurd (omega (arith, less))
-all_taken (suc n) [] less = refl
-all_taken (suc n) (x ∷ xs) less = ap (λ ys. x ∷ ys) (all_taken n xs (omega (arith, less)))
-
-pub log_whole : (nodes : Nodes) (most : ℕ) (bytes : List ℕ) → bytes ≡ log_bytes nodes.source.desk.log (record { log = 1; pos = 0 }) most → length bytes < most
-    → (names : Names) (b : Both) → Together names nodes b → bytes ≡ log_of b.machine
-log_whole nodes most bytes is less names b together = is ∙ all_taken most nodes.source.desk.log (subst (λ (bs : List ℕ). length bs < most) is less) ∙ together.stands.log
-
 logged_by : {A : Type 0} (seen : A → Asked) (xs : List A) (report : Report) (before after : Option (List ℕ)) (nodes : Nodes) (log : List ℕ) → Going (map seen xs) (length xs) report before after nodes
     → ((names : Names) (b : Both) → Together names nodes b → log ≡ log_of b.machine) → Logged (map seen xs) report log
 logged_by seen xs report before after nodes log going is =
@@ -85,6 +70,7 @@ logged_by seen xs report before after nodes log going is =
       draws = going.draws;
       count = going.count_is ∙ count;
       told = going.told;
+      formats = going.formats;
       sound = going.together.sound;
       log_is = is going.names (end_of going.names (first_both going.names going.src) (map seen xs) going.draws) going.together;
     }

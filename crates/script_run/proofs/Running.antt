@@ -10,7 +10,7 @@ use Rattle.answer_text.specs.declared.status.Status.{Status}
 use Rattle.answer_text.specs.declared.status.Status.TheVariants.{Done, BadWords, BadScript, ReadFault, WriteFault, SourceDisk, ReplicaDisk, SourceDamaged, ReplicaDamaged, LogDamaged, LogForeign, Differs, NoMemory}
 use Rattle.run_model.specs.Asked.{Asked}
 use Rattle.run_model.specs.Run.{Names, Both, first_both, next, end_of, told_lines, lines_shown, draws_of, kept_if, is_said, is_drawn, mark_at, last_mark}
-use Rattle.run_laws.specs.Laws.{GoesThrough, NoneStops}
+use Rattle.run_laws.specs.Laws.{GoesThrough, IsLoggedAsSet, OfEach}
 use Rattle.run_streams.specs.Reports.{first_mark}
 use Rattle.run_streams.specs.Wrote.{Wrote, WroteFront}
 use Rattle.run_streams.proofs.Writing.{wrote_nothing, wrote_more}
@@ -79,18 +79,18 @@ mark_last names b k (x ∷ cs) (y ∷ ds) d c before is =
     let there : k + 1 + length ds ≡ k + suc (length ds) = omega arith in
     mark_last names (next names b x y).both (k + 1) cs ds d c (mark_at k b) is ∙ ap (λ n. mark_at n (end_of names (next names b x y).both cs ds)) there
 
--- ---- no APPLY stopped
+-- ---- what holds of each command
 
-no_stop : (names : Names) (b : Both) (cs : List Asked) → NoneStops names b cs []
-no_stop names b [] = tt
-no_stop names b (c ∷ cs) = tt
+each_none : (P : Both → Asked → Draw → Type 0) (names : Names) (b : Both) (cs : List Asked) → OfEach P names b cs []
+each_none P names b [] = tt
+each_none P names b (c ∷ cs) = tt
 
-stop_last : (names : Names) (b : Both) (cs : List Asked) (ds : List Draw) (d : Draw) (c : Asked) → slice_get cs (length ds) ≡ Some c → NoneStops names b cs ds
-    → GoesThrough (end_of names b cs ds).machine.history (next names (end_of names b cs ds) c d).told → NoneStops names b cs (ds ++ d ∷ [])
-stop_last names b [] ds d c is before here = cc
-stop_last names b (x ∷ cs) [] d c is before here =
-    let same : x ≡ c = cc in (subst (λ (y : Asked). GoesThrough b.machine.history (next names b y d).told) (sym same) here, no_stop names (next names b x d).both cs)
-stop_last names b (x ∷ cs) (y ∷ ds) d c is before here = (before.0, stop_last names (next names b x y).both cs ds d c is before.1 here)
+each_last : (P : Both → Asked → Draw → Type 0) (names : Names) (b : Both) (cs : List Asked) (ds : List Draw) (d : Draw) (c : Asked) → slice_get cs (length ds) ≡ Some c → OfEach P names b cs ds
+    → P (end_of names b cs ds) c d → OfEach P names b cs (ds ++ d ∷ [])
+each_last P names b [] ds d c is before here = cc
+each_last P names b (x ∷ cs) [] d c is before here =
+    let same : x ≡ c = cc in (subst (λ (y : Asked). P b y d) (sym same) here, each_none P names (next names b x d).both cs)
+each_last P names b (x ∷ cs) (y ∷ ds) d c is before here = (before.0, each_last P names (next names b x y).both cs ds d c is before.1 here)
 
 -- ---- the report
 
@@ -147,7 +147,8 @@ starts cs report before nodes opened = record {
     marks = opened.marks;
   };
   wrote = subst (λ (l : List ℕ). Wrote before before l) (sym (no_lines opened.names (first_both opened.names opened.src) 1 cs)) (wrote_nothing before);
-  unstopped = no_stop opened.names (first_both opened.names opened.src) cs;
+  unstopped = each_none (GoesThrough opened.names) opened.names (first_both opened.names opened.src) cs;
+  formats = each_none (IsLoggedAsSet opened.names) opened.names (first_both opened.names opened.src) cs;
   together = subst (λ (b : Both). Together opened.names nodes b) (sym (end_none opened.names (first_both opened.names opened.src) cs)) opened.together;
 }
 
@@ -170,7 +171,8 @@ goes_on cs i k c old new before now after nodes nodes' is k_is going step =
       wrote = subst (λ (l : List ℕ). Wrote before after l) (sym (lines_last names (first_both names going.src) 1 cs ds told.draw c here))
           (wrote_more before now after (lines_shown names (first_both names going.src) 1 cs ds) (told_lines (1 + length ds) (next names b c told.draw).told) going.wrote
           (subst (λ (n : ℕ). Wrote now after (told_lines n (next names b c told.draw).told)) number told.wrote));
-      unstopped = stop_last names (first_both names going.src) cs ds told.draw c here going.unstopped told.through;
+      unstopped = each_last (GoesThrough names) names (first_both names going.src) cs ds told.draw c here going.unstopped told.through;
+      formats = each_last (IsLoggedAsSet names) names (first_both names going.src) cs ds told.draw c here going.formats told.logged;
       together = subst (λ (b' : Both). Together names nodes' b') (sym (end_last names (first_both names going.src) cs ds told.draw c here)) told.together;
     }
 
@@ -189,6 +191,7 @@ ceased cs i old new before now after nodes within same grew going = record {
   rep_draws = grew.rep_draws ∙ ap (λ ds. ds ++ grew.rep_more) going.told.rep_draws;
   wrote = subst (λ (w : Option (List ℕ)). Wrote before w (lines_shown going.names (first_both going.names going.src) 1 cs going.draws)) (sym same) going.wrote;
   unstopped = going.unstopped;
+  formats = going.formats;
 }
 
 broke : (cs : List Asked) (i k : ℕ) (c : Asked) (old new : Report) (before now after : Option (List ℕ)) (nodes : Nodes) → slice_get cs i ≡ Some c → k ≡ i + 1
@@ -211,7 +214,8 @@ broke cs i k c old new before now after nodes is k_is going told =
       between = now;
       wrote = going.wrote;
       front = subst (λ (n : ℕ). WroteFront now after (told_lines n (next names b c told.draw).told)) number told.wrote;
-      unstopped = stop_last names (first_both names going.src) cs ds told.draw c here going.unstopped told.through;
+      unstopped = each_last (GoesThrough names) names (first_both names going.src) cs ds told.draw c here going.unstopped told.through;
+      formats = each_last (IsLoggedAsSet names) names (first_both names going.src) cs ds told.draw c here going.formats told.logged;
     }
 
 stops_by : (status : Status) (cs : List Asked) (i k : ℕ) (c : Asked) (old new : Report) (before now after : Option (List ℕ)) (nodes : Nodes) → i ≤ length cs → slice_get cs i ≡ Some c → k ≡ i + 1 → Grew old new
@@ -246,7 +250,9 @@ ends cs report before after nodes going = record {
   told = going.told;
   wrote = going.wrote;
   unstopped = going.unstopped;
+  formats = going.formats;
   sound = going.together.sound;
+  begun = going.together.begun;
   follows = going.together.follows;
 }
 
@@ -291,6 +297,7 @@ told_all names b k c old new nodes before after lines lined wrote = record {
   began = lined.began;
   wrote = subst (λ (l : List ℕ). Wrote before after l) lined.shows.lines_are wrote;
   through = lined.shows.through;
+  logged = lined.shows.logged;
   together = lined.shows.together;
 }
 
@@ -302,6 +309,7 @@ told_front names b k c old new nodes before after lines lined wrote = record {
   began = lined.began;
   wrote = subst (λ (l : List ℕ). WroteFront before after l) lined.shows.lines_are wrote;
   through = lined.shows.through;
+  logged = lined.shows.logged;
 }
 
 pub told_by : (r : Result (Unit {0}) Status) (names : Names) (b : Both) (k : ℕ) (c : Asked) (old new : Report) (nodes : Nodes) (before after : Option (List ℕ)) (lines : List ℕ) → Lined names b k c old new nodes lines

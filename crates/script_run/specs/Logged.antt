@@ -6,13 +6,13 @@ use Rattle.answer_text.specs.declared.status.Status.{Status}
 use Rattle.answer_text.specs.declared.status.Status.TheVariants.{Done, BadScript, ReadFault, WriteFault, NoMemory}
 use Rattle.session_model.specs.Machine.{log_of}
 use Rattle.run_model.specs.Asked.{Asked, asked_of}
-use Rattle.run_model.specs.Run.{Names, first_both, end_of}
-use Rattle.run_laws.specs.Laws.{IsSound}
+use Rattle.run_model.specs.Run.{Names, from_nothing, first_both, end_of}
+use Rattle.run_laws.specs.Laws.{AllLoggedAsSet, IsSound}
 use Rattle.run_streams.specs.Wrote.{Wrote, WroteFront}
 use Rattle.script_run.specs.Ran.{Reports, IsScript}
 
--- all commands were carried out, each at a draw that is told, and these are the bytes of the source's log behind them, from which
--- what it committed can be read again
+-- all commands were carried out, each at a draw that is told, and these are the bytes of the source's log behind them, in which each
+-- session's transactions stand in the format that it had, and from which what was committed can be read again
 pub record Logged (cs : List Asked) (report : Report) (log : List ℕ) : Type 0 where
   pub names : Names
   pub src : Draw
@@ -20,7 +20,8 @@ pub record Logged (cs : List Asked) (report : Report) (log : List ℕ) : Type 0 
   pub draws : List Draw
   pub count : length draws ≡ length cs
   pub told : Reports names src rep cs draws report
-  pub sound : IsSound (end_of names (first_both names src) cs draws).machine
+  pub formats : AllLoggedAsSet names (first_both names src) cs draws
+  pub sound : IsSound from_nothing (end_of names (first_both names src) cs draws).machine
   pub log_is : log ≡ log_of (end_of names (first_both names src) cs draws).machine
 
 -- the log of the commands of the script on the input, which was read whole, was written

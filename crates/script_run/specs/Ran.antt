@@ -5,9 +5,9 @@ use Rattle.answer_text.specs.declared.report.Report.{Report}
 use Rattle.answer_text.specs.declared.status.Status.{Status}
 use Rattle.answer_text.specs.declared.status.Status.TheVariants.{Done, BadWords, BadScript, ReadFault, WriteFault, SourceDisk, ReplicaDisk, SourceDamaged, ReplicaDamaged, LogDamaged, LogForeign, Differs, NoMemory}
 use Rattle.run_model.specs.Asked.{Asked, asked_of}
-use Rattle.run_model.specs.Run.{Names, first_both, next, end_of, told_lines, lines_shown, of_source, of_replica, last_mark}
+use Rattle.run_model.specs.Run.{Names, from_nothing, first_both, next, end_of, told_lines, lines_shown, of_source, of_replica, last_mark}
 use Rattle.run_model.specs.Following.{Follows}
-use Rattle.run_laws.specs.Laws.{IsSound, NoneStops}
+use Rattle.run_laws.specs.Laws.{AllLoggedAsSet, IsSound, NoneStops}
 use Rattle.run_streams.specs.Reports.{first_mark}
 use Rattle.run_streams.specs.Wrote.{Wrote, WroteFront}
 
@@ -21,10 +21,12 @@ pub record Reports (names : Names) (src rep : Draw) (cs : List Asked) (ds : List
   pub now : report.now ≡ last_mark names (first_both names src) 1 cs ds first_mark
   pub marks : report.marks ≡ []
 
--- All commands were carried out, each at a draw, and the lines of what they were told were written. No APPLY stopped before something
--- was logged by its text, and none at anything but an item that has no effect. What was committed on the way makes the committed base,
--- and its statements, run again one transaction after the other, give just the changes of its entries. The replica follows the source:
--- it has carried out the first entries that were committed, and where these are logged by their rows, its base is what they make.
+-- Both nodes began with nothing. All commands were carried out, each at a draw, and the lines of what they were told were written. No APPLY stopped where each item
+-- that it came to does the same at every replica, and none at anything but an item that has no effect. Each session's transactions are
+-- logged in the format that it had. What was committed on the way makes the committed base, and its statements, run again one
+-- transaction after the other, give just the changes of its entries. The replica follows the source: it has carried out the first
+-- entries that were committed, its base and counters are what an applier makes of these, each at the draw of its APPLY, and where each
+-- item of them does the same at every replica, its base is what they make.
 pub record Ran (cs : List Asked) (report : Report) (before after : Option (List ℕ)) : Type 0 where
   pub names : Names
   pub src : Draw
@@ -34,8 +36,10 @@ pub record Ran (cs : List Asked) (report : Report) (before after : Option (List 
   pub told : Reports names src rep cs draws report
   pub wrote : Wrote before after (lines_shown names (first_both names src) 1 cs draws)
   pub unstopped : NoneStops names (first_both names src) cs draws
-  pub sound : IsSound (end_of names (first_both names src) cs draws).machine
-  pub follows : Follows (end_of names (first_both names src) cs draws)
+  pub formats : AllLoggedAsSet names (first_both names src) cs draws
+  pub sound : IsSound from_nothing (end_of names (first_both names src) cs draws).machine
+  pub begun : (end_of names (first_both names src) cs draws).from ≡ from_nothing
+  pub follows : Follows names (end_of names (first_both names src) cs draws)
 
 -- writing broke off in the lines of the last command: those before it are whole
 pub record Broke (cs : List Asked) (report : Report) (before after : Option (List ℕ)) : Type 0 where
@@ -51,6 +55,7 @@ pub record Broke (cs : List Asked) (report : Report) (before after : Option (Lis
   pub wrote : Wrote before between (lines_shown names (first_both names src) 1 cs draws)
   pub front : WroteFront between after (told_lines (1 + length draws) (next names (end_of names (first_both names src) cs draws) command last).told)
   pub unstopped : NoneStops names (first_both names src) cs (draws ++ last ∷ [])
+  pub formats : AllLoggedAsSet names (first_both names src) cs (draws ++ last ∷ [])
 
 -- memory was short behind some commands: whole lines were written, and the report begins with the draws of these
 pub record Ceased (cs : List Asked) (report : Report) (before after : Option (List ℕ)) : Type 0 where
@@ -67,6 +72,7 @@ pub record Ceased (cs : List Asked) (report : Report) (before after : Option (Li
   pub rep_draws : report.rep_draws ≡ (rep ∷ of_replica cs draws) ++ rep_more
   pub wrote : Wrote before after (lines_shown names (first_both names src) 1 cs draws)
   pub unstopped : NoneStops names (first_both names src) cs draws
+  pub formats : AllLoggedAsSet names (first_both names src) cs draws
 
 -- the commands of the script on the input, which was read whole
 pub record IsScript (cs : List Asked) (script left : Option (List ℕ)) : Type 0 where

@@ -6,7 +6,7 @@ use Rattle.answer_text.specs.declared.status.Status.{Status}
 use Rattle.answer_text.specs.declared.status.Status.TheVariants.{Done, WriteFault, NoMemory}
 use Rattle.run_model.specs.Asked.{Asked}
 use Rattle.run_model.specs.Run.{Names, first_both, end_of, lines_shown}
-use Rattle.run_laws.specs.Laws.{NoneStops}
+use Rattle.run_laws.specs.Laws.{AllLoggedAsSet, NoneStops}
 use Rattle.run_streams.specs.Wrote.{Wrote}
 use Rattle.script_run.specs.declared.nodes.Nodes.{Nodes}
 use Rattle.script_run.specs.Ran.{Reports, Ran, Broke, Ceased}
@@ -22,6 +22,7 @@ pub record Going (cs : List Asked) (count : ℕ) (report : Report) (before now :
   pub told : Reports names src rep cs draws report
   pub wrote : Wrote before now (lines_shown names (first_both names src) 1 cs draws)
   pub unstopped : NoneStops names (first_both names src) cs draws
+  pub formats : AllLoggedAsSet names (first_both names src) cs draws
   pub together : Together names nodes (end_of names (first_both names src) cs draws)
 
 -- how commands end; a status without a case here cannot come

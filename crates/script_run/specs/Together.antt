@@ -7,23 +7,24 @@ use Rattle.answer_text.specs.declared.status.Status.TheVariants.{WriteFault, NoM
 use Rattle.source_node.specs.Standing.{Stands}
 use Rattle.replica_node.specs.Kept.{replica_of}
 use Rattle.run_model.specs.Asked.{Asked}
-use Rattle.run_model.specs.Run.{Names, Both, first_both, next, told_lines, is_said, is_drawn, kept_if, mark_at}
+use Rattle.run_model.specs.Run.{Names, Both, from_nothing, first_both, next, told_lines, is_said, is_drawn, kept_if, mark_at}
 use Rattle.run_model.specs.Following.{Follows}
-use Rattle.run_laws.specs.Laws.{IsSound, GoesThrough}
+use Rattle.run_laws.specs.Laws.{IsSound, IsLoggedAsSet, GoesThrough}
 use Rattle.run_streams.specs.Reports.{first_mark}
 use Rattle.run_streams.specs.Wrote.{Wrote, WroteFront}
 use Rattle.script_run.specs.declared.nodes.Nodes.{Nodes}
 
 -- The nodes stand for those of a run: they have the names, the source keeps the machine's state and its log, the replica is the
--- run's. What the source committed can be run and read again, and the replica follows it.
+-- run's. Both began with nothing. What the source committed can be run and read again, and the replica follows it.
 pub record Together (names : Names) (nodes : Nodes) (b : Both) : Type 0 where
   pub source_name : nodes.source.identity ≡ names.source
   pub replica_name : nodes.replica.identity ≡ names.replica
   pub stands : Stands nodes.source b.machine
   pub slots : length b.machine.state.sessions ≡ 100
   pub replica : replica_of nodes.replica ≡ b.replica
-  pub sound : IsSound b.machine
-  pub follows : Follows b
+  pub begun : b.from ≡ from_nothing
+  pub sound : IsSound from_nothing b.machine
+  pub follows : Follows names b
 
 -- ---- the report
 
@@ -46,11 +47,12 @@ pub record Grew (old new : Report) : Type 0 where
 
 -- ---- one command
 
--- these lines show a command that was carried out at a draw, which no APPLY stopped where nothing was logged by its text, and none at
--- anything but an item that has no effect
+-- these lines show a command that was carried out at a draw: no APPLY that stopped where each item that it came to does the same at
+-- every replica, and none that stopped at anything but an item that has no effect
 pub record Shows (names : Names) (b : Both) (k : ℕ) (c : Asked) (draw : Draw) (nodes : Nodes) (lines : List ℕ) : Type 0 where
   pub lines_are : lines ≡ told_lines k (next names b c draw).told
-  pub through : GoesThrough b.machine.history (next names b c draw).told
+  pub through : GoesThrough names b c draw
+  pub logged : IsLoggedAsSet names b c draw
   pub together : Together names nodes (next names b c draw).both
 
 -- and the draw was told
@@ -73,7 +75,8 @@ pub record Told (names : Names) (b : Both) (k : ℕ) (c : Asked) (old new : Repo
   pub drew : Drew c draw old new
   pub began : new.now ≡ mark_at k b
   pub wrote : Wrote before after (told_lines k (next names b c draw).told)
-  pub through : GoesThrough b.machine.history (next names b c draw).told
+  pub through : GoesThrough names b c draw
+  pub logged : IsLoggedAsSet names b c draw
   pub together : Together names nodes (next names b c draw).both
 
 -- a front of them was written
@@ -82,7 +85,8 @@ pub record ToldFront (names : Names) (b : Both) (k : ℕ) (c : Asked) (old new :
   pub drew : Drew c draw old new
   pub began : new.now ≡ mark_at k b
   pub wrote : WroteFront before after (told_lines k (next names b c draw).told)
-  pub through : GoesThrough b.machine.history (next names b c draw).told
+  pub through : GoesThrough names b c draw
+  pub logged : IsLoggedAsSet names b c draw
 
 -- a command that stopped: at a fault of the output, or where memory was short
 abbrev pub Stopped : Status → Names → Both → ℕ → Asked → Report → Report → Option (List ℕ) → Option (List ℕ) → Type 0

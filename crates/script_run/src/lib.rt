@@ -25,12 +25,17 @@
 //!   were written, and each is told what both nodes of the definition tell; the report tells who the nodes are and these draws.
 //!   What the statements of the committed entries give, run again one transaction after the other, are just the changes of the
 //!   entries, and these make the committed base of an empty one; each entry can be read again from the log, so that the log is its
-//!   entries (`run_laws::log_is_its_entries`). The replica follows the source: it has carried out the first of
-//!   these entries, each once and in their order, however FETCH cut the log. Where these are logged by their rows, its base is what
-//!   they make of an empty one, and where they are all, it is the source's (`run_laws::all_carried_is_equal`). No APPLY stopped before
-//!   a transaction was logged by its text, and none at anything but an item that has no effect at the replica.
+//!   entries (`run_laws::log_is_its_entries`). What a session's text commits is logged in the format that the session had before it:
+//!   by its text under STATEMENT, by its rows under ROW, and under MIXED by its text exactly where it has no reason (`formats`).
+//!   The replica follows the source: it has carried out the first of these entries, each once and in their order, however FETCH cut
+//!   the log, and its base and counters are what the definition of an applier makes of their groups, each at the draw of its APPLY,
+//!   whatever texts are among them. Where each item of them does the same at every replica, its base is what they make of an empty
+//!   one, and where they are all, it is the source's (`run_laws::all_carried_is_equal`). No APPLY stopped where each item that it
+//!   came to does the same at every replica, and none at anything but an item that has no effect at the replica. Each item does
+//!   where it is logged by its rows, is not warned, or is warned because of RAND() alone; so under MIXED and ROW each does
+//!   (`session_replays::unwarned_items_follow`, `run_laws::others_follow`).
 //!   WriteFault: the first commands were carried out, each at a draw that the report tells; the lines of all but the last were
-//!   written, of the last's a front, and no APPLY stopped before a transaction was logged by its text. BadScript: the
+//!   written, of the last's a front, and of APPLY and of the formats the same is known. BadScript: the
 //!   byte is the first at which no command begins, or else the first of a command that no node carries out, and nothing was
 //!   written. ReadFault: nothing was written. NoMemory: nothing was written, or the lines of the first commands, whole, and the
 //!   report begins with their draws. No other status comes.
@@ -41,8 +46,8 @@
 //! - The report's identities and draws are the environments' at any status (`source`, `replica`), and at any but NoMemory all
 //!   that was drawn is told (`src_drawn`, `rep_drawn`).
 //! - [`write_log`], by its status (`run`). Done: all commands of the script on the input, which was read whole, were carried out,
-//!   each at a draw that the report tells, and the bytes of the log of the machine behind them were written. WriteFault: a front
-//!   of these. BadScript, ReadFault and NoMemory: nothing was written, and BadScript is at the byte at which [`run_script`] would
+//!   each at a draw that the report tells, and the bytes of the log of the machine behind them were written, in which each session's
+//!   transactions stand in its format. WriteFault: a front of these. BadScript, ReadFault and NoMemory: nothing was written, and BadScript is at the byte at which [`run_script`] would
 //!   have it. No other status comes. A fault comes only where the stream's count of faults rose, or stands at its last value
 //!   (`read_fault`, `write_fault`); the report is true at any status (`source`, `replica`).
 //!

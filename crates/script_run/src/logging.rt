@@ -15,6 +15,7 @@ use crate::asked::{Asked, read_asked};
 use crate::commands::{answer_all, open_nodes};
 use crate::nodes::Nodes;
 use answer_text::{Report, Status};
+use log_model::{entries_have_length, heads_have_length};
 use node_answers::NodeFault;
 use port_traits::{Env, Failed, Sink, Source};
 use run_streams::{read_script, with_status, write_line};
@@ -45,12 +46,10 @@ fn whole_log(alloc: Global, nodes: &Nodes) -> Result<Bytes, Status>
     ensures log { (names : Names) (b : Both) → Together names nodes.now b → IfOk result (λ log. log ≡ log_of b.machine) }
     ensures short { IfErr result (λ status. status ≡ Status.NoMemory) }
 {
-    let log = with_status(nodes.source.log_bytes(alloc, FIRST_LOG, 0, u32::MAX))?;
-    // A log never gets as long as a position can say.
-    if log.len() >= u32::MAX as usize {
-        return Err(Status::NoMemory);
-    }
-    Ok(log)
+    entries_have_length();
+    heads_have_length();
+    // The log of a run ends far below the last place.
+    with_status(nodes.source.log_bytes(alloc, FIRST_LOG, 0, u32::MAX))
 }
 
 /// Carries out the commands in order, without a line of what they are told, and gives the source's log behind them.

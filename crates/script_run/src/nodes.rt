@@ -10,11 +10,13 @@ ghost use Rattle.script_run.specs.Together.{CarriedOut, Grew, Shows, Together};
 use crate::asked::Asked;
 use answer_text::{Mark, Report, shown};
 use entry_groups::entries_can_log_on;
+use log_model::{entries_have_length, heads_have_length};
 use node_answers::NodeFault;
 use port_traits::Env;
 use replica_node::{ReplicaNode, applied_line, fetched_line};
 use run_laws::replica_follows;
 use run_streams::take_draw;
+use session_model::formats_decide;
 use session_replays::transactions_replay;
 use source_node::SourceNode;
 use std::alloc::Global;
@@ -61,6 +63,7 @@ impl Nodes {
         ensures grew { Grew report.old report.new }
     {
         transactions_replay();
+        formats_decide();
         entries_can_log_on();
         replica_follows();
         let draw = take_draw(env, &mut report.src_draws)?;
@@ -96,12 +99,12 @@ impl Nodes {
             Shows names b number (take_bytes count) draw self.new lines) }
     {
         replica_follows();
+        entries_have_length();
+        heads_have_length();
         let (log, pos) = self.replica.want();
-        let piece = self.source.log_bytes(alloc, log, pos, count)?;
-        // A log never gets as long as a position can say.
-        if piece.len() > (u32::MAX - pos) as usize {
-            return Err(NodeFault::NoMemory);
-        }
+        // The log of a run ends far below the last place, so that this leaves nothing out.
+        let most = count.min(u32::MAX - pos);
+        let piece = self.source.log_bytes(alloc, log, pos, most)?;
         self.replica.fetch(&piece)?;
         Ok(fetched_line(alloc, number, piece.len() as u32)?)
     }

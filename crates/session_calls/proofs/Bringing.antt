@@ -1,5 +1,5 @@
 -- Steps behind others bring a procedure to its end.
-use Rattle.std.proofs.Common.{◌≡◌, ℕ, List, [], ◌∷◌, ◌++◌, Option, Some, None, Result, Ok, Err, IfOk, refl, sym, ap, ◌∙◌, subst, append-nil}
+use Rattle.std.proofs.Common.{◌≡◌, ℕ, Bool, List, [], ◌∷◌, ◌++◌, Option, Some, None, Result, Ok, Err, IfOk, refl, sym, ap, ◌∙◌, subst, append-nil}
 use Rattle.val_types.specs.declared.value.Value.{Value}
 use Rattle.answer_text.specs.declared.answer.Answer.{Answer}
 use Rattle.log_entries.specs.declared.entries.Item.{Item}
@@ -15,12 +15,13 @@ use Rattle.catalog_rules.specs.Objects.{Object}
 use Rattle.proc_model.specs.Talk.{Effect, Left, Led, Refusal, Talk, Told, brought}
 use Rattle.proc_model.specs.Procedures.{Came, called, scope_of}
 use Rattle.proc_model.proofs.Leading.{led_stands}
+use Rattle.session_model.specs.Answers.{with_warning}
 use Rattle.session_model.specs.Sessions.{Session, Shared}
 use Rattle.session_model.specs.Running.{Call, Given, Turn, statement_run, values_run}
 use Rattle.session_model.specs.Calling.{Reached, assign_step, came_to, effect_of, evaluate_step, reached_by, run_step, same, step_check, steps_of, told_of, unless_checked, with_counted}
 use Rattle.session_desk.specs.Desk.{shared_of}
 use Rattle.session_calls.specs.Stepping.{AssignedStep, GaveStep, RanStep, Stood, call_by, reached, start_of, step_rules}
-use Rattle.session_steps.specs.Turned.{IsTurn, Moves, behind_turn}
+use Rattle.session_steps.specs.Turned.{IsTurn, behind_turn}
 use Rattle.session_desk.specs.declared.desk.Desk.{Desk}
 use Rattle.session_calls.specs.declared.steps.CallSteps.{CallSteps}
 use Rattle.session_calls.proofs.Counting.{Counts, checked_counts, none_counted, statement_counts, stood_on, values_count}
@@ -30,17 +31,18 @@ abbrev bare : Reached Item → Reached Item
 bare at = record at { committed = [] }
 
 -- a step that begins where others ended tells the same, and its entries go behind theirs
-behind_checked : {A B : Type 0} (refusal : Option Refusal) (left : Left) (at : Reached Item) (told : Told A) (t : Turn Item B)
+behind_checked : {A B : Type 0} (refusal : Option Refusal) (left : Left) (at : Reached Item) (told : Told A) (t : Turn Item (Given B))
     → ((unless_checked refusal left (bare at) (told, reached_by (bare at) t)).0 ≡ (unless_checked refusal left at (told, reached_by at t)).0)
     × (behind_turn at (unless_checked refusal left (bare at) (told, reached_by (bare at) t)).1 ≡ (unless_checked refusal left at (told, reached_by at t)).1)
 behind_checked None left at told t = (refl, refl)
-behind_checked (Some refusal) left at told t = (refl, ap (λ (es : List (Entry Item)). record { shared = at.shared; session = at.session; committed = es; given = tt }) (append-nil at.committed))
+behind_checked (Some refusal) left at told t = (refl, ap (λ (es : List (Entry Item)). record { shared = at.shared; session = at.session; committed = es; given = at.given }) (append-nil at.committed))
 
 -- where desk and session stand
-bare_is : (old now : Desk) (session : Session Item) (at : Reached Item) → Moves old now session at → reached now session ≡ bare at
-bare_is old now session at moves =
-    ap (λ (s : Shared). record { shared = s; session = session; committed = []; given = tt }) moves.0
-    ∙ ap (λ (s : Session Item). record { shared = at.shared; session = s; committed = []; given = tt }) moves.1
+bare_is : (old now : Desk) (session : Session Item) (warned : Bool) (at : Reached Item) → IsTurn old now session warned at → reached now session warned ≡ bare at
+bare_is old now session warned at turn =
+    ap (λ (s : Shared). record { shared = s; session = session; committed = []; given = warned }) turn.0.0
+    ∙ ap (λ (s : Session Item). record { shared = at.shared; session = s; committed = []; given = warned }) turn.0.1
+    ∙ ap (λ (b : Bool). record { shared = at.shared; session = at.session; committed = []; given = b }) turn.1
 
 module _ (call : Call Item) where
   run_behind : (left : Left) (s : Statement) (at : Reached Item) → ((run_step call left s (bare at)).0 ≡ (run_step call left s at).0) × (behind_turn at (run_step call left s (bare at)).1 ≡ (run_step call left s at).1)
@@ -75,20 +77,21 @@ counted_values s left locals ts =
 module _ (call : Call Item) (old : Desk) where
   -- who carries it out stands where a turn so far left it
   abbrev Stands : CallSteps → Reached Item → Type 0
-  Stands s at = (call_by s ≡ call) × Stood old s.desk s.session at
+  Stands s at = (call_by s ≡ call) × Stood old s.desk s.session s.warned at
 
   -- a step there is the step from there on
   step_from : {A : Type 0} (step : Reached Item → Told A × Reached Item) (before after : CallSteps) (at : Reached Item) (told : Told A) → Stands before at
       → ((step (bare at)).0 ≡ (step at).0) × (behind_turn at (step (bare at)).1 ≡ (step at).1)
-      → call_by after ≡ call_by before → (told ≡ (step (start_of before)).0) → Moves before.desk after.desk after.session (step (start_of before)).1 → Counts (shared_of before.desk) (step (start_of before)).1
+      → call_by after ≡ call_by before → (told ≡ (step (start_of before)).0) → IsTurn before.desk after.desk after.session after.warned (step (start_of before)).1 → Counts (shared_of before.desk) (step (start_of before)).1
       → (told ≡ (step at).0) × Stands after (step at).1
-  step_from step before after at told stands behind who said moves counts =
-      let here : start_of before ≡ bare at = bare_is old before.desk before.session at stands.1.moves in
-      let stood : Stood old after.desk after.session (behind_turn at (step (start_of before)).1) = stood_on old before.desk after.desk before.session after.session at (step (start_of before)).1 stands.1 moves counts in (
+  step_from step before after at told stands behind who said turn counts =
+      let here : start_of before ≡ bare at = bare_is old before.desk before.session before.warned at stands.1.turn in
+      let stood : Stood old after.desk after.session after.warned (behind_turn at (step (start_of before)).1) =
+      stood_on old before.desk after.desk before.session after.session before.warned after.warned at (step (start_of before)).1 stands.1 turn counts in (
         said ∙ ap (λ (r : Reached Item). (step r).0) here ∙ behind.0,
         (
           who ∙ stands.0,
-          subst (λ (r : Reached Item). Stood old after.desk after.session r) (ap (λ (r : Reached Item). behind_turn at (step r).1) here ∙ behind.1) stood,
+          subst (λ (r : Reached Item). Stood old after.desk after.session after.warned r) (ap (λ (r : Reached Item). behind_turn at (step r).1) here ∙ behind.1) stood,
         ),
       )
 
@@ -97,7 +100,7 @@ module _ (call : Call Item) (old : Desk) where
   run_stands before after left s told at ran stands =
       let said : told ≡ (run_step call left s (start_of before)).0 = ran.1.0 ∙ ap (λ (c : Call Item). (run_step c left s (start_of before)).0) stands.0 in
       step_from (run_step call left s) before after at told stands (run_behind call left s at) ran.0 said
-      (subst (λ (c : Call Item). Moves before.desk after.desk after.session (run_step c left s (start_of before)).1) stands.0 ran.1.1)
+      (subst (λ (c : Call Item). IsTurn before.desk after.desk after.session after.warned (run_step c left s (start_of before)).1) stands.0 ran.1.1)
       (subst (λ (c : Call Item). Counts (shared_of before.desk) (run_step c left s (start_of before)).1) stands.0 (counted_run before left s))
 
   evaluate_stands : (before after : CallSteps) (left : Left) (locals : List Local) (ts : Trees) (told : Told (List Value)) (at : Reached Item) → GaveStep before left locals ts told after → Stands before at
@@ -105,37 +108,40 @@ module _ (call : Call Item) (old : Desk) where
   evaluate_stands before after left locals ts told at gave stands =
       let said : told ≡ (evaluate_step call left locals ts (start_of before)).0 = gave.1.0 ∙ ap (λ (c : Call Item). (evaluate_step c left locals ts (start_of before)).0) stands.0 in
       step_from (evaluate_step call left locals ts) before after at told stands (evaluate_behind call left locals ts at) gave.0 said
-      (subst (λ (c : Call Item). Moves before.desk after.desk after.session (evaluate_step c left locals ts (start_of before)).1) stands.0 gave.1.1)
+      (subst (λ (c : Call Item). IsTurn before.desk after.desk after.session after.warned (evaluate_step c left locals ts (start_of before)).1) stands.0 gave.1.1)
       (subst (λ (c : Call Item). Counts (shared_of before.desk) (evaluate_step c left locals ts (start_of before)).1) stands.0 (counted_values before left locals ts))
 
   assign_stands : (before after : CallSteps) (n : List ℕ) (v : Value) (at : Reached Item) → AssignedStep before n v after → Stands before at → Stands after (assign_step n v at)
   assign_stands before after n v at assigned stands =
-      let here : start_of before ≡ bare at = bare_is old before.desk before.session at stands.1.moves in
-      let stood : Stood old after.desk after.session (behind_turn at (assign_step n v (start_of before))) =
-      stood_on old before.desk after.desk before.session after.session at (assign_step n v (start_of before)) stands.1 assigned.1 (none_counted (shared_of before.desk) (assign_step n v (start_of before)) refl refl refl) in (
+      let here : start_of before ≡ bare at = bare_is old before.desk before.session before.warned at stands.1.turn in
+      let stood : Stood old after.desk after.session after.warned (behind_turn at (assign_step n v (start_of before))) =
+      stood_on old before.desk after.desk before.session after.session before.warned after.warned at (assign_step n v (start_of before)) stands.1 assigned.1 (none_counted (shared_of before.desk) (assign_step n v (start_of before)) refl refl refl) in (
         assigned.0 ∙ stands.0,
-        subst (λ (r : Reached Item). Stood old after.desk after.session r)
+        subst (λ (r : Reached Item). Stood old after.desk after.session after.warned r)
             (ap (λ (r : Reached Item). behind_turn at (assign_step n v r)) here ∙ ap (λ (es : List (Entry Item)). record (assign_step n v at) { committed = es }) (append-nil at.committed)) stood,
       )
 
   -- what led it is what the machine's steps bring
   pub call_turns : (catalog : List Object) (left : Left) (name : List ℕ) (vs : List Value) (before after : CallSteps) (came : Came) (at : Reached Item) → call_by before ≡ call
-      → Led step_rules (called catalog left name vs) before came after → Stood old before.desk before.session at
-      → IsTurn old after.desk after.session came.answer (came_to (brought (steps_of call) (called catalog left name vs) at))
+      → Led step_rules (called catalog left name vs) before came after → Stood old before.desk before.session before.warned at
+      → IsTurn old after.desk after.session (with_warning after.warned came.answer) (came_to (brought (steps_of call) (called catalog left name vs) at))
   call_turns catalog left name vs before after came at who led stood =
       let ends = led_stands step_rules (steps_of call) Stands run_stands evaluate_stands assign_stands (called catalog left name vs) before after came at led (who, stood) in
-      (ends.1.1.moves, ap (λ (c : Came). c.answer) ends.0)
+      (ends.1.1.turn.0, ap (λ (c : Came). with_warning after.warned c.answer) ends.0 ∙ ap (λ (b : Bool). with_warning b (brought (steps_of call) (called catalog left name vs) at).0.answer) ends.1.1.turn.1)
 
 -- as the code has it: who carries it out begins with the desk and the session, and with an equal catalog
-pub call_so : (call : Call Item) (catalog : List Object) (left : Left) (name : List ℕ) (vs : List Value) (before after : CallSteps) (came : Came) (desk last : Desk) (session left' : Session Item)
-    → call_by before ≡ call → before.desk ≡ desk → before.session ≡ session → catalog ≡ (shared_of desk).base.catalog → Led step_rules (called catalog left name vs) before came after
-    → last ≡ after.desk → left' ≡ after.session → (old : Desk) (at : Reached Item) → Stood old desk session at
-    → IsTurn old last left' came.answer (came_to (brought (steps_of call) (called at.shared.base.catalog left name vs) at))
-call_so call catalog left name vs before after came desk last session left' who desks sessions objects led back backs old at stood =
-    let begun : Stood old before.desk before.session at = subst (λ (d : Desk). Stood old d before.session at) (sym desks) (subst (λ (s : Session Item). Stood old desk s at) (sym sessions) stood) in
-    let same : catalog ≡ at.shared.base.catalog = objects ∙ ap (λ (s : Shared). s.base.catalog) stood.moves.0 in
-    let turn : IsTurn old after.desk after.session came.answer (came_to (brought (steps_of call) (called at.shared.base.catalog left name vs) at)) =
-    subst (λ (os : List Object). IsTurn old after.desk after.session came.answer (came_to (brought (steps_of call) (called os left name vs) at))) same
+pub call_so : (call : Call Item) (catalog : List Object) (left : Left) (name : List ℕ) (vs : List Value) (before after : CallSteps) (came : Came) (desk last : Desk) (session left' : Session Item) (was warned : Bool) (answer : Answer)
+    → call_by before ≡ call → before.desk ≡ desk → before.session ≡ session → before.warned ≡ was → catalog ≡ (shared_of desk).base.catalog → Led step_rules (called catalog left name vs) before came after
+    → last ≡ after.desk → left' ≡ after.session → warned ≡ after.warned → answer ≡ with_warning warned came.answer → (old : Desk) (at : Reached Item) → Stood old desk session was at
+    → IsTurn old last left' answer (came_to (brought (steps_of call) (called at.shared.base.catalog left name vs) at))
+call_so call catalog left name vs before after came desk last session left' was warned answer who desks sessions warns objects led back backs told said old at stood =
+    let begun : Stood old before.desk before.session before.warned at =
+    subst (λ (d : Desk). Stood old d before.session before.warned at) (sym desks)
+    (subst (λ (s : Session Item). Stood old desk s before.warned at) (sym sessions) (subst (λ (b : Bool). Stood old desk session b at) (sym warns) stood)) in
+    let same : catalog ≡ at.shared.base.catalog = objects ∙ ap (λ (s : Shared). s.base.catalog) stood.turn.0.0 in
+    let turn : IsTurn old after.desk after.session (with_warning after.warned came.answer) (came_to (brought (steps_of call) (called at.shared.base.catalog left name vs) at)) =
+    subst (λ (os : List Object). IsTurn old after.desk after.session (with_warning after.warned came.answer) (came_to (brought (steps_of call) (called os left name vs) at))) same
     (call_turns call old catalog left name vs before after came at who led begun) in
-    subst (λ (d : Desk). IsTurn old d left' came.answer (came_to (brought (steps_of call) (called at.shared.base.catalog left name vs) at))) (sym back)
-    (subst (λ (s : Session Item). IsTurn old after.desk s came.answer (came_to (brought (steps_of call) (called at.shared.base.catalog left name vs) at))) (sym backs) turn)
+    subst (λ (a : Answer). IsTurn old last left' a (came_to (brought (steps_of call) (called at.shared.base.catalog left name vs) at))) (sym (said ∙ ap (λ (b : Bool). with_warning b came.answer) told))
+    (subst (λ (d : Desk). IsTurn old d left' (with_warning after.warned came.answer) (came_to (brought (steps_of call) (called at.shared.base.catalog left name vs) at))) (sym back)
+    (subst (λ (s : Session Item). IsTurn old after.desk s (with_warning after.warned came.answer) (came_to (brought (steps_of call) (called at.shared.base.catalog left name vs) at))) (sym backs) turn))

@@ -21,13 +21,13 @@ use Rattle.proc_model.specs.Talk.{Left, Refusal, Told}
 use Rattle.session_ctx.specs.declared.session.SessionVars.{SessionVars}
 use Rattle.session_model.specs.Sessions.{Open, Session, Shared}
 use Rattle.session_model.specs.declared.format.Format.{Format}
-use Rattle.session_model.specs.Running.{Call, Given, Turn, ended, fuel_of, is_other, item_of, keep, made_behind, scene_for, setting_of, settle, statement_run, takes_too_much, undone, values_run, with_context, with_counters}
+use Rattle.session_model.specs.Running.{Call, Given, Turn, ended, given_by, is_other, is_warned, item_of, keep, made_behind, scene_for, setting_of, settle, statement_run, takes_too_much, undone, values_run, with_context, with_counters}
 use Rattle.session_model.specs.Calling.{Reached, arguments_run, reached_by, unless_checked}
 use Rattle.session_steps.specs.Calls.{call_of}
 use Rattle.session_desk.specs.Desk.{shared_of}
 use Rattle.session_calls.specs.Stepping.{Stood}
 use Rattle.session_desk.specs.Logging.{Logs, logged}
-use Rattle.session_steps.specs.Turned.{Moves, behind_turn}
+use Rattle.session_steps.specs.Turned.{IsTurn, behind_turn}
 use Rattle.session_desk.specs.declared.desk.Desk.{Desk}
 use Rattle.session_desk.proofs.Logging.{logged_is}
 
@@ -66,8 +66,10 @@ module _ (identity : Identity) (draw : Draw) (n : ℕ) where
   ended_counts : {A : Type 0} (left : Left) (text : List ℕ) (tree : Statement) (shared : Shared) (session : Session Item) (first last_id : A → Option ℤ) (before : Scene) (ending : Ending A)
       → Counts shared (ended (call_of identity draw n) left text tree shared session first last_id before ending)
   ended_counts left text tree shared session first last_id before (done a scene) =
-      settle_counts (item_of (call_of identity draw n) session.format left text tree session.vars.context shared (first a)) (made_behind (is_other n shared.writer) before scene) scene shared
-      (with_context (context_after session.vars.context tree scene.seeds (last_id a)) session) (record { result = Ok a; fuel = fuel_of scene }) (undone 1197 tree shared session scene) (record { count = refl; place = refl })
+      let made : List Change = made_behind (is_other n shared.writer) before scene in
+      settle_counts (item_of (call_of identity draw n) session.format left text tree session.vars.context shared (first a)) made scene shared
+      (with_context (context_after session.vars.context tree scene.seeds (last_id a)) session) (given_by a scene (is_warned session.format shared.base.catalog tree made)) (undone 1197 tree shared session scene)
+      (record { count = refl; place = refl })
   ended_counts left text tree shared session first last_id before (failed code scene) = record { count = refl; place = refl }
 
   pub statement_counts : (left : Left) (text : List ℕ) (s : Statement) (shared : Shared) (session : Session Item) → Counts shared (statement_run (call_of identity draw n) left text s shared session)
@@ -82,7 +84,7 @@ module _ (identity : Identity) (draw : Draw) (n : ℕ) where
       (evaluation (setting_of shared.base.catalog session.vars.context (number_of_bytes 0 draw.uuid)) left.nesting locals ts (scene_for n left session.vars.context shared))
 
 -- a step of a procedure, or its refusal
-pub checked_counts : {A B : Type 0} (refusal : Option Refusal) (left : Left) (at : Reached Item) (told : Told A) (t : Turn Item B) → at.committed ≡ [] → Counts at.shared t
+pub checked_counts : {A B : Type 0} (refusal : Option Refusal) (left : Left) (at : Reached Item) (told : Told A) (t : Turn Item (Given B)) → at.committed ≡ [] → Counts at.shared t
     → Counts at.shared (unless_checked refusal left at (told, reached_by at t)).1
 checked_counts None left at told t none c =
     let same : t.committed ≡ at.committed ++ t.committed = ap (λ (es : List (Entry Item)). es ++ t.committed) (sym none) in
@@ -124,12 +126,13 @@ logs_on front back old ran new count place first second =
     )
 
 -- a turn behind one that led here
-pub stood_on : (old before after : Desk) (session later : Session Item) (at u : Reached Item) → Stood old before session at → Moves before after later u → Counts (shared_of before) u → Stood old after later (behind_turn at u)
-stood_on old before after session later at u stood moves counts =
-    let count : after.committed ≡ counted_all u.committed before.committed = ap (λ (s : Shared). s.committed) moves.0 ∙ counts.count in
-    let place : in_log (length after.log) ≡ written_to u.committed before.committed (in_log (length before.log)) = ap (λ (s : Shared). s.place) moves.0 ∙ counts.place in
+pub stood_on : (old before after : Desk) (session later : Session Item) (was warned : Bool) (at u : Reached Item) → Stood old before session was at → IsTurn before after later warned u → Counts (shared_of before) u
+    → Stood old after later warned (behind_turn at u)
+stood_on old before after session later was warned at u stood turn counts =
+    let count : after.committed ≡ counted_all u.committed before.committed = ap (λ (s : Shared). s.committed) turn.0.0 ∙ counts.count in
+    let place : in_log (length after.log) ≡ written_to u.committed before.committed (in_log (length before.log)) = ap (λ (s : Shared). s.place) turn.0.0 ∙ counts.place in
     record {
-      moves = (moves.0, moves.1, logs_on at.committed u.committed old before after stood.count stood.place stood.moves.2 moves.2);
+      turn = ((turn.0.0, turn.0.1, logs_on at.committed u.committed old before after stood.count stood.place stood.turn.0.2 turn.0.2), turn.1);
       count = count ∙ ap (counted_all u.committed) stood.count ∙ sym (counted_behind at.committed u.committed old.committed);
       place =
           place ∙ ap (λ (k : ℕ). written_to u.committed k (in_log (length before.log))) stood.count

@@ -1,5 +1,5 @@
 -- What a procedure is told, by what the code did.
-use Rattle.std.proofs.Common.{◌≡◌, ℕ, List, [], Bool, true, false, Option, Some, None, Result, Ok, Err, refl, sym, ap, ◌∙◌, subst}
+use Rattle.std.proofs.Common.{◌≡◌, ℕ, List, [], Bool, true, false, ◌||◌, Option, Some, None, Result, Ok, Err, refl, sym, ap, ◌∙◌, subst}
 use Rattle.val_types.specs.declared.value.Value.{Value}
 use Rattle.val_types.specs.declared.refusal.SqlRefusal.{SqlRefusal}
 use Rattle.val_types.specs.declared.refusal.SqlRefusal.TheVariants as sql
@@ -32,6 +32,7 @@ use Rattle.session_steps.specs.Ran as outcomes
 use Rattle.session_steps.specs.Ran.{fuel_at, told_given}
 use Rattle.session_calls.specs.Stepping.{Stepped, reached}
 use Rattle.session_steps.specs.Turned.{EndsWith, Moves, giving}
+use Rattle.session_steps.specs.declared.keeping.Kept.{Kept}
 use Rattle.session_desk.specs.declared.desk.Desk.{Desk}
 
 -- a change, a SELECT or a DO is no definition
@@ -70,9 +71,10 @@ plain_is_none (return_value t) e = refl
 abbrev told_with : {A : Type 0} → Result A Refusal → Meter → Told A
 told_with result m = record { result = result; turns = m.turns; uuids = m.uuids }
 
-ran_told : (result : Result Did ℕ) (fuel : Fuel) (told : Outcome) (m : Meter) (session : Session Item) → told_given (record { result = result; fuel = fuel }) ≡ record { result = Ok told; fuel = fuel_at m }
-    → (told_with (Ok (asks.effect_of told)) m ≡ told_of effect_of (record { result = result; fuel = fuel })) × (counted (told_answer told) session ≡ counted_by result session)
-ran_told (Ok did) fuel told m session e =
+ran_told : (result : Result Did ℕ) (fuel : Fuel) (warned said : Bool) (told : Outcome) (m : Meter) (session : Session Item)
+    → told_given (record { result = result; fuel = fuel; warned = warned }) ≡ record { result = Ok told; fuel = fuel_at m; warned = said }
+    → (told_with (Ok (asks.effect_of told)) m ≡ told_of effect_of (record { result = result; fuel = fuel; warned = warned })) × (counted (told_answer told) session ≡ counted_by result session)
+ran_told (Ok did) fuel warned said told m session e =
     let one : outcomes.told_of (Ok did) ≡ Ok told = ap (λ (g : Given Outcome). g.result) e in
     let same : outcome_of did ≡ told = cc in
     let left : fuel ≡ fuel_at m = ap (λ (g : Given Outcome). g.fuel) e in (
@@ -80,14 +82,15 @@ ran_told (Ok did) fuel told m session e =
           ∙ sym (ap (λ (f : Fuel). record { result = Ok (effect_of did); turns = f.turns; uuids = f.uuids }) left),
       sym (ap (λ (o : Outcome). counted (told_answer o) session) same),
     )
-ran_told (Err code) fuel told m session e =
+ran_told (Err code) fuel warned said told m session e =
     let one : outcomes.told_of (Err code) ≡ Ok told = ap (λ (g : Given Outcome). g.result) e in cc
 
-failed_told : (result : Result Did ℕ) (fuel : Fuel) (code : ℕ) (m : Meter) (session : Session Item) → told_given (record { result = result; fuel = fuel }) ≡ record { result = Err code; fuel = fuel_at m }
-    → (told_with (Err (asks.refusal_of code None)) m ≡ told_of effect_of (record { result = result; fuel = fuel })) × (session ≡ counted_by result session)
-failed_told (Ok did) fuel code m session e =
+failed_told : (result : Result Did ℕ) (fuel : Fuel) (warned : Bool) (code : ℕ) (m : Meter) (session : Session Item)
+    → told_given (record { result = result; fuel = fuel; warned = warned }) ≡ record { result = Err code; fuel = fuel_at m; warned = false }
+    → (told_with (Err (asks.refusal_of code None)) m ≡ told_of effect_of (record { result = result; fuel = fuel; warned = warned })) × (session ≡ counted_by result session)
+failed_told (Ok did) fuel warned code m session e =
     let one : outcomes.told_of (Ok did) ≡ Err code = ap (λ (g : Given Outcome). g.result) e in cc
-failed_told (Err other) fuel code m session e =
+failed_told (Err other) fuel warned code m session e =
     let one : outcomes.told_of (Err other) ≡ Err code = ap (λ (g : Given Outcome). g.result) e in
     let same : other ≡ code = cc in
     let left : fuel ≡ fuel_at m = ap (λ (g : Given Outcome). g.fuel) e in (
@@ -98,88 +101,93 @@ failed_told (Err other) fuel code m session e =
 
 -- ---- a step that no check refuses
 
-unchecked : {A B : Type 0} (refusal : Option Refusal) (left : Left) (old new : Desk) (session after : Session Item) (told said : Told A) (t : Turn Item B) → None ≡ refusal → said ≡ told
-    → Moves old new after t → Stepped (unless_checked refusal left (reached old session) (told, reached_by (reached old session) t)) said old new after
-unchecked {A} refusal left old new session after told said t free is moves =
-    subst (λ (r : Option Refusal). Stepped (unless_checked r left (reached old session) (told, reached_by (reached old session) t)) said old new after) free (is, moves)
+-- nothing is warned by what is not
+still : (was : Bool) → was ≡ was || false
+still true = refl
+still false = refl
 
-refused_step : {A B : Type 0} (refusal : Option Refusal) (why : Refusal) (left : Left) (desk : Desk) (session : Session Item) (told : Told A) (t : Turn Item B) → Some why ≡ refusal
-    → Stepped (unless_checked refusal left (reached desk session) (told, reached_by (reached desk session) t)) (record { result = Err why; turns = left.turns; uuids = left.uuids }) desk desk session
-refused_step {A} refusal why left desk session told t is =
-    subst (λ (r : Option Refusal). Stepped (unless_checked r left (reached desk session) (told, reached_by (reached desk session) t)) (record { result = Err why; turns = left.turns; uuids = left.uuids }) desk desk session) is
-    (refl, (refl, refl, (refl, tt)))
+unchecked : {A B : Type 0} (refusal : Option Refusal) (left : Left) (old new : Desk) (session after : Session Item) (was warned : Bool) (told said : Told A) (t : Turn Item (Given B)) → None ≡ refusal → said ≡ told
+    → warned ≡ was || t.given.warned → Moves old new after t → Stepped (unless_checked refusal left (reached old session was) (told, reached_by (reached old session was) t)) said old new after warned
+unchecked {A} refusal left old new session after was warned told said t free is warns moves =
+    subst (λ (r : Option Refusal). Stepped (unless_checked r left (reached old session was) (told, reached_by (reached old session was) t)) said old new after warned) free (is, (moves, warns))
 
-module _ (call : Call Item) (left : Left) (s : Statement) (old new : Desk) (session ran : Session Item) (m : Meter) where
+refused_step : {A B : Type 0} (refusal : Option Refusal) (why : Refusal) (left : Left) (desk : Desk) (session : Session Item) (was : Bool) (told : Told A) (t : Turn Item (Given B)) → Some why ≡ refusal
+    → Stepped (unless_checked refusal left (reached desk session was) (told, reached_by (reached desk session was) t)) (record { result = Err why; turns = left.turns; uuids = left.uuids }) desk desk session was
+refused_step {A} refusal why left desk session was told t is =
+    subst (λ (r : Option Refusal). Stepped (unless_checked r left (reached desk session was) (told, reached_by (reached desk session was) t)) (record { result = Err why; turns = left.turns; uuids = left.uuids }) desk desk session was) is
+    (refl, ((refl, refl, (refl, tt)), refl))
+
+module _ (call : Call Item) (left : Left) (s : Statement) (old new : Desk) (session ran : Session Item) (was : Bool) (m : Meter) where
   abbrev the_run : Turn Item (Given Did)
   the_run = statement_run call left (spelling s) s (shared_of old) session
 
-  pub run_ok : (told : Outcome) (after : Session Item) → None ≡ step_check call.number session_scope s (shared_of old) → EndsWith (Ok told) (fuel_at m) old new ran (giving told_given the_run)
-      → after ≡ counted (told_answer told) ran → Stepped (run_step call left s (reached old session)) (told_with (Ok (asks.effect_of told)) m) old new after
-  run_ok told after free ends is =
-      let both = ran_told the_run.given.result the_run.given.fuel told m ran ends.1 in
-      unchecked (step_check call.number session_scope s (shared_of old)) left old new session after (told_of effect_of the_run.given) (told_with (Ok (asks.effect_of told)) m) (with_counted the_run) free both.0
-      (ends.0.0, is ∙ both.1 ∙ ap (counted_by the_run.given.result) ends.0.1, ends.0.2)
+  pub run_ok : (kept : Kept Outcome) (after : Session Item) (warned : Bool) → None ≡ step_check call.number session_scope s (shared_of old) → EndsWith (Ok kept) (fuel_at m) old new ran (giving told_given the_run)
+      → after ≡ counted (told_answer kept.value) ran → warned ≡ was || kept.warned → Stepped (run_step call left s (reached old session was)) (told_with (Ok (asks.effect_of kept.value)) m) old new after warned
+  run_ok kept after warned free ends is warns =
+      let both = ran_told the_run.given.result the_run.given.fuel the_run.given.warned kept.warned kept.value m ran ends.1 in
+      unchecked (step_check call.number session_scope s (shared_of old)) left old new session after was warned (told_of effect_of the_run.given) (told_with (Ok (asks.effect_of kept.value)) m) (with_counted the_run) free both.0
+      (warns ∙ ap (λ (g : Given Outcome). was || g.warned) (sym ends.1)) (ends.0.0, is ∙ both.1 ∙ ap (counted_by the_run.given.result) ends.0.1, ends.0.2)
 
-  run_err : (code : ℕ) → None ≡ step_check call.number session_scope s (shared_of old) → EndsWith {A = Outcome} (Err (sql.Sql code)) (fuel_at m) old new ran (giving told_given the_run)
-      → Stepped (run_step call left s (reached old session)) (told_with (Err (asks.refusal_of code None)) m) old new ran
+  pub run_err : (code : ℕ) → None ≡ step_check call.number session_scope s (shared_of old) → EndsWith {A = Outcome} (Err (sql.Sql code)) (fuel_at m) old new ran (giving told_given the_run)
+      → Stepped (run_step call left s (reached old session was)) (told_with (Err (asks.refusal_of code None)) m) old new ran was
   run_err code free ends =
-      let both = failed_told the_run.given.result the_run.given.fuel code m ran ends.1 in
-      unchecked (step_check call.number session_scope s (shared_of old)) left old new session ran (told_of effect_of the_run.given) (told_with (Err (asks.refusal_of code None)) m) (with_counted the_run) free both.0
-      (ends.0.0, both.1 ∙ ap (counted_by the_run.given.result) ends.0.1, ends.0.2)
+      let both = failed_told the_run.given.result the_run.given.fuel the_run.given.warned code m ran ends.1 in
+      unchecked (step_check call.number session_scope s (shared_of old)) left old new session ran was was (told_of effect_of the_run.given) (told_with (Err (asks.refusal_of code None)) m) (with_counted the_run) free both.0
+      (still was ∙ ap (λ (g : Given Outcome). was || g.warned) (sym ends.1)) (ends.0.0, both.1 ∙ ap (counted_by the_run.given.result) ends.0.1, ends.0.2)
 
   -- whatever refused it
   by_refusal : (rose : Type 0) (e : SqlRefusal) → None ≡ step_check call.number session_scope s (shared_of old) → EndsWith {A = Outcome} (Err e) (fuel_at m) old new ran (giving told_given the_run)
-      → asks.Tells (λ told. Stepped (run_step call left s (reached old session)) told old new ran) rose asks.effect_of (Err (asks.widened e)) m
+      → asks.Tells (λ told. Stepped (run_step call left s (reached old session was)) told old new ran was) rose asks.effect_of (Err (asks.widened e)) m
   by_refusal rose (sql.Sql code) free ends = run_err code free ends
   by_refusal rose sql.NoMemory free ends = tt
 
   pub run_refused : (rose : Type 0) (e : SqlRefusal) (answer : RunRefusal) → answer ≡ asks.widened e → None ≡ step_check call.number session_scope s (shared_of old) → EndsWith {A = Outcome} (Err e) (fuel_at m) old new ran (giving told_given the_run)
-      → asks.Tells (λ told. Stepped (run_step call left s (reached old session)) told old new ran) rose asks.effect_of (Err answer) m
+      → asks.Tells (λ told. Stepped (run_step call left s (reached old session was)) told old new ran was) rose asks.effect_of (Err answer) m
   run_refused rose e answer is free ends =
-      subst (λ (a : RunRefusal). asks.Tells (λ told. Stepped (run_step call left s (reached old session)) told old new ran) rose asks.effect_of (Err a) m) (sym is) (by_refusal rose e free ends)
+      subst (λ (a : RunRefusal). asks.Tells (λ told. Stepped (run_step call left s (reached old session was)) told old new ran was) rose asks.effect_of (Err a) m) (sym is) (by_refusal rose e free ends)
 
 -- one that a check refuses
-pub run_checked : (rose : Type 0) (call : Call Item) (s : Statement) (desk : Desk) (session : Session Item) (m : Meter) (why : Refusal) (answer : RunRefusal) → Some why ≡ step_check call.number session_scope s (shared_of desk) → answer ≡ refuses.Sql why.code why.holder
-    → asks.Tells (λ told. Stepped (run_step call (asks.left_of m) s (reached desk session)) told desk desk session) rose asks.effect_of (Err answer) m
-run_checked rose call s desk session m why answer found is =
+pub run_checked : (rose : Type 0) (call : Call Item) (s : Statement) (desk : Desk) (session : Session Item) (was : Bool) (m : Meter) (why : Refusal) (answer : RunRefusal) → Some why ≡ step_check call.number session_scope s (shared_of desk) → answer ≡ refuses.Sql why.code why.holder
+    → asks.Tells (λ told. Stepped (run_step call (asks.left_of m) s (reached desk session was)) told desk desk session was) rose asks.effect_of (Err answer) m
+run_checked rose call s desk session was m why answer found is =
     let t : Turn Item (Given Did) = statement_run call (asks.left_of m) (spelling s) s (shared_of desk) session in
-    subst (λ (a : RunRefusal). asks.Tells (λ told. Stepped (run_step call (asks.left_of m) s (reached desk session)) told desk desk session) rose asks.effect_of (Err a) m) (sym is)
-    (refused_step (step_check call.number session_scope s (shared_of desk)) why (asks.left_of m) desk session (told_of effect_of t.given) (with_counted t) found)
+    subst (λ (a : RunRefusal). asks.Tells (λ told. Stepped (run_step call (asks.left_of m) s (reached desk session was)) told desk desk session was) rose asks.effect_of (Err a) m) (sym is)
+    (refused_step (step_check call.number session_scope s (shared_of desk)) why (asks.left_of m) desk session was (told_of effect_of t.given) (with_counted t) found)
 
 -- ---- expressions
 
-module _ (call : Call Item) (left : Left) (locals : List Local) (ts : Trees) (old new : Desk) (session after : Session Item) (m : Meter) where
+module _ (call : Call Item) (left : Left) (locals : List Local) (ts : Trees) (old new : Desk) (session after : Session Item) (was : Bool) (m : Meter) where
   abbrev the_item : Statement
   the_item = closed (evaluate ts) locals
 
   abbrev the_values : Turn Item (Given (List Value))
   the_values = values_run call left (spelling the_item) the_item locals ts (shared_of old) session
 
-  pub gave_ok : (vs : List Value) → None ≡ step_check call.number (scope_of locals) (evaluate ts) (shared_of old) → EndsWith (Ok vs) (fuel_at m) old new after the_values
-      → Stepped (evaluate_step call left locals ts (reached old session)) (told_with (Ok vs) m) old new after
-  gave_ok vs free ends =
-      unchecked (step_check call.number (scope_of locals) (evaluate ts) (shared_of old)) left old new session after (told_of same the_values.given) (told_with (Ok vs) m) the_values free
-      (sym (ap (told_of same) ends.1)) ends.0
+  pub gave_ok : (kept : Kept (List Value)) (warned : Bool) → None ≡ step_check call.number (scope_of locals) (evaluate ts) (shared_of old) → EndsWith (Ok kept) (fuel_at m) old new after the_values
+      → warned ≡ was || kept.warned → Stepped (evaluate_step call left locals ts (reached old session was)) (told_with (Ok kept.value) m) old new after warned
+  gave_ok kept warned free ends warns =
+      unchecked (step_check call.number (scope_of locals) (evaluate ts) (shared_of old)) left old new session after was warned (told_of same the_values.given) (told_with (Ok kept.value) m) the_values free
+      (sym (ap (told_of same) ends.1)) (warns ∙ ap (λ (g : Given (List Value)). was || g.warned) (sym ends.1)) ends.0
 
   by_cause : (rose : Type 0) (e : SqlRefusal) → None ≡ step_check call.number (scope_of locals) (evaluate ts) (shared_of old) → EndsWith {A = List Value} (Err e) (fuel_at m) old new after the_values
-      → asks.Tells {A = List Value} (λ told. Stepped (evaluate_step call left locals ts (reached old session)) told old new after) rose asks.plainly (Err (asks.widened e)) m
+      → asks.Tells {A = List Value} (λ told. Stepped (evaluate_step call left locals ts (reached old session was)) told old new after was) rose asks.plainly (Err (asks.widened e)) m
   by_cause rose (sql.Sql code) free ends =
-      unchecked (step_check call.number (scope_of locals) (evaluate ts) (shared_of old)) left old new session after (told_of same the_values.given) (told_with (Err (asks.refusal_of code None)) m) the_values free
-      (sym (ap (told_of same) ends.1)) ends.0
+      unchecked (step_check call.number (scope_of locals) (evaluate ts) (shared_of old)) left old new session after was was (told_of same the_values.given) (told_with (Err (asks.refusal_of code None)) m) the_values free
+      (sym (ap (told_of same) ends.1)) (still was ∙ ap (λ (g : Given (List Value)). was || g.warned) (sym ends.1)) ends.0
   by_cause rose sql.NoMemory free ends = tt
 
   pub gave_refused : (rose : Type 0) (e : SqlRefusal) (answer : RunRefusal) → answer ≡ asks.widened e → None ≡ step_check call.number (scope_of locals) (evaluate ts) (shared_of old) → EndsWith {A = List Value} (Err e) (fuel_at m) old new after the_values
-      → asks.Tells {A = List Value} (λ told. Stepped (evaluate_step call left locals ts (reached old session)) told old new after) rose asks.plainly (Err answer) m
+      → asks.Tells {A = List Value} (λ told. Stepped (evaluate_step call left locals ts (reached old session was)) told old new after was) rose asks.plainly (Err answer) m
   gave_refused rose e answer is free ends =
-      subst (λ (a : RunRefusal). asks.Tells {A = List Value} (λ told. Stepped (evaluate_step call left locals ts (reached old session)) told old new after) rose asks.plainly (Err a) m) (sym is) (by_cause rose e free ends)
+      subst (λ (a : RunRefusal). asks.Tells {A = List Value} (λ told. Stepped (evaluate_step call left locals ts (reached old session was)) told old new after was) rose asks.plainly (Err a) m) (sym is) (by_cause rose e free ends)
 
-pub gave_checked : (rose : Type 0) (call : Call Item) (locals : List Local) (ts : Trees) (desk : Desk) (session : Session Item) (m : Meter) (why : Refusal) (answer : RunRefusal) → Some why ≡ step_check call.number (scope_of locals) (evaluate ts) (shared_of desk) → answer ≡ refuses.Sql why.code why.holder
-    → asks.Tells {A = List Value} (λ told. Stepped (evaluate_step call (asks.left_of m) locals ts (reached desk session)) told desk desk session) rose asks.plainly (Err answer) m
-gave_checked rose call locals ts desk session m why answer found is =
+pub gave_checked : (rose : Type 0) (call : Call Item) (locals : List Local) (ts : Trees) (desk : Desk) (session : Session Item) (was : Bool) (m : Meter) (why : Refusal) (answer : RunRefusal) → Some why ≡ step_check call.number (scope_of locals) (evaluate ts) (shared_of desk) → answer ≡ refuses.Sql why.code why.holder
+    → asks.Tells {A = List Value} (λ told. Stepped (evaluate_step call (asks.left_of m) locals ts (reached desk session was)) told desk desk session was) rose asks.plainly (Err answer) m
+gave_checked rose call locals ts desk session was m why answer found is =
     let item : Statement = closed (evaluate ts) locals in
     let t : Turn Item (Given (List Value)) = values_run call (asks.left_of m) (spelling item) item locals ts (shared_of desk) session in
-    subst (λ (a : RunRefusal). asks.Tells {A = List Value} (λ told. Stepped (evaluate_step call (asks.left_of m) locals ts (reached desk session)) told desk desk session) rose asks.plainly (Err a) m) (sym is)
-    (refused_step (step_check call.number (scope_of locals) (evaluate ts) (shared_of desk)) why (asks.left_of m) desk session (told_of same t.given) t found)
+    subst (λ (a : RunRefusal). asks.Tells {A = List Value} (λ told. Stepped (evaluate_step call (asks.left_of m) locals ts (reached desk session was)) told desk desk session was) rose asks.plainly (Err a) m) (sym is)
+    (refused_step (step_check call.number (scope_of locals) (evaluate ts) (shared_of desk)) why (asks.left_of m) desk session was (told_of same t.given) t found)
 
 -- ---- who carries it out
 

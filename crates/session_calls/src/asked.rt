@@ -54,51 +54,54 @@ fn count(session: &mut Session, outcome: &Outcome)
     session.vars.context.set_row_count(count);
 }
 
-/// A change, a SELECT or a DO of a procedure.
+/// A change, a SELECT or a DO of a procedure. Where it is warned, its CALL is.
 #[tactic(auto, using(crate::proofs::Telling::running))]
 pub(crate) fn run_step(
     alloc: Global,
     call: &Call<'_>,
     desk: &mut Desk,
     session: &mut Session,
+    warned: &mut bool,
     statement: &Stmt,
     meter: &mut Meter,
 ) -> Result<Outcome, RunRefusal>
     requires { is_plain (view statement.now) ≡ true }
-    ensures gives { Tells (λ told. Stepped (run_step (called call.now) (left_of meter.old) (view statement.now) (reached desk.old session.old)) told desk.old desk.new session.new) (Rose 0 0) effect_of result meter.new }
+    ensures gives { Tells (λ told. Stepped (run_step (called call.now) (left_of meter.old) (view statement.now) (reached desk.old session.old warned.old)) told desk.old desk.new session.new warned.new) (Rose 0 0) effect_of result meter.new }
     ensures spends { Spends meter.old meter.new }
 {
     let locals = Locals::new(alloc);
     if let Some(refusal) = step_check(desk, call.number, statement, &locals) {
         return Err(refusal_of(refusal));
     }
-    let outcome = run_printed(alloc, call, desk, session, statement, meter)?;
-    count(session, &outcome);
-    Ok(outcome)
+    let kept = run_printed(alloc, call, desk, session, statement, meter)?;
+    *warned |= kept.warned;
+    count(session, &kept.value);
+    Ok(kept.value)
 }
 
-/// The values of a procedure's expressions, which stand in a DO.
+/// The values of a procedure's expressions, which stand in a DO. Where it is warned, the CALL is.
 #[tactic(auto, using(crate::proofs::Telling::evaluating))]
 pub(crate) fn evaluate_step(
     alloc: Global,
     call: &Call<'_>,
     desk: &mut Desk,
     session: &mut Session,
+    warned: &mut bool,
     statement: &Stmt,
     locals: &Locals,
     meter: &mut Meter,
 ) -> Result<List<Value>, RunRefusal>
     requires { is_do (view statement.now) ≡ true }
-    ensures gives { Tells (λ told. Stepped (evaluate_step (called call.now) (left_of meter.old) locals.now (expressions_of (view statement.now)) (reached desk.old session.old)) told desk.old desk.new session.new) (Rose 0 0) plainly result meter.new }
+    ensures gives { Tells (λ told. Stepped (evaluate_step (called call.now) (left_of meter.old) locals.now (expressions_of (view statement.now)) (reached desk.old session.old warned.old)) told desk.old desk.new session.new warned.new) (Rose 0 0) plainly result meter.new }
     ensures spends { Spends meter.old meter.new }
 {
     let Stmt::Do(expressions) = statement else {
-        return Err(RunRefusal::NoMemory);
+        unreachable!()
     };
     if let Some(refusal) = step_check(desk, call.number, statement, locals) {
         return Err(refusal_of(refusal));
     }
-    Ok(evaluate_closed(
+    let kept = evaluate_closed(
         alloc,
         call,
         desk,
@@ -107,5 +110,7 @@ pub(crate) fn evaluate_step(
         expressions,
         locals,
         meter,
-    )?)
+    )?;
+    *warned |= kept.warned;
+    Ok(kept.value)
 }

@@ -12,11 +12,13 @@ ghost use Rattle.session_steps.specs.Turned.{IsTurn};
 
 use crate::steps::CallSteps;
 use answer_text::Answer;
-use node_answers::NodeFault;
+use node_answers::{NodeFault, with_warning};
+use proc_run::CallRefusal;
 use prog_run::Meter;
 use session_ctx::SessionVars;
 use session_desk::{Call, Desk, Session};
 use session_model::Format;
+use session_steps::Kept;
 use std::alloc::Global;
 use std::mem;
 use val_types::{Bytes, Duplicate, List, NoMemory, Value};
@@ -25,21 +27,24 @@ use val_types::{Bytes, Duplicate, List, NoMemory, Value};
 fn vacant(alloc: Global, call: &Call<'_>) -> Result<Session, NoMemory> {
     Ok(Session {
         vars: SessionVars::new(alloc, call.identity, u32::from(call.number), call.draw)?,
-        format: Format::Statement,
+        format: Format::Mixed,
         transaction: None,
     })
 }
 
-/// Takes desk and session of a command for the steps of its CALL; what is vacant stands in their places meanwhile.
+/// Takes desk and session of a command for the steps of its CALL; what is vacant stands in their places meanwhile. The CALL is
+/// warned from the beginning where the evaluation of its arguments is.
 fn begin(
     alloc: Global,
     call: &Call<'_>,
     desk: &mut Desk,
     session: &mut Session,
+    warned: bool,
 ) -> Result<CallSteps, NoMemory>
     ensures call { IfOk result (λ steps. call_by steps ≡ called call.now) }
     ensures desk { IfOk result (λ steps. steps.desk ≡ desk.old) }
     ensures session { IfOk result (λ steps. steps.session ≡ session.old) }
+    ensures warned { IfOk result (λ steps. steps.warned ≡ warned) }
 {
     let identity = call.identity.duplicate(alloc)?;
     let aside = vacant(alloc, call)?;
@@ -50,37 +55,42 @@ fn begin(
         number: call.number,
         desk: mem::replace(desk, Desk::new(alloc, Bytes::new(alloc))),
         session: mem::replace(session, aside),
+        warned,
     })
 }
 
-/// Gives desk and session back.
-fn give_back(steps: CallSteps, desk: &mut Desk, session: &mut Session)
+/// Gives desk and session back, and whether the CALL is warned.
+fn give_back(steps: CallSteps, desk: &mut Desk, session: &mut Session) -> bool
     ensures desk { desk.new ≡ steps.desk }
     ensures session { session.new ≡ steps.session }
+    ensures warned { result ≡ steps.warned }
 {
     *desk = steps.desk;
     *session = steps.session;
+    steps.warned
 }
 
-/// Carries out a procedure with the values of its arguments, behind any turn that led here. A runner without a device
-/// answers for none, so that a CALL without an answer wants memory.
+/// Carries out a procedure with the values of its arguments, behind any turn that led here. The answer shows whether an item of
+/// the CALL is warned, that of its arguments too. The runner has no device, and none failed, so that a CALL without an answer
+/// wants memory.
 pub fn call_steps(
     alloc: Global,
     call: &Call<'_>,
     desk: &mut Desk,
     session: &mut Session,
     name: &Bytes,
-    values: List<Value>,
+    arguments: Kept<List<Value>>,
     meter: &mut Meter,
 ) -> Result<Answer, NodeFault>
-    ensures { (old : LeftDesk) → (at : Reached Item) → Stood old desk.old session.old at → IfOk result (λ answer. IsTurn old desk.new session.new answer (came_to (brought (steps_of (called call.now)) (carried_out at.shared.base.catalog (left_of meter.old) name.now values) at))) }
+    ensures { (old : LeftDesk) → (at : Reached Item) → Stood old desk.old session.old (arguments.warned) at → IfOk result (λ answer. IsTurn old desk.new session.new answer (came_to (brought (steps_of (called call.now)) (carried_out at.shared.base.catalog (left_of meter.old) name.now (arguments.value)) at))) }
 {
     let catalog = desk.work.catalog().copy()?;
-    let mut steps = begin(alloc, call, desk, session)?;
-    let answer = proc_run::call(alloc, &mut steps, &catalog, name, values, meter);
-    give_back(steps, desk, session);
+    let mut steps = begin(alloc, call, desk, session, arguments.warned)?;
+    let answer = proc_run::call(alloc, &mut steps, &catalog, name, arguments.value, meter);
+    let warned = give_back(steps, desk, session);
     match answer {
-        Ok(answer) => Ok(answer),
-        Err(_) => Err(NodeFault::NoMemory),
+        Ok(answer) => Ok(with_warning(answer, warned)),
+        Err(CallRefusal::Device) => unreachable!(),
+        Err(CallRefusal::NoMemory) => Err(NodeFault::NoMemory),
     }
 }

@@ -8,8 +8,8 @@
 //!
 //! # Proved
 //! - [`call_steps`] carries out a procedure just as the machine does, each thing that it asks as one step of its session: the
-//!   answer, desk, session and log are those of the machine's CALL behind any turn that led here, or memory is short. Its
-//!   runner has no device, so that no CALL ends by one.
+//!   answer, with its warning, desk, session and log are those of the machine's CALL behind any turn that led here, or memory is
+//!   short. Its runner has no device, so that no CALL ends by one.
 //!
 //! # Only tested
 //! Nothing here: that calls succeed with ample memory is tested where scripts run.

@@ -12,8 +12,8 @@ use sql_tree::Stmt;
 use std::alloc::Global;
 use val_types::{Bytes, List, NoMemory, Value};
 
-/// Carries out what the procedures of a CALL ask, each thing as one step of its session on what all sessions share. It has
-/// no device.
+/// Carries out what the procedures of a CALL ask, each thing as one step of its session on what all sessions share, and knows
+/// whether one of them was warned. It has no device.
 #[derive(Drop)]
 pub struct CallSteps {
     pub(crate) alloc: Global,
@@ -22,6 +22,7 @@ pub struct CallSteps {
     pub(crate) number: u8,
     pub(crate) desk: Desk,
     pub(crate) session: Session,
+    pub(crate) warned: bool,
 }
 
 impl Ruled for CallSteps {
@@ -39,7 +40,15 @@ impl Runner for CallSteps {
             draw: &self.draw,
             number: self.number,
         };
-        run_step(self.alloc, &call, &mut self.desk, &mut self.session, s, m)
+        run_step(
+            self.alloc,
+            &call,
+            &mut self.desk,
+            &mut self.session,
+            &mut self.warned,
+            s,
+            m,
+        )
     }
 
     fn eval(
@@ -58,6 +67,7 @@ impl Runner for CallSteps {
             &call,
             &mut self.desk,
             &mut self.session,
+            &mut self.warned,
             s,
             locals,
             m,

@@ -1,3 +1,4 @@
 pub mod Logging
+pub mod Unsafe
 pub mod Bases
 pub mod Places

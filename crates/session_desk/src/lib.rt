@@ -3,6 +3,7 @@
 //! - `desk`: [`Desk`], what all sessions share, with the log
 //! - `session`, `saves`: [`Session`] and [`Open`], what a session keeps: its variables, how its statements are logged, its
 //!   open transaction with its items; savepoints
+//! - `formats`: [`how_logged`], whether what a statement changed is logged by its rows, and whether the statement is warned
 //! - `call`: [`Call`], what a command has round it
 //! - `checking`: what refuses a statement before it runs: [`checked`], [`lock_check`], [`step_check`]
 //!
@@ -13,6 +14,7 @@
 //! - [`Desk`] and [`Open`] are the machine's: each of their calls says what is shared, or what the transaction has, behind it.
 //! - [`Desk::commit`] logs just the entry of its transaction, which can be logged there, or memory is short, and then the desk is
 //!   as before; no other call of [`Desk`] changes the log. [`Open::save`] leaves its transaction as before where memory is short.
+//! - [`how_logged`] says what the machine says of a statement's reasons in each format, exactly.
 //! - [`checked`], [`lock_check`] and [`step_check`] refuse just what the machine's checks refuse, with the same error.
 //!
 //! # Only tested
@@ -22,11 +24,13 @@
 mod call;
 mod checking;
 mod desk;
+mod formats;
 mod saves;
 mod session;
 
 pub use call::Call;
 pub use checking::{Refusal, checked, lock_check, refused_as, step_check};
 pub use desk::Desk;
+pub use formats::{HowLogged, how_logged};
 pub use saves::Save;
-pub use session::{Open, Session, is_by_rows};
+pub use session::{Open, Session};

@@ -3,7 +3,6 @@ ghost use Rattle.std.specs.Prelude.{◌≡◌, ◌∷◌, ◌++◌, [], not, fin
 ghost use Rattle.std.specs.Option.{option_map};
 ghost use Rattle.session_model.specs.Sessions.{just_opened};
 ghost use Rattle.session_model.specs.Commands.{is_save_of, saved, saves_but};
-ghost use Rattle.session_model.specs.Formats.{is_by_rows};
 ghost use Rattle.session_desk.specs.Saving.{changes_at, one_more_if, went_back};
 ghost use Rattle.transaction_sizes.specs.Sizes.{are_too_large};
 
@@ -131,14 +130,4 @@ impl Model for Session {
     ghost Value = { OneSession LoggedItem };
 
     ghost view = { λ s. record { vars = s.vars; format = s.format; transaction = s.transaction } };
-}
-
-/// Whether statements are logged by the rows that they changed.
-pub fn is_by_rows(format: Format) -> bool
-    ensures { result ≡ is_by_rows format }
-{
-    match format {
-        Format::Statement => false,
-        Format::Row => true,
-    }
 }

@@ -37,7 +37,7 @@ module _ (P : Type 0) (identity : Identity) (draw : Draw) (number : ℕ) (shared
   call = record { identity = identity; draw = draw; number = number; known = whole }
 
   -- a step behind those before it
-  reached : {A : Type 0} (at : Reached Whole) (t : Turn Whole A) → CallHolds P number shared format at → t.session.format ≡ at.session.format → TurnLeft P number at.shared at.session.format t
+  reached : {A : Type 0} (at : Reached Whole) (t : Turn Whole (Given A)) → CallHolds P number shared format at → t.session.format ≡ at.session.format → TurnLeft P number at.shared at.session.format t
       → CallHolds P number shared format (reached_by at t)
   reached at t h same l = record {
     same = same ∙ h.same;
@@ -89,7 +89,7 @@ module _ (P : Type 0) (identity : Identity) (draw : Draw) (number : ℕ) (shared
     called_left name (Err code) t same l = l
     called_left name (Ok vs) t same l =
         (talk_keeps (steps_of call) (λ at. CallHolds P number shared format at) run_holds evaluate_holds assign_holds (called t.shared.base.catalog (left_with t.given.fuel) name vs)
-        (record { shared = t.shared; session = t.session; committed = t.committed; given = tt }) (record { same = same; left = l })).left
+        (record { shared = t.shared; session = t.session; committed = t.committed; given = t.given.warned }) (record { same = same; left = l })).left
 
 module _ (P : Type 0) (identity : Identity) (draw : Draw) (number : ℕ) (shared : Shared) (session : Session Whole) (h : SharedHolds shared) (o : Owns number shared session.format session.transaction) (evaluations : EvaluationsEndWell) where
   -- the values of its arguments

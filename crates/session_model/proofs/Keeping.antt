@@ -1,5 +1,5 @@
 -- What one statement of a session leaves: its changes are kept as its item, or it leaves counters alone.
-use Rattle.std.proofs.Common.{◌≡◌, ℕ, inr, Bool, true, false, List, [], ◌∷◌, ◌++◌, Option, Some, None, Ok, ℤ, refl, sym, ◌∙◌, ap, arith, cond}
+use Rattle.std.proofs.Common.{◌≡◌, ℕ, inr, Bool, true, false, List, [], ◌∷◌, ◌++◌, Option, Some, None, Result, Ok, ℤ, refl, sym, ◌∙◌, ap, arith, cond}
 use Rattle.std.proofs.lemmas.Grind.{flat_map-append}
 use Rattle.std.specs.Prelude.{is_some}
 use Rattle.val_types.specs.declared.change.Change.{Change}
@@ -19,12 +19,12 @@ use Rattle.sql_meaning.specs.Running.{context_after, evaluation}
 use Rattle.sql_meaning.specs.Leading.{Leads, EndsWell, StatementsEndWell, EvaluationsEndWell}
 use Rattle.sql_reach.specs.Defining.{number_of_bytes}
 use Rattle.session_model.specs.Sessions.{Open, Session, Shared}
-use Rattle.session_model.specs.Running.{Call, Turn, Given, is_other, items_of, keep, made_behind, with_counters, scene_for, settle, ended, item_of, fuel_of, with_context, setting_of, statement_run, values_run, unless_misfit, fitted, fitted_run, kept_entries, kept_open, kept_shared, takes_too_much, undone}
+use Rattle.session_model.specs.Running.{Call, Turn, Given, is_other, items_of, keep, made_behind, with_counters, scene_for, settle, ended, given_by, is_warned, item_of, with_context, setting_of, statement_run, values_run, unless_misfit, fitted, fitted_run, kept_entries, kept_open, kept_shared, takes_too_much, undone}
 use Rattle.session_model.specs.Commands.{is_open}
-use Rattle.session_model.specs.Formats.{is_by_rows}
+use Rattle.session_model.specs.Formats.{logs_rows}
 use Rattle.session_model.specs.declared.format.Format.{Format}
 use Rattle.session_model.specs.Machine.{Whole, whole}
-use Rattle.session_model.specs.Holding.{changes_of, changes_in, holds_lock, Owns, SharedHolds, AreIn, AreOne, IsMade}
+use Rattle.session_model.specs.Holding.{changes_of, changes_in, holds_lock, reasons_of, Owns, SharedHolds, AreIn, AreOne, IsMade}
 use Rattle.session_model.proofs.Saving.{none_made, saves_more}
 use Rattle.session_model.proofs.Logging.{no_entry, more_one, more_in}
 use Rattle.session_model.proofs.Owning.{same_number, StillHolds, nothing_done, no_changes, own_changes, closed_owns, entry_made, not_other_own, one_item, made_kept, counters_hold, counters_owned, from_counters}
@@ -65,28 +65,28 @@ fitted_fits {A = A} call left text tree shared session first last_id before misf
     after : Session Whole
     after = with_context (context_after session.vars.context tree scene.seeds (last_id b)) session
 
-    given : Given A
-    given = record { result = Ok b; fuel = fuel_of scene }
+    result : Result A ℕ
+    result = Ok b
 
-    fits : given.result ≡ Ok a → misfit b ≡ None → misfit a ≡ None
+    fits : result ≡ Ok a → misfit b ≡ None → misfit a ≡ None
     fits r m = let same : b ≡ a = cc in ap misfit (sym same) ∙ m
 
-    kept_or_not : (c : Bool) (item : Whole) → let t = cond c (undone {A = A} 1197 tree shared session scene) (keep call item scene (with_counters scene shared) after given) in
+    kept_or_not : (warned c : Bool) (item : Whole) → let t = cond c (undone {A = A} 1197 tree shared session scene) (keep call item scene (with_counters scene shared) after (given_by b scene warned)) in
         misfit b ≡ None → t.given.result ≡ Ok a → (misfit a ≡ None) × (is_open t.session ≡ is_open session)
-    kept_or_not true item m r = cc
-    kept_or_not false item m r = (fits r m, kept_is_open item session.transaction)
+    kept_or_not warned true item m r = cc
+    kept_or_not warned false item m r = (fits r m, kept_is_open item session.transaction)
 
-    settled : (made : List Change) → let t = settle call (item_of call session.format left text tree session.vars.context shared (first b)) made scene (with_counters scene shared) after given
+    settled : (warned : Bool) (made : List Change) → let t = settle call (item_of call session.format left text tree session.vars.context shared (first b)) made scene (with_counters scene shared) after (given_by b scene warned)
         (undone 1197 tree shared session scene) in misfit b ≡ None → t.given.result ≡ Ok a → (misfit a ≡ None) × (is_open t.session ≡ is_open session)
-    settled [] m r = (fits r m, refl)
-    settled (c ∷ cs) m r =
+    settled warned [] m r = (fits r m, refl)
+    settled warned (c ∷ cs) m r =
         let item : Whole = item_of call session.format left text tree session.vars.context shared (first b) (c ∷ cs) in
-        kept_or_not (takes_too_much call session.transaction item) item m r
+        kept_or_not warned (takes_too_much call session.transaction item) item m r
 
     by : (o : Option ℕ) → misfit b ≡ o → let t = ended call left text tree shared session first last_id before (unless_misfit o b scene) in t.given.result ≡ Ok a
         → (misfit a ≡ None) × (is_open t.session ≡ is_open session)
     by (Some code) m r = cc
-    by None m r = settled (made_behind (is_other call.number shared.writer) before scene) m r
+    by None m r = let made = made_behind (is_other call.number shared.writer) before scene in settled (is_warned session.format shared.base.catalog tree made) made m r
 
 -- ---- the format stays
 
@@ -104,8 +104,10 @@ settle_format call item (c ∷ cs) scene shared session given refusal e =
 pub ended_format : {A : Type 0} (call : Call Whole) (left : Left) (text : List ℕ) (tree : Statement) (shared : Shared) (session : Session Whole) (first last_id : A → Option ℤ) (before : Scene) (e : Ending A)
     → (ended call left text tree shared session first last_id before e).session.format ≡ session.format
 ended_format call left text tree shared session first last_id before (done a scene) =
-    settle_format call (item_of call session.format left text tree session.vars.context shared (first a)) (made_behind (is_other call.number shared.writer) before scene) scene (with_counters scene shared)
-    (with_context (context_after session.vars.context tree scene.seeds (last_id a)) session) (record { result = Ok a; fuel = fuel_of scene }) (undone 1197 tree shared session scene) refl
+    let made = made_behind (is_other call.number shared.writer) before scene in
+    settle_format call (item_of call session.format left text tree session.vars.context shared (first a)) made scene (with_counters scene shared)
+    (with_context (context_after session.vars.context tree scene.seeds (last_id a)) session) (given_by a scene (is_warned session.format shared.base.catalog tree made))
+    (undone 1197 tree shared session scene) refl
 ended_format call left text tree shared session first last_id before (failed code scene) = refl
 
 -- ---- its changes kept
@@ -165,7 +167,7 @@ module _ (P : Type 0) (identity : Identity) (draw : Draw) (number : ℕ) where
 
   -- the item of some changes has these, a statement made it, and it is logged in a format
   abbrev MakesItems : Format → (List Change → Whole) → Type 0
-  MakesItems format item = (c : Change) (cs : List Change) → (changes_of (item (c ∷ cs)) ≡ c ∷ cs) × IsMade (item (c ∷ cs)) × ((item (c ∷ cs)).kept.rows ≡ is_by_rows format)
+  MakesItems format item = (c : Change) (cs : List Change) → (changes_of (item (c ∷ cs)) ≡ c ∷ cs) × IsMade (item (c ∷ cs)) × ((item (c ∷ cs)).kept.rows ≡ logs_rows format (reasons_of (item (c ∷ cs))))
 
   settle_left : {A : Type 0} (item : List Change → Whole) (made : List Change) (scene : Scene) (shared : Shared) (session : Session Whole) (given : Given A) (refusal : Turn Whole (Given A))
       → MakesItems session.format item → SharedHolds shared → Owns number shared session.format session.transaction → StillHolds P number shared refusal.shared session.format refusal.session.format refusal.session.transaction refusal.committed
@@ -202,7 +204,8 @@ module _ (P : Type 0) (identity : Identity) (draw : Draw) (number : ℕ) where
       by (done a scene) ends =
           from_counters P number scene shared _ _ _ _ _
           (settle_left (item_of call session.format left text tree session.vars.context shared (first a)) (made_behind (is_other number shared.writer) (scene_for number left session.vars.context shared) scene)
-          scene (with_counters scene shared) (with_context (context_after session.vars.context tree scene.seeds (last_id a)) session) (record { result = Ok a; fuel = fuel_of scene })
+          scene (with_counters scene shared) (with_context (context_after session.vars.context tree scene.seeds (last_id a)) session)
+          (given_by a scene (is_warned session.format shared.base.catalog tree (made_behind (is_other number shared.writer) (scene_for number left session.vars.context shared) scene)))
           (undone 1197 tree shared session scene) (λ c cs. (refl, record { defs = refl; some = omega arith }, refl))
           (counters_hold scene shared h) (counters_owned number scene shared session.format session.transaction o) (taken_back scene)
           (λ c cs q. let k = made_kept number left session.vars.context shared scene h (is_other number shared.writer) refl ends c cs q in k))

@@ -17,9 +17,9 @@ use Rattle.sql_meaning.specs.Scenes.{Scene, Ending, done, failed}
 use Rattle.sql_meaning.specs.Changing.{Did}
 use Rattle.sql_meaning.specs.Running.{effect, evaluation, most_nested, context_after}
 use Rattle.sql_reach.specs.Defining.{number_of_bytes}
-use Rattle.session_model.specs.Answers.{ok, refused, showing}
+use Rattle.session_model.specs.Answers.{ok, ok_warned, refused, showing}
 use Rattle.session_model.specs.Sessions.{Save, Open, Session, Shared, tables_with}
-use Rattle.session_model.specs.Running.{Call, full, Fuel, Turn, Given, commit_open, is_other, lock_refusal, writing_refusal, takes_too_much, undone, ended, scene_for, setting_of, settle, item_of, made_behind, with_counters, with_context, fuel_of, fitted, fitted_run, given_answer}
+use Rattle.session_model.specs.Running.{Call, full, Fuel, Turn, Given, commit_open, is_other, lock_refusal, writing_refusal, takes_too_much, undone, ended, scene_for, setting_of, settle, item_of, given_by, is_warned, made_behind, with_counters, with_context, fitted, fitted_run, given_answer}
 use Rattle.session_model.specs.Commands.{answered, with_answer, unless_refused, unless_answered, is_save_of, saves_but, back_to_save, back_in, release_in, code_answer, made_turn, define_turn, definition_turn, is_open, is_too_long, set_by, set_expressions, set_misfit, set_turn, given_turn, plain_turn}
 use Rattle.session_model.specs.Machine.{Whole}
 use Rattle.session_model.specs.Holding.{is_error, is_refused, begun, IsLeft, ErrorsLeaveAll, DefinitionsLeaveAll, ReadersSeeCommitted}
@@ -44,7 +44,8 @@ module _ (call : Call Whole) (shared : Shared) (session : Session Whole) where
 
   pub ended_left : {A : Type 0} (left : Left) (text : List ℕ) (tree : Statement) (first last_id : A → Option ℤ) (before : Scene) (e : Ending A)
       → let t = ended call left text tree shared session first last_id before e in is_error t.given.result ≡ true → IsLeft (begun shared session) t
-  ended_left {A = A} left text tree first last_id before (done a scene) q = settled (made_behind (is_other call.number shared.writer) before scene) q
+  ended_left {A = A} left text tree first last_id before (done a scene) q =
+      let made = made_behind (is_other call.number shared.writer) before scene in settled (is_warned session.format shared.base.catalog tree made) made q
     where
       -- an item is kept, or too much
       kept_or_not : (b : Bool) (t : Turn Whole (Given A)) → is_error t.given.result ≡ false → is_error (cond b (undone 1197 tree shared session scene) t).given.result ≡ true
@@ -52,11 +53,11 @@ module _ (call : Call Whole) (shared : Shared) (session : Session Whole) where
       kept_or_not true t l x = taken_back 1197 tree scene
       kept_or_not false t l x = absurd (differ x l)
 
-      settled : (made : List Change) → let t = settle call (item_of call session.format left text tree session.vars.context shared (first a)) made scene (with_counters scene shared)
-          (with_context (context_after session.vars.context tree scene.seeds (last_id a)) session) (record { result = Ok a; fuel = fuel_of scene }) (undone 1197 tree shared session scene) in
+      settled : (warned : Bool) (made : List Change) → let t = settle call (item_of call session.format left text tree session.vars.context shared (first a)) made scene (with_counters scene shared)
+          (with_context (context_after session.vars.context tree scene.seeds (last_id a)) session) (given_by a scene warned) (undone 1197 tree shared session scene) in
           is_error t.given.result ≡ true → IsLeft (begun shared session) t
-      settled [] x = absurd (differ x refl)
-      settled (c ∷ cs) x = kept_or_not (takes_too_much call session.transaction (item_of call session.format left text tree session.vars.context shared (first a) (c ∷ cs))) _ refl x
+      settled warned [] x = absurd (differ x refl)
+      settled warned (c ∷ cs) x = kept_or_not (takes_too_much call session.transaction (item_of call session.format left text tree session.vars.context shared (first a) (c ∷ cs))) _ refl x
   ended_left left text tree first last_id before (failed code scene) q = taken_back code tree scene
 
   -- ---- before a run
@@ -77,17 +78,17 @@ module _ (call : Call Whole) (shared : Shared) (session : Session Whole) where
   -- ---- a change, a SELECT or a DO
 
   -- a statement that was done is not refused
-  shown_or_counted : (did : Did) (shown : Option (List (List Value))) → did.shown ≡ shown → is_refused (option_map_or showing shown (ok did.affected)).end ≡ false
-  shown_or_counted did None e = refl
-  shown_or_counted did (Some rows) e = refl
+  shown_or_counted : (warned : Bool) (did : Did) (shown : Option (List (List Value))) → did.shown ≡ shown → is_refused (option_map_or (showing warned) shown (ok_warned warned did.affected)).end ≡ false
+  shown_or_counted warned did None e = refl
+  shown_or_counted warned did (Some rows) e = refl
 
-  error_answered : (r : Result Did ℕ) (fuel : Fuel) → is_refused (given_answer (record { result = r; fuel = fuel })).end ≡ true → is_error r ≡ true
-  error_answered (Ok did) fuel e = absurd (differ e (shown_or_counted did did.shown refl))
-  error_answered (Err code) fuel e = refl
+  error_answered : (r : Result Did ℕ) (fuel : Fuel) (warned : Bool) → is_refused (given_answer (record { result = r; fuel = fuel; warned = warned })).end ≡ true → is_error r ≡ true
+  error_answered (Ok did) fuel warned e = absurd (differ e (shown_or_counted warned did did.shown refl))
+  error_answered (Err code) fuel warned e = refl
 
   given_left : (t : Turn Whole (Given Did)) → (is_error t.given.result ≡ true → IsLeft (begun shared session) t) → is_refused (given_turn t).given.end ≡ true
       → IsLeft (begun shared session) (given_turn t)
-  given_left t l q = answered_left (begun shared session) t (given_answer t.given) (l (error_answered t.given.result t.given.fuel q))
+  given_left t l q = answered_left (begun shared session) t (given_answer t.given) (l (error_answered t.given.result t.given.fuel t.given.warned q))
 
   plain_left : (text : List ℕ) (s : Statement) → is_refused (plain_turn call text s shared session).given.end ≡ true → IsLeft (begun shared session) (plain_turn call text s shared session)
   plain_left text s q =

@@ -10,8 +10,8 @@ use Rattle.log_model.specs.Items.{item_size}
 use Rattle.log_model.specs.Log.{LogPlace, behind, counted, counted_all, written_to}
 use Rattle.transaction_sizes.specs.Sizes.{all_sizes, all_changes_size, are_too_large, changes_size, most_bytes}
 use Rattle.session_model.specs.Machine.{Whole, kept_of, kept_entry}
-use Rattle.session_model.specs.Formats.{is_by_rows}
-use Rattle.session_model.specs.Holding.{IsMade, AreMade, AreIn, AreOne, EntriesIn, EntriesMade}
+use Rattle.session_model.specs.Formats.{logs_rows}
+use Rattle.session_model.specs.Holding.{reasons_of, IsMade, AreMade, AreIn, AreOne, EntriesIn, EntriesMade}
 use Rattle.session_model.specs.declared.format.Format.{Format}
 
 -- ---- entries
@@ -117,6 +117,6 @@ front_in format (suc k) [] m = tt
 front_in format (suc k) (i ∷ is) m = (m.0, front_in format k is m.1)
 
 -- with one more
-pub more_in : (format : Format) (items : List Whole) (item : Whole) → AreIn format items → item.kept.rows ≡ is_by_rows format → AreIn format (items ++ item ∷ [])
+pub more_in : (format : Format) (items : List Whole) (item : Whole) → AreIn format items → item.kept.rows ≡ logs_rows format (reasons_of item) → AreIn format (items ++ item ∷ [])
 more_in format [] item m e = (e, tt)
 more_in format (i ∷ is) item m e = (m.0, more_in format is item m.1 e)

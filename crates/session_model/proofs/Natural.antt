@@ -1,5 +1,5 @@
 -- A node does on what it keeps of items what a whole run does on all that is known of them: one lemma a command.
-use Rattle.std.proofs.Common.{◌≡◌, ℕ, Bool, true, false, List, [], ◌∷◌, ◌++◌, map, find, Option, Some, None, Result, Ok, Err, ℤ, refl, sym, ◌∙◌, ap, cond}
+use Rattle.std.proofs.Common.{◌≡◌, ℕ, ◌||◌, Bool, true, false, List, [], ◌∷◌, ◌++◌, map, find, Option, Some, None, Result, Ok, Err, ℤ, refl, sym, ◌∙◌, ap, cond}
 use Rattle.std.proofs.lemmas.List.{map-append, length-map}
 use Rattle.std.proofs.lemmas.List.{map-set}
 use Rattle.std.proofs.Math.ListN.{get_or-map}
@@ -34,9 +34,9 @@ use Rattle.proc_model.specs.Talk.{Left, Refusal, Told}
 use Rattle.proc_model.specs.Procedures.{Came, assignments_of, scope_of, called}
 use Rattle.proc_model.proofs.Leading.{talk_seen}
 use Rattle.text_answers.specs.Answers.{TextAnswer, a_statement, a_syntax_error, too_deep, text_answer}
-use Rattle.session_model.specs.Answers.{ok, refused}
+use Rattle.session_model.specs.Answers.{ok, ok_warned, refused}
 use Rattle.session_model.specs.Sessions.{Save, Open, Session, Shared, State}
-use Rattle.session_model.specs.Running.{Call, full, Turn, Given, is_other, released, all_committed, counted_in, commit_shared, commit_open, keep, takes_too_much, undone, settle, ended, statement_run, values_run, expressions_run, fitted, fitted_run, writing_refusal, lock_refusal, item_of, made_behind, with_counters, with_context, fuel_of, scene_for, setting_of}
+use Rattle.session_model.specs.Running.{Call, full, Turn, Given, is_other, released, all_committed, counted_in, commit_shared, commit_open, keep, takes_too_much, undone, settle, ended, given_by, is_warned, statement_run, values_run, expressions_run, fitted, fitted_run, writing_refusal, lock_refusal, item_of, made_behind, with_counters, with_context, scene_for, setting_of}
 use Rattle.session_model.specs.Commands.{answered, with_answer, definition_entry, begin_turn, commit_turn, save_turn, is_save_of, saves_but, changes_of_own, saves_up_to, changes_cut, back_to_save, back_in, release_in, defined_turn, made_turn, unless_answered, define_turn, definition_turn, is_open, set_by, set_given, set_expressions, set_misfit, code_answer, is_too_long, given_turn, unless_refused, set_turn, plain_turn}
 use Rattle.session_model.specs.Calling.{Reached, reached_by, step_check, told_of, unless_checked, counted_by, with_counted, effect_of, same, run_step, evaluate_step, assign_step, steps_of, left_with, arguments_run, came_to, called_by, called_with, call_turn}
 use Rattle.session_model.specs.declared.format.Format.{Format}
@@ -179,8 +179,9 @@ module _ (identity : Identity) (draw : Draw) (number : ℕ) where
   ended_by : {A : Type 0} (left : Left) (text : List ℕ) (made_of : Statement) (shared : Shared) (session : Session Whole) (first last_id : A → Option ℤ) (before : Scene) (e : Ending A)
       → ended item_call left text made_of shared (session_by kept_of session) first last_id before e ≡ item_turn (ended whole_call left text made_of shared session first last_id before e)
   ended_by left text made_of shared session first last_id before (done a scene) =
-      settle_by (item_of whole_call session.format left text made_of session.vars.context shared (first a)) (made_behind (is_other number shared.writer) before scene) scene (with_counters scene shared)
-      (with_context (context_after session.vars.context made_of scene.seeds (last_id a)) session) (record { result = Ok a; fuel = fuel_of scene }) (undone 1197 made_of shared session scene)
+      let made = made_behind (is_other number shared.writer) before scene in
+      settle_by (item_of whole_call session.format left text made_of session.vars.context shared (first a)) made scene (with_counters scene shared)
+      (with_context (context_after session.vars.context made_of scene.seeds (last_id a)) session) (given_by a scene (is_warned session.format shared.base.catalog made_of made)) (undone 1197 made_of shared session scene)
   ended_by left text made_of shared session first last_id before (failed code scene) = refl
 
   statement_by : (left : Left) (text : List ℕ) (s : Statement) (shared : Shared) (session : Session Whole)
@@ -247,7 +248,7 @@ module _ (identity : Identity) (draw : Draw) (number : ℕ) where
   set_given_by : (as' : List (Target × Tree)) (r : Result (List Value) ℕ) (t : Turn Whole (Given (List Value))) → set_by as' r (item_turn t) ≡ item_turn (set_by as' r t)
   set_given_by as' (Err code) t = refl
   set_given_by as' (Ok vs) t =
-      ap (λ (session : Session Item). record { shared = t.shared; session = session; committed = map kept_entry t.committed; given = ok 0 }) (all_assigned_by (assignments_of as' vs) t.session)
+      ap (λ (session : Session Item). record { shared = t.shared; session = session; committed = map kept_entry t.committed; given = ok_warned t.given.warned 0 }) (all_assigned_by (assignments_of as' vs) t.session)
 
   long_by : (b : Bool) (answer : Answer) (shared : Shared) (session : Session Whole) (t : Turn Item Answer) (u : Turn Whole Answer) → t ≡ item_turn u
       → cond b (answered answer shared (session_by kept_of session)) t ≡ item_turn (cond b (answered answer shared session) u)
@@ -278,9 +279,9 @@ module _ (identity : Identity) (draw : Draw) (number : ℕ) where
 
   -- ---- CALL
 
-  reached_natural : {A : Type 0} (at : Reached Whole) (t : Turn Whole A) → reached_by (item_turn at) (item_turn t) ≡ item_turn (reached_by at t)
+  reached_natural : {A : Type 0} (at : Reached Whole) (t : Turn Whole (Given A)) → reached_by (item_turn at) (item_turn t) ≡ item_turn (reached_by at t)
   reached_natural at t =
-      ap (λ (es : List (Entry Item)). record { shared = t.shared; session = session_by kept_of t.session; committed = es; given = tt }) (sym (map-append kept_entry at.committed t.committed))
+      ap (λ (es : List (Entry Item)). record { shared = t.shared; session = session_by kept_of t.session; committed = es; given = at.given || t.given.warned }) (sym (map-append kept_entry at.committed t.committed))
 
   -- what is told, and where the CALL stands then
   abbrev seen : {B : Type 0} → Told B × Reached Whole → Told B × Reached Item
@@ -320,7 +321,7 @@ module _ (identity : Identity) (draw : Draw) (number : ℕ) where
   called_natural name (Ok vs) t =
       ap (λ (b : Came × Reached Item). came_to b)
       (talk_seen (steps_of whole_call) (steps_of item_call) (λ (at : Reached Whole). item_turn at) run_natural evaluate_natural assign_natural (called t.shared.base.catalog (left_with t.given.fuel) name vs)
-      (record { shared = t.shared; session = t.session; committed = t.committed; given = tt }))
+      (record { shared = t.shared; session = t.session; committed = t.committed; given = t.given.warned }))
 
   arguments_natural : (text : List ℕ) (ts : Trees) (shared : Shared) (session : Session Whole)
       → arguments_run item_call text ts shared (session_by kept_of session) ≡ item_turn (arguments_run whole_call text ts shared session)

@@ -9,14 +9,14 @@ use Rattle.sql_print.specs.StatementSpelling.{spelling}
 use Rattle.catalog_rules.specs.Checks.{session_scope}
 use Rattle.sql_meaning.specs.Scenes.{Scene, Ending, done, failed}
 use Rattle.sql_meaning.specs.Changing.{Did}
-use Rattle.sql_meaning.specs.Running.{effect, evaluation, most_nested, context_after}
+use Rattle.sql_meaning.specs.Running.{effect, evaluation, context_after}
 use Rattle.sql_reach.specs.Closing.{closed}
 use Rattle.sql_reach.specs.Defining.{number_of_bytes}
-use Rattle.proc_model.specs.Talk.{Left, Refusal, Told, Talk, brought}
-use Rattle.proc_model.specs.Procedures.{Came, scope_of}
+use Rattle.proc_model.specs.Talk.{Left, Refusal, Told}
+use Rattle.proc_model.specs.Procedures.{scope_of}
 use Rattle.proc_model.proofs.Leading.{talk_keeps}
 use Rattle.session_model.specs.Sessions.{Open, Session, Shared}
-use Rattle.session_model.specs.Running.{Call, full, Turn, Given, items_of, is_other, takes_too_much, undone, ended, scene_for, setting_of, settle, item_of, keep, kept_open, made_behind, with_counters, with_context, fuel_of, statement_run, values_run}
+use Rattle.session_model.specs.Running.{Call, full, Turn, Given, items_of, is_other, takes_too_much, undone, ended, scene_for, setting_of, settle, given_by, is_warned, item_of, keep, kept_open, made_behind, with_counters, with_context, statement_run, values_run}
 use Rattle.session_model.specs.Calling.{Reached, reached_by, step_check, told_result, told_of, unless_checked, counted_by, with_counted, effect_of, same, run_step, evaluate_step, assign_step, steps_of, arguments_run}
 use Rattle.session_model.specs.Machine.{Whole}
 use Rattle.session_model.specs.Holding.{is_error, begun, IsLeft, StepsLeaveAll, Stays, CallsKeepSteps}
@@ -30,7 +30,7 @@ error_told view (Ok a) e = e
 error_told view (Err code) e = refl
 
 -- behind what was put out before
-behind_left : {A : Type 0} (at : Reached Whole) (t : Turn Whole A) → IsLeft (begun at.shared at.session) t → IsLeft at (reached_by at t)
+behind_left : {A : Type 0} (at : Reached Whole) (t : Turn Whole (Given A)) → IsLeft (begun at.shared at.session) t → IsLeft at (reached_by at t)
 behind_left at t l = record {
   base = l.base;
   changes = l.changes;
@@ -102,24 +102,22 @@ kept_items item (Some open') = (item ∷ [], refl)
 
 ended_items : {A : Type 0} (call : Call Whole) (left : Left) (text : List ℕ) (made_of : Statement) (shared : Shared) (session : Session Whole) (first last_id : A → Option ℤ) (before : Scene) (e : Ending A)
     → MoreItems session.transaction (ended call left text made_of shared session first last_id before e).session.transaction
-ended_items {A = A} call left text made_of shared session first last_id before (done a scene) = settled (made_behind (is_other call.number shared.writer) before scene)
+ended_items {A = A} call left text made_of shared session first last_id before (done a scene) =
+    let made = made_behind (is_other call.number shared.writer) before scene in settled (is_warned session.format shared.base.catalog made_of made) made
   where
     after : Session Whole
     after = with_context (context_after session.vars.context made_of scene.seeds (last_id a)) session
 
-    given : Given A
-    given = record { result = Ok a; fuel = fuel_of scene }
+    kept_or_not : (warned b : Bool) (item : Whole) → MoreItems session.transaction (cond b (undone {A = A} 1197 made_of shared session scene) (keep call item scene (with_counters scene shared) after (given_by a scene warned))).session.transaction
+    kept_or_not warned true item = same_items session.transaction
+    kept_or_not warned false item = kept_items item session.transaction
 
-    kept_or_not : (b : Bool) (item : Whole) → MoreItems session.transaction (cond b (undone {A = A} 1197 made_of shared session scene) (keep call item scene (with_counters scene shared) after given)).session.transaction
-    kept_or_not true item = same_items session.transaction
-    kept_or_not false item = kept_items item session.transaction
-
-    settled : (made : List Change) → MoreItems session.transaction (settle call (item_of call session.format left text made_of session.vars.context shared (first a)) made scene (with_counters scene shared)
-        after given (undone 1197 made_of shared session scene)).session.transaction
-    settled [] = same_items session.transaction
-    settled (c ∷ cs) =
+    settled : (warned : Bool) (made : List Change) → MoreItems session.transaction (settle call (item_of call session.format left text made_of session.vars.context shared (first a)) made scene (with_counters scene shared)
+        after (given_by a scene warned) (undone 1197 made_of shared session scene)).session.transaction
+    settled warned [] = same_items session.transaction
+    settled warned (c ∷ cs) =
         let item : Whole = item_of call session.format left text made_of session.vars.context shared (first a) (c ∷ cs) in
-        kept_or_not (takes_too_much call session.transaction item) item
+        kept_or_not warned (takes_too_much call session.transaction item) item
 ended_items call left text made_of shared session first last_id before (failed code scene) = same_items session.transaction
 
 nothing_more : (at : Reached Whole) → Stays at at
@@ -135,7 +133,7 @@ stays_on a b c f k = record {
 }
 
 -- a step behind those before it
-reached_stays : {A : Type 0} (at : Reached Whole) (t : Turn Whole A) → MoreItems at.session.transaction t.session.transaction → Stays at (reached_by at t)
+reached_stays : {A : Type 0} (at : Reached Whole) (t : Turn Whole (Given A)) → MoreItems at.session.transaction t.session.transaction → Stays at (reached_by at t)
 reached_stays at t more = record { more_entries = t.committed; entries = refl; more_items = more.0; items = more.1 }
 
 checked_stays : {A : Type 0} (refusal : Option Refusal) (left : Left) (at : Reached Whole) (next : Told A × Reached Whole) → Stays at next.1 → Stays at (unless_checked refusal left at next).1

@@ -1,5 +1,5 @@
 -- What commands are answered.
-use Rattle.std.specs.Prelude.{ℕ, false, List, [], ◌∷◌, Some, None, min}
+use Rattle.std.specs.Prelude.{ℕ, Bool, false, List, [], ◌∷◌, Some, None, min}
 use Rattle.val_types.specs.declared.value.Value.{Value}
 use Rattle.answer_text.specs.declared.answer.Answer.{Answer}
 use Rattle.answer_text.specs.declared.answer.End.{End}
@@ -7,13 +7,26 @@ use Rattle.answer_text.specs.declared.answer.End.TheVariants as ends
 use Rattle.std.specs.Prelude.{ℤ, pos, neg_ℤ, ◌^◌, ◌-◌}
 use Rattle.proc_model.specs.Talk.{Refusal}
 
+-- rows affected, and whether it is warned that something is unsafe to log by its text
+abbrev pub ok_warned : (warned : Bool) → ℕ → Answer
+ok_warned warned affected = record { sets = []; end = ends.Ok affected warned }
+
 -- rows affected, 0 for what affects none
 abbrev pub ok : ℕ → Answer
-ok affected = record { sets = []; end = ends.Ok affected false }
+ok affected = ok_warned false affected
 
 -- the rows of a SELECT
-abbrev pub showing : List (List Value) → Answer
-showing rows = record { sets = rows ∷ []; end = ends.Rows false }
+abbrev pub showing : (warned : Bool) → List (List Value) → Answer
+showing warned rows = record { sets = rows ∷ []; end = ends.Rows warned }
+
+-- an answer whose last line shows a warning, where there is one and it is no error
+abbrev pub end_warned : (warned : Bool) → End → End
+end_warned warned (ends.Ok affected shown) = ends.Ok affected warned
+end_warned warned (ends.Rows shown) = ends.Rows warned
+end_warned warned (ends.Refused code at holder) = ends.Refused code at holder
+
+abbrev pub with_warning : (warned : Bool) → Answer → Answer
+with_warning warned answer = record answer { end = end_warned warned answer.end }
 
 -- an error
 abbrev pub refused : ℕ → Answer

@@ -1,5 +1,5 @@
 -- CALL: each statement of a procedure is one statement of its session.
-use Rattle.std.specs.Prelude.{ℕ, if◌then◌else◌, List, [], ◌++◌, Option, Some, None, Result, Ok, Err}
+use Rattle.std.specs.Prelude.{ℕ, Bool, false, ◌||◌, if◌then◌else◌, List, [], ◌++◌, Option, Some, None, Result, Ok, Err}
 use Rattle.std.specs.Option.{option_map}
 use Rattle.val_types.specs.declared.value.Value.{Value}
 use Rattle.sql_tree.specs.Statement.{Statement, evaluate, call_procedure}
@@ -13,7 +13,7 @@ use Rattle.sql_meaning.specs.Running.{most_nested}
 use Rattle.sql_reach.specs.Closing.{closed}
 use Rattle.proc_model.specs.Talk.{Left, Refusal, Effect, Told, Steps, brought}
 use Rattle.proc_model.specs.Procedures.{Came, plain_refusal, scope_of, called}
-use Rattle.session_model.specs.Answers.{refused}
+use Rattle.session_model.specs.Answers.{refused, with_warning}
 use Rattle.session_model.specs.Sessions.{Session, Shared}
 use Rattle.session_model.specs.Running.{Call, full, Fuel, Turn, Given, lock_check, lock_refusal, statement_run, values_run, expressions_run, did_answer}
 use Rattle.session_model.specs.Counting.{counted}
@@ -21,13 +21,18 @@ use Rattle.session_model.specs.Commands.{answered, with_answer, code_answer, is_
 
 -- ---- what a procedure asks, as steps of its session
 
--- Where a CALL stands: what is shared, its session, and the entries that it has put out.
+-- Where a CALL stands: what is shared, its session, the entries that it has put out, and whether an item of it is warned.
 abbrev pub Reached : Type 0 → Type 0
-Reached I = Turn I (Unit {0})
+Reached I = Turn I Bool
 
 -- a step behind those before it
-abbrev pub reached_by : {I A : Type 0} → Reached I → Turn I A → Reached I
-reached_by at t = record { shared = t.shared; session = t.session; committed = at.committed ++ t.committed; given = tt }
+abbrev pub reached_by : {I A : Type 0} → Reached I → Turn I (Given A) → Reached I
+reached_by at t = record {
+  shared = t.shared;
+  session = t.session;
+  committed = at.committed ++ t.committed;
+  given = at.given || t.given.warned;
+}
 
 -- the first of two checks that refuses
 abbrev pub first_check : Option Refusal → Option Refusal → Option Refusal
@@ -58,7 +63,7 @@ unless_checked (Some refusal) left at next = (told_refused refusal left, at)
 
 -- ROW_COUNT() behind a statement; an error ends the CALL, which counts it
 abbrev pub counted_by : {I : Type 0} → Result Did ℕ → Session I → Session I
-counted_by (Ok did) session = counted (did_answer did) session
+counted_by (Ok did) session = counted (did_answer false did) session
 counted_by (Err code) session = session
 
 abbrev pub with_counted : {I : Type 0} → Turn I (Given Did) → Turn I (Given Did)
@@ -102,20 +107,20 @@ arguments_run call text no_tree shared session = record {
   shared = shared;
   session = session;
   committed = [];
-  given = record { result = Ok []; fuel = record { turns = full.turns; uuids = full.uuids } };
+  given = record { result = Ok []; fuel = record { turns = full.turns; uuids = full.uuids }; warned = false };
 }
 arguments_run call text (tree t ts) shared session = expressions_run call full text (tree t ts) shared session
 
--- what a CALL came to
+-- what a CALL came to: its line shows whether one of its items is warned, that of its arguments too
 abbrev pub came_to : {I : Type 0} → Came × Reached I → Turn I Answer
-came_to b = with_answer b.0.answer b.1
+came_to b = with_answer (with_warning b.1.given b.0.answer) b.1
 
 -- the procedure is carried out, or the arguments were refused
 abbrev pub called_by : {I : Type 0} → Call I → List ℕ → Result (List Value) ℕ → Turn I (Given (List Value)) → Turn I Answer
 called_by call name (Err code) t = with_answer (refused code) t
 called_by call name (Ok vs) t =
     came_to (brought (steps_of call) (called t.shared.base.catalog (left_with t.given.fuel) name vs)
-    (record { shared = t.shared; session = t.session; committed = t.committed; given = tt }))
+    (record { shared = t.shared; session = t.session; committed = t.committed; given = t.given.warned }))
 
 abbrev pub called_with : {I : Type 0} → Call I → List ℕ → Turn I (Given (List Value)) → Turn I Answer
 called_with call name t = called_by call name t.given.result t

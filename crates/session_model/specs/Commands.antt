@@ -20,7 +20,7 @@ use Rattle.sql_meaning.specs.Changing.{Did}
 use Rattle.sql_meaning.specs.Running.{most_nested}
 use Rattle.sql_reach.specs.Defining.{counters_after}
 use Rattle.proc_model.specs.Procedures.{assignments_of}
-use Rattle.session_model.specs.Answers.{ok, refused}
+use Rattle.session_model.specs.Answers.{ok, ok_warned, refused}
 use Rattle.session_model.specs.Formats.{format_for, format_refusal}
 use Rattle.session_model.specs.declared.format.Format.{Format}
 use Rattle.session_model.specs.Sessions.{Save, Open, just_opened, Session, Shared}
@@ -243,7 +243,7 @@ is_open session = is_some session.transaction
 abbrev pub set_by : {I : Type 0} → List (Target × Tree) → Result (List Value) ℕ → Turn I (Given (List Value)) → Turn I Answer
 set_by as' (Err code) t = with_answer (refused code) t
 set_by as' (Ok vs) t =
-    record { shared = t.shared; session = all_assigned t.session (assignments_of as' vs); committed = t.committed; given = ok 0 }
+    record { shared = t.shared; session = all_assigned t.session (assignments_of as' vs); committed = t.committed; given = ok_warned t.given.warned 0 }
 
 abbrev pub set_given : {I : Type 0} → List (Target × Tree) → Turn I (Given (List Value)) → Turn I Answer
 set_given as' t = set_by as' t.given.result t

@@ -1,6 +1,6 @@
 -- What holds of every run: the committed base is what its entries make of the first one, and the log ends where they end; the open
 -- changes are those of the writer's items, and a savepoint stands where it says; items and entries are what statements made.
-use Rattle.std.specs.Prelude.{◌≡◌, ℕ, ◌≤◌, ◌<◌, ◌^◌, ◌==◌, Bool, true, false, not, List, [], ◌∷◌, ◌++◌, length, map, flat_map, take, Option, Some, None, is_some, slice_index_or, Result, Ok, Err}
+use Rattle.std.specs.Prelude.{◌≡◌, ℕ, ◌≤◌, ◌<◌, ◌^◌, ◌==◌, ◌&&◌, Bool, true, false, not, List, [], ◌∷◌, ◌++◌, length, map, flat_map, take, Option, Some, None, is_some, slice_index_or, Result, Ok, Err}
 use Rattle.std.specs.Option.{option_map_or, option_and_then}
 use Rattle.val_types.specs.declared.change.Change.{Change}
 use Rattle.auto_inc.specs.declared.counters.Counter.{Counter}
@@ -16,10 +16,10 @@ use Rattle.transaction_sizes.specs.Sizes.{are_too_large}
 use Rattle.proc_model.specs.Talk.{Left, Talk, brought}
 use Rattle.proc_model.specs.Procedures.{Came}
 use Rattle.session_ctx.specs.declared.session.SessionVars.{SessionVars}
-use Rattle.session_model.specs.Formats.{first_format, is_by_rows}
+use Rattle.sql_reach.specs.Reasons.{Reason, reasons}
+use Rattle.session_model.specs.Formats.{first_format, is_unsafe, logs_rows}
 use Rattle.session_model.specs.Sessions.{Save, Open, Session, Shared}
 use Rattle.session_model.specs.declared.format.Format.{Format}
-use Rattle.answer_text.specs.declared.answer.Answer.{Answer}
 use Rattle.answer_text.specs.declared.answer.End.{End}
 use Rattle.answer_text.specs.declared.answer.End.TheVariants as ends
 use Rattle.sql_meaning.specs.Frames.{Context}
@@ -55,10 +55,18 @@ abbrev pub AreMade : List Whole → Type 0
 AreMade [] = Unit {0}
 AreMade (i ∷ is) = IsMade i × AreMade is
 
--- items that are logged in a format, each by its text or each by its rows
+-- the reasons for which an item is unsafe to log by its text
+abbrev pub reasons_of : Whole → List Reason
+reasons_of i = reasons i.began.catalog i.began.tree
+
+-- an item is warned where it is logged by its text, though that is unsafe
+abbrev pub is_warned : Whole → Bool
+is_warned i = not i.kept.rows && is_unsafe (reasons_of i)
+
+-- items that are logged in a format, each by its rows exactly where the format says so of its reasons
 abbrev pub AreIn : Format → List Whole → Type 0
 AreIn format [] = Unit {0}
-AreIn format (i ∷ is) = (i.kept.rows ≡ is_by_rows format) × AreIn format is
+AreIn format (i ∷ is) = (i.kept.rows ≡ logs_rows format (reasons_of i)) × AreIn format is
 
 -- entries whose transactions are logged in a format
 abbrev pub EntriesIn : Format → List (Entry Whole) → Type 0
@@ -162,7 +170,7 @@ RunsGoOn =
     → length text ≤ 2 ^ 20 → Holds from (machine_after m (step whole identity m.state n text draw))
 
 -- the transactions that a step puts out are logged in the format that its session had before it: each item by its text under
--- STATEMENT, and by its rows under ROW
+-- STATEMENT, by its rows under ROW, and under MIXED by its text exactly where it has no reason
 abbrev pub FormatsDecide : Type 0
 FormatsDecide =
     (from : Beginning) (m : Machine) (identity : Identity) (n : ℕ) (text : List ℕ) (draw : Draw) → Holds from m → n < length m.state.sessions
@@ -177,7 +185,7 @@ is_refused (ends.Refused code place holder) = true
 
 -- where a command begins
 abbrev pub begun : {I : Type 0} → Shared → Session I → Reached I
-begun shared session = record { shared = shared; session = session; committed = []; given = tt }
+begun shared session = record { shared = shared; session = session; committed = []; given = false }
 
 -- the variables of a session with the seeds and the forced INSERT_ID of another context
 abbrev pub with_used : Context → SessionVars → SessionVars

@@ -29,8 +29,9 @@ use Rattle.sql_meaning.specs.Running.{most_nested, most_turns, effect, evaluatio
 use Rattle.sql_reach.specs.Carrying.{carried}
 use Rattle.sql_reach.specs.Reach.{writes}
 use Rattle.sql_reach.specs.Defining.{number_of_bytes}
-use Rattle.session_model.specs.Answers.{ok, showing, refused, refused_as}
-use Rattle.session_model.specs.Formats.{is_by_rows}
+use Rattle.session_model.specs.Answers.{ok_warned, showing, refused, refused_as}
+use Rattle.sql_reach.specs.Reasons.{reasons}
+use Rattle.session_model.specs.Formats.{logs_rows, warns}
 use Rattle.session_model.specs.declared.format.Format.{Format}
 use Rattle.session_model.specs.Sessions.{Open, Session, Shared, tables_with}
 
@@ -169,14 +170,14 @@ commit_open call shared session = record {
 abbrev pub definitions_changed : List Object → List Change → List TableDef
 definitions_changed catalog changes = filter (λ (d : TableDef). is_among (map table_of changes) d.name) (definitions_in catalog)
 
--- a statement's item, in the format of its session
+-- a statement's item, as the format of its session has it
 abbrev pub item_of : {I : Type 0} → Call I → Format → Left → List ℕ → Statement → Context → Shared → Option ℤ → List Change → I
 item_of call format left text tree context shared first changes =
     call.known.note
     (record {
       text = text;
       carried = carried shared.base.catalog tree context first;
-      rows = is_by_rows format;
+      rows = logs_rows format (reasons shared.base.catalog tree);
       defs = definitions_changed shared.base.catalog changes;
       changes = changes;
     })
@@ -241,10 +242,11 @@ with_counters scene shared = record shared { counters = scene.counters }
 abbrev pub with_context : {I : Type 0} → Context → Session I → Session I
 with_context context session = record session { vars = record (session.vars) { context = context } }
 
--- What a statement gives: a result with what is left to the command, or an error.
+-- What a statement gives: a result, or an error, with what is left to the command, and whether its item is warned.
 pub record Given (A : Type 0) : Type 0 where
   pub result : Result A ℕ
   pub fuel : Fuel
+  pub warned : Bool
 
 abbrev pub fuel_of : Scene → Fuel
 fuel_of scene = record { turns = scene.turns; uuids = scene.uuids }
@@ -255,7 +257,7 @@ undone code tree shared session scene = record {
   shared = with_counters scene shared;
   session = with_context (context_after session.vars.context tree scene.seeds None) session;
   committed = [];
-  given = record { result = Err code; fuel = fuel_of scene };
+  given = record { result = Err code; fuel = fuel_of scene; warned = false };
 }
 
 -- 1197: with one item more the transaction has too many bytes
@@ -268,12 +270,22 @@ settle call item [] scene shared session given refusal = record { shared = share
 settle call item (c ∷ cs) scene shared session given refusal =
     if takes_too_much call session.transaction (item (c ∷ cs)) then refusal else keep call (item (c ∷ cs)) scene shared session given
 
+-- a statement is warned where it changed something and its item is logged by its text, though that is unsafe
+abbrev pub is_warned : Format → List Object → Statement → List Change → Bool
+is_warned format catalog tree [] = false
+is_warned format catalog tree (c ∷ cs) = warns format (reasons catalog tree)
+
+-- what a statement that ended without an error gives
+abbrev pub given_by : {A : Type 0} → A → Scene → (warned : Bool) → Given A
+given_by a scene warned = record { result = Ok a; fuel = fuel_of scene; warned = warned }
+
 -- how a statement that began on a scene ended: its text and its tree make the item
 abbrev pub ended : {I : Type 0} {A : Type 0} → Call I → Left → List ℕ → Statement → Shared → Session I → (A → Option ℤ) → (A → Option ℤ) → Scene → Ending A → Turn I (Given A)
 ended call left text tree shared session first last_id before (done a scene) =
-    settle call (item_of call session.format left text tree session.vars.context shared (first a)) (made_behind (is_other call.number shared.writer) before scene) scene (with_counters scene shared)
-    (with_context (context_after session.vars.context tree scene.seeds (last_id a)) session) (record { result = Ok a; fuel = fuel_of scene })
-    (undone 1197 tree shared session scene)
+    let made = made_behind (is_other call.number shared.writer) before scene in
+    settle call (item_of call session.format left text tree session.vars.context shared (first a)) made scene (with_counters scene shared)
+    (with_context (context_after session.vars.context tree scene.seeds (last_id a)) session)
+    (given_by a scene (is_warned session.format shared.base.catalog tree made)) (undone 1197 tree shared session scene)
 ended call left text tree shared session first last_id before (failed code scene) = undone code tree shared session scene
 
 -- a change, a SELECT or a DO
@@ -310,9 +322,9 @@ fitted_run call left text ts misfit shared session =
     ended call left text (evaluate ts) shared session (λ _. None) (λ _. None) before
     (fitted misfit (evaluation (setting_of shared.base.catalog session.vars.context (number_of_bytes 0 call.draw.uuid)) left.nesting [] ts before))
 
--- the answer of a statement
-abbrev pub did_answer : Did → Answer
-did_answer did = option_map_or showing did.shown (ok did.affected)
+-- the answer of a statement, which shows whether it is warned; an error shows no warning
+abbrev pub did_answer : (warned : Bool) → Did → Answer
+did_answer warned did = option_map_or (showing warned) did.shown (ok_warned warned did.affected)
 
 abbrev pub given_answer : Given Did → Answer
-given_answer given = elim (given.result) [ Ok did ↦ did_answer did | Err code ↦ refused code ]
+given_answer given = elim (given.result) [ Ok did ↦ did_answer given.warned did | Err code ↦ refused code ]

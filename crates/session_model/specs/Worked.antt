@@ -1,5 +1,5 @@
 -- A small script run by the machine, of which worked examples are made.
-use Rattle.std.specs.Prelude.{ℕ, ◌+◌, List, [], ◌∷◌, ◌++◌, codes, false, map, replicate, pos}
+use Rattle.std.specs.Prelude.{ℕ, Bool, ◌+◌, List, [], ◌∷◌, ◌++◌, codes, false, map, replicate, pos}
 use Rattle.val_types.specs.declared.value.Value.{Value}
 use Rattle.val_types.specs.declared.value.Value.TheVariants.{Int}
 use Rattle.port_traits.specs.declared.identity.Identity.{Identity}
@@ -59,6 +59,17 @@ texts_in (LogStart stamp server ∷ es) = texts_in es
 abbrev pub texts_of : List Spoken → List (List (List ℕ))
 texts_of commands = texts_in (entries_of commands)
 
+-- whether each item of each transaction among some entries is logged by its rows
+abbrev pub by_rows_in : List (Entry Item) → List (List Bool)
+by_rows_in [] = []
+by_rows_in (Transaction stamp server items ∷ es) = map (λ (i : Item). i.rows) items ∷ by_rows_in es
+by_rows_in (Definition stamp server item ∷ es) = by_rows_in es
+by_rows_in (LogStart stamp server ∷ es) = by_rows_in es
+
+-- the same of the transactions that a script's commands put out
+abbrev pub by_rows_of : List Spoken → List (List Bool)
+by_rows_of commands = by_rows_in (entries_of commands)
+
 abbrev pub places_behind : (State Item → List LogPlace) → Step Item → List LogPlace
 places_behind more s = s.state.shared.place ∷ more s.state
 
@@ -109,3 +120,25 @@ inserts_twice = s1 (codes "CREATE PROCEDURE q() BEGIN INSERT INTO t VALUES (1, 1
 -- a procedure whose parameter hides a column
 abbrev pub hides_v : Spoken
 hides_v = s1 (codes "CREATE PROCEDURE p(v INT) BEGIN UPDATE t SET v = v + 1 WHERE id = 1; END")
+
+-- ---- formats
+
+-- statements logged by their texts from here on
+abbrev pub by_text : Spoken
+by_text = s1 (codes "SET binlog_format = 'STATEMENT'")
+
+-- a row that is drawn
+abbrev pub draws_one : Spoken
+draws_one = s1 (codes "INSERT INTO t VALUES (1, FLOOR(RAND() * 10))")
+
+-- a function that changes a row by what a replica may see otherwise
+abbrev pub adds_unsafely : Spoken
+adds_unsafely = s1 (codes "CREATE FUNCTION g(x INT) RETURNS INT BEGIN INSERT INTO t VALUES (x, @@server_id); RETURN x; END")
+
+-- a procedure whose first statement does, and whose second does not
+abbrev pub begins_unsafely : Spoken
+begins_unsafely = s1 (codes "CREATE PROCEDURE c(x INT) BEGIN INSERT INTO t VALUES (1, @@server_id); INSERT INTO t VALUES (x, 1); END")
+
+-- a procedure that changes no row
+abbrev pub sets_y : Spoken
+sets_y = s1 (codes "CREATE PROCEDURE y(x INT) SET @y = x")

@@ -23,13 +23,15 @@
 //!   procedure is one statement of its session, which the catalog's checks and the lock let through or refuse, and is logged by
 //!   itself, with its locals closed in; outside a transaction it is committed by itself, and stays where the CALL ends with an error
 //!   ([`runs_hold`], [`calls_committed`]).
-//! - What a step commits is logged in the format of its session: each item by its text under STATEMENT, and by its rows under ROW
+//! - What a step commits is logged in the format of its session: each item by its text under STATEMENT, by its rows under ROW, and under
+//!   MIXED by its text exactly where no reason makes that unsafe
 //!   ([`formats_decide`]).
 //! - A statement that is refused leaves all tables, the open transaction and what was committed, and assigns no variable: also a
 //!   SET whose values are refused behind their evaluation. A definition leaves what the commit before it does. In a CALL the
 //!   statement that is refused leaves all where it stands, and what those before it did stays ([`errors_leave_all`]).
 //! - A session beside another one's open changes reads the rows that were last committed ([`readers_see_committed`]).
-//! - The worked scripts: a writer and a reader, savepoints, variables, formats, a SET taken back, procedures; where the log ends behind a text and behind a row.
+//! - The worked scripts: a writer and a reader, savepoints, variables, formats, a SET taken back, procedures; what MIXED logs by rows, and
+//!   which answers are warned; where the log ends behind a text and behind a row.
 #![tactic(auto)]
 
 mod format;
@@ -41,7 +43,7 @@ pub use laws::{
     errors_leave_all, formats_decide, readers_see_committed, runs_hold, steps_are_kept,
 };
 pub use worked::{
-    calls_committed, first_refusal_counts, formats_set, locals_closed_in, log_grows, logs_full,
-    procedures_called, refused_sets_taken_back, savepoints_kept, variables_set,
-    writers_and_readers,
+    calls_committed, calls_warned, first_refusal_counts, formats_set, locals_closed_in, log_grows,
+    logs_full, mixed_chooses, procedures_called, refused_sets_taken_back, savepoints_kept,
+    unsafe_texts_warned, variables_set, writers_and_readers,
 };

@@ -16,7 +16,7 @@ use Rattle.sql_meaning.specs.Running.{most_turns, effect, evaluation}
 use Rattle.sql_meaning.specs.Leading.{StatementsEndWell, EvaluationsEndWell}
 use Rattle.sql_reach.specs.Closing.{closed}
 use Rattle.sql_reach.specs.Defining.{number_of_bytes}
-use Rattle.closing_laws.specs.Laws.{ClosedDoesTheSame, FittedIsShort}
+use Rattle.closing_laws.specs.Laws.{ClosedDoesTheSame}
 use Rattle.proc_model.specs.Talk.{Left, Refusal, Told}
 use Rattle.proc_model.specs.Procedures.{scope_of, called}
 use Rattle.session_model.specs.Sessions.{Session, Shared}
@@ -28,11 +28,12 @@ use Rattle.session_model.specs.Holding.{Owns, SharedHolds}
 use Rattle.session_model.proofs.Keeping.{TurnLeft, done_well, fitted_well}
 use Rattle.session_model.proofs.Calling.{CallHolds, ran_holds, gave_holds, assign_holds}
 use Rattle.session_replays.specs.Again.{AllGive, without_values}
+use Rattle.session_replays.specs.Bodies.{has_well_body}
 use Rattle.session_replays.specs.Sizes.{has_sizes}
+use Rattle.session_replays.proofs.Closing.{ClosingLaws}
 use Rattle.session_replays.proofs.Evaluating.{sets_run_as_dos}
 use Rattle.session_replays.proofs.Keeping.{Kept, TurnKept, nothing_kept, kept_on, ended_kept}
-use Rattle.session_replays.proofs.Locals.{AllFit, all_short, Any, such, talk_keeps_where, called_only}
-use Rattle.session_replays.proofs.Sizing.{entries_keep}
+use Rattle.session_replays.proofs.Locals.{all_short, Any, such, talk_keeps_where, called_only}
 use Rattle.session_replays.proofs.Spending.{IsWithin, full_within, left_within, Spend, statement_turns, values_turns, told_turns}
 
 -- What holds where a CALL stands.
@@ -89,7 +90,7 @@ module _ (identity : Identity) (draw : Draw) (number : ℕ) where
   -- ---- a procedure
 
   module _ (shared : Shared) (format : Format) where
-    reached : {A : Type 0} (at : Reached Whole) (t : Turn Whole A) → CallKept number shared format at → CallHolds (Unit {0}) number shared format (reached_by at t) → TurnKept number at.shared t
+    reached : {A : Type 0} (at : Reached Whole) (t : Turn Whole (Given A)) → CallKept number shared format at → CallHolds (Unit {0}) number shared format (reached_by at t) → TurnKept number at.shared t
         → CallKept number shared format (reached_by at t)
     reached at t h s k = record {
       stands = s;
@@ -105,14 +106,14 @@ module _ (identity : Identity) (draw : Draw) (number : ℕ) where
     counted_kept (Ok did) old t k = k
     counted_kept (Err code) old t k = k
 
-    module _ (statements : StatementsEndWell) (evaluations : EvaluationsEndWell) (closes : ClosedDoesTheSame) (fits : FittedIsShort) (spend : Spend) where
+    module _ (statements : StatementsEndWell) (evaluations : EvaluationsEndWell) (closes : ClosedDoesTheSame) (laws : ClosingLaws) (spend : Spend) where
       run_kept : (left : Left) (s : Statement) (at : Reached Whole) → such.run left s → CallKept number shared format at
           → CallKept number shared format (run_step call left s at).1 × ((run_step call left s at).0.turns ≤ left.turns)
       run_kept left s at low h =
           let t : Turn Whole (Given Did) = statement_run call left (spelling s) s at.shared at.session in (
             checked (step_check number session_scope s at.shared) left at _ h
                 (reached at (with_counted t) h (ran_holds (Unit {0}) identity draw number shared format statements evaluations left s at h.stands)
-                (counted_kept t.given.result at.shared t (statement_kept at.shared at.session h.stands.left.holds h.stands.left.own h.kept.items statements left low (spelling s) s))),
+                (counted_kept t.given.result at.shared t (statement_kept at.shared at.session h.stands.left.holds h.stands.left.own h.kept.items statements left low.0 (spelling s) s))),
             told_turns (step_check number session_scope s at.shared) left at _ (statement_turns spend call left (spelling s) s at.shared at.session),
           )
 
@@ -131,11 +132,12 @@ module _ (identity : Identity) (draw : Draw) (number : ℕ) where
       assign_kept : (n : List ℕ) (v : Value) (at : Reached Whole) → CallKept number shared format at → CallKept number shared format (assign_step n v at)
       assign_kept n v at h = record { stands = assign_holds (Unit {0}) identity draw number shared format statements evaluations n v at h.stands; kept = h.kept }
 
-      pub called_kept : (name : List ℕ) (r : Result (List Value) ℕ) (t : Turn Whole (Given (List Value))) → list_all has_sizes shared.base.catalog ≡ true → t.session.format ≡ format
+      pub called_kept : (name : List ℕ) (r : Result (List Value) ℕ) (t : Turn Whole (Given (List Value))) → list_all has_sizes t.shared.base.catalog ≡ true → list_all has_well_body t.shared.base.catalog ≡ true
+          → t.session.format ≡ format
           → t.given.fuel.turns ≤ most_turns → TurnLeft (Unit {0}) number shared format t → TurnKept number shared t → TurnKept number shared (called_by call name r t)
-      called_kept name (Err code) t sized same low l k = k
-      called_kept name (Ok vs) t sized same low l k =
+      called_kept name (Err code) t sized bodies same low l k = k
+      called_kept name (Ok vs) t sized bodies same low l k =
           (talk_keeps_where (steps_of call) (λ (at : Reached Whole). CallKept number shared format at) such Any run_kept evaluate_kept assign_kept
-          (called t.shared.base.catalog (left_with t.given.fuel) name vs) (record { shared = t.shared; session = t.session; committed = t.committed; given = tt })
-          (called_only fits t.shared.base.catalog (entries_keep t.committed shared.base t.shared.base l.entries sized) (left_with t.given.fuel) (left_within t.given.fuel low) name vs)
+          (called t.shared.base.catalog (left_with t.given.fuel) name vs) (record { shared = t.shared; session = t.session; committed = t.committed; given = t.given.warned })
+          (called_only laws t.shared.base.catalog sized bodies (left_with t.given.fuel) (left_within t.given.fuel low) name vs)
           (record { stands = record { same = same; left = l }; kept = k })).kept

@@ -1,6 +1,6 @@
 -- The bodies of stored programs stay well: definitions put no other in, and commands put out no other definitions.
-use Rattle.std.proofs.Common.{◌≡◌, ◌≤◌, ℕ, suc, Bool, true, false, List, [], ◌∷◌, ◌++◌, find, Option, Some, None, Result, Ok, Err, ℤ, refl, sym, ◌∙◌, subst, cond, arith}
-use Rattle.std.specs.Prelude.{◌&&◌, nat_le, is_some, not, flat_map}
+use Rattle.std.proofs.Common.{◌≡◌, ◌≤◌, ℕ, suc, Bool, true, false, List, [], ◌∷◌, ◌++◌, find, Option, Some, None, Result, Ok, Err, ℤ, refl, subst, cond, arith}
+use Rattle.std.specs.Prelude.{nat_le, is_some, not, flat_map}
 use Rattle.std.specs.List.{list_all}
 use Rattle.std.specs.Option.{option_map, option_and_then}
 use Rattle.std.proofs.lemmas.Bool.{and_parts, leb-true, le-leb}
@@ -37,13 +37,13 @@ use Rattle.proc_model.specs.Procedures.{scope_of, called}
 use Rattle.proc_model.proofs.Leading.{talk_keeps}
 use Rattle.session_model.specs.Answers.{refused}
 use Rattle.session_model.specs.Sessions.{Save, Open, Session, Shared}
-use Rattle.session_model.specs.Running.{Call, Turn, Given, full, is_other, keep, kept_entries, takes_too_much, made_behind, with_counters, with_context, fuel_of, undone, item_of, settle, ended, scene_for, statement_run, values_run, fitted, fitted_run, commit_entries, commit_open, lock_refusal, writing_refusal}
-use Rattle.session_model.specs.Commands.{answered, unless_refused, back_in, back_to_save, is_save_of, saves_but, release_in, made_turn, unless_answered, define_turn, definition_turn, set_by, set_expressions, set_misfit, set_turn, is_open, code_answer, is_too_long, plain_turn}
-use Rattle.session_model.specs.Calling.{Reached, reached_by, step_check, unless_checked, counted_by, with_counted, run_step, evaluate_step, assign_step, steps_of, left_with, arguments_run, called_by, call_turn}
-use Rattle.session_model.specs.Machine.{Whole, whole, at_work, statement_turn, text_turn, Machine, machine_after, step}
+use Rattle.session_model.specs.Running.{Call, Turn, Given, full, is_other, keep, kept_entries, takes_too_much, made_behind, with_counters, with_context, undone, item_of, settle, ended, given_by, is_warned, scene_for, statement_run, values_run, fitted_run, commit_entries, commit_open, lock_refusal, writing_refusal}
+use Rattle.session_model.specs.Commands.{answered, unless_refused, back_in, back_to_save, is_save_of, saves_but, release_in, made_turn, unless_answered, definition_turn, set_by, set_expressions, set_misfit, set_turn, is_open, code_answer, is_too_long, plain_turn}
+use Rattle.session_model.specs.Calling.{Reached, step_check, unless_checked, run_step, evaluate_step, steps_of, left_with, arguments_run, called_by, call_turn}
+use Rattle.session_model.specs.Machine.{Whole, whole, at_work, statement_turn, text_turn, step}
 use Rattle.session_model.specs.Holding.{changes_of, define}
 use Rattle.std.specs.Prelude.{slice_index_or}
-use Rattle.session_replays.specs.Bodies.{is_well_body, has_well_body, IsWellDefined, AreWellDefined, StepsDefineWell, HistoriesStayWell, CatalogsStayWell, RunsStayWell}
+use Rattle.session_replays.specs.Bodies.{is_well_body, has_well_body, AreWellDefined, StepsDefineWell, HistoriesStayWell, CatalogsStayWell, RunsStayWell}
 use Rattle.session_replays.proofs.Sizing.{and_join, join_all, filter_all}
 
 abbrev AllWell : List Object → Type 0
@@ -172,8 +172,9 @@ module _ (identity : Identity) (draw : Draw) (number : ℕ) where
   ended_well : {A : Type 0} (left : Left) (text : List ℕ) (item : Statement) (shared : Shared) (session : Session Whole) (first last_id : A → Option ℤ) (before : Scene) (e : Ending A)
       → TurnWell (ended call left text item shared session first last_id before e)
   ended_well left text item shared session first last_id before (done a scene) =
-      settle_well (item_of call session.format left text item session.vars.context shared (first a)) (made_behind (is_other number shared.writer) before scene) scene (with_counters scene shared)
-      (with_context (context_after session.vars.context item scene.seeds (last_id a)) session) (record { result = Ok a; fuel = fuel_of scene }) (undone 1197 item shared session scene) tt
+      let made = made_behind (is_other number shared.writer) before scene in
+      settle_well (item_of call session.format left text item session.vars.context shared (first a)) made scene (with_counters scene shared)
+      (with_context (context_after session.vars.context item scene.seeds (last_id a)) session) (given_by a scene (is_warned session.format shared.base.catalog item made)) (undone 1197 item shared session scene) tt
   ended_well left text item shared session first last_id before (failed code scene) = tt
 
   statement_well : (left : Left) (text : List ℕ) (s : Statement) (shared : Shared) (session : Session Whole) → TurnWell (statement_run call left text s shared session)
@@ -209,7 +210,7 @@ module _ (identity : Identity) (draw : Draw) (number : ℕ) where
   called_well name (Err code) t k = k
   called_well name (Ok vs) t k =
       talk_keeps (steps_of call) (λ (at : Reached Whole). TurnWell at) run_well evaluate_well (λ n v at h. h) (called t.shared.base.catalog (left_with t.given.fuel) name vs)
-      (record { shared = t.shared; session = t.session; committed = t.committed; given = tt }) k
+      (record { shared = t.shared; session = t.session; committed = t.committed; given = t.given.warned }) k
 
   arguments_well : (text : List ℕ) (ts : Trees) (shared : Shared) (session : Session Whole) → TurnWell (arguments_run call text ts shared session)
   arguments_well text no_tree shared session = tt

@@ -1,5 +1,5 @@
 -- What one statement of a session leaves: its item gives its changes on the base, behind those of the items before it.
-use Rattle.std.proofs.Common.{◌≡◌, ℕ, ◌⊎◌, inl, inr, Bool, true, false, List, [], ◌∷◌, ◌++◌, Option, Some, None, Ok, ℤ, refl, sym, ◌∙◌, ap, subst, cond}
+use Rattle.std.proofs.Common.{◌≡◌, ℕ, ◌⊎◌, inl, inr, Bool, true, false, List, [], ◌∷◌, ◌++◌, Option, Some, None, ℤ, refl, sym, ◌∙◌, ap, subst, cond}
 use Rattle.val_types.specs.declared.change.Change.{Change}
 use Rattle.proc_model.specs.Talk.{Left}
 use Rattle.sql_tree.specs.Statement.{Statement}
@@ -13,7 +13,7 @@ use Rattle.session_ctx.specs.declared.session.SessionVars.{SessionVars}
 use Rattle.session_model.specs.Sessions.{Open, Session, Shared, tables_with}
 use Rattle.sql_reach.specs.Carrying.{carried}
 use Rattle.sql_reach.specs.Defining.{number_of_bytes}
-use Rattle.session_model.specs.Running.{Known, Call, Turn, Given, is_other, items_of, keep, made_behind, with_counters, scene_for, takes_too_much, undone, settle, ended, item_of, fuel_of, with_context, setting_of}
+use Rattle.session_model.specs.Running.{Known, Call, Turn, Given, is_other, items_of, keep, made_behind, with_counters, scene_for, takes_too_much, undone, settle, ended, given_by, is_warned, item_of, with_context, setting_of}
 use Rattle.session_model.specs.declared.format.Format.{Format}
 use Rattle.session_model.specs.Machine.{Whole, whole}
 use Rattle.session_model.specs.Holding.{changes_in, Owns, SharedHolds}
@@ -142,8 +142,9 @@ module _ (call : Call Whole) (left : Left) (low : IsWithin left) (text : List �
       Kept call.number shared turn.shared turn.session.transaction turn.committed
   ended_kept session first last_id (done a scene) noted h o g ends was =
       let before = scene_for call.number left session.vars.context shared in
-      settle_kept session.vars.context scene (first a) (made_behind (is_other call.number shared.writer) before scene)
-      (with_context (context_after session.vars.context tree scene.seeds (last_id a)) session) (record { result = Ok a; fuel = fuel_of scene }) (undone 1197 tree shared session scene) noted h o g (was a scene refl)
+      let made = made_behind (is_other call.number shared.writer) before scene in
+      settle_kept session.vars.context scene (first a) made (with_context (context_after session.vars.context tree scene.seeds (last_id a)) session)
+      (given_by a scene (is_warned session.format shared.base.catalog tree made)) (undone 1197 tree shared session scene) noted h o g (was a scene refl)
       (record { entries = tt; items = g; frame = inl refl })
       (λ c cs q. let k = made_kept call.number left session.vars.context shared scene h (is_other call.number shared.writer) refl ends c cs q in (k.0, k.1))
   ended_kept session first last_id (failed code scene) noted h o g ends was = record { entries = tt; items = g; frame = inl refl }

@@ -1,8 +1,8 @@
--- A procedure asks for what it runs and evaluates with no more left than a command has, and evaluates where each local holds a value
--- that NAME_CONST can say, whatever it is told.
+-- A procedure asks for what it runs and evaluates with no more left than a command has, runs what is read as its text says, and
+-- evaluates where each local holds a value that NAME_CONST can say, whatever it is told.
 use Rattle.std.proofs.Common.{◌≡◌, ◌≤◌, ℕ, zero, suc, Bool, true, false, List, [], ◌∷◌, ◌++◌, map, length, take, zip, Option, Some, None, Result, Ok, Err, refl, ◌∙◌, subst, cond}
 use Rattle.std.specs.Prelude.{◌==◌, nat_eq, nat_le, not, is_some, option_to_list}
-use Rattle.std.specs.List.{list_all}
+use Rattle.std.specs.List.{AllByRecursion, list_all}
 use Rattle.std.specs.Cmp.Lexicographic.{pointwise}
 use Rattle.std.proofs.lemmas.Bool.{and_parts}
 use Rattle.std.proofs.Math.Nat.{le_trans, le_of_suc-le}
@@ -15,6 +15,7 @@ use Rattle.value_rules.specs.Functions.{is_known_true}
 use Rattle.sql_tree.specs.Tree.{Tree, Trees, no_tree, tree, Part, no_part, part}
 use Rattle.sql_tree.specs.Statement.{Declared, Program, Statement, create_table, create_function, create_procedure, create_trigger, drop_table, drop_function, drop_procedure, drop_trigger, truncate, insert_into, replace_into, update_rows, delete_rows, select, evaluate, set_all, call_procedure, begin, commit, rollback, savepoint, rollback_to, release_savepoint, block, if_steps, while_steps, return_value}
 use Rattle.sql_tree.specs.Statement.{Statements, no_statement, statement, Branches, no_branch, branch, Otherwise, no_else, else_steps}
+use Rattle.sql_tree.specs.Well.{IsWell, is_well_step}
 use Rattle.sql_tree.specs.declared.statements.SqlType.{SqlType}
 use Rattle.sql_tree.specs.declared.statements.SqlType.TheVariants as types
 use Rattle.sql_tree.specs.declared.statements.Parameter.{Parameter}
@@ -28,13 +29,15 @@ use Rattle.catalog_rules.specs.Creating.{program_types}
 use Rattle.catalog_rules.specs.Names.{first_made, is_among, same_name}
 use Rattle.catalog_rules.specs.Objects.{Object, table, function, procedure, reaction, as_procedure, procedure_in, name_of, parameters_of, result_of, body_of}
 use Rattle.sql_meaning.specs.Running.{most_nested, most_turns}
-use Rattle.sql_meaning.specs.Within.{values_assigned}
+use Rattle.sql_meaning.specs.Within.{listed, branch_steps, else_listed, do_one, do_part, do_presets, do_conditions, values_assigned}
 use Rattle.sql_reach.specs.Closing.{closed}
-use Rattle.closing_laws.specs.Laws.{is_short, holds_short, FittedIsShort}
+use Rattle.closing_laws.specs.Laws.{is_short, holds_short}
 use Rattle.proc_model.specs.Closing.{closing_refusal}
 use Rattle.proc_model.specs.Talk.{Left, Refusal, Effect, Told, Talk, ends, runs, evaluates, assigns, and_then, Steps, brought}
 use Rattle.proc_model.specs.Procedures.{Held, Ending, done, failed, Action, unless_failed, ◌>>=◌, pure, fail, answered, let_through, carried_on, then_try, all_tried, turn_spent, spend_turn, heard_with, heard_as, run_closed, evaluate_with, World, checked_values, first_value, value_of, holds_here, local_of, add_local, preset_value, declare, add_parameter, misfit, local_refusal, assignment_refusal, assign_one, assignments_of, assign_all, set_step, is_plain, note, plain_step, other_step, argument_values, scope_of, call_step, turns, step, steps, step_of_branches, steps_otherwise, procedure_body, free_procedure, started, call_at, begins, came, called}
+use Rattle.session_replays.specs.Bodies.{has_well_body}
 use Rattle.session_replays.specs.Sizes.{has_sizes}
+use Rattle.session_replays.proofs.Closing.{IsSound, body_sound, split_such, steps_sound, dos_well, plain_well, IsSaid, IsClosed, ClosingLaws}
 use Rattle.session_replays.proofs.Sizing.{split_all}
 use Rattle.session_replays.proofs.Spending.{IsWithin}
 
@@ -95,9 +98,12 @@ abbrev pub AllFit : List Local → Type 0
 AllFit [] = Unit {0}
 AllFit (l ∷ ls) = Fits l × AllFit ls
 
--- no more is left than a command has, and locals are such
+-- no more is left than a command has, what is run is read as its text says, locals are such, and expressions may be closed over them
 abbrev pub such : Asked
-such = record { run = λ left s. IsWithin left; give = λ left locals ts. IsWithin left × AllFit locals }
+such = record {
+  run = λ left s. IsWithin left × IsSaid s;
+  give = λ left locals ts. IsWithin left × AllFit locals × IsClosed (evaluate ts) locals;
+}
 
 pub all_short : (ls : List Local) → AllFit ls → list_all holds_short ls ≡ true
 all_short [] f = refl
@@ -134,12 +140,17 @@ found_from found (l ∷ ls) n f g = found_from (cond (pointwise nat_eq l.name n)
     by true = g.0
     by false = f
 
-module _ (law : FittedIsShort) where
+-- A procedure with types of sizes that there are, and a body that the parser can give.
+record IsReady (p : Program) : Type 0 where
+  sizes : list_all has_size (program_types p) ≡ true
+  body : IsSound (body_of p)
+
+module _ (laws : ClosingLaws) where
   -- a value that fits a type with room is short
   fitted_short : (kind : ColType) (v : Value) → has_room kind ≡ true → fitting kind v ≡ Ok tt → is_short v ≡ true
-  fitted_short kinds.Int v room e = law types.Int v refl e
-  fitted_short kinds.BigInt v room e = law types.BigInt v refl e
-  fitted_short (kinds.Varchar most) v room e = law (types.Varchar most) v room e
+  fitted_short kinds.Int v room e = laws.fits types.Int v refl e
+  fitted_short kinds.BigInt v room e = laws.fits types.BigInt v refl e
+  fitted_short (kinds.Varchar most) v room e = laws.fits (types.Varchar most) v room e
 
   type_room : (kind : SqlType) → has_size kind ≡ true → has_room (column_type kind) ≡ true
   type_room types.Int e = refl
@@ -166,7 +177,7 @@ module _ (law : FittedIsShort) where
       added q short = subst AllFit q (one_more locals (local_of n kind v) f (record { room = type_room kind size; short = short }))
 
       by : (r : Result (Unit {0}) ℕ) → fitting (column_type kind) v ≡ r → with_value {A = Unit {0}} {B = List Local} (λ _. locals ++ local_of n kind v ∷ []) r ≡ Ok out → AllFit out
-      by (Ok u) q x = let same : locals ++ local_of n kind v ∷ [] ≡ out = cc in added same (law kind v size q)
+      by (Ok u) q x = let same : locals ++ local_of n kind v ∷ [] ≡ out = cc in added same (laws.fits kind v size q)
       by (Err code) q x = cc
 
   -- several
@@ -223,41 +234,45 @@ module _ (law : FittedIsShort) where
   heard_any (Ok a) held few = (tt, few)
   heard_any (Err refusal) held few = tt
 
-  run_acts : (nesting : ℕ) → nesting ≤ most_nested → (s : Statement) → Acts Any (run_closed nesting s)
-  run_acts nesting low s held few =
-      (record { nesting = low; turns = few }, λ told t. heard_any told.result (heard_with told held) (le_trans t few))
+  run_acts : (nesting : ℕ) → nesting ≤ most_nested → (s : Statement) → IsSaid s → Acts Any (run_closed nesting s)
+  run_acts nesting low s said held few =
+      ((record { nesting = low; turns = few }, said), λ told t. heard_any told.result (heard_with told held) (le_trans t few))
 
-  evaluate_acts : (nesting : ℕ) → nesting ≤ most_nested → (locals : List Local) (ts : Trees) → AllFit locals → Acts Any (evaluate_with nesting locals ts)
-  evaluate_acts nesting low locals ts f held few =
-      ((record { nesting = low; turns = few }, f), λ told t. heard_any told.result (heard_with told held) (le_trans t few))
+  evaluate_acts : (nesting : ℕ) → nesting ≤ most_nested → (locals : List Local) (ts : Trees) → AllFit locals → IsClosed (evaluate ts) locals → Acts Any (evaluate_with nesting locals ts)
+  evaluate_acts nesting low locals ts f closes held few =
+      ((record { nesting = low; turns = few }, f, closes), λ told t. heard_any told.result (heard_with told held) (le_trans t few))
 
-  values_act : (world : World) (low : world.nesting ≤ most_nested) (locals : List Local) (ts : Trees) → AllFit locals → Acts Any (checked_values world locals ts)
-  values_act world low locals ts f = behind_check Any (closing_refusal (evaluate ts) locals) (evaluate_with world.nesting locals ts) (λ _. evaluate_acts world.nesting low locals ts f)
+  values_act : (world : World) (low : world.nesting ≤ most_nested) (locals : List Local) (ts : Trees) → AllFit locals → IsWell (evaluate ts) → Acts Any (checked_values world locals ts)
+  values_act world low locals ts f w =
+      behind_check Any (closing_refusal (evaluate ts) locals) (evaluate_with world.nesting locals ts)
+      (λ e. evaluate_acts world.nesting low locals ts f (laws.says (evaluate ts) locals refl w e))
 
-  value_acts : (world : World) (low : world.nesting ≤ most_nested) (locals : List Local) (t : Tree) → AllFit locals → Acts Any (value_of world locals t)
-  value_acts world low locals t f = goes_on Any Any (checked_values world locals (tree t no_tree)) (λ vs. pure (first_value vs)) (values_act world low locals (tree t no_tree) f) (λ vs x held few. (tt, few))
+  value_acts : (world : World) (low : world.nesting ≤ most_nested) (locals : List Local) (t : Tree) → AllFit locals → IsWell (do_one t) → Acts Any (value_of world locals t)
+  value_acts world low locals t f w = goes_on Any Any (checked_values world locals (tree t no_tree)) (λ vs. pure (first_value vs)) (values_act world low locals (tree t no_tree) f w) (λ vs x held few. (tt, few))
 
-  holds_acts : (world : World) (low : world.nesting ≤ most_nested) (locals : List Local) (t : Tree) → AllFit locals → Acts Any (holds_here world locals t)
-  holds_acts world low locals t f =
-      goes_on Any Any (value_of world locals t) (λ v. answered (with_value is_known_true (truth_of v))) (value_acts world low locals t f)
+  holds_acts : (world : World) (low : world.nesting ≤ most_nested) (locals : List Local) (t : Tree) → AllFit locals → IsWell (do_one t) → Acts Any (holds_here world locals t)
+  holds_acts world low locals t f w =
+      goes_on Any Any (value_of world locals t) (λ v. answered (with_value is_known_true (truth_of v))) (value_acts world low locals t f w)
       (λ v x. answered_acts Any (with_value is_known_true (truth_of v)) (λ a e. tt))
 
   -- ---- DECLARE and SET
 
-  preset_acts : (world : World) (low : world.nesting ≤ most_nested) (locals : List Local) (p : Part) → AllFit locals → Acts Any (preset_value world locals p)
-  preset_acts world low locals no_part f = λ held few. (tt, few)
-  preset_acts world low locals (part t) f = value_acts world low locals t f
+  preset_acts : (world : World) (low : world.nesting ≤ most_nested) (locals : List Local) (p : Part) → AllFit locals → AllByRecursion IsWell (do_part p) → Acts Any (preset_value world locals p)
+  preset_acts world low locals no_part f w = λ held few. (tt, few)
+  preset_acts world low locals (part t) f w = value_acts world low locals t f w.0
 
-  declare_acts : (world : World) (low : world.nesting ≤ most_nested) (locals : List Local) (d : Declared) → has_size d.kind ≡ true → AllFit locals → Acts AllFit (declare world locals d)
-  declare_acts world low locals d size f =
-      goes_on Any AllFit (preset_value world locals d.preset) (λ v. answered (all_tried (add_local d.kind v) locals d.names)) (preset_acts world low locals d.preset f)
+  declare_acts : (world : World) (low : world.nesting ≤ most_nested) (locals : List Local) (d : Declared) → has_size d.kind ≡ true → AllFit locals → AllByRecursion IsWell (do_part d.preset) → Acts AllFit (declare world locals d)
+  declare_acts world low locals d size f w =
+      goes_on Any AllFit (preset_value world locals d.preset) (λ v. answered (all_tried (add_local d.kind v) locals d.names)) (preset_acts world low locals d.preset f w)
       (λ v x. answered_acts AllFit (all_tried (add_local d.kind v) locals d.names) (λ out e. tried_names d.kind v d.names locals out size f e))
 
-  declares_act : (world : World) (low : world.nesting ≤ most_nested) (ds : List Declared) (locals : List Local) → list_all has_size (map (λ (d : Declared). d.kind) ds) ≡ true → AllFit locals → Acts AllFit (carried_on (declare world) locals ds)
-  declares_act world low [] locals size f = λ held few. (f, few)
-  declares_act world low (d ∷ ds) locals size f =
+  declares_act : (world : World) (low : world.nesting ≤ most_nested) (ds : List Declared) (locals : List Local) → list_all has_size (map (λ (d : Declared). d.kind) ds) ≡ true → AllFit locals → AllByRecursion IsWell (do_presets ds)
+      → Acts AllFit (carried_on (declare world) locals ds)
+  declares_act world low [] locals size f w = λ held few. (f, few)
+  declares_act world low (d ∷ ds) locals size f w =
       let s = and_parts (has_size d.kind) (list_all has_size (map (λ (k : Declared). k.kind) ds)) size in
-      goes_on AllFit AllFit (declare world locals d) (λ next. carried_on (declare world) next ds) (declare_acts world low locals d s.0 f) (λ next g. declares_act world low ds next s.1 g)
+      let v = split_such IsWell (do_part d.preset) (do_presets ds) w in
+      goes_on AllFit AllFit (declare world locals d) (λ next. carried_on (declare world) next ds) (declare_acts world low locals d s.0 f v.0) (λ next g. declares_act world low ds next s.1 g v.1)
 
   assign_acts : (locals : List Local) (target : Target) (v : Value) → (assignment_refusal locals (target, v) ≡ None → (now : List Local) → AllFit locals → AllFit now → Acts AllFit (assign_one now (target, v)))
   assign_acts locals (Target.Plain n) v e now f g = λ held few. (set_fits n v now (assigned_short locals n v f e) g, few)
@@ -275,39 +290,45 @@ module _ (law : FittedIsShort) where
       by None q x more = goes_on AllFit AllFit (assign_one now a) (λ next. carried_on assign_one next as') (assign_acts locals a.0 a.1 q now f g) (more x)
       by (Some code) q x more = cc
 
-  set_acts : (world : World) (low : world.nesting ≤ most_nested) (locals : List Local) (as' : List (Target × Tree)) → AllFit locals → Acts AllFit (set_step world locals as')
-  set_acts world low locals as' f =
-      goes_on Any AllFit (checked_values world locals (values_assigned as')) (λ vs. assign_all locals (assignments_of as' vs)) (values_act world low locals (values_assigned as') f)
+  -- the DO over the expressions of a SET
+  assigned_well : (as' : List (Target × Tree)) → IsSound (set_all as') → IsWell (evaluate (values_assigned as'))
+  assigned_well [] h = let none : is_well_step (set_all []) ≡ true = h.well in cc
+  assigned_well (a ∷ as') h = (dos_well laws.parts (set_all (a ∷ as')) h).0
+
+  set_acts : (world : World) (low : world.nesting ≤ most_nested) (locals : List Local) (as' : List (Target × Tree)) → AllFit locals → IsSound (set_all as') → Acts AllFit (set_step world locals as')
+  set_acts world low locals as' f h =
+      goes_on Any AllFit (checked_values world locals (values_assigned as')) (λ vs. assign_all locals (assignments_of as' vs)) (values_act world low locals (values_assigned as') f (assigned_well as' h))
       (λ vs x. behind_check AllFit (first_made (assignment_refusal locals) (assignments_of as' vs)) (carried_on assign_one locals (assignments_of as' vs))
       (λ e. assigns_act locals (assignments_of as' vs) locals e f f))
 
   -- ---- changes, SELECT and DO
 
-  plain_acts : (world : World) (low : world.nesting ≤ most_nested) (locals : List Local) (s : Statement) → AllFit locals → Acts AllFit (plain_step world locals s)
-  plain_acts world low locals s f =
+  plain_acts : (world : World) (low : world.nesting ≤ most_nested) (locals : List Local) (s : Statement) → AllFit locals → is_plain s ≡ true → IsSound s → Acts AllFit (plain_step world locals s)
+  plain_acts world low locals s f p h =
       behind_check AllFit (closing_refusal s locals) (run_closed world.nesting (closed s locals) >>= note >>= λ _. pure locals)
-      (λ _. goes_on Any AllFit (run_closed world.nesting (closed s locals) >>= note) (λ _. pure locals)
-      (goes_on Any Any (run_closed world.nesting (closed s locals)) note (run_acts world.nesting low (closed s locals)) (λ effect x held few. (tt, few))) (λ u x held few. (f, few)))
+      (λ e. goes_on Any AllFit (run_closed world.nesting (closed s locals) >>= note) (λ _. pure locals)
+      (goes_on Any Any (run_closed world.nesting (closed s locals)) note (run_acts world.nesting low (closed s locals) (laws.says s locals p (plain_well s p h) e).said) (λ effect x held few. (tt, few))) (λ u x held few. (f, few)))
 
-  other_acts : (world : World) (low : world.nesting ≤ most_nested) (locals : List Local) (s : Statement) → AllFit locals → Acts AllFit (other_step world locals s)
-  other_acts world low locals s f = by (is_plain s)
+  other_acts : (world : World) (low : world.nesting ≤ most_nested) (locals : List Local) (s : Statement) → AllFit locals → IsSound s → Acts AllFit (other_step world locals s)
+  other_acts world low locals s f h = by (is_plain s) refl
     where
-      by : (b : Bool) → Acts AllFit (cond b (plain_step world locals s) (fail 30005))
-      by true = plain_acts world low locals s f
-      by false = λ held few. tt
+      by : (b : Bool) → is_plain s ≡ b → Acts AllFit (cond b (plain_step world locals s) (fail 30005))
+      by true e = plain_acts world low locals s f e h
+      by false e = λ held few. tt
 
   -- ---- steps
 
   module _ (world : World) (low : world.nesting ≤ most_nested) (calls : (n : List ℕ) (vs : List Value) → Acts Any (world.call n vs)) where
-    arguments_act : (locals : List Local) (ts : Trees) → AllFit locals → Acts Any (argument_values world locals ts)
-    arguments_act locals no_tree f = λ held few. (tt, few)
-    arguments_act locals (tree t ts) f = evaluate_acts world.nesting low locals (tree t ts) f
+    arguments_act : (locals : List Local) (n : List ℕ) (ts : Trees) → AllFit locals → IsSound (call_procedure n ts) → closing_refusal (evaluate ts) locals ≡ None → Acts Any (argument_values world locals ts)
+    arguments_act locals n no_tree f h e = λ held few. (tt, few)
+    arguments_act locals n (tree t ts) f h e =
+        evaluate_acts world.nesting low locals (tree t ts) f (laws.says (evaluate (tree t ts)) locals refl (dos_well laws.parts (call_procedure n (tree t ts)) h).0 e)
 
-    call_acts : (locals : List Local) (n : List ℕ) (ts : Trees) → AllFit locals → Acts AllFit (call_step world locals n ts)
-    call_acts locals n ts f =
-        behind_check AllFit (closing_refusal (evaluate ts) locals) _ (λ _.
+    call_acts : (locals : List Local) (n : List ℕ) (ts : Trees) → AllFit locals → IsSound (call_procedure n ts) → Acts AllFit (call_step world locals n ts)
+    call_acts locals n ts f h =
+        behind_check AllFit (closing_refusal (evaluate ts) locals) _ (λ e.
         behind_check AllFit (statement_refusal world.catalog (scope_of locals) (call_procedure n ts)) _ (λ _.
-        goes_on Any AllFit (argument_values world locals ts) (λ vs. world.call n vs >>= λ _. pure locals) (arguments_act locals ts f)
+        goes_on Any AllFit (argument_values world locals ts) (λ vs. world.call n vs >>= λ _. pure locals) (arguments_act locals n ts f h e)
         (λ vs x. goes_on Any AllFit (world.call n vs) (λ _. pure locals) (calls n vs) (λ u y held few. (f, few)))))
 
     -- a loop, by its condition and its body
@@ -334,111 +355,122 @@ module _ (law : FittedIsShort) where
         by false more = λ held few. (f, few)
 
     mutual
-      step_acts : (s : Statement) (locals : List Local) → list_all has_size (declared_types s) ≡ true → AllFit locals → Acts AllFit (step world locals s)
-      step_acts (block ds ss) locals size f =
+      step_acts : (s : Statement) (locals : List Local) → list_all has_size (declared_types s) ≡ true → IsSound s → AllFit locals → Acts AllFit (step world locals s)
+      step_acts (block ds ss) locals size h f =
           let s = split_all has_size (map (λ (d : Declared). d.kind) ds) (types_in_steps ss) size in
-          goes_on AllFit AllFit (carried_on (declare world) locals ds) (λ inner. steps world inner ss >>= λ after. pure (take (length locals) after)) (declares_act world low ds locals s.0 f)
-          (λ inner g. goes_on AllFit AllFit (steps world inner ss) (λ after. pure (take (length locals) after)) (steps_act ss inner s.1 g) (λ after k held few. (first_ones (length locals) after k, few)))
-      step_acts (if_steps bs o) locals size f =
+          goes_on AllFit AllFit (carried_on (declare world) locals ds) (λ inner. steps world inner ss >>= λ after. pure (take (length locals) after)) (declares_act world low ds locals s.0 f (dos_well laws.parts (block ds ss) h))
+          (λ inner g. goes_on AllFit AllFit (steps world inner ss) (λ after. pure (take (length locals) after)) (steps_act ss inner s.1 (steps_sound laws.parts (block ds ss) h) g) (λ after k held few. (first_ones (length locals) after k, few)))
+      step_acts (if_steps bs o) locals size h f =
           let s = split_all has_size (types_in_branches bs) (types_in_otherwise o) size in
-          branches_act bs locals (steps_otherwise world locals o) s.0 f (otherwise_acts o locals s.1 f)
-      step_acts (while_steps c ss) locals size f =
-          λ held few. turns_act held.turns (λ now. holds_here world now c) (λ now. steps world now ss) (λ now g. holds_acts world low now c g) (λ now g. steps_act ss now size g) locals f held few
-      step_acts (set_all as') locals size f = set_acts world low locals as' f
-      step_acts (call_procedure n ts) locals size f = call_acts locals n ts f
-      step_acts (create_table t) locals size f = other_acts world low locals (create_table t) f
-      step_acts (create_function p) locals size f = other_acts world low locals (create_function p) f
-      step_acts (create_procedure p) locals size f = other_acts world low locals (create_procedure p) f
-      step_acts (create_trigger t) locals size f = other_acts world low locals (create_trigger t) f
-      step_acts (drop_table n) locals size f = other_acts world low locals (drop_table n) f
-      step_acts (drop_function n) locals size f = other_acts world low locals (drop_function n) f
-      step_acts (drop_procedure n) locals size f = other_acts world low locals (drop_procedure n) f
-      step_acts (drop_trigger n) locals size f = other_acts world low locals (drop_trigger n) f
-      step_acts (truncate n) locals size f = other_acts world low locals (truncate n) f
-      step_acts (insert_into ignore t names supply sets) locals size f = other_acts world low locals (insert_into ignore t names supply sets) f
-      step_acts (replace_into t names supply) locals size f = other_acts world low locals (replace_into t names supply) f
-      step_acts (update_rows t sets condition os limit) locals size f = other_acts world low locals (update_rows t sets condition os limit) f
-      step_acts (delete_rows t condition os limit) locals size f = other_acts world low locals (delete_rows t condition os limit) f
-      step_acts (select q) locals size f = other_acts world low locals (select q) f
-      step_acts (evaluate ts) locals size f = other_acts world low locals (evaluate ts) f
-      step_acts begin locals size f = other_acts world low locals begin f
-      step_acts commit locals size f = other_acts world low locals commit f
-      step_acts rollback locals size f = other_acts world low locals rollback f
-      step_acts (savepoint n) locals size f = other_acts world low locals (savepoint n) f
-      step_acts (rollback_to n) locals size f = other_acts world low locals (rollback_to n) f
-      step_acts (release_savepoint n) locals size f = other_acts world low locals (release_savepoint n) f
-      step_acts (return_value v) locals size f = other_acts world low locals (return_value v) f
+          let v = split_such IsSound (branch_steps bs) (else_listed o) (steps_sound laws.parts (if_steps bs o) h) in
+          branches_act bs locals (steps_otherwise world locals o) s.0 v.0 (dos_well laws.parts (if_steps bs o) h) f (otherwise_acts o locals s.1 v.1 f)
+      step_acts (while_steps c ss) locals size h f =
+          λ held few. turns_act held.turns (λ now. holds_here world now c) (λ now. steps world now ss) (λ now g. holds_acts world low now c g (dos_well laws.parts (while_steps c ss) h).0)
+          (λ now g. steps_act ss now size (steps_sound laws.parts (while_steps c ss) h) g) locals f held few
+      step_acts (set_all as') locals size h f = set_acts world low locals as' f h
+      step_acts (call_procedure n ts) locals size h f = call_acts locals n ts f h
+      step_acts (create_table t) locals size h f = other_acts world low locals (create_table t) f h
+      step_acts (create_function p) locals size h f = other_acts world low locals (create_function p) f h
+      step_acts (create_procedure p) locals size h f = other_acts world low locals (create_procedure p) f h
+      step_acts (create_trigger t) locals size h f = other_acts world low locals (create_trigger t) f h
+      step_acts (drop_table n) locals size h f = other_acts world low locals (drop_table n) f h
+      step_acts (drop_function n) locals size h f = other_acts world low locals (drop_function n) f h
+      step_acts (drop_procedure n) locals size h f = other_acts world low locals (drop_procedure n) f h
+      step_acts (drop_trigger n) locals size h f = other_acts world low locals (drop_trigger n) f h
+      step_acts (truncate n) locals size h f = other_acts world low locals (truncate n) f h
+      step_acts (insert_into ignore t names supply sets) locals size h f = other_acts world low locals (insert_into ignore t names supply sets) f h
+      step_acts (replace_into t names supply) locals size h f = other_acts world low locals (replace_into t names supply) f h
+      step_acts (update_rows t sets condition os limit) locals size h f = other_acts world low locals (update_rows t sets condition os limit) f h
+      step_acts (delete_rows t condition os limit) locals size h f = other_acts world low locals (delete_rows t condition os limit) f h
+      step_acts (select q) locals size h f = other_acts world low locals (select q) f h
+      step_acts (evaluate ts) locals size h f = other_acts world low locals (evaluate ts) f h
+      step_acts begin locals size h f = other_acts world low locals begin f h
+      step_acts commit locals size h f = other_acts world low locals commit f h
+      step_acts rollback locals size h f = other_acts world low locals rollback f h
+      step_acts (savepoint n) locals size h f = other_acts world low locals (savepoint n) f h
+      step_acts (rollback_to n) locals size h f = other_acts world low locals (rollback_to n) f h
+      step_acts (release_savepoint n) locals size h f = other_acts world low locals (release_savepoint n) f h
+      step_acts (return_value v) locals size h f = other_acts world low locals (return_value v) f h
 
-      steps_act : (ss : Statements) (locals : List Local) → list_all has_size (types_in_steps ss) ≡ true → AllFit locals → Acts AllFit (steps world locals ss)
-      steps_act no_statement locals size f = λ held few. (f, few)
-      steps_act (statement s ss) locals size f =
+      steps_act : (ss : Statements) (locals : List Local) → list_all has_size (types_in_steps ss) ≡ true → AllByRecursion IsSound (listed ss) → AllFit locals → Acts AllFit (steps world locals ss)
+      steps_act no_statement locals size h f = λ held few. (f, few)
+      steps_act (statement s ss) locals size h f =
           let p = split_all has_size (declared_types s) (types_in_steps ss) size in
-          goes_on AllFit AllFit (step world locals s) (λ after. steps world after ss) (step_acts s locals p.0 f) (λ after g. steps_act ss after p.1 g)
+          goes_on AllFit AllFit (step world locals s) (λ after. steps world after ss) (step_acts s locals p.0 h.0 f) (λ after g. steps_act ss after p.1 h.1 g)
 
-      branches_act : (bs : Branches) (locals : List Local) (otherwise : Action (List Local)) → list_all has_size (types_in_branches bs) ≡ true → AllFit locals → Acts AllFit otherwise
-          → Acts AllFit (step_of_branches world locals bs otherwise)
-      branches_act no_branch locals otherwise size f o = o
-      branches_act (branch c ss bs) locals otherwise size f o =
+      branches_act : (bs : Branches) (locals : List Local) (otherwise : Action (List Local)) → list_all has_size (types_in_branches bs) ≡ true → AllByRecursion IsSound (branch_steps bs)
+          → AllByRecursion IsWell (do_conditions bs) → AllFit locals → Acts AllFit otherwise → Acts AllFit (step_of_branches world locals bs otherwise)
+      branches_act no_branch locals otherwise size h w f o = o
+      branches_act (branch c ss bs) locals otherwise size h w f o =
           let p = split_all has_size (types_in_steps ss) (types_in_branches bs) size in
-          goes_on Any AllFit (holds_here world locals c) (λ is_true. cond is_true (steps world locals ss) (step_of_branches world locals bs otherwise)) (holds_acts world low locals c f)
-          (λ is_true x. by is_true (steps_act ss locals p.0 f) (branches_act bs locals otherwise p.1 f o))
+          let v = split_such IsSound (listed ss) (branch_steps bs) h in
+          goes_on Any AllFit (holds_here world locals c) (λ is_true. cond is_true (steps world locals ss) (step_of_branches world locals bs otherwise)) (holds_acts world low locals c f w.0)
+          (λ is_true x. by is_true (steps_act ss locals p.0 v.0 f) (branches_act bs locals otherwise p.1 v.1 w.1 f o))
         where
           by : (b : Bool) → Acts AllFit (steps world locals ss) → Acts AllFit (step_of_branches world locals bs otherwise) → Acts AllFit (cond b (steps world locals ss) (step_of_branches world locals bs otherwise))
           by true x y = x
           by false x y = y
 
-      otherwise_acts : (o : Otherwise) (locals : List Local) → list_all has_size (types_in_otherwise o) ≡ true → AllFit locals → Acts AllFit (steps_otherwise world locals o)
-      otherwise_acts no_else locals size f = λ held few. (f, few)
-      otherwise_acts (else_steps ss) locals size f = steps_act ss locals size f
+      otherwise_acts : (o : Otherwise) (locals : List Local) → list_all has_size (types_in_otherwise o) ≡ true → AllByRecursion IsSound (else_listed o) → AllFit locals
+          → Acts AllFit (steps_otherwise world locals o)
+      otherwise_acts no_else locals size h f = λ held few. (f, few)
+      otherwise_acts (else_steps ss) locals size h f = steps_act ss locals size h f
 
-    procedure_acts : (p : Program) (vs : List Value) → list_all has_size (program_types p) ≡ true → Acts Any (procedure_body world p vs)
-    procedure_acts p vs size =
+    procedure_acts : (p : Program) (vs : List Value) → IsReady p → Acts Any (procedure_body world p vs)
+    procedure_acts p vs ready =
         let kinds : List SqlType = map (λ (q : Parameter). q.kind) (parameters_of p) in
-        let a = split_all has_size (kinds ++ option_to_list (result_of p)) (declared_types (body_of p)) size in
+        let a = split_all has_size (kinds ++ option_to_list (result_of p)) (declared_types (body_of p)) ready.sizes in
         let b = split_all has_size kinds (option_to_list (result_of p)) a.0 in
         goes_on AllFit Any (answered (all_tried add_parameter [] (zip (parameters_of p) vs))) (λ locals. step world locals (body_of p) >>= λ _. pure tt)
         (answered_acts AllFit (all_tried add_parameter [] (zip (parameters_of p) vs)) (λ out e. tried_parameters (parameters_of p) vs [] out b.0 tt e))
-        (λ locals f. goes_on AllFit Any (step world locals (body_of p)) (λ _. pure tt) (step_acts (body_of p) locals a.1 f) (λ after g held few. (tt, few)))
+        (λ locals f. goes_on AllFit Any (step world locals (body_of p)) (λ _. pure tt) (step_acts (body_of p) locals a.1 ready.body f) (λ after g held few. (tt, few)))
 
   -- ---- procedures
 
-  module _ (catalog : List Object) (sized : list_all has_sizes catalog ≡ true) where
-    -- a procedure that is there has types of sizes that there are
-    procedure_sized : (os : List Object) (n : List ℕ) (p : Program) → list_all has_sizes os ≡ true → first_made (as_procedure n) os ≡ Some p → list_all has_size (program_types p) ≡ true
-    procedure_sized [] n p h e = cc
-    procedure_sized (o ∷ os) n p h e =
-        let s = and_parts (has_sizes o) (list_all has_sizes os) h in
-        by (as_procedure n o) refl e (λ x. procedure_sized os n p s.1 x)
-      where
-        named : (r : Program) (b : Bool) → cond b (Some r) None ≡ Some p → list_all has_size (program_types r) ≡ true → list_all has_size (program_types p) ≡ true
-        named r true q s = let same : r ≡ p = cc in subst (λ (x : Program). list_all has_size (program_types x) ≡ true) same s
-        named r false q s = cc
+  -- a procedure that is there passes what all objects pass
+  procedure_such : (test : Object → Bool) (os : List Object) (n : List ℕ) (p : Program) → list_all test os ≡ true → first_made (as_procedure n) os ≡ Some p → test (procedure p) ≡ true
+  procedure_such test [] n p h e = cc
+  procedure_such test (o ∷ os) n p h e =
+      let s = and_parts (test o) (list_all test os) h in
+      by (as_procedure n o) refl e (λ x. procedure_such test os n p s.1 x)
+    where
+      named : (r : Program) (b : Bool) → cond b (Some r) None ≡ Some p → test (procedure r) ≡ true → test (procedure p) ≡ true
+      named r true q s = let same : r ≡ p = cc in subst (λ (x : Program). test (procedure x) ≡ true) same s
+      named r false q s = cc
 
-        one : (x : Object) → has_sizes x ≡ true → as_procedure n x ≡ Some p → list_all has_size (program_types p) ≡ true
-        one (table d) s q = cc
-        one (function r) s q = cc
-        one (procedure r) s q = named r (same_name n (name_of r)) q s
-        one (reaction r) s q = cc
+      one : (x : Object) → test x ≡ true → as_procedure n x ≡ Some p → test (procedure p) ≡ true
+      one (table d) s q = cc
+      one (function r) s q = cc
+      one (procedure r) s q = named r (same_name n (name_of r)) q s
+      one (reaction r) s q = cc
 
-        by : (found : Option Program) → as_procedure n o ≡ found → elim found as (λ _. Option Program) [ None ↦ first_made (as_procedure n) os | Some r ↦ Some r ] ≡ Some p
-            → (first_made (as_procedure n) os ≡ Some p → list_all has_size (program_types p) ≡ true) → list_all has_size (program_types p) ≡ true
-        by None q x more = more x
-        by (Some r) q x more = one o (and_parts (has_sizes o) (list_all has_sizes os) h).0 (q ∙ x)
+      by : (found : Option Program) → as_procedure n o ≡ found → elim found as (λ _. Option Program) [ None ↦ first_made (as_procedure n) os | Some r ↦ Some r ] ≡ Some p
+          → (first_made (as_procedure n) os ≡ Some p → test (procedure p) ≡ true) → test (procedure p) ≡ true
+      by None q x more = more x
+      by (Some r) q x more = one o (and_parts (test o) (list_all test os) h).0 (q ∙ x)
 
-    started_sized : (running : List (List ℕ)) (n : List ℕ) (vs : List Value) (p : Program) → started catalog running n vs ≡ Ok p → list_all has_size (program_types p) ≡ true
-    started_sized running n vs p e = by (procedure_in catalog n) refl e
-      where
-        by_tests : (q : Program) (a b : Bool) → cond {A = Result Program ℕ} a (Err 1318) (cond b (Err 1456) (Ok q)) ≡ Ok p → q ≡ p
-        by_tests q true b y = cc
-        by_tests q false true y = cc
-        by_tests q false false y = cc
+  started_such : (test : Object → Bool) (catalog : List Object) → list_all test catalog ≡ true → (running : List (List ℕ)) (n : List ℕ) (vs : List Value) (p : Program)
+      → started catalog running n vs ≡ Ok p → test (procedure p) ≡ true
+  started_such test catalog all running n vs p e = by (procedure_in catalog n) refl e
+    where
+      by_tests : (q : Program) (a b : Bool) → cond {A = Result Program ℕ} a (Err 1318) (cond b (Err 1456) (Ok q)) ≡ Ok p → q ≡ p
+      by_tests q true b y = cc
+      by_tests q false true y = cc
+      by_tests q false false y = cc
 
-        free : (q : Program) → free_procedure running n vs q ≡ Ok p → q ≡ p
-        free q x = by_tests q (not (length (parameters_of q) == length vs)) (is_among running n) x
+      free : (q : Program) → free_procedure running n vs q ≡ Ok p → q ≡ p
+      free q x = by_tests q (not (length (parameters_of q) == length vs)) (is_among running n) x
 
-        by : (o : Option Program) → procedure_in catalog n ≡ o → elim o as (λ _. Result Program ℕ) [ None ↦ Err 1305 | Some q ↦ free_procedure running n vs q ] ≡ Ok p → list_all has_size (program_types p) ≡ true
-        by None q x = cc
-        by (Some found) q x = subst (λ (r : Program). list_all has_size (program_types r) ≡ true) (free found x) (procedure_sized catalog n found sized q)
+      by : (o : Option Program) → procedure_in catalog n ≡ o → elim o as (λ _. Result Program ℕ) [ None ↦ Err 1305 | Some q ↦ free_procedure running n vs q ] ≡ Ok p → test (procedure p) ≡ true
+      by None q x = cc
+      by (Some found) q x = subst (λ (r : Program). test (procedure r) ≡ true) (free found x) (procedure_such test catalog n found all q)
+
+  module _ (catalog : List Object) (sized : list_all has_sizes catalog ≡ true) (bodies : list_all has_well_body catalog ≡ true) where
+    started_ready : (running : List (List ℕ)) (n : List ℕ) (vs : List Value) (p : Program) → started catalog running n vs ≡ Ok p → IsReady p
+    started_ready running n vs p e = record {
+      sizes = started_such has_sizes catalog sized running n vs p e;
+      body = body_sound (body_of p) (started_such has_well_body catalog bodies running n vs p e);
+    }
 
     calls_act : (nesting : ℕ) → nesting ≤ most_nested → (running : List (List ℕ)) (n : List ℕ) (vs : List Value) → Acts Any (call_at catalog nesting running n vs)
     unfolding call_at
@@ -446,9 +478,9 @@ module _ (law : FittedIsShort) where
         goes_on Any Any (answered (started catalog running n vs)) (λ p. fail 30003) (answered_acts Any (started catalog running n vs) (λ p e. tt)) (λ p x held few. tt)
     calls_act (suc below) low running n vs =
         let world : World = record { catalog = catalog; nesting = below; call = call_at catalog below (n ∷ running) } in
-        goes_on (λ (p : Program). list_all has_size (program_types p) ≡ true) Any (answered (started catalog running n vs)) (λ p. procedure_body world p vs)
-        (answered_acts (λ (p : Program). list_all has_size (program_types p) ≡ true) (started catalog running n vs) (λ p e. started_sized running n vs p e))
-        (λ p size. procedure_acts world (le_of_suc-le low) (λ m ws. calls_act below (le_of_suc-le low) (n ∷ running) m ws) p vs size)
+        goes_on IsReady Any (answered (started catalog running n vs)) (λ p. procedure_body world p vs)
+        (answered_acts IsReady (started catalog running n vs) (λ p e. started_ready running n vs p e))
+        (λ p ready. procedure_acts world (le_of_suc-le low) (λ m ws. calls_act below (le_of_suc-le low) (n ∷ running) m ws) p vs ready)
 
     -- a CALL of a session asks only what is such
     pub called_only : (left : Left) → IsWithin left → (n : List ℕ) (vs : List Value) → Only such Any (called catalog left n vs)

@@ -1,5 +1,5 @@
 -- What is left to the statements of a command is never more than a command has.
-use Rattle.std.proofs.Common.{◌≡◌, ◌≤◌, Bool, true, false, List, [], ◌∷◌, ℕ, ℤ, Option, Some, None, Ok, refl, sym, subst, cond}
+use Rattle.std.proofs.Common.{◌≡◌, ◌≤◌, Bool, true, false, List, [], ◌∷◌, ℕ, ℤ, Option, Some, None, refl, sym, subst, cond}
 use Rattle.std.proofs.Math.Nat.{le_refl}
 use Rattle.val_types.specs.declared.change.Change.{Change}
 use Rattle.val_types.specs.declared.value.Value.{Value}
@@ -14,7 +14,7 @@ use Rattle.sql_meaning.specs.Turns.{StatementsSpendTurns, EvaluationsSpendTurns}
 use Rattle.sql_reach.specs.Defining.{number_of_bytes}
 use Rattle.proc_model.specs.Talk.{Left, Refusal, Told}
 use Rattle.session_model.specs.Sessions.{Session, Shared}
-use Rattle.session_model.specs.Running.{Call, Turn, Given, Fuel, full, is_other, keep, takes_too_much, made_behind, with_counters, with_context, fuel_of, undone, item_of, settle, ended, scene_for, setting_of, statement_run, values_run}
+use Rattle.session_model.specs.Running.{Call, Turn, Given, Fuel, full, is_other, keep, takes_too_much, made_behind, with_counters, with_context, undone, item_of, settle, ended, given_by, is_warned, scene_for, setting_of, statement_run, values_run}
 use Rattle.session_model.specs.Calling.{Reached, unless_checked, arguments_run, left_with}
 use Rattle.session_model.specs.Machine.{Whole}
 
@@ -50,8 +50,9 @@ settle_turns {A = A} call item (c ∷ cs) scene shared session given refusal g r
 ended_turns : {A : Type 0} (call : Call Whole) (left : Left) (text : List ℕ) (item : Statement) (shared : Shared) (session : Session Whole) (first last_id : A → Option ℤ) (before : Scene) (e : Ending A)
     → (ended call left text item shared session first last_id before e).given.fuel.turns ≡ (scene_after e).turns
 ended_turns call left text item shared session first last_id before (done a scene) =
-    settle_turns call (item_of call session.format left text item session.vars.context shared (first a)) (made_behind (is_other call.number shared.writer) before scene) scene (with_counters scene shared)
-    (with_context (context_after session.vars.context item scene.seeds (last_id a)) session) (record { result = Ok a; fuel = fuel_of scene }) (undone 1197 item shared session scene) refl refl
+    let made = made_behind (is_other call.number shared.writer) before scene in
+    settle_turns call (item_of call session.format left text item session.vars.context shared (first a)) made scene (with_counters scene shared)
+    (with_context (context_after session.vars.context item scene.seeds (last_id a)) session) (given_by a scene (is_warned session.format shared.base.catalog item made)) (undone 1197 item shared session scene) refl refl
 ended_turns call left text item shared session first last_id before (failed code scene) = refl
 
 module _ (spend : Spend) (call : Call Whole) where

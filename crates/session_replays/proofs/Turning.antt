@@ -7,6 +7,7 @@ use Rattle.val_types.specs.declared.value.Value.{Value}
 use Rattle.catalog_rules.specs.Bases.{Base, defined}
 use Rattle.catalog_rules.specs.Creating.{ddl_refusal}
 use Rattle.catalog_rules.specs.Checks.{session_scope, statement_refusal}
+use Rattle.catalog_rules.specs.Objects.{Object}
 use Rattle.sql_print.specs.StatementSpelling.{spelling}
 use Rattle.sql_tree.specs.Statement.{Statement, create_table, create_function, create_procedure, create_trigger, drop_table, drop_function, drop_procedure, drop_trigger, truncate, insert_into, replace_into, update_rows, delete_rows, select, evaluate, set_all, call_procedure, begin, commit, rollback, savepoint, rollback_to, release_savepoint, block, if_steps, while_steps, return_value}
 use Rattle.sql_tree.specs.Tree.{Tree, Trees}
@@ -18,7 +19,7 @@ use Rattle.sql_meaning.specs.Leading.{StatementsEndWell, EvaluationsEndWell}
 use Rattle.proc_model.specs.Procedures.{assignments_of}
 use Rattle.session_model.specs.Answers.{ok, refused, refused_at}
 use Rattle.session_model.specs.Sessions.{Save, Open, Session, Shared}
-use Rattle.closing_laws.specs.Laws.{ClosedDoesTheSame, FittedIsShort}
+use Rattle.closing_laws.specs.Laws.{ClosedDoesTheSame}
 use Rattle.port_traits.specs.declared.identity.Identity.{Identity}
 use Rattle.port_traits.specs.declared.identity.Draw.{Draw}
 use Rattle.session_model.specs.Running.{Call, Turn, Given, is_other, released, items_of, commit_shared, commit_entries, commit_open, full, fitted_run, lock_refusal, writing_refusal}
@@ -30,12 +31,15 @@ use Rattle.session_model.proofs.Assigning.{all_keep}
 use Rattle.session_model.proofs.Owning.{held_not_other, must_own, free_to_write}
 use Rattle.session_model.proofs.Calling.{arguments_left, arguments_format}
 use Rattle.session_replays.specs.Again.{AllGive}
+use Rattle.session_replays.specs.Bodies.{has_well_body}
 use Rattle.session_replays.specs.Sizes.{has_sizes}
 use Rattle.session_replays.proofs.Calling.{statement_kept, fitted_kept, arguments_kept, called_kept}
+use Rattle.session_replays.proofs.Closing.{ClosingLaws}
 use Rattle.session_replays.proofs.Giving.{all_front, define_behind}
 use Rattle.session_replays.proofs.Locking.{released_base, commit_other, dropped_base, cut_base}
 use Rattle.session_replays.proofs.Spending.{full_within, Spend, arguments_turns}
 use Rattle.session_replays.proofs.Keeping.{Kept, TurnKept, nothing_kept}
+use Rattle.session_replays.proofs.Staying.{arguments_catalog}
 
 module _ (identity : Identity) (draw : Draw) (number : ℕ) (shared : Shared) (session : Session Whole) (h : SharedHolds shared) (o : Owns number shared session.format session.transaction)
     (g : AllGive shared.base [] (items_of session.transaction)) where
@@ -135,7 +139,8 @@ module _ (identity : Identity) (draw : Draw) (number : ℕ) (shared : Shared) (s
   definition_kept text s = define_kept text s (commit_open call shared session) (refl, commit_kept, commit_other call session.vars.context shared (items_of session.transaction))
 
   -- ---- statements that are run
-  module _ (statements : StatementsEndWell) (evaluations : EvaluationsEndWell) (closes : ClosedDoesTheSame) (fits : FittedIsShort) (spend : Spend) (sized : list_all has_sizes shared.base.catalog ≡ true) where
+  module _ (statements : StatementsEndWell) (evaluations : EvaluationsEndWell) (closes : ClosedDoesTheSame) (laws : ClosingLaws) (spend : Spend) (sized : list_all has_sizes shared.base.catalog ≡ true)
+      (bodies : list_all has_well_body shared.base.catalog ≡ true) where
     set_by_kept : (as' : List (Target × Tree)) (r : Result (List Value) ℕ) (t : Turn Whole (Given (List Value))) → TurnKept call.number shared t → TurnKept call.number shared (set_by as' r t)
     set_by_kept as' (Err code) t k = k
     set_by_kept as' (Ok vs) t k = record {
@@ -160,10 +165,12 @@ module _ (identity : Identity) (draw : Draw) (number : ℕ) (shared : Shared) (s
     call_kept name ts =
         let text = spelling (evaluate ts) in
         let run = arguments_run call text ts shared session in
+        let there = sym (arguments_catalog call text ts shared session) in
         long_kept (is_too_long text) (refused 1153) _
         (unless_kept (code_answer (statement_refusal shared.base.catalog session_scope (call_procedure name ts))) _
         (unless_kept (lock_refusal call.number shared (evaluate ts)) _
-        (called_kept identity draw number shared session.format statements evaluations closes fits spend name run.given.result run sized
+        (called_kept identity draw number shared session.format statements evaluations closes laws spend name run.given.result run
+        (subst (λ (os : List Object). list_all has_sizes os ≡ true) there sized) (subst (λ (os : List Object). list_all has_well_body os ≡ true) there bodies)
         (arguments_format (Unit {0}) identity draw number shared session h o evaluations text ts) (arguments_turns spend call text ts shared session) (arguments_left (Unit {0}) identity draw number shared session h o evaluations text ts)
         (arguments_kept identity draw number shared session h o g evaluations text ts))))
 

@@ -1,13 +1,18 @@
 //! Committed statements, run one transaction after the other, give just the changes of the entries.
 ghost use Rattle.session_replays.specs.Again.{SetsRunAsDos};
 ghost use Rattle.session_replays.specs.Bodies.{CatalogsStayWell, HistoriesStayWell, RunsStayWell, StepsDefineWell};
+ghost use Rattle.session_replays.specs.Followed.{MixedIsUnwarned, RowsAreUnwarned, UnwarnedFollow};
 ghost use Rattle.session_replays.specs.Replaying.{ReplaysBegin, ReplaysGoOn, ReplaysOpen};
 ghost use Rattle.session_replays.specs.Rerun.{RunsAgain};
 
-use closing_laws::{closed_does_the_same, fitted_values_are_short};
+use closing_laws::{
+    closed_does_the_same, closed_is_allowed, closed_is_read, fitted_values_are_short,
+};
+use independence_laws::statements_are_followed;
 use session_model::runs_hold;
-use sql_meaning::{statements_end_well, turns_never_rise};
-use text_answers::answers_are_well;
+use sql_meaning::{parts_are_well, statements_end_well, turns_never_rise};
+use sql_text::prints_are_read;
+use text_answers::{answers_are_well, texts_are_answered};
 
 /// A law: the DO over some expressions, as which a SET is logged, ends as their evaluation does, on the same scene.
 pub fn sets_run_as_dos()
@@ -16,7 +21,8 @@ pub fn sets_run_as_dos()
 
 /// A law: in every run the statements of each committed transaction that changed rows, run one transaction
 /// after the other in the order of the entries, each with what it began with, give just the changes of the
-/// entries; so do those of each open transaction, behind all entries.
+/// entries; so do those of each open transaction, behind all entries. The text of each of them is read as that statement, which no
+/// check refuses, also of those that a CALL ran.
 pub fn transactions_replay()
     ensures begins { ReplaysBegin }
     ensures opens { ReplaysOpen }
@@ -24,8 +30,14 @@ pub fn transactions_replay()
 {
     statements_end_well();
     closed_does_the_same();
+    closed_is_allowed();
+    closed_is_read();
     fitted_values_are_short();
     turns_never_rise();
+    parts_are_well();
+    answers_are_well();
+    prints_are_read();
+    texts_are_answered();
     runs_hold();
 }
 
@@ -44,4 +56,14 @@ pub fn bodies_stay_well()
     ensures runs { RunsStayWell }
 {
     answers_are_well();
+}
+
+/// A law: an item that is not warned follows, and so does one whose reasons all come from RAND() alone. Under MIXED and ROW no item
+/// is warned.
+pub fn unwarned_items_follow()
+    ensures follow { UnwarnedFollow }
+    ensures mixed { MixedIsUnwarned }
+    ensures rows { RowsAreUnwarned }
+{
+    statements_are_followed();
 }

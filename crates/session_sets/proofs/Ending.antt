@@ -8,32 +8,34 @@ use Rattle.sql_tree.specs.Tree.{Trees}
 use Rattle.sql_tree.specs.declared.statements.Target.{Target}
 use Rattle.prog_run.specs.declared.meter.Meter.{Meter}
 use Rattle.proc_parts.specs.Calls.{left_of}
-use Rattle.session_model.specs.Answers.{ok, refused}
+use Rattle.session_model.specs.Answers.{ok_warned, refused}
 use Rattle.session_model.specs.Sessions.{Session}
-use Rattle.session_model.specs.Running.{Call, Fuel, fitted_run, full}
+use Rattle.session_model.specs.Running.{Call, Fuel, Given, fitted_run, full}
 use Rattle.session_model.specs.Commands.{all_assigned}
 use Rattle.session_desk.specs.Desk.{shared_of}
 use Rattle.session_steps.specs.Ran.{full_meter}
-use Rattle.session_steps.specs.Turned.{EndsWith, IsTurn, giving}
+use Rattle.session_steps.specs.Turned.{EndsWith, IsTurn}
+use Rattle.session_steps.specs.declared.keeping.Kept.{Kept}
 use Rattle.session_desk.specs.declared.desk.Desk.{Desk}
-use Rattle.session_sets.specs.Assigning.{result_of, set_from}
+use Rattle.session_sets.specs.Assigning.{set_from}
 use Rattle.session_sets.proofs.SetParts.{set_failed, set_values}
 
 module _ (call : Call Item) (old new : Desk) (session after : Session Item) (start : Meter) (fuel : Fuel) (begins : start ≡ full_meter) (misfit : List Value → Option ℕ) where
-  pub set_told : (names : List Target) (text said : List ℕ) (ts : Trees) (vs : List Value) (answer : Answer) (later : Session Item) → said ≡ text
-      → EndsWith (Ok vs) fuel old new after (fitted_run call (left_of start) said ts misfit (shared_of old) session) → answer ≡ ok 0 → later ≡ all_assigned after (zip names vs)
-      → IsTurn old new later answer (set_from names (giving result_of (fitted_run call full text ts misfit (shared_of old) session)))
-  set_told names text said ts vs answer later same ends answered left =
-      subst (λ (x : List ℕ). IsTurn old new later answer (set_from names (giving result_of (fitted_run call full x ts misfit (shared_of old) session)))) same
-      (subst (λ (m : Meter). IsTurn old new later answer (set_from names (giving result_of (fitted_run call (left_of m) said ts misfit (shared_of old) session)))) begins
-      (set_values names vs old new after later answer (giving result_of (fitted_run call (left_of start) said ts misfit (shared_of old) session)) ends.0 (ap result_of ends.1) answered left))
+  pub set_told : (names : List Target) (text said : List ℕ) (ts : Trees) (kept : Kept (List Value)) (answer : Answer) (later : Session Item) → said ≡ text
+      → EndsWith (Ok kept) fuel old new after (fitted_run call (left_of start) said ts misfit (shared_of old) session) → answer ≡ ok_warned kept.warned 0 → later ≡ all_assigned after (zip names kept.value)
+      → IsTurn old new later answer (set_from names (fitted_run call full text ts misfit (shared_of old) session))
+  set_told names text said ts kept answer later same ends answered left =
+      subst (λ (x : List ℕ). IsTurn old new later answer (set_from names (fitted_run call full x ts misfit (shared_of old) session))) same
+      (subst (λ (m : Meter). IsTurn old new later answer (set_from names (fitted_run call (left_of m) said ts misfit (shared_of old) session))) begins
+      (set_values names kept.value kept.warned old new after later answer (fitted_run call (left_of start) said ts misfit (shared_of old) session) ends.0
+      (ap (λ (g : Given (List Value)). g.result) ends.1) (ap (λ (g : Given (List Value)). g.warned) ends.1) answered left))
 
   pub set_refused : (names : List Target) (text said : List ℕ) (ts : Trees) (code : ℕ) (answer : Answer) → said ≡ text
       → EndsWith {A = List Value} (Err (Sql code)) fuel old new after (fitted_run call (left_of start) said ts misfit (shared_of old) session) → answer ≡ refused code
-      → IsTurn old new after answer (set_from names (giving result_of (fitted_run call full text ts misfit (shared_of old) session)))
+      → IsTurn old new after answer (set_from names (fitted_run call full text ts misfit (shared_of old) session))
   set_refused names text said ts code answer same ends answered =
-      subst (λ (x : List ℕ). IsTurn old new after answer (set_from names (giving result_of (fitted_run call full x ts misfit (shared_of old) session)))) same
-      (subst (λ (m : Meter). IsTurn old new after answer (set_from names (giving result_of (fitted_run call (left_of m) said ts misfit (shared_of old) session)))) begins
-      (set_failed names code old new after answer (giving result_of (fitted_run call (left_of start) said ts misfit (shared_of old) session)) ends.0 (ap result_of ends.1) answered))
+      subst (λ (x : List ℕ). IsTurn old new after answer (set_from names (fitted_run call full x ts misfit (shared_of old) session))) same
+      (subst (λ (m : Meter). IsTurn old new after answer (set_from names (fitted_run call (left_of m) said ts misfit (shared_of old) session))) begins
+      (set_failed names code old new after answer (fitted_run call (left_of start) said ts misfit (shared_of old) session) ends.0 (ap (λ (g : Given (List Value)). g.result) ends.1) answered))
 
 pub ruleset setting = (set_told, set_refused)

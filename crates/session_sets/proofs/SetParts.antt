@@ -14,13 +14,13 @@ use Rattle.sql_tree.specs.declared.statements.Target.{Target}
 use Rattle.sql_tree.specs.declared.expressions.Expr.{Expr}
 use Rattle.sql_tree.specs.declared.statements.Stmt.{Stmt}
 use Rattle.sql_tree.specs.declared.statements.Stmt.{the_lemmas}
-use Rattle.session_model.specs.Answers.{ok, refused}
+use Rattle.session_model.specs.Answers.{ok_warned, refused}
 use Rattle.session_model.specs.Sessions.{Session, Shared}
 use Rattle.session_model.specs.Running.{Call, Given, Turn, fitted_run, full, lock_refusal}
 use Rattle.session_model.specs.Commands.{all_assigned, answered, code_answer, is_open, is_too_long, set_by, set_expressions, set_misfit, set_turn, unless_refused}
-use Rattle.session_sets.specs.Assigning.{misfit_of, result_of, set_from, set_parts, set_to, target_of, value_of}
+use Rattle.session_sets.specs.Assigning.{misfit_of, set_from, set_parts, set_to, target_of, value_of}
 use Rattle.session_desk.specs.declared.desk.Desk.{Desk}
-use Rattle.session_steps.specs.Turned.{IsTurn, Moves, giving}
+use Rattle.session_steps.specs.Turned.{IsTurn, Moves}
 
 -- ---- the parts of assignments
 
@@ -35,7 +35,7 @@ expressions_of (a ∷ as') = ap (λ ts. tree (view_tree a.value) ts) (expression
 -- ---- what SET leaves
 
 set_by_is : (as' : List (Target × Tree)) (result : Result (List Value) ℕ) (t : Turn Item (Given (List Value)))
-    → set_by as' result t ≡ set_to (map (λ (a : Target × Tree). a.0) as') result (giving result_of t)
+    → set_by as' result t ≡ set_to (map (λ (a : Target × Tree). a.0) as') result t
 set_by_is as' (Err code) t = refl
 set_by_is as' (Ok vs) t = refl
 
@@ -61,13 +61,13 @@ set_taken_apart call as' refusal names ts shared session checks targets values =
     ∙ sym (set_of call (view_assignments as') shared session)
 
 -- values assigned
-pub set_values : (names : List Target) (vs : List Value) (old new : Desk) (ran after : Session Item) (answer : Answer) (t : Turn Item (Result (List Value) ℕ)) → Moves old new ran t → t.given ≡ Ok vs
-    → answer ≡ ok 0 → after ≡ all_assigned ran (zip names vs) → IsTurn old new after answer (set_from names t)
-set_values names vs old new ran after answer t moves gave said left =
+pub set_values : (names : List Target) (vs : List Value) (warned : Bool) (old new : Desk) (ran after : Session Item) (answer : Answer) (t : Turn Item (Given (List Value))) → Moves old new ran t → t.given.result ≡ Ok vs → t.given.warned ≡ warned
+    → answer ≡ ok_warned warned 0 → after ≡ all_assigned ran (zip names vs) → IsTurn old new after answer (set_from names t)
+set_values names vs warned old new ran after answer t moves gave warns said left =
     subst (λ (r : Result (List Value) ℕ). IsTurn old new after answer (set_to names r t)) (sym gave)
-    ((moves.0, left ∙ ap (λ (s : Session Item). all_assigned s (zip names vs)) moves.1, moves.2), said)
+    ((moves.0, left ∙ ap (λ (s : Session Item). all_assigned s (zip names vs)) moves.1, moves.2), said ∙ ap (λ (b : Bool). ok_warned b 0) (sym warns))
 
-pub set_failed : (names : List Target) (code : ℕ) (old new : Desk) (after : Session Item) (answer : Answer) (t : Turn Item (Result (List Value) ℕ)) → Moves old new after t → t.given ≡ Err code
+pub set_failed : (names : List Target) (code : ℕ) (old new : Desk) (after : Session Item) (answer : Answer) (t : Turn Item (Given (List Value))) → Moves old new after t → t.given.result ≡ Err code
     → answer ≡ refused code → IsTurn old new after answer (set_from names t)
 set_failed names code old new after answer t moves gave said =
     subst (λ (r : Result (List Value) ℕ). IsTurn old new after answer (set_to names r t)) (sym gave) (moves, said)
@@ -76,17 +76,17 @@ set_failed names code old new after answer t moves gave said =
 
 pub set_goes : (call : Call Item) (refusal : Option ℕ) (names : List Target) (text : List ℕ) (ts us : Trees) (shared : Shared) (session : Session Item)
     → text ≡ spelling (evaluate ts) → is_too_long text ≡ false → refusal ≡ None → None ≡ lock_refusal call.number shared (evaluate ts) → us ≡ ts
-    → set_from names (giving result_of (fitted_run call full text us (misfit_of (is_open session) names) shared session)) ≡ set_parts call refusal names ts shared session
+    → set_from names (fitted_run call full text us (misfit_of (is_open session) names) shared session) ≡ set_parts call refusal names ts shared session
 set_goes call refusal names text ts us shared session is short none free same =
     let misfit : List Value → Option ℕ = misfit_of (is_open session) names in
-    ap (λ (vs : Trees). set_from names (giving result_of (fitted_run call full text vs misfit shared session))) same
-    ∙ ap (λ (x : List ℕ). set_from names (giving result_of (fitted_run call full x ts misfit shared session))) is
-    ∙ ap (λ (o : Option Answer). unless_refused o shared session (set_from names (giving result_of (fitted_run call full (spelling (evaluate ts)) ts misfit shared session)))) free
+    ap (λ (vs : Trees). set_from names (fitted_run call full text vs misfit shared session)) same
+    ∙ ap (λ (x : List ℕ). set_from names (fitted_run call full x ts misfit shared session)) is
+    ∙ ap (λ (o : Option Answer). unless_refused o shared session (set_from names (fitted_run call full (spelling (evaluate ts)) ts misfit shared session))) free
     ∙ ap (λ (r : Option ℕ). unless_refused (code_answer r) shared session (unless_refused (lock_refusal call.number shared (evaluate ts)) shared session
-    (set_from names (giving result_of (fitted_run call full (spelling (evaluate ts)) ts misfit shared session))))) (sym none)
+    (set_from names (fitted_run call full (spelling (evaluate ts)) ts misfit shared session)))) (sym none)
     ∙ ap (λ (b : Bool). if b then answered (refused 1153) shared session
     else unless_refused (code_answer refusal) shared session (unless_refused (lock_refusal call.number shared (evaluate ts)) shared session
-    (set_from names (giving result_of (fitted_run call full (spelling (evaluate ts)) ts misfit shared session))))) (sym (ap is_too_long (sym is) ∙ short))
+    (set_from names (fitted_run call full (spelling (evaluate ts)) ts misfit shared session)))) (sym (ap is_too_long (sym is) ∙ short))
 
 -- DO over expressions
 pub view_do : (es : List Expr) → view (Stmt.Do es) ≡ evaluate (view_trees es)

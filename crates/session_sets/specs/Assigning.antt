@@ -9,11 +9,10 @@ use Rattle.sql_tree.specs.Tree.{Trees}
 use Rattle.sql_tree.specs.declared.expressions.Expr.{Expr}
 use Rattle.sql_tree.specs.declared.statements.Assignment.{Assignment}
 use Rattle.sql_tree.specs.declared.statements.Target.{Target}
-use Rattle.session_model.specs.Answers.{ok, refused}
+use Rattle.session_model.specs.Answers.{ok_warned, refused}
 use Rattle.session_model.specs.Sessions.{Session, Shared}
 use Rattle.session_model.specs.Running.{Call, Given, Turn, fitted_run, full, lock_refusal}
 use Rattle.session_model.specs.Commands.{all_assigned, answered, code_answer, first_refused, is_open, is_too_long, unless_refused}
-use Rattle.session_steps.specs.Turned.{giving}
 
 abbrev pub target_of : Assignment → Target
 target_of a = a.target
@@ -27,17 +26,13 @@ value_of a = a.value
 abbrev pub misfit_of : (is_open : Bool) → List Target → List Value → Option ℕ
 misfit_of is_open names vs = first_refused is_open (zip names vs)
 
--- what an evaluation gave, without what is left of turns
-abbrev pub result_of : {A : Type 0} → Given A → Result A ℕ
-result_of given = given.result
-
 -- values set, or the error of their evaluation
-abbrev pub set_to : List Target → Result (List Value) ℕ → Turn Item (Result (List Value) ℕ) → Turn Item Answer
+abbrev pub set_to : List Target → Result (List Value) ℕ → Turn Item (Given (List Value)) → Turn Item Answer
 set_to names (Err code) t = record { shared = t.shared; session = t.session; committed = t.committed; given = refused code }
-set_to names (Ok vs) t = record { shared = t.shared; session = all_assigned t.session (zip names vs); committed = t.committed; given = ok 0 }
+set_to names (Ok vs) t = record { shared = t.shared; session = all_assigned t.session (zip names vs); committed = t.committed; given = ok_warned t.given.warned 0 }
 
-abbrev pub set_from : List Target → Turn Item (Result (List Value) ℕ) → Turn Item Answer
-set_from names t = set_to names t.given t
+abbrev pub set_from : List Target → Turn Item (Given (List Value)) → Turn Item Answer
+set_from names t = set_to names t.given.result t
 
 -- SET by its parts: what the catalog's checks refuse, the targets and the expressions
 abbrev pub set_parts : Call Item → Option ℕ → List Target → Trees → Shared → Session Item → Turn Item Answer
@@ -46,4 +41,4 @@ set_parts call refusal names ts shared session =
     else
     unless_refused (code_answer refusal) shared session
     (unless_refused (lock_refusal call.number shared (evaluate ts)) shared session
-    (set_from names (giving result_of (fitted_run call full (spelling (evaluate ts)) ts (misfit_of (is_open session) names) shared session))))
+    (set_from names (fitted_run call full (spelling (evaluate ts)) ts (misfit_of (is_open session) names) shared session)))

@@ -15,7 +15,7 @@ ghost use Rattle.session_steps.specs.Turned.{EndsWith};
 use crate::assigning::misfit_of;
 use prog_run::Meter;
 use session_desk::{Call, Desk, Session};
-use session_steps::{evaluate_unkept, settle};
+use session_steps::{Kept, evaluate_unkept, settle};
 use sql_locals::Locals;
 use sql_tree::{Expr, Stmt, Target};
 use std::alloc::Global;
@@ -34,7 +34,7 @@ pub(crate) fn fitting_values(
     expressions: &List<Expr>,
     locals: &Locals,
     meter: &mut Meter,
-) -> Result<List<Value>, SqlRefusal>
+) -> Result<Kept<List<Value>>, SqlRefusal>
     requires is { view statement.now ≡ evaluate (view_trees expressions.now) }
     requires none { locals.now ≡ [] }
     ensures { EndsWith result (fuel_at meter.new) desk.old desk.new session.new (fitted_run (called call.now) (left_of meter.old) text.now (view_trees expressions.now) (misfit_of (is_open session.old) targets.now) (shared_of desk.old) session.old) }
@@ -54,7 +54,10 @@ pub(crate) fn fitting_values(
                 misfit,
             ) {
                 Err(refusal) => Err(refusal),
-                Ok(()) => Ok(evaluated.values),
+                Ok(warned) => Ok(Kept {
+                    value: evaluated.values,
+                    warned,
+                }),
             }
         }
     }

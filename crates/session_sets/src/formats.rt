@@ -31,6 +31,8 @@ fn format_named(text: &[u8]) -> Option<Format>
 {
     if is_word(b"STATEMENT", text) {
         Some(Format::Statement)
+    } else if is_word(b"MIXED", text) {
+        Some(Format::Mixed)
     } else if is_word(b"ROW", text) {
         Some(Format::Row)
     } else {

@@ -11,8 +11,9 @@
 //!
 //! # Proved
 //! - [`set`] does just what the machine's SET does: it is refused for the text of the DO over its expressions, by the catalog's
-//!   checks and by the lock, in this order; else its expressions are evaluated, and all is assigned, or the first refused
-//!   assignment is answered, none is made, and desk, session and log are as behind any statement that failed; or memory is short.
+//!   checks and by the lock, in this order; else its expressions are evaluated, and all is assigned, with a warning where what
+//!   they changed is logged by its text though that is unsafe, or the first refused assignment is answered, none is made, and
+//!   desk, session and log are as behind any statement that failed; or memory is short.
 //! - [`lock_refusal`] is the machine's answer to a statement that the writer's lock refuses, and none where it may run.
 //!
 //! # Only tested

@@ -5,19 +5,19 @@ ghost use Rattle.sql_tree.specs.Statement.{evaluate, set_all};
 ghost use Rattle.sql_tree.specs.StatementView.{view, view_assignments};
 ghost use Rattle.sql_tree.specs.View.{view_trees};
 ghost use Rattle.catalog_rules.specs.Checks.{session_scope, statement_refusal};
-ghost use Rattle.session_model.specs.Answers.{ok};
+ghost use Rattle.session_model.specs.Answers.{ok_warned};
 ghost use Rattle.session_model.specs.Running.{fitted_run, full};
 ghost use Rattle.session_model.specs.Commands.{all_assigned, is_open, is_too_long, set_turn};
-ghost use Rattle.session_sets.specs.Assigning.{misfit_of, result_of, set_from, set_parts};
+ghost use Rattle.session_sets.specs.Assigning.{misfit_of, set_from, set_parts};
 ghost use Rattle.session_steps.specs.Calls.{called};
 ghost use Rattle.session_desk.specs.Desk.{shared_of};
-ghost use Rattle.session_steps.specs.Turned.{IsTurn, giving};
+ghost use Rattle.session_steps.specs.Turned.{IsTurn};
 
 use crate::assigning::{assign_all, taken_apart};
 use crate::evaluating::fitting_values;
 use crate::refusing::{LONGEST, TOO_LONG, lock_refusal};
 use answer_text::Answer;
-use node_answers::{NodeFault, ok, refused};
+use node_answers::{NodeFault, ok, refused, with_warning};
 use session_desk::{Call, Desk, Session};
 use session_steps::full;
 use sql_locals::Locals;
@@ -26,18 +26,19 @@ use sql_tree::{Assignment, Expr, Stmt, Target};
 use std::alloc::Global;
 use val_types::{Bytes, List, NoMemory, SqlError, SqlRefusal, Value};
 
-/// Assigns values, which nothing refuses.
+/// Assigns values, which nothing refuses. The answer shows whether their evaluation is warned.
 fn assign_values(
     alloc: Global,
     session: &mut Session,
     targets: &List<Target>,
     values: &List<Value>,
+    warned: bool,
 ) -> Result<Answer, NoMemory>
-    ensures answer { IfOk result (λ answer. answer ≡ ok 0) }
+    ensures answer { IfOk result (λ answer. answer ≡ ok_warned warned 0) }
     ensures session { OnOk result (session.new ≡ all_assigned session.old (zip targets.now values.now)) }
 {
     assign_all(alloc, session, targets.as_slice(), values.as_slice())?;
-    Ok(ok(alloc, 0))
+    Ok(with_warning(ok(alloc, 0), warned))
 }
 
 /// Sets targets to the values of expressions, which nothing refuses before.
@@ -53,7 +54,7 @@ fn set_values(
     expressions: &List<Expr>,
 ) -> Result<Answer, NodeFault>
     requires { view statement.now ≡ evaluate (view_trees expressions.now) }
-    ensures { IfOk result (λ answer. IsTurn desk.old desk.new session.new answer (set_from targets.now (giving result_of (fitted_run (called call.now) full text.now (view_trees expressions.now) (misfit_of (is_open session.old) targets.now) (shared_of desk.old) session.old)))) }
+    ensures { IfOk result (λ answer. IsTurn desk.old desk.new session.new answer (set_from targets.now (fitted_run (called call.now) full text.now (view_trees expressions.now) (misfit_of (is_open session.old) targets.now) (shared_of desk.old) session.old))) }
 {
     let locals = Locals::new(alloc);
     let mut meter = full();
@@ -71,7 +72,7 @@ fn set_values(
     ) {
         Err(SqlRefusal::NoMemory) => Err(NodeFault::NoMemory),
         Err(SqlRefusal::Sql(code)) => Ok(refused(alloc, code)),
-        Ok(values) => Ok(assign_values(alloc, session, targets, &values)?),
+        Ok(kept) => Ok(assign_values(alloc, session, targets, &kept.value, kept.warned)?),
     }
 }
 
@@ -110,7 +111,7 @@ fn set_taken(
             &statement,
             expressions,
         ),
-        _ => Err(NodeFault::NoMemory),
+        _ => unreachable!(),
     }
 }
 

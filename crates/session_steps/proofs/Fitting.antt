@@ -19,14 +19,13 @@ use Rattle.sql_meaning.proofs.LedBodies.{evaluations_end}
 use Rattle.logged_items.specs.declared.before.Before.{Before}
 use Rattle.logged_items.specs.Items.{numbers_of}
 use Rattle.proc_model.specs.Talk.{Left}
-use Rattle.session_model.specs.Formats.{is_by_rows}
 use Rattle.session_model.specs.Sessions.{Session, Shared}
 use Rattle.session_model.specs.Commands.{changes_of_own}
 use Rattle.session_model.specs.Running.{Fuel, Given, Turn, ended, expressions_run, fitted, fitted_run, fuel_of, is_other, scene_for, setting_of, undone, unless_misfit, values_run, with_context, with_counters}
 use Rattle.session_desk.specs.declared.desk.Desk.{Desk}
-use Rattle.session_desk.specs.Desk.{cut_to, own_behind, shared_of}
+use Rattle.session_desk.specs.Desk.{cut_to, shared_of}
 use Rattle.session_steps.specs.Calls.{call_of}
-use Rattle.session_steps.specs.Keeping.{changes_kept, item_made, settled}
+use Rattle.session_steps.specs.Keeping.{settled, statement_kept}
 use Rattle.session_steps.specs.Ran.{Fails, Gave, Gives, evaluation_for, place_at, shared_behind}
 use Rattle.session_steps.specs.Turned.{EndsAs, EndsWith}
 use Rattle.session_steps.proofs.Settling.{kept_as, not_given_so, take_front}
@@ -53,36 +52,35 @@ cut_back n left context scene old ran mark led behind' at = ap (cut_to n mark) b
         ∙ ap (λ (b : Bool). if b then record (with_counters scene old) { changes = scene.changes } else record (with_counters scene old) { changes = take mark scene.changes }) own
         ∙ ap (λ (cs : List Change). record (with_counters scene old) { changes = cs }) cut
 
-no_value : (r : Result (Unit {0}) ℕ) (code : ℕ) (u : Unit {0}) → r ≡ Err code → r ≡ Ok u → ⊥
+no_value : (r : Result Bool ℕ) (code : ℕ) (u : Bool) → r ≡ Err code → r ≡ Ok u → ⊥
 no_value r code u p q = cc
 
-same_error : (r : Result (Unit {0}) ℕ) (code said : ℕ) → r ≡ Err code → r ≡ Err said → code ≡ said
+same_error : (r : Result Bool ℕ) (code said : ℕ) → r ≡ Err code → r ≡ Err said → code ≡ said
 same_error r code said p q = cc
 
 -- ---- kept, from the session that an evaluation left
 
 module _ (identity : Identity) (draw : Draw) (n : ℕ) (left : Left) (text : List ℕ) (ts : Trees) where
   -- what is kept of expressions there
-  abbrev kept_at : Statement → Before → ℕ → Shared → Context → Session Item → Turn Item (Result (Unit {0}) ℕ)
-  kept_at s before mark ran context session =
-      changes_kept (call_of identity draw n) (item_made text s before None (is_by_rows session.format) ran.base.catalog context) (own_behind n mark ran) mark before.last_id ran session
+  abbrev kept_at : Statement → Before → ℕ → Shared → Session Item → Turn Item (Result Bool ℕ)
+  kept_at s before mark ran session = statement_kept (call_of identity draw n) text s before None mark ran session
 
-  pub gave_at : (tree : Statement) (locals : List Local) (vs : List Value) (r : Result (Unit {0}) SqlRefusal) (fuel : Fuel) (old ran new : Desk) (session mid after : Session Item) (mark : ℕ) (before : Before)
+  pub gave_at : (tree : Statement) (locals : List Local) (vs : List Value) (r : Result Bool SqlRefusal) (fuel : Fuel) (old ran new : Desk) (session mid after : Session Item) (mark : ℕ) (before : Before)
       → ((c : Context) (seeds : ℕ × ℕ) → context_after c (evaluate ts) seeds None ≡ context_after c tree seeds None)
       → Gave n draw left locals ts vs fuel (place_at (shared_of old) session.vars.context) (place_at (shared_of ran) mid.vars.context) → mid ≡ with_context mid.vars.context session
-      → mark ≡ changes_of_own n (shared_of old) → before ≡ numbers_of session.vars.context → ran.log ≡ old.log → ran.committed ≡ old.committed → EndsAs r ran new after (kept_at tree before mark (shared_of ran) mid.vars.context mid)
+      → mark ≡ changes_of_own n (shared_of old) → before ≡ numbers_of session.vars.context → ran.log ≡ old.log → ran.committed ≡ old.committed → EndsAs r ran new after (kept_at tree before mark (shared_of ran) mid)
       → EndsWith (kept_as vs r) fuel old new after (values_run (call_of identity draw n) left text tree locals ts (shared_of old) session)
   gave_at tree locals vs r fuel old ran new session mid after mark before same gave moved at numbers bytes count ends =
       gave_so identity draw n left text tree locals ts vs r fuel old ran new session after mid.vars.context mark before same gave at numbers bytes count
-      (subst (λ (s : Session Item). EndsAs r ran new after (kept_at tree before mark (shared_of ran) mid.vars.context s)) moved ends)
+      (subst (λ (s : Session Item). EndsAs r ran new after (kept_at tree before mark (shared_of ran) s)) moved ends)
 
-  pub said_at : (s : Statement) (locals : List Local) (vs : List Value) (r : Result (Unit {0}) SqlRefusal) (fuel : Fuel) (old ran new : Desk) (session mid after : Session Item) (mark : ℕ) (before : Before)
+  pub said_at : (s : Statement) (locals : List Local) (vs : List Value) (r : Result Bool SqlRefusal) (fuel : Fuel) (old ran new : Desk) (session mid after : Session Item) (mark : ℕ) (before : Before)
       → s ≡ evaluate ts → locals ≡ [] → Gave n draw left locals ts vs fuel (place_at (shared_of old) session.vars.context) (place_at (shared_of ran) mid.vars.context) → mid ≡ with_context mid.vars.context session
-      → mark ≡ changes_of_own n (shared_of old) → before ≡ numbers_of session.vars.context → ran.log ≡ old.log → ran.committed ≡ old.committed → EndsAs r ran new after (kept_at s before mark (shared_of ran) mid.vars.context mid)
+      → mark ≡ changes_of_own n (shared_of old) → before ≡ numbers_of session.vars.context → ran.log ≡ old.log → ran.committed ≡ old.committed → EndsAs r ran new after (kept_at s before mark (shared_of ran) mid)
       → EndsWith (kept_as vs r) fuel old new after (expressions_run (call_of identity draw n) left text ts (shared_of old) session)
   said_at s locals vs r fuel old ran new session mid after mark before is none gave moved at numbers bytes count ends =
       said_so identity draw n left text s locals ts vs r fuel old ran new session after mid.vars.context mark before is none gave at numbers bytes count
-      (subst (λ (one : Session Item). EndsAs r ran new after (kept_at s before mark (shared_of ran) mid.vars.context one)) moved ends)
+      (subst (λ (one : Session Item). EndsAs r ran new after (kept_at s before mark (shared_of ran) one)) moved ends)
 
   pub not_given_at : (tree : Statement) (locals : List Local) (refusal : SqlRefusal) (fuel : Fuel) (old ran : Desk) (session mid : Session Item)
       → ((c : Context) (seeds : ℕ × ℕ) → context_after c (evaluate ts) seeds None ≡ context_after c tree seeds None)
@@ -125,19 +123,19 @@ module _ (identity : Identity) (draw : Draw) (n : ℕ) (left : Left) (text : Lis
 
   -- ---- what the code leaves
 
-  kept_so : (vs : List Value) (r : Result (Unit {0}) SqlRefusal) (fuel : Fuel) (old ran new : Desk) (session mid after : Session Item) (mark : ℕ) (before : Before)
+  kept_so : (vs : List Value) (r : Result Bool SqlRefusal) (fuel : Fuel) (old ran new : Desk) (session mid after : Session Item) (mark : ℕ) (before : Before)
       → Gave n draw left [] ts vs fuel (place_at (shared_of old) session.vars.context) (place_at (shared_of ran) mid.vars.context) → mid ≡ with_context mid.vars.context session
       → mark ≡ changes_of_own n (shared_of old) → before ≡ numbers_of session.vars.context → ran.log ≡ old.log → ran.committed ≡ old.committed → misfit vs ≡ None
-      → EndsAs r ran new after (changes_kept (call_of identity draw n) (item_made text (evaluate ts) before None (is_by_rows mid.format) (shared_of ran).base.catalog mid.vars.context) (own_behind n mark (shared_of ran)) mark before.last_id (shared_of ran) mid)
+      → EndsAs r ran new after (statement_kept (call_of identity draw n) text (evaluate ts) before None mark (shared_of ran) mid)
       → EndsWith (kept_as vs r) fuel old new after (fitted_run (call_of identity draw n) left text ts misfit (shared_of old) session)
   kept_so vs r fuel old ran new session mid after mark before gave moved at numbers bytes count none ends =
       subst (λ t. EndsWith (kept_as vs r) fuel old new after t) (fits vs gave.scene (shared_of old) session gave.ends none)
       (said_at identity draw n left text ts (evaluate ts) [] vs r fuel old ran new session mid after mark before refl refl gave moved at numbers bytes count ends)
 
-  taken_so : (vs : List Value) (code : ℕ) (r : Result (Unit {0}) SqlRefusal) (fuel : Fuel) (old ran new : Desk) (session mid after : Session Item) (mark : ℕ)
+  taken_so : (vs : List Value) (code : ℕ) (r : Result Bool SqlRefusal) (fuel : Fuel) (old ran new : Desk) (session mid after : Session Item) (mark : ℕ)
       → Gave n draw left [] ts vs fuel (place_at (shared_of old) session.vars.context) (place_at (shared_of ran) mid.vars.context) → mid ≡ with_context mid.vars.context session
       → mark ≡ changes_of_own n (shared_of old) → ran.log ≡ old.log → misfit vs ≡ Some code
-      → EndsAs r ran new after (record { shared = cut_to n mark (shared_of ran); session = mid; committed = []; given = Err code })
+      → EndsAs {A = Bool} r ran new after (record { shared = cut_to n mark (shared_of ran); session = mid; committed = []; given = Err code })
       → EndsWith (kept_as vs r) fuel old new after (fitted_run (call_of identity draw n) left text ts misfit (shared_of old) session)
   taken_so vs code (Ok u) fuel old ran new session mid after mark gave moved at bytes some ends = absurd (no_value (Err code) code u refl ends.1)
   taken_so vs code (Err NoMemory) fuel old ran new session mid after mark gave moved at bytes some ends = tt
@@ -152,29 +150,29 @@ module _ (identity : Identity) (draw : Draw) (n : ℕ) (left : Left) (text : Lis
           ends.0.1 ∙ moved ∙ ap (λ (c : Context). with_context c session) gave.leaves.context,
           (ends.0.2.0 ∙ bytes, tt),
         ),
-        ap (λ (f : Fuel). record { result = Err code; fuel = f }) (sym gave.leaves.spent) ∙ ap (λ (k : ℕ). record { result = Err k; fuel = fuel }) same,
+        ap (λ (f : Fuel). record { result = Err code; fuel = f; warned = false }) (sym gave.leaves.spent) ∙ ap (λ (k : ℕ). record { result = Err k; fuel = fuel; warned = false }) same,
       )
 
   -- whatever refuses the values, or nothing
-  settled_by : (vs : List Value) (refusal : Option ℕ) (r : Result (Unit {0}) SqlRefusal) (fuel : Fuel) (old ran new : Desk) (session mid after : Session Item) (mark : ℕ) (before : Before)
+  settled_by : (vs : List Value) (refusal : Option ℕ) (r : Result Bool SqlRefusal) (fuel : Fuel) (old ran new : Desk) (session mid after : Session Item) (mark : ℕ) (before : Before)
       → Gave n draw left [] ts vs fuel (place_at (shared_of old) session.vars.context) (place_at (shared_of ran) mid.vars.context) → mid ≡ with_context mid.vars.context session
       → mark ≡ changes_of_own n (shared_of old) → before ≡ numbers_of session.vars.context → ran.log ≡ old.log → ran.committed ≡ old.committed → misfit vs ≡ refusal
-      → EndsAs r ran new after (settled (call_of identity draw n) refusal (item_made text (evaluate ts) before None (is_by_rows mid.format) (shared_of ran).base.catalog mid.vars.context) (own_behind n mark (shared_of ran)) mark before.last_id (shared_of ran) mid)
+      → EndsAs r ran new after (settled (call_of identity draw n) refusal text (evaluate ts) before mark (shared_of ran) mid)
       → EndsWith (kept_as vs r) fuel old new after (fitted_run (call_of identity draw n) left text ts misfit (shared_of old) session)
   settled_by vs None r fuel old ran new session mid after mark before gave moved at numbers bytes count is ends =
       kept_so vs r fuel old ran new session mid after mark before gave moved at numbers bytes count is ends
   settled_by vs (Some code) r fuel old ran new session mid after mark before gave moved at numbers bytes count is ends =
       taken_so vs code r fuel old ran new session mid after mark gave moved at bytes is ends
 
-  pub settled_so : (s : Statement) (locals : List Local) (vs : List Value) (refusal : Option ℕ) (r : Result (Unit {0}) SqlRefusal) (fuel : Fuel) (old ran new : Desk) (session mid after : Session Item) (mark : ℕ) (before : Before)
+  pub settled_so : (s : Statement) (locals : List Local) (vs : List Value) (refusal : Option ℕ) (r : Result Bool SqlRefusal) (fuel : Fuel) (old ran new : Desk) (session mid after : Session Item) (mark : ℕ) (before : Before)
       → s ≡ evaluate ts → locals ≡ [] → refusal ≡ misfit vs → Gave n draw left locals ts vs fuel (place_at (shared_of old) session.vars.context) (place_at (shared_of ran) mid.vars.context)
       → mid ≡ with_context mid.vars.context session → mark ≡ changes_of_own n (shared_of old) → before ≡ numbers_of session.vars.context → ran.log ≡ old.log → ran.committed ≡ old.committed
-      → EndsAs r ran new after (settled (call_of identity draw n) refusal (item_made text s before None (is_by_rows mid.format) (shared_of ran).base.catalog mid.vars.context) (own_behind n mark (shared_of ran)) mark before.last_id (shared_of ran) mid)
+      → EndsAs r ran new after (settled (call_of identity draw n) refusal text s before mark (shared_of ran) mid)
       → EndsWith (kept_as vs r) fuel old new after (fitted_run (call_of identity draw n) left text ts misfit (shared_of old) session)
   settled_so s locals vs refusal r fuel old ran new session mid after mark before is none refuses gave moved at numbers bytes count ends =
       settled_by vs refusal r fuel old ran new session mid after mark before
       (subst (λ (ls : List Local). Gave n draw left ls ts vs fuel (place_at (shared_of old) session.vars.context) (place_at (shared_of ran) mid.vars.context)) none gave) moved at numbers bytes count (sym refuses)
-      (subst (λ (one : Statement). EndsAs r ran new after (settled (call_of identity draw n) refusal (item_made text one before None (is_by_rows mid.format) (shared_of ran).base.catalog mid.vars.context) (own_behind n mark (shared_of ran)) mark before.last_id (shared_of ran) mid)) is ends)
+      (subst (λ (one : Statement). EndsAs r ran new after (settled (call_of identity draw n) refusal text one before mark (shared_of ran) mid)) is ends)
 
   -- an evaluation that failed
   failed_by : (refusal : SqlRefusal) (fuel : Fuel) (old ran : Desk) (session mid : Session Item)

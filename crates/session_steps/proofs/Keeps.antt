@@ -10,7 +10,9 @@ use Rattle.sql_meaning.specs.Frames.{Context}
 use Rattle.sql_meaning.specs.Running.{context_after}
 use Rattle.sql_locals.specs.declared.locals.Local.{Local}
 use Rattle.sql_tree.specs.Tree.{Trees}
+use Rattle.catalog_rules.specs.Objects.{Object}
 use Rattle.sql_reach.specs.Closing.{closed}
+use Rattle.sql_reach.specs.Reasons.{reasons}
 use Rattle.sql_tree.specs.Statement.{Statement, evaluate}
 use Rattle.val_types.specs.declared.value.Value.{Value}
 use Rattle.logged_items.specs.declared.before.Before.{Before}
@@ -18,14 +20,14 @@ use Rattle.logged_items.specs.Items.{numbers_of}
 use Rattle.prog_run.specs.declared.meter.Outcome.{Outcome}
 use Rattle.proc_model.specs.Talk.{Left}
 use Rattle.session_model.specs.Commands.{changes_of_own}
-use Rattle.session_model.specs.Formats.{is_by_rows}
+use Rattle.session_model.specs.Formats.{logs_rows, warns}
 use Rattle.session_model.specs.Sessions.{Session, Shared}
 use Rattle.session_steps.specs.Ran.{Came, Gave, Gives, place_at, told_given}
 use Rattle.session_model.specs.Running.{expressions_run, Fuel, Given, Turn, statement_run, values_run, with_context}
 use Rattle.session_steps.specs.Calls.{call_of}
 use Rattle.session_desk.specs.declared.desk.Desk.{Desk}
 use Rattle.session_desk.specs.Desk.{has_any, own_behind, shared_of}
-use Rattle.session_steps.specs.Keeping.{changes_kept, item_kept, item_made, refused_unless, with_last_id}
+use Rattle.session_steps.specs.Keeping.{changes_kept, item_kept, item_made, refused_unless, statement_kept, with_last_id}
 use Rattle.session_steps.specs.Turned.{EndsAs, EndsWith, IsTurn, giving}
 use Rattle.session_steps.proofs.Settling.{came_kept, came_to, gave_kept, kept_as, not_given_so}
 use Rattle.session_steps.proofs.Turns.{moves_from}
@@ -33,77 +35,84 @@ use Rattle.session_steps.proofs.Turns.{moves_from}
 module _ (identity : Identity) (draw : Draw) (n : ℕ) where
   -- ---- changes
 
-  pub no_changes : (item : List Change → Item) (changes : List Change) (mark : ℕ) (last_id : ℤ) (desk : Desk) (session : Session Item) → length changes ≡ 0
-      → EndsAs (Ok tt) desk desk session (changes_kept (call_of identity draw n) item changes mark last_id (shared_of desk) session)
-  no_changes item [] mark last_id desk session none = ((refl, refl, (refl, tt)), refl)
-  no_changes item (c ∷ cs) mark last_id desk session none = absurd (omega (arith, none))
+  pub no_changes : (item : List Change → Item) (warned : Bool) (changes : List Change) (mark : ℕ) (last_id : ℤ) (desk : Desk) (session : Session Item) → length changes ≡ 0
+      → EndsAs (Ok false) desk desk session (changes_kept (call_of identity draw n) item warned changes mark last_id (shared_of desk) session)
+  no_changes item warned [] mark last_id desk session none = ((refl, refl, (refl, tt)), refl)
+  no_changes item warned (c ∷ cs) mark last_id desk session none = absurd (omega (arith, none))
 
-  some_kept : (item : List Change → Item) (changes : List Change) (mark : ℕ) (last_id : ℤ) (shared : Shared) (session : Session Item) → 1 ≤ length changes
-      → refused_unless (item_kept (call_of identity draw n) (item changes) mark shared session).given last_id (item_kept (call_of identity draw n) (item changes) mark shared session)
-      ≡ changes_kept (call_of identity draw n) item changes mark last_id shared session
-  some_kept item [] mark last_id shared session some = absurd (omega (arith, some))
-  some_kept item (c ∷ cs) mark last_id shared session some = refl
+  some_kept : (item : List Change → Item) (warned : Bool) (changes : List Change) (mark : ℕ) (last_id : ℤ) (shared : Shared) (session : Session Item) → 1 ≤ length changes
+      → refused_unless (item_kept (call_of identity draw n) (item changes) mark shared session).given warned last_id (item_kept (call_of identity draw n) (item changes) mark shared session)
+      ≡ changes_kept (call_of identity draw n) item warned changes mark last_id shared session
+  some_kept item warned [] mark last_id shared session some = absurd (omega (arith, some))
+  some_kept item warned (c ∷ cs) mark last_id shared session some = refl
 
-  pub some_changes : (item : List Change → Item) (changes : List Change) (mark : ℕ) (last_id : ℤ) (old new : Desk) (session after : Session Item) (kept : Bool) → 1 ≤ length changes → kept ≡ true
+  pub some_changes : (item : List Change → Item) (warned : Bool) (changes : List Change) (mark : ℕ) (last_id : ℤ) (old new : Desk) (session after : Session Item) (kept : Bool) → 1 ≤ length changes → kept ≡ true
       → IsTurn old new after kept (item_kept (call_of identity draw n) (item changes) mark (shared_of old) session)
-      → EndsAs (Ok tt) old new after (changes_kept (call_of identity draw n) item changes mark last_id (shared_of old) session)
-  some_changes item changes mark last_id old new session after kept some stays turn =
+      → EndsAs (Ok warned) old new after (changes_kept (call_of identity draw n) item warned changes mark last_id (shared_of old) session)
+  some_changes item warned changes mark last_id old new session after kept some stays turn =
       let t : Turn Item Bool = item_kept (call_of identity draw n) (item changes) mark (shared_of old) session in
       let given : true ≡ t.given = sym stays ∙ turn.1 in
-      subst (λ u. EndsAs (Ok tt) old new after u) (some_kept item changes mark last_id (shared_of old) session some)
-      (subst (λ (b : Bool). EndsAs (Ok tt) old new after (refused_unless b last_id t)) given (turn.0, refl))
+      subst (λ u. EndsAs (Ok warned) old new after u) (some_kept item warned changes mark last_id (shared_of old) session some)
+      (subst (λ (b : Bool). EndsAs (Ok warned) old new after (refused_unless b warned last_id t)) given (turn.0, refl))
 
-  pub too_many_changes : (item : List Change → Item) (changes : List Change) (mark : ℕ) (last_id : ℤ) (old new : Desk) (session after : Session Item) (kept : Bool) → 1 ≤ length changes → kept ≡ false
+  pub too_many_changes : (item : List Change → Item) (warned : Bool) (changes : List Change) (mark : ℕ) (last_id : ℤ) (old new : Desk) (session after : Session Item) (kept : Bool) → 1 ≤ length changes → kept ≡ false
       → IsTurn old new after kept (item_kept (call_of identity draw n) (item changes) mark (shared_of old) session)
-      → EndsAs {A = Unit {0}} (Err (Sql 1197)) old new (with_last_id last_id after) (changes_kept (call_of identity draw n) item changes mark last_id (shared_of old) session)
-  too_many_changes item changes mark last_id old new session after kept some lost turn =
+      → EndsAs {A = Bool} (Err (Sql 1197)) old new (with_last_id last_id after) (changes_kept (call_of identity draw n) item warned changes mark last_id (shared_of old) session)
+  too_many_changes item warned changes mark last_id old new session after kept some lost turn =
       let t : Turn Item Bool = item_kept (call_of identity draw n) (item changes) mark (shared_of old) session in
       let given : false ≡ t.given = sym lost ∙ turn.1 in
-      subst (λ u. EndsAs {A = Unit {0}} (Err (Sql 1197)) old new (with_last_id last_id after) u) (some_kept item changes mark last_id (shared_of old) session some)
-      (subst (λ (b : Bool). EndsAs {A = Unit {0}} (Err (Sql 1197)) old new (with_last_id last_id after) (refused_unless b last_id t)) given
+      subst (λ u. EndsAs {A = Bool} (Err (Sql 1197)) old new (with_last_id last_id after) u) (some_kept item warned changes mark last_id (shared_of old) session some)
+      (subst (λ (b : Bool). EndsAs {A = Bool} (Err (Sql 1197)) old new (with_last_id last_id after) (refused_unless b warned last_id t)) given
       ((turn.0.0, ap (with_last_id last_id) turn.0.1, turn.0.2), refl))
 
   -- by what the code asks first
-  pub nothing_kept : (item : List Change → Item) (own : List Change) (mark : ℕ) (last_id : ℤ) (desk : Desk) (session : Session Item) → has_any own ≡ false
-      → EndsAs (Ok tt) desk desk session (changes_kept (call_of identity draw n) item own mark last_id (shared_of desk) session)
-  nothing_kept item [] mark last_id desk session none = ((refl, refl, (refl, tt)), refl)
-  nothing_kept item (c ∷ cs) mark last_id desk session none = cc
+  none_kept : (item : List Change → Item) (warned : Bool) (own : List Change) (mark : ℕ) (last_id : ℤ) (desk : Desk) (session : Session Item) → has_any own ≡ false
+      → EndsAs (Ok false) desk desk session (changes_kept (call_of identity draw n) item warned own mark last_id (shared_of desk) session)
+  none_kept item warned [] mark last_id desk session none = ((refl, refl, (refl, tt)), refl)
+  none_kept item warned (c ∷ cs) mark last_id desk session none = cc
+
+  pub nothing_kept : (text : List ℕ) (s : Statement) (before : Before) (first : Option ℤ) (mark : ℕ) (desk : Desk) (session : Session Item) → has_any (own_behind n mark (shared_of desk)) ≡ false
+      → EndsAs (Ok false) desk desk session (statement_kept (call_of identity draw n) text s before first mark (shared_of desk) session)
+  nothing_kept text s before first mark desk session none =
+      let catalog : List Object = (shared_of desk).base.catalog in
+      none_kept (item_made text s before first (logs_rows session.format (reasons catalog s)) catalog session.vars.context) (warns session.format (reasons catalog s)) (own_behind n mark (shared_of desk)) mark before.last_id desk session none
 
   -- as the code has the item
-  pub kept_changes : (item : List Change → Item) (own changes : List Change) (i : Item) (mark : ℕ) (last_id : ℤ) (old new : Desk) (session after : Session Item) (kept : Bool) → changes ≡ own → i ≡ item changes → 1 ≤ length changes → kept ≡ true
+  pub kept_changes : (item : List Change → Item) (warned said : Bool) (own changes : List Change) (i : Item) (mark : ℕ) (last_id : ℤ) (old new : Desk) (session after : Session Item) (kept : Bool) → changes ≡ own → i ≡ item changes → said ≡ warned → 1 ≤ length changes → kept ≡ true
       → IsTurn old new after kept (item_kept (call_of identity draw n) i mark (shared_of old) session)
-      → EndsAs (Ok tt) old new after (changes_kept (call_of identity draw n) item own mark last_id (shared_of old) session)
-  kept_changes item own changes i mark last_id old new session after kept are is some stays turn =
-      subst (λ cs. EndsAs (Ok tt) old new after (changes_kept (call_of identity draw n) item cs mark last_id (shared_of old) session)) are
-      (some_changes item changes mark last_id old new session after kept some stays
-      (subst (λ j. IsTurn old new after kept (item_kept (call_of identity draw n) j mark (shared_of old) session)) is turn))
+      → EndsAs (Ok said) old new after (changes_kept (call_of identity draw n) item warned own mark last_id (shared_of old) session)
+  kept_changes item warned said own changes i mark last_id old new session after kept are is says some stays turn =
+      subst (λ cs. EndsAs (Ok said) old new after (changes_kept (call_of identity draw n) item warned cs mark last_id (shared_of old) session)) are
+      (subst (λ (w : Bool). EndsAs (Ok w) old new after (changes_kept (call_of identity draw n) item warned changes mark last_id (shared_of old) session)) (sym says)
+      (some_changes item warned changes mark last_id old new session after kept some stays
+      (subst (λ j. IsTurn old new after kept (item_kept (call_of identity draw n) j mark (shared_of old) session)) is turn)))
 
-  pub lost_changes : (item : List Change → Item) (own changes : List Change) (i : Item) (mark : ℕ) (last_id : ℤ) (old new : Desk) (session after later : Session Item) (kept : Bool) → changes ≡ own → i ≡ item changes → 1 ≤ length changes → kept ≡ false → later ≡ with_last_id last_id after
+  pub lost_changes : (item : List Change → Item) (warned : Bool) (own changes : List Change) (i : Item) (mark : ℕ) (last_id : ℤ) (old new : Desk) (session after later : Session Item) (kept : Bool) → changes ≡ own → i ≡ item changes → 1 ≤ length changes → kept ≡ false → later ≡ with_last_id last_id after
       → IsTurn old new after kept (item_kept (call_of identity draw n) i mark (shared_of old) session)
-      → EndsAs {A = Unit {0}} (Err (Sql 1197)) old new later (changes_kept (call_of identity draw n) item own mark last_id (shared_of old) session)
-  lost_changes item own changes i mark last_id old new session after later kept are is some lost moved turn =
-      subst (λ one. EndsAs {A = Unit {0}} (Err (Sql 1197)) old new one (changes_kept (call_of identity draw n) item own mark last_id (shared_of old) session)) (sym moved)
-      (subst (λ cs. EndsAs {A = Unit {0}} (Err (Sql 1197)) old new (with_last_id last_id after) (changes_kept (call_of identity draw n) item cs mark last_id (shared_of old) session)) are
-      (too_many_changes item changes mark last_id old new session after kept some lost
+      → EndsAs {A = Bool} (Err (Sql 1197)) old new later (changes_kept (call_of identity draw n) item warned own mark last_id (shared_of old) session)
+  lost_changes item warned own changes i mark last_id old new session after later kept are is some lost moved turn =
+      subst (λ one. EndsAs {A = Bool} (Err (Sql 1197)) old new one (changes_kept (call_of identity draw n) item warned own mark last_id (shared_of old) session)) (sym moved)
+      (subst (λ cs. EndsAs {A = Bool} (Err (Sql 1197)) old new (with_last_id last_id after) (changes_kept (call_of identity draw n) item warned cs mark last_id (shared_of old) session)) are
+      (too_many_changes item warned changes mark last_id old new session after kept some lost
       (subst (λ j. IsTurn old new after kept (item_kept (call_of identity draw n) j mark (shared_of old) session)) is turn)))
 
 -- ---- how a statement ended
 
 -- what was kept behind a run that logged nothing
-ends_kept : {A : Type 0} (a : A) (fuel : Fuel) (old ran new : Desk) (after : Session Item) (t : Turn Item (Given A)) (u : Turn Item (Result (Unit {0}) ℕ)) → t ≡ giving (came_to a fuel) u → ran.log ≡ old.log → ran.committed ≡ old.committed
-    → EndsAs (Ok tt) ran new after u → EndsWith (Ok a) fuel old new after t
-ends_kept a fuel old ran new after t u is bytes count ends =
-    subst (λ v. EndsWith (Ok a) fuel old new after v) (sym is) (moves_from old ran new after (giving (came_to a fuel) u) bytes count ends.0, ap (came_to a fuel) ends.1)
+ends_kept : {A : Type 0} (a : A) (warned : Bool) (fuel : Fuel) (old ran new : Desk) (after : Session Item) (t : Turn Item (Given A)) (u : Turn Item (Result Bool ℕ)) → t ≡ giving (came_to a fuel) u → ran.log ≡ old.log → ran.committed ≡ old.committed
+    → EndsAs (Ok warned) ran new after u → EndsWith (Ok (record { value = a; warned = warned })) fuel old new after t
+ends_kept a warned fuel old ran new after t u is bytes count ends =
+    subst (λ v. EndsWith (Ok (record { value = a; warned = warned })) fuel old new after v) (sym is) (moves_from old ran new after (giving (came_to a fuel) u) bytes count ends.0, ap (came_to a fuel) ends.1)
 
-ends_refused : {A : Type 0} (a : A) (code : ℕ) (fuel : Fuel) (old ran new : Desk) (after : Session Item) (t : Turn Item (Given A)) (u : Turn Item (Result (Unit {0}) ℕ)) → t ≡ giving (came_to a fuel) u → ran.log ≡ old.log → ran.committed ≡ old.committed
-    → EndsAs {A = Unit {0}} (Err (Sql code)) ran new after u → EndsWith {A = A} (Err (Sql code)) fuel old new after t
+ends_refused : {A : Type 0} (a : A) (code : ℕ) (fuel : Fuel) (old ran new : Desk) (after : Session Item) (t : Turn Item (Given A)) (u : Turn Item (Result Bool ℕ)) → t ≡ giving (came_to a fuel) u → ran.log ≡ old.log → ran.committed ≡ old.committed
+    → EndsAs {A = Bool} (Err (Sql code)) ran new after u → EndsWith {A = A} (Err (Sql code)) fuel old new after t
 ends_refused {A} a code fuel old ran new after t u is bytes count ends =
     subst (λ v. EndsWith {A = A} (Err (Sql code)) fuel old new after v) (sym is) (moves_from old ran new after (giving (came_to a fuel) u) bytes count ends.0, ap (came_to a fuel) ends.1)
 
 -- whatever came of keeping it
-ends_so : {A : Type 0} (a : A) (r : Result (Unit {0}) SqlRefusal) (fuel : Fuel) (old ran new : Desk) (after : Session Item) (t : Turn Item (Given A)) (u : Turn Item (Result (Unit {0}) ℕ)) → t ≡ giving (came_to a fuel) u → ran.log ≡ old.log → ran.committed ≡ old.committed
+ends_so : {A : Type 0} (a : A) (r : Result Bool SqlRefusal) (fuel : Fuel) (old ran new : Desk) (after : Session Item) (t : Turn Item (Given A)) (u : Turn Item (Result Bool ℕ)) → t ≡ giving (came_to a fuel) u → ran.log ≡ old.log → ran.committed ≡ old.committed
     → EndsAs r ran new after u → EndsWith (kept_as a r) fuel old new after t
-ends_so a (Ok done) fuel old ran new after t u is bytes count ends = ends_kept a fuel old ran new after t u is bytes count ends
+ends_so a (Ok warned) fuel old ran new after t u is bytes count ends = ends_kept a warned fuel old ran new after t u is bytes count ends
 ends_so a (Err (Sql code)) fuel old ran new after t u is bytes count ends = ends_refused a code fuel old ran new after t u is bytes count ends
 ends_so a (Err NoMemory) fuel old ran new after t u is bytes count ends = tt
 
@@ -119,11 +128,11 @@ closed_leaves s locals ts is c seeds = closed_do locals ts c seeds ∙ ap (λ (o
 
 module _ (identity : Identity) (draw : Draw) (n : ℕ) (left : Left) (text : List ℕ) where
   -- what is kept of a statement, from where its run left
-  abbrev kept_of : Statement → Before → Option ℤ → ℕ → Shared → Context → Session Item → Turn Item (Result (Unit {0}) ℕ)
+  abbrev kept_of : Statement → Before → Option ℤ → ℕ → Shared → Context → Session Item → Turn Item (Result Bool ℕ)
   kept_of s before first mark ran context session =
-      changes_kept (call_of identity draw n) (item_made text s before first (is_by_rows session.format) ran.base.catalog context) (own_behind n mark ran) mark before.last_id ran (with_context context session)
+      statement_kept (call_of identity draw n) text s before first mark ran (with_context context session)
 
-  pub came_so : (s : Statement) (told : Outcome) (r : Result (Unit {0}) SqlRefusal) (fuel : Fuel) (old ran new : Desk) (session after : Session Item) (context : Context) (mark : ℕ) (before : Before) → Came n draw left s told fuel (place_at (shared_of old) session.vars.context) (place_at (shared_of ran) context)
+  pub came_so : (s : Statement) (told : Outcome) (r : Result Bool SqlRefusal) (fuel : Fuel) (old ran new : Desk) (session after : Session Item) (context : Context) (mark : ℕ) (before : Before) → Came n draw left s told fuel (place_at (shared_of old) session.vars.context) (place_at (shared_of ran) context)
       → mark ≡ changes_of_own n (shared_of old) → before ≡ numbers_of session.vars.context → ran.log ≡ old.log → ran.committed ≡ old.committed
       → EndsAs r ran new after (kept_of s before told.first mark (shared_of ran) context session)
       → EndsWith (kept_as told r) fuel old new after (giving told_given (statement_run (call_of identity draw n) left text s (shared_of old) session))
@@ -133,7 +142,7 @@ module _ (identity : Identity) (draw : Draw) (n : ℕ) (left : Left) (text : Lis
       (subst (λ b. EndsAs r ran new after (kept_of s b told.first mark (shared_of ran) context session)) numbers ends)
 
   -- the same of expressions
-  pub gave_so : (tree : Statement) (locals : List Local) (ts : Trees) (vs : List Value) (r : Result (Unit {0}) SqlRefusal) (fuel : Fuel) (old ran new : Desk) (session after : Session Item) (context : Context) (mark : ℕ) (before : Before)
+  pub gave_so : (tree : Statement) (locals : List Local) (ts : Trees) (vs : List Value) (r : Result Bool SqlRefusal) (fuel : Fuel) (old ran new : Desk) (session after : Session Item) (context : Context) (mark : ℕ) (before : Before)
       → ((c : Context) (seeds : ℕ × ℕ) → context_after c (evaluate ts) seeds None ≡ context_after c tree seeds None)
       → Gave n draw left locals ts vs fuel (place_at (shared_of old) session.vars.context) (place_at (shared_of ran) context)
       → mark ≡ changes_of_own n (shared_of old) → before ≡ numbers_of session.vars.context → ran.log ≡ old.log → ran.committed ≡ old.committed
@@ -145,7 +154,7 @@ module _ (identity : Identity) (draw : Draw) (n : ℕ) (left : Left) (text : Lis
       (subst (λ b. EndsAs r ran new after (kept_of tree b None mark (shared_of ran) context session)) numbers ends)
 
   -- of a session's, where no local is in scope
-  pub said_so : (s : Statement) (locals : List Local) (ts : Trees) (vs : List Value) (r : Result (Unit {0}) SqlRefusal) (fuel : Fuel) (old ran new : Desk) (session after : Session Item) (context : Context) (mark : ℕ) (before : Before)
+  pub said_so : (s : Statement) (locals : List Local) (ts : Trees) (vs : List Value) (r : Result Bool SqlRefusal) (fuel : Fuel) (old ran new : Desk) (session after : Session Item) (context : Context) (mark : ℕ) (before : Before)
       → s ≡ evaluate ts → locals ≡ [] → Gave n draw left locals ts vs fuel (place_at (shared_of old) session.vars.context) (place_at (shared_of ran) context)
       → mark ≡ changes_of_own n (shared_of old) → before ≡ numbers_of session.vars.context → ran.log ≡ old.log → ran.committed ≡ old.committed
       → EndsAs r ran new after (kept_of s before None mark (shared_of ran) context session)

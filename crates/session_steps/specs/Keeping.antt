@@ -5,12 +5,14 @@ use Rattle.log_entries.specs.declared.entries.Item.{Item}
 use Rattle.sql_meaning.specs.Frames.{Context}
 use Rattle.sql_tree.specs.Statement.{Statement}
 use Rattle.sql_reach.specs.Carrying.{carried}
+use Rattle.sql_reach.specs.Reasons.{reasons}
 use Rattle.catalog_rules.specs.Objects.{Object}
 use Rattle.logged_items.specs.declared.before.Before.{Before}
 use Rattle.logged_items.specs.Items.{as_before, statement_item}
+use Rattle.session_model.specs.Formats.{logs_rows, warns}
 use Rattle.session_model.specs.Sessions.{Open, Session, Shared}
 use Rattle.session_model.specs.Running.{Call, Turn, all_committed, kept_entries, kept_open, logged_by, takes_too_much, transaction_of}
-use Rattle.session_desk.specs.Desk.{cut_to}
+use Rattle.session_desk.specs.Desk.{cut_to, own_behind}
 
 -- changes outside a transaction are one by itself; in an open one the session keeps the lock
 abbrev pub kept_in : Call Item → Context → Item → Option (Open Item) → Shared → Shared
@@ -32,26 +34,33 @@ abbrev pub item_kept : Call Item → Item → ℕ → Shared → Session Item �
 item_kept call item mark shared session =
     if takes_too_much call session.transaction item then kept_if false call item mark shared session else kept_if true call item mark shared session
 
--- 1197 where they were not: LAST_INSERT_ID() is what it was
+-- LAST_INSERT_ID() as it was
 abbrev pub with_last_id : ℤ → Session Item → Session Item
 with_last_id last_id session = record session { vars = record (session.vars) { context = record (session.vars.context) { last_id = last_id } } }
 
-abbrev pub refused_unless : Bool → ℤ → Turn Item Bool → Turn Item (Result (Unit {0}) ℕ)
-refused_unless true last_id t = record { shared = t.shared; session = t.session; committed = t.committed; given = Ok tt }
-refused_unless false last_id t = record { shared = t.shared; session = with_last_id last_id t.session; committed = t.committed; given = Err 1197 }
+-- whether the statement is warned; 1197 where its changes were not kept
+abbrev pub refused_unless : Bool → (warned : Bool) → ℤ → Turn Item Bool → Turn Item (Result Bool ℕ)
+refused_unless true warned last_id t = record { shared = t.shared; session = t.session; committed = t.committed; given = Ok warned }
+refused_unless false warned last_id t = record { shared = t.shared; session = with_last_id last_id t.session; committed = t.committed; given = Err 1197 }
 
--- no changes leave no item
-abbrev pub changes_kept : Call Item → (List Change → Item) → List Change → ℕ → ℤ → Shared → Session Item → Turn Item (Result (Unit {0}) ℕ)
-changes_kept call item [] mark last_id shared session = record { shared = shared; session = session; committed = []; given = Ok tt }
-changes_kept call item (c ∷ cs) mark last_id shared session =
-    refused_unless (item_kept call (item (c ∷ cs)) mark shared session).given last_id (item_kept call (item (c ∷ cs)) mark shared session)
-
--- the changes of an evaluation, where an error refuses its values: those behind the mark are taken back
-abbrev pub settled : Call Item → Option ℕ → (List Change → Item) → List Change → ℕ → ℤ → Shared → Session Item → Turn Item (Result (Unit {0}) ℕ)
-settled call None item changes mark last_id shared session = changes_kept call item changes mark last_id shared session
-settled call (Some code) item changes mark last_id shared session =
-    record { shared = cut_to call.number mark shared; session = session; committed = []; given = Err code }
+-- no changes leave no item, of which nothing is warned
+abbrev pub changes_kept : Call Item → (List Change → Item) → (warned : Bool) → List Change → ℕ → ℤ → Shared → Session Item → Turn Item (Result Bool ℕ)
+changes_kept call item warned [] mark last_id shared session = record { shared = shared; session = session; committed = []; given = Ok false }
+changes_kept call item warned (c ∷ cs) mark last_id shared session =
+    refused_unless (item_kept call (item (c ∷ cs)) mark shared session).given warned last_id (item_kept call (item (c ∷ cs)) mark shared session)
 
 -- the item of a statement by the context behind it, with the numbers before it, by its rows or by its text
 abbrev pub item_made : List ℕ → Statement → Before → Option ℤ → (rows : Bool) → List Object → Context → List Change → Item
 item_made text s before first rows catalog context changes = statement_item text (carried catalog s (as_before before context) first) rows catalog changes
+
+-- what a statement of a session changed behind a mark: it is kept as its reasons and the session's format say
+abbrev pub statement_kept : Call Item → List ℕ → Statement → Before → Option ℤ → ℕ → Shared → Session Item → Turn Item (Result Bool ℕ)
+statement_kept call text s before first mark shared session =
+    changes_kept call (item_made text s before first (logs_rows session.format (reasons shared.base.catalog s)) shared.base.catalog session.vars.context)
+    (warns session.format (reasons shared.base.catalog s)) (own_behind call.number mark shared) mark before.last_id shared session
+
+-- the same of an evaluation, unless an error refuses its values: then its changes are taken back
+abbrev pub settled : Call Item → Option ℕ → List ℕ → Statement → Before → ℕ → Shared → Session Item → Turn Item (Result Bool ℕ)
+settled call None text s before mark shared session = statement_kept call text s before None mark shared session
+settled call (Some code) text s before mark shared session =
+    record { shared = cut_to call.number mark shared; session = session; committed = []; given = Err code }

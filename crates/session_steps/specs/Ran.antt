@@ -100,4 +100,4 @@ told_of (Ok did) = Ok (outcome_of did)
 told_of (Err code) = Err code
 
 abbrev pub told_given : Given Did → Given Outcome
-told_given given = record { result = told_of given.result; fuel = given.fuel }
+told_given given = record { result = told_of given.result; fuel = given.fuel; warned = given.warned }

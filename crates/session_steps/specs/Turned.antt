@@ -1,5 +1,5 @@
 -- What a turn of the machine leaves of a desk and a session.
-use Rattle.std.specs.Prelude.{◌≡◌, ℕ, [], ◌++◌, Result, Ok, Err}
+use Rattle.std.specs.Prelude.{◌≡◌, ℕ, false, [], ◌++◌, Result, Ok, Err}
 use Rattle.val_types.specs.declared.refusal.SqlRefusal.{SqlRefusal}
 use Rattle.val_types.specs.declared.refusal.SqlRefusal.TheVariants.{Sql, NoMemory}
 use Rattle.log_entries.specs.declared.entries.Item.{Item}
@@ -8,6 +8,7 @@ use Rattle.session_model.specs.Running.{Fuel, Given, Turn}
 use Rattle.session_desk.specs.declared.desk.Desk.{Desk}
 use Rattle.session_desk.specs.Desk.{shared_of}
 use Rattle.session_desk.specs.Logging.{Logs}
+use Rattle.session_steps.specs.declared.keeping.Kept.{Kept}
 
 -- ---- a turn
 
@@ -25,10 +26,10 @@ EndsAs (Ok a) old new after t = Moves old new after t × (t.given ≡ Ok a)
 EndsAs (Err (Sql code)) old new after t = Moves old new after t × (t.given ≡ Err code)
 EndsAs (Err NoMemory) old new after t = Unit {0}
 
--- the same of a whole statement, with what is left behind it
-abbrev pub EndsWith : {A : Type 0} → Result A SqlRefusal → Fuel → Desk → Desk → Session Item → Turn Item (Given A) → Type 0
-EndsWith (Ok a) fuel old new after t = Moves old new after t × (t.given ≡ record { result = Ok a; fuel = fuel })
-EndsWith (Err (Sql code)) fuel old new after t = Moves old new after t × (t.given ≡ record { result = Err code; fuel = fuel })
+-- the same of a whole statement, with what is left behind it and whether it is warned
+abbrev pub EndsWith : {A : Type 0} → Result (Kept A) SqlRefusal → Fuel → Desk → Desk → Session Item → Turn Item (Given A) → Type 0
+EndsWith (Ok kept) fuel old new after t = Moves old new after t × (t.given ≡ record { result = Ok kept.value; fuel = fuel; warned = kept.warned })
+EndsWith (Err (Sql code)) fuel old new after t = Moves old new after t × (t.given ≡ record { result = Err code; fuel = fuel; warned = false })
 EndsWith (Err NoMemory) fuel old new after t = Unit {0}
 
 -- ---- turns made of turns

@@ -5,17 +5,16 @@ ghost use Rattle.sql_print.specs.StatementSpelling.{spelling};
 ghost use Rattle.sql_reach.specs.Closing.{closed};
 ghost use Rattle.sql_tree.specs.StatementView.{view};
 ghost use Rattle.session_model.specs.Commands.{changes_of_own};
-ghost use Rattle.session_model.specs.Formats.{is_by_rows};
 ghost use Rattle.session_steps.specs.Calls.{called};
-ghost use Rattle.session_desk.specs.Desk.{own_behind, shared_of};
-ghost use Rattle.session_steps.specs.Keeping.{changes_kept, item_kept, item_made, settled};
+ghost use Rattle.session_desk.specs.Desk.{shared_of};
+ghost use Rattle.session_steps.specs.Keeping.{item_kept, settled, statement_kept};
 ghost use Rattle.session_steps.specs.Turned.{EndsAs, IsTurn};
 
 use log_entries::Item;
 use logged_items::{Before, Items, item_of};
 use name_const::close_stmt;
 use session_ctx::Ctx;
-use session_desk::{Call, Desk, Open, Session, is_by_rows};
+use session_desk::{Call, Desk, Open, Session, how_logged};
 use sql_locals::Locals;
 use sql_print::print;
 use sql_tree::Stmt;
@@ -30,6 +29,13 @@ const TOO_LARGE: SqlError = 1197;
 pub struct Start {
     pub mark: u64,
     pub before: Before,
+}
+
+/// What a statement came to, and whether it is warned: what it changed is logged by its text, though that is unsafe.
+#[derive(Drop)]
+pub struct Kept<T> {
+    pub value: T,
+    pub warned: bool,
 }
 
 /// Where a statement of a session begins.
@@ -111,7 +117,7 @@ fn keep_item(
 }
 
 /// Keeps what a statement changed, where it changed something, as an item in the format of its session, or refuses it with
-/// 1197: then nothing of it is left but what it used.
+/// 1197: then nothing of it is left but what it used. Gives whether the statement is warned.
 pub(crate) fn keep(
     alloc: Global,
     call: &Call<'_>,
@@ -121,17 +127,16 @@ pub(crate) fn keep(
     statement: &Stmt,
     start: Start,
     first: Option<i64>,
-) -> Result<(), SqlRefusal>
+) -> Result<bool, SqlRefusal>
     requires { IsTrue (int_le (pos 0) start.before.last_id) }
-    ensures { EndsAs result desk.old desk.new session.new (changes_kept (called call.now)
-        (item_made text.now (view statement.now) (start.before) first (is_by_rows (session.old.format)) ((shared_of desk.old).base.catalog) (session.old.vars.context))
-        (own_behind (call.now.number) (start.mark) (shared_of desk.old)) (start.mark) (start.before.last_id) (shared_of desk.old) session.old) }
+    ensures { EndsAs result desk.old desk.new session.new (statement_kept (called call.now) text.now (view statement.now) (start.before) first (start.mark) (shared_of desk.old) session.old) }
 {
     let changes = desk.changes_since(alloc, call.number, start.mark)?;
     if changes.len() == 0 {
-        return Ok(());
+        return Ok(false);
     }
     let objects = desk.work.catalog().objects();
+    let logging = how_logged(session.format, statement, objects);
     let context = &session.vars.context;
     let item = item_of(
         alloc,
@@ -141,11 +146,11 @@ pub(crate) fn keep(
         context,
         start.before,
         first,
-        is_by_rows(session.format),
+        logging.rows,
         changes,
     )?;
     if keep_item(alloc, call, desk, session, item, start.mark)? {
-        return Ok(());
+        return Ok(logging.warned);
     }
     session.vars.context.set_last_id(start.before.last_id);
     Err(SqlRefusal::Sql(TOO_LARGE))
@@ -161,11 +166,9 @@ pub fn settle(
     statement: &Stmt,
     start: Start,
     refusal: Option<SqlError>,
-) -> Result<(), SqlRefusal>
+) -> Result<bool, SqlRefusal>
     requires { IsTrue (int_le (pos 0) start.before.last_id) }
-    ensures { EndsAs result desk.old desk.new session.new (settled (called call.now) refusal
-        (item_made text.now (view statement.now) (start.before) None (is_by_rows (session.old.format)) ((shared_of desk.old).base.catalog) (session.old.vars.context))
-        (own_behind (call.now.number) (start.mark) (shared_of desk.old)) (start.mark) (start.before.last_id) (shared_of desk.old) session.old) }
+    ensures { EndsAs result desk.old desk.new session.new (settled (called call.now) refusal text.now (view statement.now) (start.before) (start.mark) (shared_of desk.old) session.old) }
 {
     if let Some(code) = refusal {
         desk.cut(call.number, start.mark);
@@ -184,14 +187,12 @@ pub(crate) fn keep_printed(
     statement: &Stmt,
     start: Start,
     first: Option<i64>,
-) -> Result<(), SqlRefusal>
+) -> Result<bool, SqlRefusal>
     requires { IsTrue (int_le (pos 0) start.before.last_id) }
-    ensures { EndsAs result desk.old desk.new session.new (changes_kept (called call.now)
-        (item_made (spelling (view statement.now)) (view statement.now) (start.before) first (is_by_rows (session.old.format)) ((shared_of desk.old).base.catalog) (session.old.vars.context))
-        (own_behind (call.now.number) (start.mark) (shared_of desk.old)) (start.mark) (start.before.last_id) (shared_of desk.old) session.old) }
+    ensures { EndsAs result desk.old desk.new session.new (statement_kept (called call.now) (spelling (view statement.now)) (view statement.now) (start.before) first (start.mark) (shared_of desk.old) session.old) }
 {
     if !desk.has_changed(call.number, start.mark) {
-        return Ok(());
+        return Ok(false);
     }
     let text = print(alloc, statement)?;
     keep(
@@ -223,14 +224,12 @@ pub(crate) fn keep_closed(
     statement: &Stmt,
     locals: &Locals,
     start: Start,
-) -> Result<(), SqlRefusal>
+) -> Result<bool, SqlRefusal>
     requires { IsTrue (int_le (pos 0) start.before.last_id) }
-    ensures { EndsAs result desk.old desk.new session.new (changes_kept (called call.now)
-        (item_made (spelling (closed (view statement.now) locals.now)) (closed (view statement.now) locals.now) (start.before) None (is_by_rows (session.old.format)) ((shared_of desk.old).base.catalog) (session.old.vars.context))
-        (own_behind (call.now.number) (start.mark) (shared_of desk.old)) (start.mark) (start.before.last_id) (shared_of desk.old) session.old) }
+    ensures { EndsAs result desk.old desk.new session.new (statement_kept (called call.now) (spelling (closed (view statement.now) locals.now)) (closed (view statement.now) locals.now) (start.before) None (start.mark) (shared_of desk.old) session.old) }
 {
     if !desk.has_changed(call.number, start.mark) {
-        return Ok(());
+        return Ok(false);
     }
     let closed = closed_over(alloc, statement, locals)?;
     keep_printed(alloc, call, desk, session, closed.get(), start, None)

@@ -1,7 +1,7 @@
 //! Statements run on what all sessions of a source share, and kept as items with the log: one step of a session each.
 //!
 //! - `running`: a statement run on the desk, on a copy beside another session's open changes; `keeping`: what it changed,
-//!   kept as its item, or taken back ([`settle`])
+//!   kept as its item, or taken back ([`settle`]), and whether the statement is warned ([`Kept`])
 //! - `stepping`: [`run_with_text`] and [`evaluate_with_text`], a statement run and kept; [`run_printed`] and
 //!   [`evaluate_closed`], the same of a procedure; [`evaluate_unkept`], the part that all evaluations have in common
 //!
@@ -11,7 +11,7 @@
 //!
 //! # Proved
 //! - [`run_with_text`] and [`evaluate_with_text`] do just what the machine's statement does: rows, counters, lock, transaction,
-//!   log, the result and what is left of turns and UUIDs, or memory is short.
+//!   log, the result, what is left of turns and UUIDs, and whether it is warned, or memory is short.
 //! - So do [`run_printed`] and [`evaluate_closed`]. What a statement of a procedure changed is kept by its canonical text, and
 //!   what an evaluation changed by that of the DO with its locals closed in; where neither changed a row, nothing is.
 //!
@@ -23,7 +23,7 @@ mod keeping;
 mod running;
 mod stepping;
 
-pub use keeping::{Start, settle};
+pub use keeping::{Kept, Start, settle};
 pub use running::full;
 pub use stepping::{
     Evaluated, evaluate_closed, evaluate_unkept, evaluate_with_text, run_printed, run_with_text,

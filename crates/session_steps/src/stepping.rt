@@ -17,7 +17,7 @@ ghost use Rattle.session_steps.specs.Ran.{Gives, fuel_at, place_at, told_given};
 ghost use Rattle.session_steps.specs.Evaluating.{values_of};
 ghost use Rattle.session_steps.specs.Turned.{EndsWith, giving};
 
-use crate::keeping::{Start, keep, keep_closed, keep_printed, start_of};
+use crate::keeping::{Kept, Start, keep, keep_closed, keep_printed, start_of};
 use crate::running::{evaluate, run};
 use prog_run::{Meter, Outcome};
 use session_desk::{Call, Desk, Session};
@@ -35,7 +35,7 @@ pub fn run_with_text(
     text: &[u8],
     statement: &Stmt,
     meter: &mut Meter,
-) -> Result<Outcome, SqlRefusal>
+) -> Result<Kept<Outcome>, SqlRefusal>
     requires { is_definition (view statement.now) ≡ false }
     ensures ends { EndsWith result (fuel_at meter.new) desk.old desk.new session.new (giving told_given (statement_run (called call.now) (left_of meter.old) text.now (view statement.now) (shared_of desk.old) session.old)) }
     ensures spends { Spends meter.old meter.new }
@@ -64,7 +64,10 @@ pub fn run_with_text(
                 outcome.first,
             ) {
                 Err(refusal) => Err(refusal),
-                Ok(()) => Ok(outcome),
+                Ok(warned) => Ok(Kept {
+                    value: outcome,
+                    warned,
+                }),
             }
         }
     }
@@ -78,7 +81,7 @@ pub fn run_printed(
     session: &mut Session,
     statement: &Stmt,
     meter: &mut Meter,
-) -> Result<Outcome, SqlRefusal>
+) -> Result<Kept<Outcome>, SqlRefusal>
     requires { is_definition (view statement.now) ≡ false }
     ensures ends { EndsWith result (fuel_at meter.new) desk.old desk.new session.new (giving told_given (statement_run (called call.now) (left_of meter.old) (spelling (view statement.now)) (view statement.now) (shared_of desk.old) session.old)) }
     ensures spends { Spends meter.old meter.new }
@@ -98,7 +101,10 @@ pub fn run_printed(
         Ok(outcome) => {
             match keep_printed(alloc, call, desk, session, statement, start, outcome.first) {
                 Err(refusal) => Err(refusal),
-                Ok(()) => Ok(outcome),
+                Ok(warned) => Ok(Kept {
+                    value: outcome,
+                    warned,
+                }),
             }
         }
     }
@@ -158,7 +164,7 @@ fn evaluate_kept(
     expressions: &List<Expr>,
     locals: &Locals,
     meter: &mut Meter,
-) -> Result<List<Value>, SqlRefusal>
+) -> Result<Kept<List<Value>>, SqlRefusal>
     requires is { view statement.now ≡ evaluate (view_trees expressions.now) }
     requires none { locals.now ≡ [] }
     ensures ends { EndsWith result (fuel_at meter.new) desk.old desk.new session.new (expressions_run (called call.now) (left_of meter.old) text.now (view_trees expressions.now) (shared_of desk.old) session.old) }
@@ -178,7 +184,10 @@ fn evaluate_kept(
                 None,
             ) {
                 Err(refusal) => Err(refusal),
-                Ok(()) => Ok(evaluated.values),
+                Ok(warned) => Ok(Kept {
+                    value: evaluated.values,
+                    warned,
+                }),
             }
         }
     }
@@ -194,7 +203,7 @@ pub fn evaluate_with_text(
     statement: &Stmt,
     expressions: &List<Expr>,
     meter: &mut Meter,
-) -> Result<List<Value>, SqlRefusal>
+) -> Result<Kept<List<Value>>, SqlRefusal>
     requires { view statement.now ≡ evaluate (view_trees expressions.now) }
     ensures ends { EndsWith result (fuel_at meter.new) desk.old desk.new session.new (expressions_run (called call.now) (left_of meter.old) text.now (view_trees expressions.now) (shared_of desk.old) session.old) }
     ensures spends { Spends meter.old meter.new }
@@ -224,7 +233,7 @@ pub fn evaluate_closed(
     expressions: &List<Expr>,
     locals: &Locals,
     meter: &mut Meter,
-) -> Result<List<Value>, SqlRefusal>
+) -> Result<Kept<List<Value>>, SqlRefusal>
     requires { view statement.now ≡ evaluate (view_trees expressions.now) }
     ensures ends { EndsWith result (fuel_at meter.new) desk.old desk.new session.new (values_run (called call.now) (left_of meter.old) (spelling (closed (view statement.now) locals.now)) (closed (view statement.now) locals.now) locals.now (view_trees expressions.now) (shared_of desk.old) session.old) }
     ensures spends { Spends meter.old meter.new }
@@ -242,7 +251,10 @@ pub fn evaluate_closed(
                 evaluated.start,
             ) {
                 Err(refusal) => Err(refusal),
-                Ok(()) => Ok(evaluated.values),
+                Ok(warned) => Ok(Kept {
+                    value: evaluated.values,
+                    warned,
+                }),
             }
         }
     }

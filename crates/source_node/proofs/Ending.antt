@@ -1,5 +1,6 @@
 -- Statements that begin with all that a command has, as its commands answer for them.
-use Rattle.std.proofs.Common.{◌≡◌, ℕ, List, [], ◌∷◌, Result, Ok, Err, IfOk, refl, sym, ap, ◌∙◌, subst}
+use Rattle.std.proofs.Common.{◌≡◌, ℕ, Bool, false, List, [], ◌∷◌, Option, Some, None, Result, Ok, Err, IfOk, refl, sym, ap, ◌∙◌, subst}
+use Rattle.std.specs.Option.{option_map_or}
 use Rattle.val_types.specs.declared.value.Value.{Value}
 use Rattle.val_types.specs.declared.refusal.SqlRefusal.{SqlRefusal}
 use Rattle.val_types.specs.declared.refusal.SqlRefusal.TheVariants.{Sql}
@@ -20,7 +21,7 @@ use Rattle.node_answers.specs.Telling.{told_answer}
 use Rattle.proc_model.specs.Talk.{brought}
 use Rattle.proc_model.specs.Procedures as procedures
 use Rattle.proc_parts.specs.Calls.{left_of}
-use Rattle.session_model.specs.Answers.{refused}
+use Rattle.session_model.specs.Answers.{ok, ok_warned, refused, showing, with_warning}
 use Rattle.session_model.specs.Sessions.{Session, Shared}
 use Rattle.session_model.specs.Running.{Call, Fuel, Given, Turn, did_answer, expressions_run, full, given_answer, statement_run}
 use Rattle.session_model.specs.Commands.{given_turn}
@@ -30,31 +31,41 @@ use Rattle.session_desk.specs.Desk.{shared_of}
 use Rattle.session_steps.specs.Ran.{fuel_at, full_meter, told_given, told_of}
 use Rattle.session_calls.specs.Stepping.{Stood}
 use Rattle.session_steps.specs.Turned.{EndsWith, IsTurn, Moves, giving}
+use Rattle.session_steps.specs.declared.keeping.Kept.{Kept}
 use Rattle.session_desk.specs.declared.desk.Desk.{Desk}
 use Rattle.session_calls.proofs.Counting.{Counts, values_count}
 
 -- ---- a change, a SELECT or a DO
 
-told_is : (told : Outcome) (fuel : Fuel) (given : Given Did) → told_given given ≡ record { result = Ok told; fuel = fuel } → told_answer told ≡ given_answer given
-told_is told fuel given e = by_result given.result (ap (λ (g : Given Outcome). g.result) e)
+-- what is told of a statement, with its warning, is its answer
+did_told : (warned : Bool) (did : Did) → with_warning warned (told_answer (outcome_of did)) ≡ did_answer warned did
+did_told warned did = by did.shown
   where
-    by_result : (r : Result Did ℕ) → told_of r ≡ Ok told → told_answer told ≡ elim r [ Ok did ↦ did_answer did | Err code ↦ refused code ]
-    by_result (Ok did) e = let same : outcome_of did ≡ told = cc in ap told_answer (sym same)
+    by : (shown : Option (List (List Value))) → with_warning warned (option_map_or (showing false) shown (ok did.affected)) ≡ option_map_or (showing warned) shown (ok_warned warned did.affected)
+    by None = refl
+    by (Some rows) = refl
+
+told_is : (told : Outcome) (fuel : Fuel) (warned : Bool) (given : Given Did) → told_given given ≡ record { result = Ok told; fuel = fuel; warned = warned } → with_warning warned (told_answer told) ≡ given_answer given
+told_is told fuel warned given e =
+    ap (λ (b : Bool). with_warning b (told_answer told)) (sym (ap (λ (g : Given Outcome). g.warned) e)) ∙ by_result given.result (ap (λ (g : Given Outcome). g.result) e)
+  where
+    by_result : (r : Result Did ℕ) → told_of r ≡ Ok told → with_warning given.warned (told_answer told) ≡ elim r [ Ok did ↦ did_answer given.warned did | Err code ↦ refused code ]
+    by_result (Ok did) e = let same : outcome_of did ≡ told = cc in ap (λ (o : Outcome). with_warning given.warned (told_answer o)) (sym same) ∙ did_told given.warned did
     by_result (Err code) e = cc
 
-refused_is : (code : ℕ) (fuel : Fuel) (given : Given Did) → told_given given ≡ record { result = Err code; fuel = fuel } → refused code ≡ given_answer given
+refused_is : (code : ℕ) (fuel : Fuel) (given : Given Did) → told_given given ≡ record { result = Err code; fuel = fuel; warned = false } → refused code ≡ given_answer given
 refused_is code fuel given e = by_result given.result (ap (λ (g : Given Outcome). g.result) e)
   where
-    by_result : (r : Result Did ℕ) → told_of r ≡ Err code → refused code ≡ elim r [ Ok did ↦ did_answer did | Err other ↦ refused other ]
+    by_result : (r : Result Did ℕ) → told_of r ≡ Err code → refused code ≡ elim r [ Ok did ↦ did_answer given.warned did | Err other ↦ refused other ]
     by_result (Ok did) e = cc
     by_result (Err other) e = let same : other ≡ code = cc in ap refused (sym same)
 
 module _ (call : Call Item) (old new : Desk) (session after : Session Item) (start : Meter) (fuel : Fuel) (begins : start ≡ full_meter) where
-  pub plain_told : (text : List ℕ) (s : Statement) (told : Outcome) (answer : Answer) → EndsWith (Ok told) fuel old new after (giving told_given (statement_run call (left_of start) text s (shared_of old) session))
-      → answer ≡ told_answer told → IsTurn old new after answer (given_turn (statement_run call full text s (shared_of old) session))
-  plain_told text s told answer ends said =
+  pub plain_told : (text : List ℕ) (s : Statement) (kept : Kept Outcome) (answer : Answer) → EndsWith (Ok kept) fuel old new after (giving told_given (statement_run call (left_of start) text s (shared_of old) session))
+      → answer ≡ with_warning kept.warned (told_answer kept.value) → IsTurn old new after answer (given_turn (statement_run call full text s (shared_of old) session))
+  plain_told text s kept answer ends said =
       subst (λ (m : Meter). IsTurn old new after answer (given_turn (statement_run call (left_of m) text s (shared_of old) session))) begins
-      (ends.0, said ∙ told_is told fuel (statement_run call (left_of start) text s (shared_of old) session).given ends.1)
+      (ends.0, said ∙ told_is kept.value fuel kept.warned (statement_run call (left_of start) text s (shared_of old) session).given ends.1)
 
   pub plain_refused : (text : List ℕ) (s : Statement) (code : ℕ) (answer : Answer) → EndsWith {A = Outcome} (Err (Sql code)) fuel old new after (giving told_given (statement_run call (left_of start) text s (shared_of old) session))
       → answer ≡ refused code → IsTurn old new after answer (given_turn (statement_run call full text s (shared_of old) session))
@@ -65,12 +76,12 @@ module _ (call : Call Item) (old new : Desk) (session after : Session Item) (sta
 -- ---- the arguments of a CALL
 
 pub no_argument : (call : Call Item) (text : List ℕ) (es : List Expr) (desk : Desk) (session : Session Item) (m : Meter) → es ≡ [] → m ≡ full_meter
-    → EndsWith (Ok []) (fuel_at m) desk desk session (arguments_run call text (view_trees es) (shared_of desk) session)
+    → EndsWith (Ok (record { value = []; warned = false })) (fuel_at m) desk desk session (arguments_run call text (view_trees es) (shared_of desk) session)
 no_argument call text es desk session m none full =
-    subst (λ (xs : List Expr). EndsWith (Ok []) (fuel_at m) desk desk session (arguments_run call text (view_trees xs) (shared_of desk) session)) (sym none)
-    (subst (λ (k : Meter). EndsWith (Ok []) (fuel_at k) desk desk session (arguments_run call text no_tree (shared_of desk) session)) (sym full) ((refl, refl, (refl, tt)), refl))
+    subst (λ (xs : List Expr). EndsWith (Ok (record { value = []; warned = false })) (fuel_at m) desk desk session (arguments_run call text (view_trees xs) (shared_of desk) session)) (sym none)
+    (subst (λ (k : Meter). EndsWith (Ok (record { value = []; warned = false })) (fuel_at k) desk desk session (arguments_run call text no_tree (shared_of desk) session)) (sym full) ((refl, refl, (refl, tt)), refl))
 
-pub some_argument : (call : Call Item) (text said : List ℕ) (es : List Expr) (r : Result (List Value) SqlRefusal) (fuel : Fuel) (old new : Desk) (session after : Session Item) (m : Meter) → (es ≡ [] → ⊥) → said ≡ text → m ≡ full_meter
+pub some_argument : (call : Call Item) (text said : List ℕ) (es : List Expr) (r : Result (Kept (List Value)) SqlRefusal) (fuel : Fuel) (old new : Desk) (session after : Session Item) (m : Meter) → (es ≡ [] → ⊥) → said ≡ text → m ≡ full_meter
     → EndsWith r fuel old new after (expressions_run call (left_of m) said (view_trees es) (shared_of old) session)
     → EndsWith r fuel old new after (arguments_run call text (view_trees es) (shared_of old) session)
 some_argument call text said [] r fuel old new session after m some same begins ends = absurd (some refl)
@@ -85,22 +96,22 @@ module _ (identity : Identity) (draw : Draw) (n : ℕ) where
   arguments_count text no_tree shared session = record { count = refl; place = refl }
   arguments_count text (tree t ts) shared session = values_count identity draw n full text (evaluate (tree t ts)) [] (tree t ts) shared session
 
-  pub call_comes : {E : Type 0} (r : Result Answer E) (name text : List ℕ) (ts : Trees) (vs : List Value) (old mid new : Desk) (session ran after : Session Item) (start m : Meter) → start ≡ full_meter → Spends start m
-      → EndsWith (Ok vs) (fuel_at m) old mid ran (arguments_run (call_of identity draw n) text ts (shared_of old) session)
-      → ((o : Desk) (at : Reached Item) → Stood o mid ran at → IfOk r (λ answer. IsTurn o new after answer (came_to (brought (steps_of (call_of identity draw n)) (procedures.called at.shared.base.catalog (left_of m) name vs) at))))
+  pub call_comes : {E : Type 0} (r : Result Answer E) (name text : List ℕ) (ts : Trees) (kept : Kept (List Value)) (old mid new : Desk) (session ran after : Session Item) (start m : Meter) → start ≡ full_meter → Spends start m
+      → EndsWith (Ok kept) (fuel_at m) old mid ran (arguments_run (call_of identity draw n) text ts (shared_of old) session)
+      → ((o : Desk) (at : Reached Item) → Stood o mid ran kept.warned at → IfOk r (λ answer. IsTurn o new after answer (came_to (brought (steps_of (call_of identity draw n)) (procedures.called at.shared.base.catalog (left_of m) name kept.value) at))))
       → IfOk r (λ answer. IsTurn old new after answer (called_with (call_of identity draw n) name (arguments_run (call_of identity draw n) text ts (shared_of old) session)))
-  call_comes r name text ts vs old mid new session ran after start m begins spends ends law =
+  call_comes r name text ts kept old mid new session ran after start m begins spends ends law =
       let t : Turn Item (Given (List Value)) = arguments_run (call_of identity draw n) text ts (shared_of old) session in
-      let at : Reached Item = record { shared = t.shared; session = t.session; committed = t.committed; given = tt } in
+      let at : Reached Item = record { shared = t.shared; session = t.session; committed = t.committed; given = kept.warned } in
       let counts : Counts (shared_of old) t = arguments_count text ts (shared_of old) session in
-      let stood : Stood old mid ran at = record {
-        moves = ends.0;
+      let stood : Stood old mid ran kept.warned at = record {
+        turn = (ends.0, refl);
         count = ap (λ (s : Shared). s.committed) ends.0.0 ∙ counts.count;
         place = ap (λ (s : Shared). s.place) ends.0.0 ∙ counts.place;
       } in
       let deep : m.depth ≡ most_nested = spends.depth ∙ ap (λ (k : Meter). k.depth) begins in
       subst (λ (g : Given (List Value)). IfOk r (λ answer. IsTurn old new after answer (called_by (call_of identity draw n) name g.result (record { shared = t.shared; session = t.session; committed = t.committed; given = g })))) (sym ends.1)
-      (subst (λ (k : ℕ). IfOk r (λ answer. IsTurn old new after answer (came_to (brought (steps_of (call_of identity draw n)) (procedures.called t.shared.base.catalog (record { nesting = k; turns = m.turns; uuids = m.uuids }) name vs) at)))) deep
+      (subst (λ (k : ℕ). IfOk r (λ answer. IsTurn old new after answer (came_to (brought (steps_of (call_of identity draw n)) (procedures.called t.shared.base.catalog (record { nesting = k; turns = m.turns; uuids = m.uuids }) name kept.value) at)))) deep
       (law old at stood))
 
   pub call_refused : (name text : List ℕ) (ts : Trees) (code : ℕ) (fuel : Fuel) (old new : Desk) (session after : Session Item) (answer : Answer)

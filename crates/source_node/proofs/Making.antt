@@ -1,6 +1,7 @@
 -- A definition, as the machine makes it.
-use Rattle.std.proofs.Common.{◌≡◌, ℕ, ◌+◌, List, [], ◌∷◌, ◌++◌, Bool, true, false, if◌then◌else◌, length, Option, Some, None, unwrap_or, Result, Ok, Err, IfOk, refl, sym, ap, ◌∙◌, subst, append-nil}
+use Rattle.std.proofs.Common.{◌≡◌, ℕ, ◌+◌, ◌<◌, ◌||◌, nat_le, List, [], ◌∷◌, ◌++◌, Bool, true, false, if◌then◌else◌, length, Option, Some, None, unwrap_or, Result, Ok, Err, IfOk, refl, sym, ap, ◌∙◌, subst, append-nil}
 use Rattle.std.specs.Option.{option_map}
+use Rattle.std.proofs.lemmas.Bool.{leb-false}
 use Rattle.port_traits.specs.declared.identity.Draw.{Draw}
 use Rattle.port_traits.specs.declared.identity.Identity.{Identity}
 use Rattle.val_types.specs.declared.change.Change.{Change}
@@ -25,9 +26,11 @@ use Rattle.logged_items.specs.Logged.{Encodes, in_log}
 use Rattle.prog_run.specs.declared.meter.Outcome.{Outcome}
 use Rattle.prog_run.specs.Contents.{Contents, base_of, committed_tables, without_changes}
 use Rattle.prog_run.specs.Runs.{Makes}
-use Rattle.session_model.specs.Answers.{ok, refused}
+use Rattle.proc_model.specs.Procedures.{plain_refusal}
+use Rattle.proc_model.specs.Talk.{Refusal}
+use Rattle.session_model.specs.Answers.{ok, refused, refused_as}
 use Rattle.session_model.specs.Sessions.{Session, Shared}
-use Rattle.session_model.specs.Running.{Turn, commit_entries, commit_open, commit_shared, counted_in, is_other, items_of, transaction_of, writing_refusal}
+use Rattle.session_model.specs.Running.{Turn, commit_entries, commit_open, commit_shared, counted_in, held_by, is_full, is_other, items_of, transaction_of, writing_refusal}
 use Rattle.session_model.specs.Commands.{define_turn, definition_turn, made_turn, unless_answered, with_answer}
 use Rattle.session_desk.specs.declared.desk.Desk.{Desk}
 use Rattle.session_steps.specs.Calls.{call_of}
@@ -139,6 +142,15 @@ module _ (identity : Identity) (draw : Draw) (n : ℕ) (text : List ℕ) (s : St
       → IfOk r (λ answer. IsTurn old new later answer (definition_turn (call_of identity draw n) text s (shared_of old) session))
   defined_if (Ok answer) old ran new session after later moves turn = defined_left old ran new session after later answer moves turn
   defined_if (Err e) old ran new session after later moves turn = tt
+
+-- ---- where nothing refuses what writes, one transaction more can be counted
+
+full_if : (full : Bool) (held : Option Refusal) (b : Bool) → option_map refused_as (if b || full then Some (plain_refusal 30008) else held) ≡ None → b ≡ false
+full_if full held true none = cc
+full_if full held false none = refl
+
+pub writing_few : (n : ℕ) (shared : Shared) → writing_refusal n shared ≡ None → shared.committed < 4294967295
+writing_few n shared none = leb-false 4294967295 shared.committed (full_if (is_full shared.place) (held_by n shared.writer) (nat_le 4294967295 shared.committed) none)
 
 -- ---- the checks of CREATE TABLE
 

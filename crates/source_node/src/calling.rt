@@ -17,7 +17,7 @@ use prog_run::Meter;
 use session_calls::call_steps;
 use session_desk::{Call, Desk, Session};
 use session_sets::{LONGEST, TOO_LONG, lock_refusal};
-use session_steps::{evaluate_with_text, full};
+use session_steps::{Kept, evaluate_with_text, full};
 use sql_print::print;
 use sql_tree::{Expr, Stmt};
 use std::alloc::Global;
@@ -34,14 +34,17 @@ fn argument_values(
     statement: &Stmt,
     arguments: &List<Expr>,
     meter: &mut Meter,
-) -> Result<List<Value>, SqlRefusal>
+) -> Result<Kept<List<Value>>, SqlRefusal>
     requires is { view statement.now ≡ evaluate (view_trees arguments.now) }
     requires full { meter.old ≡ full_meter }
     ensures ends { EndsWith result (fuel_at meter.new) desk.old desk.new session.new (arguments_run (called call.now) text.now (view_trees arguments.now) (shared_of desk.old) session.old) }
     ensures spends { Spends meter.old meter.new }
 {
     if arguments.is_empty() {
-        return Ok(List::new(alloc));
+        return Ok(Kept {
+            value: List::new(alloc),
+            warned: false,
+        });
     }
     evaluate_with_text(
         alloc,
@@ -76,7 +79,7 @@ fn call_with(
     ) {
         Err(SqlRefusal::NoMemory) => Err(NodeFault::NoMemory),
         Err(SqlRefusal::Sql(code)) => Ok(refused(alloc, code)),
-        Ok(values) => call_steps(alloc, call, desk, session, name, values, &mut meter),
+        Ok(kept) => call_steps(alloc, call, desk, session, name, kept, &mut meter),
     }
 }
 
@@ -109,6 +112,6 @@ pub(crate) fn run_call(
         Stmt::Do(arguments) => call_with(
             alloc, call, desk, session, name, &text, &statement, arguments,
         ),
-        _ => Err(NodeFault::NoMemory),
+        _ => unreachable!(),
     }
 }

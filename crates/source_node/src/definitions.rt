@@ -1,10 +1,12 @@
 //! CREATE, DROP and TRUNCATE.
-ghost use Rattle.std.specs.Prelude.{◌≡◌, [], false, true, IfOk, OnOk};
+ghost use Rattle.std.specs.Prelude.{◌≡◌, [], false, true, None, IfOk, OnOk};
 ghost use Rattle.sql_tree.specs.StatementView.{view};
 ghost use Rattle.catalog_rules.specs.Bases.{defined};
+ghost use Rattle.catalog_rules.specs.Creating.{ddl_refusal};
 ghost use Rattle.prog_run.specs.Runs.{Makes};
 ghost use Rattle.sql_reach.specs.Reach.{is_definition};
 ghost use Rattle.session_model.specs.Commands.{define_turn, definition_turn, made_turn};
+ghost use Rattle.session_model.specs.Running.{writing_refusal};
 ghost use Rattle.session_steps.specs.Calls.{called};
 ghost use Rattle.session_desk.specs.Desk.{shared_of};
 ghost use Rattle.session_steps.specs.Turned.{IsTurn, not_begun};
@@ -23,7 +25,7 @@ use sql_tree::Stmt;
 use std::alloc::Global;
 use val_types::SqlRefusal;
 
-/// Runs a definition where no change is open.
+/// Runs a definition that nothing refuses, where no change is open.
 fn run_definition(
     alloc: Global,
     desk: &mut Desk,
@@ -32,6 +34,7 @@ fn run_definition(
     draw: &Draw,
 ) -> Result<Outcome, NodeFault>
     requires definition { is_definition (view statement.now) ≡ true }
+    requires allowed { ddl_refusal ((shared_of desk.old).base.catalog) (view statement.now) ≡ None }
     requires none { desk.old.work.changes ≡ [] }
     ensures made { IfOk result (λ told. Makes (view statement.now) told (desk.old.work) (desk.new.work)) }
     ensures lock { desk.new.lock ≡ desk.old.lock }
@@ -42,7 +45,7 @@ fn run_definition(
     let mut meter = full();
     match run_stmt(alloc, &mut desk.work, statement, context, draw, &mut meter) {
         Err(SqlRefusal::NoMemory) => Err(NodeFault::NoMemory),
-        Err(SqlRefusal::Sql(_)) => Err(NodeFault::NoMemory),
+        Err(SqlRefusal::Sql(_)) => unreachable!(),
         Ok(told) => Ok(told),
     }
 }
@@ -58,14 +61,14 @@ fn make(
     statement: &Stmt,
 ) -> Result<Answer, NodeFault>
     requires definition { is_definition (view statement.now) ≡ true }
+    requires allowed { ddl_refusal ((shared_of desk.old).base.catalog) (view statement.now) ≡ None }
+    requires room { writing_refusal call.now.number (shared_of desk.old) ≡ None }
     ensures { IfOk result (λ answer. IsTurn desk.old desk.new session.new answer (made_turn (called call.now) text.now (view statement.now) (defined (view statement.now) ((shared_of desk.old).base)) (not_begun (shared_of desk.old) session.old))) }
 {
-    let Some(committed) = desk.committed.checked_add(1) else {
-        return Err(NodeFault::NoMemory);
-    };
     if desk.has_changes() {
         return Err(NodeFault::NoMemory);
     }
+    let committed = desk.committed + 1;
     let place = desk.log.len() as u64;
     let context = &mut session.vars.context;
     let bytes = encode_definition(alloc, text, context, call.identity.server_id, place)?;

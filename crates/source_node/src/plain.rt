@@ -9,7 +9,7 @@ ghost use Rattle.session_desk.specs.Desk.{shared_of};
 ghost use Rattle.session_steps.specs.Turned.{IsTurn};
 
 use answer_text::Answer;
-use node_answers::{NodeFault, refused, told};
+use node_answers::{NodeFault, refused, told, with_warning};
 use session_desk::{Call, Desk, Session};
 use session_steps::{full, run_with_text};
 use sql_tree::Stmt;
@@ -33,6 +33,6 @@ pub(crate) fn run_plain(
     match run_with_text(alloc, call, desk, session, text, statement, &mut meter) {
         Err(SqlRefusal::NoMemory) => Err(NodeFault::NoMemory),
         Err(SqlRefusal::Sql(code)) => Ok(refused(alloc, code)),
-        Ok(outcome) => Ok(told(alloc, &outcome)?),
+        Ok(kept) => Ok(with_warning(told(alloc, &kept.value)?, kept.warned)),
     }
 }

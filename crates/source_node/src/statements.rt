@@ -1,5 +1,5 @@
 //! The statement of a command, whatever it is.
-ghost use Rattle.std.specs.Prelude.{◌≡◌, false, IfNone, IfOk, IfSome};
+ghost use Rattle.std.specs.Prelude.{◌≡◌, false, true, IfNone, IfOk, IfSome};
 ghost use Rattle.sql_tree.specs.Statement.{call_procedure, set_all};
 ghost use Rattle.sql_tree.specs.StatementView.{view, view_assignments};
 ghost use Rattle.sql_tree.specs.View.{view_trees};
@@ -120,6 +120,7 @@ fn of_transaction(
     text: &[u8],
     statement: &Stmt,
 ) -> Result<Answer, NodeFault>
+    requires { is_of_transaction (view statement.now) ≡ true }
     ensures { IfOk result (λ answer. IsTurn desk.old desk.new session.new answer (statement_turn (called call.now) text.now (view statement.now) (shared_of desk.old) session.old)) }
 {
     match statement {
@@ -129,7 +130,7 @@ fn of_transaction(
         Stmt::Savepoint(name) => Ok(savepoint(alloc, call, desk, session, name)?),
         Stmt::RollbackTo(name) => Ok(rollback_to(alloc, call, desk, session, name)),
         Stmt::ReleaseSavepoint(name) => Ok(release_savepoint(alloc, desk, session, name)),
-        _ => Err(NodeFault::NoMemory),
+        _ => unreachable!(),
     }
 }
 

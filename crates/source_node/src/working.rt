@@ -23,7 +23,7 @@ pub(crate) fn at_work(
     match slot {
         None => Ok(Session {
             vars: SessionVars::new(alloc, call.identity, u32::from(call.number), call.draw)?,
-            format: Format::Statement,
+            format: Format::Mixed,
             transaction: None,
         }),
         Some(mut session) => {

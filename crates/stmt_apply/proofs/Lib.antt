@@ -1,5 +1,6 @@
 pub mod Bounded
 pub mod Defined
+pub mod Following
 pub mod Going
 pub mod Ran
 pub mod Staying

@@ -1,4 +1,5 @@
 pub mod Applying
 pub mod Ending
+pub mod Following
 pub mod Needing
 pub mod UnderWay

@@ -1,23 +1,32 @@
 //! A group of a log carried out.
-ghost use Rattle.std.specs.Prelude.{◌≡◌, [], OnErr};
+ghost use Rattle.std.specs.Prelude.{◌≡◌, ℕ, [], Some, OnErr};
+ghost use Rattle.catalog_rules.specs.Bases.{Base};
+ghost use Rattle.log_entries.specs.declared.entries.Entry.{Entry};
+ghost use Rattle.log_entries.specs.Entries.{entry_applied};
 ghost use Rattle.log_groups.specs.Views.{group_seen};
+ghost use Rattle.log_model.specs.Log.{LogPlace};
+ghost use Rattle.entry_groups.specs.Entries.{group_of_entry};
+ghost use Rattle.session_model.specs.Machine.{Whole, kept_entry};
+ghost use Rattle.session_model.specs.Holding.{changes_of, define};
+ghost use Rattle.applier_laws.specs.Following.{CanFollow};
 ghost use Rattle.applier_model.specs.Groups.{group_carried};
 ghost use Rattle.prog_run.specs.Contents.{base_of};
 ghost use Rattle.row_apply.specs.Ends.{Ends};
 ghost use Rattle.stmt_apply.specs.Applying.{applied_in};
+ghost use Rattle.stmt_apply.specs.Following.{Leaves};
 
 use crate::definition::apply_definition;
 use crate::transaction::apply_transaction;
+use applier_laws::entry_is_carried;
 use log_groups::{Form, Group};
 use port_traits::{Draw, Identity};
 use prog_run::Work;
 use row_apply::Stop;
 use std::alloc::Global;
 
-/// Carries out a group, or stops where it differs from what is there. The changes of a transaction then stand open, so that
-/// they can be written before they are let stand.
+/// A group, by its form.
 #[tactic(auto, unfolding(applier_model::specs::Groups::group_carried))]
-pub fn apply_group(
+fn apply_form(
     alloc: Global,
     work: &mut Work,
     group: &Group<'_>,
@@ -34,4 +43,23 @@ pub fn apply_group(
         Form::Ddl(query) => apply_definition(alloc, work, group.begin, query, identity, draw),
         Form::Txn { items, .. } => apply_transaction(alloc, work, *items, identity, draw),
     }
+}
+
+/// Carries out a group, or stops where it differs from what is there. The changes of a transaction then stand open, so that
+/// they can be written before they are let stand. The group of an entry that can follow never differs, whoever carries it out.
+pub fn apply_group(
+    alloc: Global,
+    work: &mut Work,
+    group: &Group<'_>,
+    identity: &Identity,
+    draw: &Draw,
+) -> Result<(), Stop>
+    requires { work.old.changes ≡ [] }
+    ensures ends { Ends result (applied_in work.new) (group_carried identity.now draw.entry.now (base_of work.old) work.old.counters (group_seen group.now)) }
+    ensures err { OnErr result (work.new ≡ work.old) }
+    ensures follows { (e : Entry Whole) → (number : ℕ) → (p : LogPlace) → (next : Base) → group_seen group.now ≡ group_of_entry (kept_entry e) number p
+        → CanFollow (base_of work.old) e number p → entry_applied changes_of define e (base_of work.old) ≡ Some next → Leaves result (base_of work.new) next }
+{
+    entry_is_carried();
+    apply_form(alloc, work, group, identity, draw)
 }

@@ -1,5 +1,6 @@
+use Rattle.run_laws.proofs.Carrying.{Appliers, nothing_is_owed}
 use Rattle.run_laws.proofs.Fetching.{Below}
-use Rattle.run_laws.proofs.Following.{follows_begins, follows_go_on, no_apply_stops, nothing_is_damaged}
+use Rattle.run_laws.proofs.Following.{follows_begins, follows_opened, follows_go_on, no_apply_stops, nothing_is_damaged}
 use Rattle.run_laws.proofs.laws.replica_follows.Goals as goal
 
 pub returns : goal.returns
@@ -14,9 +15,16 @@ returns c =
       is_read = c.relay_is_read.ensures;
       can_on = c.entries_can_log_on.ensures;
     } in
+    let appliers : Appliers = record {
+      hold = c.bases_hold.ensures;
+      carried = c.entry_is_carried.ensures;
+      runs = c.entries_of_runs_follow.ensures;
+    } in
     record {
       begins = follows_begins;
-      goes_on = follows_go_on below c.bases_hold.ensures c.entry_is_carried.ensures;
-      stops = no_apply_stops below c.bases_hold.ensures c.entry_is_carried.ensures;
-      damaged = nothing_is_damaged below c.bases_hold.ensures c.entry_is_carried.ensures;
+      opens = follows_opened c.bases_hold.ensures;
+      owes = nothing_is_owed c.bases_hold.ensures;
+      goes_on = follows_go_on below appliers;
+      stops = no_apply_stops below appliers;
+      damaged = nothing_is_damaged below appliers;
     }

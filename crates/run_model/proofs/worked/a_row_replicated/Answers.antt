@@ -11,6 +11,7 @@ use Rattle.catalog_rules.specs.Creating.{ddl_refusal}
 use Rattle.sql_meaning.specs.Running.{effect, evaluation, level_of}
 use Rattle.sql_reach.specs.Carrying.{carried}
 use Rattle.sql_reach.specs.Reach.{writes}
+use Rattle.sql_reach.specs.Reasons.{reasons}
 use Rattle.byte_fields.specs.Unroll.{all_from}
 use Rattle.byte_fields.specs.Field.{number_at, number_bytes}
 use Rattle.byte_fields.specs.LengthEncoded.{lenenc_at, lenenc_bytes}
@@ -30,5 +31,5 @@ use Rattle.replica_model.specs.Selecting.{select_answer}
 use Rattle.run_model.proofs.worked.a_row_replicated.Goals as goal
 
 pub returns : goal.returns
-unfolding digits kind steps nested inner created_within tokens_from text_answer all_applied statement_refusal ddl_refusal effect evaluation level_of carried writes all_from number_at number_bytes lenenc_at lenenc_bytes step_at columns_at text query_body rotate_body xid_body table_map_body rows_body format_description_body reading size event_bytes header_bytes query_bytes names_bytes table_map_bytes rows_bytes format_description_bytes layout_bytes walk group_at row_at changes_at row_bytes step group_carried want apply select_answer
+unfolding digits kind steps nested inner created_within tokens_from text_answer all_applied statement_refusal ddl_refusal effect evaluation level_of carried writes reasons all_from number_at number_bytes lenenc_at lenenc_bytes step_at columns_at text query_body rotate_body xid_body table_map_body rows_body format_description_body reading size event_bytes header_bytes query_bytes names_bytes table_map_bytes rows_bytes format_description_bytes layout_bytes walk group_at row_at changes_at row_bytes step group_carried want apply select_answer
 returns c = refl

@@ -5,7 +5,7 @@ use Rattle.script_run.proofs.commands.open_nodes.Goals as goal
 
 pub returns-clause-opened : goal.returns-clause-opened
 returns-clause-opened g c =
-    opened_nodes _ _ c.in_ok-src_name.src_draw c.in_ok-rep_name.rep_draw c.in_ok-src_name.src_name c.in_ok-rep_name.rep_name c.transactions_replay.ensures.opens c.replica_follows.ensures.begins c.moment_fits.ensures
+    opened_nodes _ _ c.in_ok-src_name.src_draw c.in_ok-rep_name.rep_draw c.in_ok-src_name.src_name c.in_ok-rep_name.rep_name c.transactions_replay.ensures.opens c.replica_follows.ensures.opens c.replica_follows.ensures.owes c.moment_fits.ensures
     c.in_ok-source.ensures.identity c.open-4.ensures.identity c.open-4.ensures.replica c.in_ok-source.ensures.stands c.in_ok-src_name.ensures.told.0 c.in_ok-rep_name.ensures.told.0
     (c.in_ok-src_name.ensures.told.1 ∙ ap (λ (ds : List Draw). ds ++ c.in_ok-src_name.src_draw ∷ []) c.requires.src_draws)
     (c.in_ok-rep_name.ensures.told.1 ∙ ap (λ (ds : List Draw). ds ++ c.in_ok-rep_name.rep_draw ∷ []) c.requires.rep_draws)

@@ -14,6 +14,7 @@ use Rattle.proc_model.specs.Closing.{closing_refusal}
 use Rattle.proc_model.specs.Procedures.{call_at, called}
 use Rattle.sql_reach.specs.Carrying.{carried}
 use Rattle.sql_reach.specs.Reach.{writes}
+use Rattle.sql_reach.specs.Reasons.{reasons}
 use Rattle.byte_fields.specs.Field.{number_bytes}
 use Rattle.byte_fields.specs.LengthEncoded.{lenenc_bytes}
 use Rattle.event_codec.specs.Writing.{query_bytes, names_bytes, table_map_bytes, rows_bytes, size}
@@ -22,17 +23,17 @@ use Rattle.session_model.specs.Machine.{step}
 use Rattle.session_model.proofs.worked.calls_committed.Goals as goal
 
 pub returns-clause-refused_third : goal.returns-clause-refused_third
-unfolding digits kind steps nested inner created_within tokens_from text_answer statement_refusal ddl_refusal effect evaluation level_of carried writes all_applied step size query_bytes names_bytes table_map_bytes rows_bytes lenenc_bytes row_bytes number_bytes closed closing_refusal call_at called
+unfolding digits kind steps nested inner created_within tokens_from text_answer statement_refusal ddl_refusal effect evaluation level_of carried reasons writes all_applied step size query_bytes names_bytes table_map_bytes rows_bytes lenenc_bytes row_bytes number_bytes closed closing_refusal call_at called
 returns-clause-refused_third c = refl
 
 pub returns-clause-two_committed : goal.returns-clause-two_committed
-unfolding digits kind steps nested inner created_within tokens_from text_answer statement_refusal ddl_refusal effect evaluation level_of carried writes all_applied step size query_bytes names_bytes table_map_bytes rows_bytes lenenc_bytes row_bytes number_bytes closed closing_refusal call_at called
+unfolding digits kind steps nested inner created_within tokens_from text_answer statement_refusal ddl_refusal effect evaluation level_of carried reasons writes all_applied step size query_bytes names_bytes table_map_bytes rows_bytes lenenc_bytes row_bytes number_bytes closed closing_refusal call_at called
 returns-clause-two_committed c = refl
 
 pub returns-clause-none_before : goal.returns-clause-none_before
-unfolding digits kind steps nested inner created_within tokens_from text_answer statement_refusal ddl_refusal effect evaluation level_of carried writes all_applied step size query_bytes names_bytes table_map_bytes rows_bytes lenenc_bytes row_bytes number_bytes closed closing_refusal call_at called
+unfolding digits kind steps nested inner created_within tokens_from text_answer statement_refusal ddl_refusal effect evaluation level_of carried reasons writes all_applied step size query_bytes names_bytes table_map_bytes rows_bytes lenenc_bytes row_bytes number_bytes closed closing_refusal call_at called
 returns-clause-none_before c = refl
 
 pub returns-clause-one_behind : goal.returns-clause-one_behind
-unfolding digits kind steps nested inner created_within tokens_from text_answer statement_refusal ddl_refusal effect evaluation level_of carried writes all_applied step size query_bytes names_bytes table_map_bytes rows_bytes lenenc_bytes row_bytes number_bytes closed closing_refusal call_at called
+unfolding digits kind steps nested inner created_within tokens_from text_answer statement_refusal ddl_refusal effect evaluation level_of carried reasons writes all_applied step size query_bytes names_bytes table_map_bytes rows_bytes lenenc_bytes row_bytes number_bytes closed closing_refusal call_at called
 returns-clause-one_behind c = refl

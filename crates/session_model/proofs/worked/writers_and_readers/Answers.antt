@@ -10,6 +10,7 @@ use Rattle.catalog_rules.specs.Creating.{ddl_refusal}
 use Rattle.sql_meaning.specs.Running.{effect, evaluation, level_of}
 use Rattle.sql_reach.specs.Carrying.{carried}
 use Rattle.sql_reach.specs.Reach.{writes}
+use Rattle.sql_reach.specs.Reasons.{reasons}
 use Rattle.byte_fields.specs.Field.{number_bytes}
 use Rattle.byte_fields.specs.LengthEncoded.{lenenc_bytes}
 use Rattle.event_codec.specs.Writing.{query_bytes, names_bytes, table_map_bytes, rows_bytes, size}
@@ -18,5 +19,5 @@ use Rattle.session_model.specs.Machine.{step}
 use Rattle.session_model.proofs.worked.writers_and_readers.Goals as goal
 
 pub returns : goal.returns
-unfolding kind steps nested inner created_within tokens_from text_answer statement_refusal ddl_refusal effect evaluation level_of carried writes all_applied step size query_bytes names_bytes table_map_bytes rows_bytes lenenc_bytes row_bytes number_bytes
+unfolding kind steps nested inner created_within tokens_from text_answer statement_refusal ddl_refusal effect evaluation level_of carried reasons writes all_applied step size query_bytes names_bytes table_map_bytes rows_bytes lenenc_bytes row_bytes number_bytes
 returns c = refl

@@ -21,7 +21,7 @@ returns-in-Err-settle c =
 pub returns-in-Ok-settle : goal.returns-in-Ok-settle
 returns-in-Ok-settle c =
     settled_so c.args.call.now.identity.now c.args.call.now.draw.now c.args.call.now.number (left_of c.args.meter.now) c.args.text.now (view_trees c.args.expressions.now) (misfit_of (is_open c.args.session.now) c.args.targets.now)
-    (view c.args.statement.now) c.args.locals.now c.in-Ok.evaluated.values c.misfit_of-misfit.result (Ok tt) (fuel_at c.evaluate_unkept.new.meter) c.args.desk.now c.evaluate_unkept.new.desk c.settle.new.desk
+    (view c.args.statement.now) c.args.locals.now c.in-Ok.evaluated.values c.misfit_of-misfit.result (Ok c.in-Ok-settle.warned) (fuel_at c.evaluate_unkept.new.meter) c.args.desk.now c.evaluate_unkept.new.desk c.settle.new.desk
     c.args.session.now c.evaluate_unkept.new.session c.settle.new.session c.in-Ok.evaluated.start.mark c.in-Ok.evaluated.start.before c.requires.is c.requires.none
     (c.misfit_of-misfit.ensures ∙ ap (λ (s : Session Item). misfit_of (is_open s) c.args.targets.now c.in-Ok.evaluated.values) c.in-Ok.ensures.session)
     c.in-Ok.ensures.gives c.in-Ok.ensures.session c.in-Ok.ensures.mark c.in-Ok.ensures.before c.in-Ok.ensures.log c.in-Ok.ensures.committed c.in-Ok-settle.ensures

@@ -15,7 +15,7 @@ returns-in-Err-keep-clause-ends c =
 pub returns-in-Ok-keep-clause-ends : goal.returns-in-Ok-keep-clause-ends
 returns-in-Ok-keep-clause-ends c =
     said_at c.args.call.now.identity.now c.args.call.now.draw.now c.args.call.now.number (left_of c.args.meter.now) c.args.text.now (view_trees c.args.expressions.now) (view c.args.statement.now) c.args.locals.now c.in-Ok.evaluated.values
-    (Ok tt) (fuel_at c.evaluate_unkept.new.meter) c.args.desk.now c.evaluate_unkept.new.desk c.keep.new.desk c.args.session.now c.evaluate_unkept.new.session c.keep.new.session c.in-Ok.evaluated.start.mark c.in-Ok.evaluated.start.before
+    (Ok c.in-Ok-keep.warned) (fuel_at c.evaluate_unkept.new.meter) c.args.desk.now c.evaluate_unkept.new.desk c.keep.new.desk c.args.session.now c.evaluate_unkept.new.session c.keep.new.session c.in-Ok.evaluated.start.mark c.in-Ok.evaluated.start.before
     c.requires.is c.requires.none c.in-Ok.ensures.gives c.in-Ok.ensures.session c.in-Ok.ensures.mark c.in-Ok.ensures.before c.in-Ok.ensures.log c.in-Ok.ensures.committed c.in-Ok-keep.ensures
 
 pub returns-in-Err-clause-ends : goal.returns-in-Err-clause-ends

@@ -1,0 +1,3 @@
+pub mod Room
+pub mod Dropping
+pub mod Making

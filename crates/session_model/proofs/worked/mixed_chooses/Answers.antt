@@ -1,0 +1,28 @@
+use Rattle.std.proofs.Common.{refl}
+use Rattle.std.specs.Fmt.{digits}
+use Rattle.sql_grammar.specs.Reader.{steps}
+use Rattle.sql_syntax.specs.Tokens.{kind}
+use Rattle.sql_syntax.specs.Expressions.{nested}
+use Rattle.sql_syntax.specs.Programs.{inner, created_within}
+use Rattle.text_answers.specs.Answers.{tokens_from, text_answer}
+use Rattle.table_rules.specs.Stored.{all_applied}
+use Rattle.catalog_rules.specs.Checks.{statement_refusal}
+use Rattle.catalog_rules.specs.Creating.{ddl_refusal}
+use Rattle.sql_meaning.specs.Running.{effect, evaluation, level_of}
+use Rattle.sql_reach.specs.Carrying.{carried}
+use Rattle.sql_reach.specs.Reach.{writes}
+use Rattle.sql_reach.specs.Reasons.{reasons}
+use Rattle.byte_fields.specs.Field.{number_bytes}
+use Rattle.byte_fields.specs.LengthEncoded.{lenenc_bytes}
+use Rattle.event_codec.specs.Writing.{query_bytes, names_bytes, table_map_bytes, rows_bytes, size}
+use Rattle.log_model.specs.Images.{row_bytes}
+use Rattle.session_model.specs.Machine.{step}
+use Rattle.session_model.proofs.worked.mixed_chooses.Goals as goal
+
+pub returns-clause-answers : goal.returns-clause-answers
+unfolding digits kind steps nested inner created_within tokens_from text_answer statement_refusal ddl_refusal effect evaluation level_of carried reasons writes all_applied step size query_bytes names_bytes table_map_bytes rows_bytes lenenc_bytes row_bytes number_bytes
+returns-clause-answers c = refl
+
+pub returns-clause-logged : goal.returns-clause-logged
+unfolding digits kind steps nested inner created_within tokens_from text_answer statement_refusal ddl_refusal effect evaluation level_of carried reasons writes all_applied step size query_bytes names_bytes table_map_bytes rows_bytes lenenc_bytes row_bytes number_bytes
+returns-clause-logged c = refl

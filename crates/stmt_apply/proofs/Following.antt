@@ -1,0 +1,41 @@
+-- A group that an entry is read as, by the law on entries that can follow.
+use Rattle.std.proofs.Common.{◌≡◌, ℕ, List, Some, Result, Ok, Err, ap, ◌∙◌}
+use Rattle.auto_inc.specs.declared.counters.Counter.{Counter}
+use Rattle.port_traits.specs.declared.identity.Identity.{Identity}
+use Rattle.port_traits.specs.declared.identity.Draw.{Draw}
+use Rattle.catalog_rules.specs.Bases.{Base}
+use Rattle.log_entries.specs.declared.entries.Entry.{Entry}
+use Rattle.log_entries.specs.Entries.{entry_applied}
+use Rattle.log_model.specs.Groups.{Group}
+use Rattle.log_model.specs.Log.{LogPlace}
+use Rattle.entry_groups.specs.Entries.{group_of_entry}
+use Rattle.session_model.specs.Machine.{Whole, kept_entry}
+use Rattle.session_model.specs.Holding.{changes_of, define}
+use Rattle.applier_laws.specs.Following.{CanFollow}
+use Rattle.applier_laws.specs.Laws.{EntryIsCarried}
+use Rattle.applier_model.specs.Groups.{Applied, group_carried}
+use Rattle.applier_model.specs.Stops.{Differs}
+use Rattle.prog_run.specs.Contents.{Contents, base_of}
+use Rattle.row_apply.specs.Ends.{Ends}
+use Rattle.row_apply.specs.declared.stop.Stop.{Stop}
+use Rattle.row_apply.specs.declared.stop.Stop.TheVariants as stop
+use Rattle.stmt_apply.specs.Applying.{applied_in}
+use Rattle.stmt_apply.specs.Following.{Leaves}
+
+-- what ends as a base and counters do leaves that base
+leaves : (r : Result (Unit {0}) Stop) (now : Contents) (next : Base) (counters : List Counter) (carried : Result Applied Differs)
+    → Ends r (applied_in now) carried → carried ≡ Ok (record { base = next; counters = counters }) → Leaves r (base_of now) next
+leaves (Ok done) now next counters carried ends is =
+    let same : applied_in now ≡ record { base = next; counters = counters } = cc in
+    ap (λ (a : Applied). a.base) same
+leaves (Err stop.NoMemory) now next counters carried ends is = tt
+leaves (Err (stop.Differs place code table key)) now next counters carried ends is = absurd cc
+
+-- so the group of an entry does, by the law
+pub follows : EntryIsCarried → (identity : Identity) (draw : Draw) (before : Base) (counters : List Counter) (group : Group) (r : Result (Unit {0}) Stop) (now : Contents)
+    → Ends r (applied_in now) (group_carried identity draw before counters group) → (e : Entry Whole) (number : ℕ) (p : LogPlace) (next : Base)
+    → group ≡ group_of_entry (kept_entry e) number p → CanFollow before e number p → entry_applied changes_of define e before ≡ Some next → Leaves r (base_of now) next
+follows law identity draw before counters group r now ends e number p next is can applied =
+    let carried = law identity draw before next counters e number p can applied in
+    leaves r now next carried.0 (group_carried identity draw before counters group) ends
+    (ap (group_carried identity draw before counters) is ∙ carried.1)

@@ -1,0 +1,5 @@
+pub mod Again
+pub mod Rebuilding
+pub mod Sizes
+pub mod Standing
+pub mod Leading
