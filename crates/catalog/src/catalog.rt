@@ -17,13 +17,13 @@ use crate::refusing::{creation_refusal, removal_refusal};
 use catalog_checks::{expression_refusal, statement_refusal};
 use catalog_objects::{Object, Objects};
 use catalog_statements::statement_at;
+use program_creation::table_creation::definition_of;
 use program_creation::{function_refusal, procedure_refusal, trigger_refusal};
 use sharing::Shared;
 use sql_locals::Locals;
 use sql_tree::{Cause, CreateTable, Expr, Routine, Stmt, Time, TriggerDef};
 use std::alloc::Global;
 use std::marker::Model;
-use table_creation::definition_of;
 use val_types::{Boxed, Bytes, NoMemory, SqlError, SqlRefusal, TableDef};
 
 /// The objects of a database, which contracts see as their list in order of creation.

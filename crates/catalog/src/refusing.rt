@@ -7,8 +7,8 @@ ghost use Rattle.catalog_rules.specs.Creating.{ddl_checks, ddl_refusal, first_re
 ghost use Rattle.catalog.specs.Answers.{is_create};
 
 use catalog_objects::Objects;
+use program_creation::table_creation::table_refusal;
 use sql_tree::{CreateTable, Stmt};
-use table_creation::table_refusal;
 use val_types::SqlError;
 
 /// What refuses a CREATE TABLE.

@@ -8,3 +8,5 @@ pub mod Nodes
 pub mod Objects
 pub mod Ranks
 pub mod Worked
+-- the crates below that this one speaks of, passed on
+pub use Rattle.table_rules.specs as table_rules

@@ -5,3 +5,5 @@ pub mod Updates
 pub mod Numbering
 pub mod Ways
 pub mod Inserts
+-- the crates below that this one speaks of, passed on
+pub use Rattle.sql_evaluation.proofs as sql_evaluation

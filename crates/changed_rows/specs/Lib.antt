@@ -1,3 +1,5 @@
 pub mod Changed
 pub mod Firing
 pub mod Inserted
+-- the crates below that this one speaks of, passed on
+pub use Rattle.sql_evaluation.specs as sql_evaluation

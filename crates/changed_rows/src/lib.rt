@@ -49,9 +49,11 @@ mod standing;
 mod table;
 mod updating;
 
+// The crates below that this one speaks of, passed on: who stands above names them through it.
 pub use columns::place_of;
 pub use deleting::delete_row;
 pub use executor::Executor;
 pub use inserting::{Inserting, Insertion, Manner, insert_row};
+pub use sql_evaluation;
 pub use table::ChangedTable;
 pub use updating::update_row;

@@ -19,4 +19,5 @@ mod lengths;
 mod statements;
 mod words;
 
+// The crates below that this one speaks of, passed on: who stands above names them through it.
 pub use statements::closed_length;

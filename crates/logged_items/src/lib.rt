@@ -36,6 +36,7 @@ mod start;
 mod tables;
 mod texts;
 
+// The crates below that this one speaks of, passed on: who stands above names them through it.
 pub use before::Before;
 pub use definition::encode_definition;
 pub use items::Items;
@@ -43,3 +44,4 @@ pub use making::item_of;
 pub use serving::served_bytes;
 pub use start::encode_start;
 pub use tables::definitions_changed;
+pub use unsafe_rules;

@@ -22,5 +22,7 @@ mod closing;
 mod expressions;
 mod statements;
 
+// The crates below that this one speaks of, passed on: who stands above names them through it.
 pub use closing::close_over;
+pub use closing_checks;
 pub use statements::close_stmt;

@@ -18,7 +18,7 @@ use Rattle.sql_locals.specs.declared.locals.Local.{Local}
 use Rattle.catalog_rules.specs.Checks.{Scope, statement_refusal}
 use Rattle.catalog_rules.specs.Names.{is_among, first_made}
 use Rattle.catalog_rules.specs.Objects.{Object, procedure_in, parameters_of, body_of}
-use Rattle.sql_meaning.specs.Within.{values_assigned}
+use Rattle.sql_reach.specs.sql_meaning.Within.{values_assigned}
 use Rattle.sql_reach.specs.Closing.{closed}
 use Rattle.answer_text.specs.declared.answer.Answer.{Answer}
 use Rattle.answer_text.specs.declared.answer.End.TheVariants as ends_with

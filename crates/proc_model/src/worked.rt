@@ -9,7 +9,7 @@ ghost use Rattle.sql_tree.specs.View.{trees_of};
 ghost use Rattle.sql_tree.specs.Worked.{declared_as};
 ghost use Rattle.sql_tree.specs.declared.statements.SqlType.{SqlType};
 ghost use Rattle.sql_tree.specs.declared.statements.Target.{Target};
-ghost use Rattle.sql_meaning.specs.Worked.{inserting, n, r, selecting};
+ghost use Rattle.sql_reach.specs.sql_meaning.Worked.{inserting, n, r, selecting};
 ghost use Rattle.proc_model.specs.Worked.{asked_of, call_with, counting, did, doing, end_of, error, gives, int_local, null_local, ok, refuses, sets_of, shows, to_come_of};
 ghost use Rattle.proc_model.specs.Worked as worked;
 

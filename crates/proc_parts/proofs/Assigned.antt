@@ -9,7 +9,7 @@ use Rattle.sql_tree.specs.StatementView.{view_assignments}
 use Rattle.sql_tree.specs.declared.statements.Assignment.{Assignment}
 use Rattle.sql_tree.specs.declared.statements.Target.{Target}
 use Rattle.catalog_rules.specs.Names.{first_made}
-use Rattle.sql_evaluation.proofs.Branching.{rest_is}
+use Rattle.prog_run.proofs.sql_evaluation.Branching.{rest_is}
 use Rattle.val_types.specs.Fitting.{fitting}
 use Rattle.sql_tree.specs.Statement.{Statement, evaluate, set_all}
 use Rattle.sql_locals.specs.Locals.{set_local}

@@ -8,7 +8,7 @@ use Rattle.sql_tree.specs.Statement.{Statement, evaluate, call_procedure}
 use Rattle.sql_tree.specs.declared.expressions.Expr.{Expr}
 use Rattle.sql_locals.specs.declared.locals.Local.{Local}
 use Rattle.catalog_rules.specs.Checks.{statement_refusal}
-use Rattle.catalog.specs.Answers.{Lets, answer_of}
+use Rattle.prog_run.specs.catalog.Answers.{Lets, answer_of}
 use Rattle.proc_model.specs.Closing.{closing_refusal}
 use Rattle.proc_model.specs.Talk.{Rules, Led}
 use Rattle.proc_model.specs.Procedures.{Held, Action, done, pure, let_through, evaluate_with, scope_of, ◌>>=◌}

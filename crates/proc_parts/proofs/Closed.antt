@@ -7,7 +7,7 @@ use Rattle.sql_tree.specs.StatementView.{view}
 use Rattle.sql_tree.specs.declared.statements.Stmt.{Stmt}
 use Rattle.sql_locals.specs.declared.locals.Local.{Local}
 use Rattle.sql_reach.specs.Closing.{closed}
-use Rattle.closing_checks.specs.Refusing.{CanClose}
+use Rattle.name_const.specs.closing_checks.Refusing.{CanClose}
 use Rattle.name_const.specs.Refusing.{Closes}
 use Rattle.proc_model.specs.Closing.{closing_refusal}
 use Rattle.proc_model.specs.Procedures.{is_plain}

@@ -6,7 +6,7 @@ use Rattle.val_types.specs.declared.refusal.SqlRefusal.{SqlRefusal}
 use Rattle.val_types.specs.declared.refusal.SqlRefusal.TheVariants as sql
 use Rattle.fault_counts.specs.Causes.{Rose}
 use Rattle.catalog_objects.specs.Keys.{objects_of}
-use Rattle.sql_evaluation.specs.Seen.{running_of}
+use Rattle.prog_run.specs.sql_evaluation.Seen.{running_of}
 use Rattle.prog_run.specs.declared.meter.Meter.{Meter}
 use Rattle.prog_run.specs.declared.meter.Outcome.{Outcome}
 use Rattle.proc_model.specs.Talk.{Left, Refusal, Effect, Told, Talk, Rules, Led}

@@ -1,2 +1,4 @@
 pub mod Calls
 pub mod Parts
+-- the crates below that this one speaks of, passed on
+pub use Rattle.prog_run.specs as prog_run

@@ -41,11 +41,14 @@ mod performing;
 mod runner;
 mod world;
 
+// The crates below that this one speaks of, passed on: who stands above names them through it.
 pub use assigning::set_step;
 pub use calling::call_step;
 pub use declaring::{declare_all, parameters};
 pub use evaluating::condition_holds;
 pub use held::Held;
+pub use name_const;
 pub use performing::plain_step;
+pub use prog_run;
 pub use runner::{RunRefusal, Runner};
 pub use world::World;

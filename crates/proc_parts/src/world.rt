@@ -1,5 +1,5 @@
 //! What is round a statement of a procedure.
-use catalog::Catalog;
+use prog_run::catalog::Catalog;
 use sql_stage::Running;
 
 /// The catalog, how many more programs may run one inside the other, and the procedures that are running.

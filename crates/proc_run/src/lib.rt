@@ -26,4 +26,6 @@ mod calls;
 mod nesting;
 mod steps;
 
+// The crates below that this one speaks of, passed on: who stands above names them through it.
 pub use calls::{CallRefusal, call};
+pub use proc_parts::prog_run;

@@ -5,8 +5,8 @@ use Rattle.sql_tree.specs.Statement.{Statement}
 use Rattle.catalog_rules.specs.Nodes.{nodes_of, nodes_of_trees, no_sight}
 use Rattle.sql_meaning.specs.Scenes.{Scene, undone}
 use Rattle.sql_meaning.specs.Running.{perform, tables_named, forced_for, effect, evaluation}
-use Rattle.sql_evaluation.specs.declared.world.Around.{Around}
-use Rattle.sql_evaluation.specs.Seen.{setting_of, world_of, frame_of, running_of, values_in}
+use Rattle.stored_programs.specs.sql_evaluation.declared.world.Around.{Around}
+use Rattle.stored_programs.specs.sql_evaluation.Seen.{setting_of, world_of, frame_of, running_of, values_in}
 
 -- ---- whole statements
 

@@ -11,10 +11,10 @@ use Rattle.sql_meaning.specs.Frames.{Setting}
 use Rattle.sql_meaning.specs.Changing.{Did}
 use Rattle.sql_meaning.specs.Running.{perform, tables_named, forced_for, effect, evaluation}
 use Rattle.sql_stage.specs.Stage.{EndsAs, EndsAsBy}
-use Rattle.sql_evaluation.specs.declared.world.Around.{Around}
-use Rattle.sql_evaluation.specs.Seen.{setting_of, running_of, world_of, frame_of, values_in}
-use Rattle.sql_statements.specs.declared.did.Did.{Did as Done}
-use Rattle.sql_statements.specs.Did.{did_of}
+use Rattle.stored_programs.specs.sql_evaluation.declared.world.Around.{Around}
+use Rattle.stored_programs.specs.sql_evaluation.Seen.{setting_of, running_of, world_of, frame_of, values_in}
+use Rattle.stored_programs.specs.sql_statements.declared.did.Did.{Did as Done}
+use Rattle.stored_programs.specs.sql_statements.Did.{did_of}
 use Rattle.prog_run.proofs.Around.{effect_around, evaluation_around}
 
 pub effect_ends : (a : Around) (setting : Setting) (nesting : ℕ) (s : Statement) (forced : Option ℤ) (r : Result Done SqlRefusal) (before after : Scene)

@@ -9,3 +9,5 @@ pub mod LastId
 pub mod Moments
 pub mod UnderWay
 pub mod Undone
+-- the crates below that this one speaks of, passed on
+pub use Rattle.stored_programs.proofs.sql_evaluation as sql_evaluation

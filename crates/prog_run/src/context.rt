@@ -3,15 +3,15 @@ ghost use Rattle.std.specs.Prelude.{◌≡◌, None, IfSome};
 ghost use Rattle.sql_tree.specs.StatementView.{view};
 ghost use Rattle.catalog_objects.specs.Keys.{objects_of};
 ghost use Rattle.sql_meaning.specs.Running.{context_after, forced_for, uses_forced};
-ghost use Rattle.sql_evaluation.specs.Seen.{setting_of};
+ghost use Rattle.stored_programs.specs.sql_evaluation.Seen.{setting_of};
 ghost use Rattle.prog_run.specs.Together.{Counts};
 
 use catalog_objects::Objects;
 use session_ctx::Ctx;
-use sql_evaluation::Around;
 use sql_locals::Locals;
 use sql_stage::Running;
 use sql_tree::Stmt;
+use stored_programs::sql_evaluation::Around;
 
 /// Whether a statement uses a forced INSERT_ID.
 fn uses_forced(statement: &Stmt) -> bool

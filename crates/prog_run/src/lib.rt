@@ -53,6 +53,8 @@ mod under_way;
 mod undoing;
 mod work;
 
+// The crates below that this one speaks of, passed on: who stands above names them through it.
+pub use catalog;
 pub use defining::is_definition;
 pub use meter::{Meter, Outcome};
 pub use running::{eval_list, run_stmt};

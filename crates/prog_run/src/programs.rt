@@ -5,16 +5,16 @@ ghost use Rattle.sql_tree.specs.View.{view_tree, view_trees};
 ghost use Rattle.sql_tree.specs.StatementView.{view};
 ghost use Rattle.sql_meaning.specs.Running.{perform};
 ghost use Rattle.sql_stage.specs.Stage.{EndsAs, EndsAsBy, LeadsOn, scene_of};
-ghost use Rattle.sql_evaluation.specs.Seen.{Calls, CallsLead, frame_of, running_of, value_in, values_in, world_of};
-ghost use Rattle.changed_rows.specs.Firing.{left_of};
-ghost use Rattle.sql_statements.specs.Did.{did_of};
+ghost use Rattle.stored_programs.specs.sql_evaluation.Seen.{Calls, CallsLead, frame_of, running_of, value_in, values_in, world_of};
+ghost use Rattle.stored_programs.specs.changed_rows.Firing.{left_of};
+ghost use Rattle.stored_programs.specs.sql_statements.Did.{did_of};
 
 use sharing::Shared;
-use sql_evaluation::{Around, Views, value, values};
 use sql_stage::{Running, Stage};
-use sql_statements::{Did, perform};
 use sql_tree::{Cause, Expr, Stmt, Time};
 use std::alloc::Global;
+use stored_programs::sql_evaluation::{Around, Views, value, values};
+use stored_programs::sql_statements::{Did, perform};
 use stored_programs::{call_function, fire_trigger};
 use val_types::{Bytes, List, Row, SqlRefusal, TableDef, Value};
 

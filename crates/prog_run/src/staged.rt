@@ -5,7 +5,7 @@ ghost use Rattle.sql_tree.specs.StatementView.{view};
 ghost use Rattle.catalog_objects.specs.Keys.{objects_of};
 ghost use Rattle.sql_meaning.specs.Running.{effect, evaluation};
 ghost use Rattle.sql_stage.specs.Stage.{EndsAs, EndsAsBy, LeadsOn, scene_of};
-ghost use Rattle.sql_statements.specs.Did.{did_of};
+ghost use Rattle.stored_programs.specs.sql_statements.Did.{did_of};
 ghost use Rattle.stage_undo.specs.Back.{IsBack};
 ghost use Rattle.prog_run.specs.Runs.{Comes, Gives};
 
@@ -17,10 +17,10 @@ use catalog_objects::Objects;
 use session_ctx::Ctx;
 use sql_locals::Locals;
 use sql_stage::Stage;
-use sql_statements::Did;
 use sql_tree::{Expr, Stmt};
 use statement_names::tables_of;
 use std::alloc::Global;
+use stored_programs::sql_statements::Did;
 use val_types::{List, SqlRefusal, Value};
 
 /// What a statement does to a stage.

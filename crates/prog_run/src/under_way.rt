@@ -3,7 +3,7 @@ ghost use Rattle.std.specs.Prelude.{◌≡◌, []};
 ghost use Rattle.sql_tree.specs.View.{view_trees};
 ghost use Rattle.catalog_rules.specs.Nodes.{no_sight, nodes_of_trees};
 ghost use Rattle.sql_meaning.specs.Running.{tables_named};
-ghost use Rattle.sql_evaluation.specs.Seen.{running_of};
+ghost use Rattle.stored_programs.specs.sql_evaluation.Seen.{running_of};
 
 use sql_stage::Running;
 use sql_tree::Expr;

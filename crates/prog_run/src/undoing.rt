@@ -5,17 +5,17 @@ ghost use Rattle.sql_tree.specs.StatementView.{view};
 ghost use Rattle.sql_meaning.specs.Scenes.{undone};
 ghost use Rattle.sql_meaning.specs.Running.{perform};
 ghost use Rattle.sql_stage.specs.Stage.{EndsAs, EndsAsBy, LeadsOn, scene_of};
-ghost use Rattle.sql_evaluation.specs.Seen.{frame_of, values_in, world_of};
-ghost use Rattle.sql_statements.specs.Did.{did_of};
+ghost use Rattle.stored_programs.specs.sql_evaluation.Seen.{frame_of, values_in, world_of};
+ghost use Rattle.stored_programs.specs.sql_statements.Did.{did_of};
 ghost use Rattle.stage_undo.specs.Back.{IsBack};
 
 use crate::programs::{evaluated, performed};
-use sql_evaluation::Around;
 use sql_stage::Stage;
-use sql_statements::Did;
 use sql_tree::{Expr, Stmt};
 use stage_undo::take_back_at_error;
 use std::alloc::Global;
+use stored_programs::sql_evaluation::Around;
+use stored_programs::sql_statements::Did;
 use val_types::{List, SqlRefusal, Value};
 
 /// Does a statement; an error takes its changes back.

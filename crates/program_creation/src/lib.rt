@@ -22,6 +22,8 @@ mod ranks;
 mod refusing;
 mod scope;
 
+// The crates below that this one speaks of, passed on: who stands above names them through it.
 pub use kinds::Kind;
 pub use refusing::{function_refusal, procedure_refusal, trigger_refusal};
 pub use scope::Names;
+pub use table_creation;

@@ -12,8 +12,8 @@ ghost use Rattle.replay_log.specs.Replaying.{ComesTo, IsNext, IsReady, IsStop, S
 use crate::line::replayed_line;
 use answer_text::Status;
 use log_reader::{Found, LogReader, calls_lead, fronts_are_known, magic_leads, read_magic};
-use node_answers::NodeFault;
 use port_traits::{Draw, Identity, Sink, Source};
+use replica_node::node_answers::NodeFault;
 use replica_node::{Applied, ReplicaNode, Stopped};
 use run_streams::write_line;
 use std::alloc::Global;

@@ -6,8 +6,8 @@ use Rattle.port_traits.specs.declared.identity.Identity.{Identity}
 use Rattle.port_traits.specs.declared.identity.Draw.{Draw}
 use Rattle.log_model.specs.Groups.{Next, not_whole, group_at}
 use Rattle.log_model.specs.Log.{moved}
-use Rattle.replica_model.specs.Applying.{Going, Stop, apply, by_next, go_on, next_at}
-use Rattle.replica_model.specs.Replica.{Replica}
+use Rattle.relay_log.specs.replica_model.Applying.{Going, Stop, apply, by_next, go_on, next_at}
+use Rattle.relay_log.specs.replica_model.Replica.{Replica}
 use Rattle.relay_log.specs.declared.place.Walk.{Walk}
 use Rattle.relay_log.specs.Reaching.{Fetched, IsAhead, place_seen}
 use Rattle.whole_groups.proofs.Lying.{nothing_there}

@@ -1,9 +1,9 @@
 -- What a replica node is, as its contracts see it.
 use Rattle.std.specs.Prelude.{ℕ}
 use Rattle.port_traits.specs.declared.identity.Identity.{Identity}
-use Rattle.prog_run.specs.Contents.{Contents, base_of}
+use Rattle.stmt_apply.specs.prog_run.Contents.{Contents, base_of}
 use Rattle.relay_log.specs.Reaching.{Fetched}
-use Rattle.replica_model.specs.Replica.{Replica}
+use Rattle.relay_log.specs.replica_model.Replica.{Replica}
 
 -- who it is, its rows, how many transactions it has carried out, and what it has fetched from its place on
 pub record Kept : Type 0 where

@@ -6,9 +6,9 @@ use Rattle.port_traits.specs.declared.identity.Draw.{Draw}
 use Rattle.applier_model.specs.Stops.{Differs}
 use Rattle.applier_model.specs.Groups.{Applied}
 use Rattle.log_model.specs.Log.{moved}
-use Rattle.prog_run.specs.Contents.{Contents}
-use Rattle.replica_model.specs.Applying.{Going, Stop, differs, damaged, foreign, go_on, going_from}
-use Rattle.replica_model.specs.Replica.{Replica}
+use Rattle.stmt_apply.specs.prog_run.Contents.{Contents}
+use Rattle.relay_log.specs.replica_model.Applying.{Going, Stop, differs, damaged, foreign, go_on, going_from}
+use Rattle.relay_log.specs.replica_model.Replica.{Replica}
 use Rattle.relay_log.specs.declared.place.Walk.{Walk}
 use Rattle.relay_log.specs.Reaching.{Fetched, IsAhead, place_seen}
 use Rattle.stmt_apply.specs.Applying.{applied_in}

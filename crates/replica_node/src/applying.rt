@@ -1,22 +1,22 @@
 //! Groups carried out, one after the other.
 ghost use Rattle.std.specs.Prelude.{◌≡◌, ◌-◌, ℕ, [], length, IfOk, OnErr};
 ghost use Rattle.log_groups.specs.Views.{group_seen};
-ghost use Rattle.prog_run.specs.Contents.{base_of};
+ghost use Rattle.stmt_apply.specs.prog_run.Contents.{base_of};
 ghost use Rattle.applier_model.specs.Groups.{group_carried};
-ghost use Rattle.replica_model.specs.Applying.{Going as Under, apply, by_next, next_at};
+ghost use Rattle.relay_log.specs.replica_model.Applying.{Going as Under, apply, by_next, next_at};
 ghost use Rattle.replica_node.specs.Kept.{replica_of};
 ghost use Rattle.replica_node.specs.Steps.{CarriesOut, GoesOn, IsFront, IsOver, IsTold, ended_by, going_at};
 
 use crate::replica::ReplicaNode;
 use crate::told::{Applied, Step, Stopped};
 use log_groups::{Form, Group, Next};
-use node_answers::NodeFault;
 use port_traits::{Draw, Identity};
-use prog_run::Work;
 use relay_log::Walk;
-use row_apply::Stop;
 use std::alloc::Global;
 use stmt_apply::apply_group;
+use stmt_apply::node_answers::NodeFault;
+use stmt_apply::prog_run::Work;
+use stmt_apply::row_apply::Stop;
 
 /// Carries a group out and lets its changes stand, or says why it stops.
 fn carry_out(
@@ -114,7 +114,7 @@ impl ReplicaNode {
     /// Carries out up to so many definitions and transactions of what was fetched. It stops at one that differs from what is
     /// there, and at bytes that no group has; that group is left as it is, and a later call tries it again. Where memory is short,
     /// what was carried out before stands.
-    #[tactic(auto, unfolding(replica_model::specs::Applying::apply))]
+    #[tactic(auto, unfolding(relay_log::specs::replica_model::Applying::apply))]
     pub fn apply(&mut self, wanted: u32, draw: &Draw) -> Result<Applied, NodeFault>
         ensures identity { self.new.identity ≡ self.old.identity }
         ensures replica { IfOk result (λ told. replica_of self.new ≡ (apply wanted self.old.identity draw.entry.now (replica_of self.old)).replica) }

@@ -32,6 +32,8 @@ mod replica;
 mod selecting;
 mod told;
 
+// The crates below that this one speaks of, passed on: who stands above names them through it.
 pub use lines::{applied_line, fetched_line};
 pub use replica::ReplicaNode;
+pub use stmt_apply::node_answers;
 pub use told::{Applied, Stopped};

@@ -1,17 +1,17 @@
 //! The replica.
 ghost use Rattle.std.specs.Prelude.{◌≡◌, ◌≤◌, ◌+◌, ◌^◌, length, IfOk, OnErr, OnOk};
-ghost use Rattle.replica_model.specs.Replica.{fetched, first_replica, want};
-ghost use Rattle.replica_model.specs.Selecting.{select_answer};
+ghost use Rattle.relay_log.specs.replica_model.Replica.{fetched, first_replica, want};
+ghost use Rattle.relay_log.specs.replica_model.Selecting.{select_answer};
 ghost use Rattle.replica_node.specs.Kept.{replica_of};
 
 use crate::selecting::answer;
 use answer_text::Answer;
-use node_answers::NodeFault;
 use port_traits::{Draw, Identity};
-use prog_run::Work;
 use relay_log::Relay;
 use std::alloc::Global;
 use std::marker::Model;
+use stmt_apply::node_answers::NodeFault;
+use stmt_apply::prog_run::Work;
 use val_types::Bytes;
 
 /// A replica in memory, which contracts see as who it is and what it keeps.
@@ -64,7 +64,7 @@ impl ReplicaNode {
     }
 
     /// The log and the position from which the next bytes are fetched.
-    #[tactic(auto, unfolding(replica_model::specs::Replica::want))]
+    #[tactic(auto, unfolding(relay_log::specs::replica_model::Replica::want))]
     pub fn want(&self) -> (u32, u32)
         ensures { record { log = result.0; pos = result.1 } ≡ want (replica_of self.now) }
     {
@@ -73,7 +73,7 @@ impl ReplicaNode {
     }
 
     /// Takes a piece of the source's log from the place that is wanted on, which ends within 4,294,967,295.
-    #[tactic(auto, unfolding(replica_model::specs::Replica::want))]
+    #[tactic(auto, unfolding(relay_log::specs::replica_model::Replica::want))]
     pub fn fetch(&mut self, piece: &Bytes) -> Result<(), NodeFault>
         requires { (want (replica_of self.old)).pos + length piece.now ≤ 4294967295 }
         ensures identity { self.new.identity ≡ self.old.identity }

@@ -26,5 +26,7 @@ mod columns;
 mod stop;
 mod table;
 
+// The crates below that this one speaks of, passed on: who stands above names them through it.
 pub use changing::carry_change;
+pub use prog_run;
 pub use stop::{Stop, stop_at};

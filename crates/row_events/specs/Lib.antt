@@ -2,3 +2,5 @@ pub mod Writing
 pub mod Tables
 pub mod Runs
 pub mod Sizes
+-- the crates below that this one speaks of, passed on
+pub use Rattle.log_model.specs as log_model

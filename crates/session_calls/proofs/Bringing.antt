@@ -19,10 +19,10 @@ use Rattle.session_model.specs.Answers.{with_warning}
 use Rattle.session_model.specs.Sessions.{Session, Shared}
 use Rattle.session_model.specs.Running.{Call, Given, Turn, statement_run, values_run}
 use Rattle.session_model.specs.Calling.{Reached, assign_step, came_to, effect_of, evaluate_step, reached_by, run_step, same, step_check, steps_of, told_of, unless_checked, with_counted}
-use Rattle.session_desk.specs.Desk.{shared_of}
+use Rattle.session_steps.specs.session_desk.Desk.{shared_of}
 use Rattle.session_calls.specs.Stepping.{AssignedStep, GaveStep, RanStep, Stood, call_by, reached, start_of, step_rules}
 use Rattle.session_steps.specs.Turned.{IsTurn, behind_turn}
-use Rattle.session_desk.specs.declared.desk.Desk.{Desk}
+use Rattle.session_steps.specs.session_desk.declared.desk.Desk.{Desk}
 use Rattle.session_calls.specs.declared.steps.CallSteps.{CallSteps}
 use Rattle.session_calls.proofs.Counting.{Counts, checked_counts, none_counted, statement_counts, stood_on, values_count}
 

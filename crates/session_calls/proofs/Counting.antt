@@ -16,7 +16,7 @@ use Rattle.log_entries.specs.declared.entries.Entry.{Entry}
 use Rattle.log_model.specs.Log.{LogPlace, behind, counted, counted_all, log, written_to}
 use Rattle.log_model.proofs.Growing.{goes_on}
 use Rattle.entry_groups.specs.Entries.{CanLogAll}
-use Rattle.logged_items.specs.Logged.{in_log}
+use Rattle.session_steps.specs.logged_items.Logged.{in_log}
 use Rattle.proc_model.specs.Talk.{Left, Refusal, Told}
 use Rattle.session_ctx.specs.declared.session.SessionVars.{SessionVars}
 use Rattle.session_model.specs.Sessions.{Open, Session, Shared}
@@ -24,12 +24,12 @@ use Rattle.session_model.specs.declared.format.Format.{Format}
 use Rattle.session_model.specs.Running.{Call, Given, Turn, ended, given_by, is_other, is_warned, item_of, keep, made_behind, scene_for, setting_of, settle, statement_run, takes_too_much, undone, values_run, with_context, with_counters}
 use Rattle.session_model.specs.Calling.{Reached, arguments_run, reached_by, unless_checked}
 use Rattle.session_steps.specs.Calls.{call_of}
-use Rattle.session_desk.specs.Desk.{shared_of}
+use Rattle.session_steps.specs.session_desk.Desk.{shared_of}
 use Rattle.session_calls.specs.Stepping.{Stood}
-use Rattle.session_desk.specs.Logging.{Logs, logged}
+use Rattle.session_steps.specs.session_desk.Logging.{Logs, logged}
 use Rattle.session_steps.specs.Turned.{IsTurn, behind_turn}
-use Rattle.session_desk.specs.declared.desk.Desk.{Desk}
-use Rattle.session_desk.proofs.Logging.{logged_is}
+use Rattle.session_steps.specs.session_desk.declared.desk.Desk.{Desk}
+use Rattle.session_steps.proofs.session_desk.Logging.{logged_is}
 
 -- ---- one step
 

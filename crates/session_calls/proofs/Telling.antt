@@ -13,27 +13,27 @@ use Rattle.sql_meaning.specs.Changing.{Did}
 use Rattle.sql_reach.specs.Closing.{closed}
 use Rattle.sql_reach.specs.Reach.{is_definition}
 use Rattle.catalog_rules.specs.Checks.{Scope}
-use Rattle.prog_run.specs.declared.meter.Meter.{Meter}
-use Rattle.prog_run.specs.declared.meter.Outcome.{Outcome}
-use Rattle.prog_run.specs.Runs.{outcome_of}
+use Rattle.proc_run.specs.prog_run.declared.meter.Meter.{Meter}
+use Rattle.proc_run.specs.prog_run.declared.meter.Outcome.{Outcome}
+use Rattle.proc_run.specs.prog_run.Runs.{outcome_of}
 use Rattle.proc_model.specs.Talk.{Effect, Left, Refusal, Told}
 use Rattle.proc_model.specs.Procedures.{is_plain, scope_of}
-use Rattle.proc_parts.specs.Calls as asks
-use Rattle.proc_parts.specs.declared.runner.RunRefusal.{RunRefusal}
-use Rattle.proc_parts.specs.declared.runner.RunRefusal.TheVariants as refuses
+use Rattle.session_steps.specs.proc_parts.Calls as asks
+use Rattle.session_steps.specs.proc_parts.declared.runner.RunRefusal.{RunRefusal}
+use Rattle.session_steps.specs.proc_parts.declared.runner.RunRefusal.TheVariants as refuses
 use Rattle.node_answers.specs.Telling.{told_answer}
 use Rattle.catalog_rules.specs.Checks.{session_scope}
 use Rattle.session_model.specs.Sessions.{Session, Shared}
 use Rattle.session_model.specs.Running.{Call, Fuel, Given, Turn, statement_run, values_run}
 use Rattle.session_model.specs.Calling.{Reached, counted_by, effect_of, evaluate_step, reached_by, run_step, same, step_check, told_of, told_refused, told_result, unless_checked, with_counted}
 use Rattle.session_model.specs.Counting.{counted}
-use Rattle.session_desk.specs.Desk.{shared_of}
+use Rattle.session_steps.specs.session_desk.Desk.{shared_of}
 use Rattle.session_steps.specs.Ran as outcomes
 use Rattle.session_steps.specs.Ran.{fuel_at, told_given}
 use Rattle.session_calls.specs.Stepping.{Stepped, reached}
 use Rattle.session_steps.specs.Turned.{EndsWith, Moves, giving}
 use Rattle.session_steps.specs.declared.keeping.Kept.{Kept}
-use Rattle.session_desk.specs.declared.desk.Desk.{Desk}
+use Rattle.session_steps.specs.session_desk.declared.desk.Desk.{Desk}
 
 -- a change, a SELECT or a DO is no definition
 pub plain_is_none : (s : Statement) → is_plain s ≡ true → is_definition s ≡ false

@@ -6,15 +6,15 @@ use Rattle.sql_tree.specs.Statement.{Statement}
 use Rattle.sql_tree.specs.Tree.{Trees}
 use Rattle.log_entries.specs.declared.entries.Item.{Item}
 use Rattle.log_model.specs.Log.{LogPlace, counted_all, written_to}
-use Rattle.logged_items.specs.Logged.{in_log}
+use Rattle.session_steps.specs.logged_items.Logged.{in_log}
 use Rattle.proc_model.specs.Talk.{Effect, Left, Rules, Told}
 use Rattle.session_model.specs.Sessions.{Session}
 use Rattle.session_model.specs.Running as running
 use Rattle.session_model.specs.Calling.{Reached, assign_step, evaluate_step, run_step}
 use Rattle.session_steps.specs.Calls.{call_of}
-use Rattle.session_desk.specs.Desk.{shared_of}
+use Rattle.session_steps.specs.session_desk.Desk.{shared_of}
 use Rattle.session_steps.specs.Turned.{IsTurn}
-use Rattle.session_desk.specs.declared.desk.Desk.{Desk}
+use Rattle.session_steps.specs.session_desk.declared.desk.Desk.{Desk}
 use Rattle.session_calls.specs.declared.steps.CallSteps.{CallSteps}
 
 -- ---- one step

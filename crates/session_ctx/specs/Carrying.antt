@@ -4,8 +4,8 @@ use Rattle.std.specs.Cmp.Lexicographic.{pointwise}
 use Rattle.std.specs.Map.{lookup}
 use Rattle.port_traits.specs.declared.identity.Identity.{Identity}
 use Rattle.port_traits.specs.declared.identity.Draw.{Draw}
-use Rattle.log_entries.specs.Variables.{variable_value}
-use Rattle.log_entries.specs.declared.carried.Carried.{Carried}
+use Rattle.sql_meaning.specs.log_entries.Variables.{variable_value}
+use Rattle.sql_meaning.specs.log_entries.declared.carried.Carried.{Carried}
 use Rattle.sql_meaning.specs.Frames.{Context}
 use Rattle.session_ctx.specs.Contexts.{AreInBounds, new_context, seeds_drawn}
 

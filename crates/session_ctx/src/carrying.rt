@@ -3,8 +3,8 @@ ghost use Rattle.std.specs.Prelude.{◌≡◌, IfOk};
 ghost use Rattle.session_ctx.specs.Carrying.{IsCarriedInBounds, context_carried};
 
 use crate::context::{Ctx, seeds_drawn};
-use log_entries::Carried;
 use port_traits::{Draw, Identity};
+use sql_meaning::log_entries::Carried;
 use std::alloc::Global;
 use val_types::{Duplicate, NoMemory};
 

@@ -2,12 +2,12 @@
 ghost use Rattle.std.specs.Prelude.{◌≡◌, ◌≤◌, nat_eq, int_le, pos, IsTrue, IfOk, OnErr, OnOk, None, option_copied};
 ghost use Rattle.std.specs.Cmp.Lexicographic.{pointwise};
 ghost use Rattle.std.specs.Map.{lookup};
-ghost use Rattle.log_entries.specs.Variables.{variable_set};
+ghost use Rattle.sql_meaning.specs.log_entries.Variables.{variable_set};
 ghost use Rattle.session_ctx.specs.Contexts.{IsInBounds, new_context, seeds_drawn};
 ghost use Rattle.session_ctx.specs.Variables.{unless_zero};
 
-use log_entries::Vars;
 use port_traits::{Draw, Identity};
+use sql_meaning::log_entries::Vars;
 use std::alloc::Global;
 use std::marker::Model;
 use val_types::{Bytes, Duplicate, NoMemory, Value};

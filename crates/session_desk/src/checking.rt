@@ -10,11 +10,11 @@ ghost use Rattle.session_desk.specs.Desk.{shared_of};
 
 use crate::desk::Desk;
 use answer_text::{Answer, End};
+use logged_items::unsafe_rules::writes;
 use sql_locals::Locals;
 use sql_tree::Stmt;
 use std::alloc::Global;
 use std::marker::Model;
-use unsafe_rules::writes;
 use val_types::{List, SqlError, SqlRefusal};
 
 /// Why a statement is refused before it runs: its error, and with 1205 the session that writes.

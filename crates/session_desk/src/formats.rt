@@ -6,9 +6,9 @@ ghost use Rattle.sql_reach.specs.Reasons.{reasons};
 ghost use Rattle.session_model.specs.Formats.{is_unsafe, logs_rows, warns};
 
 use catalog_objects::Objects;
+use logged_items::unsafe_rules::reasons;
 use session_model::Format;
 use sql_tree::Stmt;
-use unsafe_rules::reasons;
 
 /// Whether what a statement changed is logged by its rows, and whether the statement is warned.
 #[derive(Clone, Copy)]

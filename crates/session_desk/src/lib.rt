@@ -28,9 +28,11 @@ mod formats;
 mod saves;
 mod session;
 
+// The crates below that this one speaks of, passed on: who stands above names them through it.
 pub use call::Call;
 pub use checking::{Refusal, checked, lock_check, refused_as, step_check};
 pub use desk::Desk;
 pub use formats::{HowLogged, how_logged};
+pub use logged_items;
 pub use saves::Save;
 pub use session::{Open, Session};

@@ -6,17 +6,17 @@ use Rattle.answer_text.specs.declared.answer.Answer.{Answer}
 use Rattle.log_entries.specs.declared.entries.Item.{Item}
 use Rattle.sql_tree.specs.Tree.{Trees}
 use Rattle.sql_tree.specs.declared.statements.Target.{Target}
-use Rattle.prog_run.specs.declared.meter.Meter.{Meter}
-use Rattle.proc_parts.specs.Calls.{left_of}
+use Rattle.session_steps.specs.prog_run.declared.meter.Meter.{Meter}
+use Rattle.session_steps.specs.proc_parts.Calls.{left_of}
 use Rattle.session_model.specs.Answers.{ok_warned, refused}
 use Rattle.session_model.specs.Sessions.{Session}
 use Rattle.session_model.specs.Running.{Call, Fuel, Given, fitted_run, full}
 use Rattle.session_model.specs.Commands.{all_assigned}
-use Rattle.session_desk.specs.Desk.{shared_of}
+use Rattle.session_steps.specs.session_desk.Desk.{shared_of}
 use Rattle.session_steps.specs.Ran.{full_meter}
 use Rattle.session_steps.specs.Turned.{EndsWith, IsTurn}
 use Rattle.session_steps.specs.declared.keeping.Kept.{Kept}
-use Rattle.session_desk.specs.declared.desk.Desk.{Desk}
+use Rattle.session_steps.specs.session_desk.declared.desk.Desk.{Desk}
 use Rattle.session_sets.specs.Assigning.{set_from}
 use Rattle.session_sets.proofs.SetParts.{set_failed, set_values}
 

@@ -19,7 +19,7 @@ use Rattle.session_model.specs.Sessions.{Session, Shared}
 use Rattle.session_model.specs.Running.{Call, Given, Turn, fitted_run, full, lock_refusal}
 use Rattle.session_model.specs.Commands.{all_assigned, answered, code_answer, is_open, is_too_long, set_by, set_expressions, set_misfit, set_turn, unless_refused}
 use Rattle.session_sets.specs.Assigning.{misfit_of, set_from, set_parts, set_to, target_of, value_of}
-use Rattle.session_desk.specs.declared.desk.Desk.{Desk}
+use Rattle.session_steps.specs.session_desk.declared.desk.Desk.{Desk}
 use Rattle.session_steps.specs.Turned.{IsTurn, Moves}
 
 -- ---- the parts of assignments

@@ -5,7 +5,7 @@ ghost use Rattle.session_sets.specs.Assigning.{misfit_of, target_of, value_of};
 
 use crate::formats::{format_for, format_refusal, is_format};
 use session_ctx::{set_variable, variable_fits};
-use session_desk::Session;
+use session_steps::session_desk::Session;
 use sql_tree::{Assignment, Expr, Target};
 use std::alloc::Global;
 use val_types::{Bytes, Duplicate, List, NoMemory, SqlError, Value};

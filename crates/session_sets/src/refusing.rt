@@ -2,10 +2,10 @@
 ghost use Rattle.std.specs.Prelude.{◌≡◌};
 ghost use Rattle.sql_tree.specs.StatementView.{view};
 ghost use Rattle.session_model.specs.Running.{lock_refusal};
-ghost use Rattle.session_desk.specs.Desk.{shared_of};
+ghost use Rattle.session_steps.specs.session_desk.Desk.{shared_of};
 
 use answer_text::Answer;
-use session_desk::{Desk, lock_check, refused_as};
+use session_steps::session_desk::{Desk, lock_check, refused_as};
 use sql_tree::Stmt;
 use std::alloc::Global;
 use val_types::SqlError;

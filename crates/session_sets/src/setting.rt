@@ -10,7 +10,7 @@ ghost use Rattle.session_model.specs.Running.{fitted_run, full};
 ghost use Rattle.session_model.specs.Commands.{all_assigned, is_open, is_too_long, set_turn};
 ghost use Rattle.session_sets.specs.Assigning.{misfit_of, set_from, set_parts};
 ghost use Rattle.session_steps.specs.Calls.{called};
-ghost use Rattle.session_desk.specs.Desk.{shared_of};
+ghost use Rattle.session_steps.specs.session_desk.Desk.{shared_of};
 ghost use Rattle.session_steps.specs.Turned.{IsTurn};
 
 use crate::assigning::{assign_all, taken_apart};
@@ -18,8 +18,8 @@ use crate::evaluating::fitting_values;
 use crate::refusing::{LONGEST, TOO_LONG, lock_refusal};
 use answer_text::Answer;
 use node_answers::{NodeFault, ok, refused, with_warning};
-use session_desk::{Call, Desk, Session};
 use session_steps::full;
+use session_steps::session_desk::{Call, Desk, Session};
 use sql_locals::Locals;
 use sql_print::print;
 use sql_tree::{Assignment, Expr, Stmt, Target};

@@ -20,10 +20,10 @@ use Rattle.sql_meaning.specs.Frames.{Context}
 use Rattle.sql_meaning.specs.Running.{effect, evaluation}
 use Rattle.sql_meaning.specs.Leading.{EndsWell, Leads, StaysAsItWas}
 use Rattle.sql_meaning.proofs.LedBodies.{statements_end, evaluations_end}
-use Rattle.prog_run.specs.declared.meter.Meter.{Meter}
-use Rattle.prog_run.specs.declared.meter.Outcome.{Outcome}
-use Rattle.prog_run.specs.Contents.{Contents, IsTogether, as_committed, committed_tables, without_changes}
-use Rattle.prog_run.specs.Runs.{moment, scene_at, setting_at, effect_at, evaluation_at, Runs, Evaluated}
+use Rattle.proc_parts.specs.prog_run.declared.meter.Meter.{Meter}
+use Rattle.proc_parts.specs.prog_run.declared.meter.Outcome.{Outcome}
+use Rattle.proc_parts.specs.prog_run.Contents.{Contents, IsTogether, as_committed, committed_tables, without_changes}
+use Rattle.proc_parts.specs.prog_run.Runs.{moment, scene_at, setting_at, effect_at, evaluation_at, Runs, Evaluated}
 use Rattle.log_model.specs.Log.{LogPlace}
 use Rattle.proc_parts.specs.Calls.{left_of}
 use Rattle.session_model.specs.Running.{is_other, scene_for, with_counters}

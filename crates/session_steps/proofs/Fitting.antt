@@ -16,8 +16,8 @@ use Rattle.sql_meaning.specs.Frames.{Context}
 use Rattle.sql_meaning.specs.Running.{context_after}
 use Rattle.sql_meaning.specs.Leading.{EndsWell, Leads}
 use Rattle.sql_meaning.proofs.LedBodies.{evaluations_end}
-use Rattle.logged_items.specs.declared.before.Before.{Before}
-use Rattle.logged_items.specs.Items.{numbers_of}
+use Rattle.session_desk.specs.logged_items.declared.before.Before.{Before}
+use Rattle.session_desk.specs.logged_items.Items.{numbers_of}
 use Rattle.proc_model.specs.Talk.{Left}
 use Rattle.session_model.specs.Sessions.{Session, Shared}
 use Rattle.session_model.specs.Commands.{changes_of_own}

@@ -15,9 +15,9 @@ use Rattle.sql_reach.specs.Closing.{closed}
 use Rattle.sql_reach.specs.Reasons.{reasons}
 use Rattle.sql_tree.specs.Statement.{Statement, evaluate}
 use Rattle.val_types.specs.declared.value.Value.{Value}
-use Rattle.logged_items.specs.declared.before.Before.{Before}
-use Rattle.logged_items.specs.Items.{numbers_of}
-use Rattle.prog_run.specs.declared.meter.Outcome.{Outcome}
+use Rattle.session_desk.specs.logged_items.declared.before.Before.{Before}
+use Rattle.session_desk.specs.logged_items.Items.{numbers_of}
+use Rattle.proc_parts.specs.prog_run.declared.meter.Outcome.{Outcome}
 use Rattle.proc_model.specs.Talk.{Left}
 use Rattle.session_model.specs.Commands.{changes_of_own}
 use Rattle.session_model.specs.Formats.{logs_rows, warns}

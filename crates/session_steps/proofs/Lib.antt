@@ -3,3 +3,5 @@ pub mod Bases
 pub mod Settling
 pub mod Keeps
 pub mod Fitting
+-- the crates below that this one speaks of, passed on
+pub use Rattle.session_desk.proofs as session_desk

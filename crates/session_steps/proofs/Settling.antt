@@ -20,9 +20,9 @@ use Rattle.sql_meaning.specs.Changing.{Did}
 use Rattle.sql_meaning.specs.Running.{context_after}
 use Rattle.sql_meaning.specs.Leading.{EndsWell, Leads}
 use Rattle.sql_meaning.proofs.LedBodies.{statements_end, evaluations_end}
-use Rattle.prog_run.specs.declared.meter.Outcome.{Outcome}
-use Rattle.prog_run.specs.Runs.{outcome_of}
-use Rattle.logged_items.specs.Items.{numbers_of}
+use Rattle.proc_parts.specs.prog_run.declared.meter.Outcome.{Outcome}
+use Rattle.proc_parts.specs.prog_run.Runs.{outcome_of}
+use Rattle.session_desk.specs.logged_items.Items.{numbers_of}
 use Rattle.sql_reach.specs.Reasons.{reasons}
 use Rattle.session_model.specs.Formats.{logs_rows, warns}
 use Rattle.session_model.specs.Sessions.{Open, Session, Shared}

@@ -7,8 +7,8 @@ use Rattle.sql_tree.specs.Statement.{Statement}
 use Rattle.sql_reach.specs.Carrying.{carried}
 use Rattle.sql_reach.specs.Reasons.{reasons}
 use Rattle.catalog_rules.specs.Objects.{Object}
-use Rattle.logged_items.specs.declared.before.Before.{Before}
-use Rattle.logged_items.specs.Items.{as_before, statement_item}
+use Rattle.session_desk.specs.logged_items.declared.before.Before.{Before}
+use Rattle.session_desk.specs.logged_items.Items.{as_before, statement_item}
 use Rattle.session_model.specs.Formats.{logs_rows, warns}
 use Rattle.session_model.specs.Sessions.{Open, Session, Shared}
 use Rattle.session_model.specs.Running.{Call, Turn, all_committed, kept_entries, kept_open, logged_by, takes_too_much, transaction_of}

@@ -12,9 +12,9 @@ use Rattle.sql_meaning.specs.Scenes.{Scene, Ending, done, failed}
 use Rattle.sql_meaning.specs.Frames.{Context}
 use Rattle.sql_meaning.specs.Changing.{Did}
 use Rattle.sql_meaning.specs.Running.{most_nested, most_turns, effect, evaluation, context_after}
-use Rattle.prog_run.specs.declared.meter.Meter.{Meter}
-use Rattle.prog_run.specs.declared.meter.Outcome.{Outcome}
-use Rattle.prog_run.specs.Runs.{outcome_of}
+use Rattle.proc_parts.specs.prog_run.declared.meter.Meter.{Meter}
+use Rattle.proc_parts.specs.prog_run.declared.meter.Outcome.{Outcome}
+use Rattle.proc_parts.specs.prog_run.Runs.{outcome_of}
 use Rattle.proc_model.specs.Talk.{Left}
 use Rattle.session_model.specs.Sessions.{Shared}
 use Rattle.session_model.specs.Running.{Fuel, Given, fuel_of, is_other, scene_for, setting_of, with_counters}

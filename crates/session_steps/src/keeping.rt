@@ -1,6 +1,6 @@
 //! What a statement changed, kept as its item.
 ghost use Rattle.std.specs.Prelude.{◌≡◌, None, Some, pos, int_le, IsTrue, IfOk};
-ghost use Rattle.logged_items.specs.Items.{numbers_of};
+ghost use Rattle.session_desk.specs.logged_items.Items.{numbers_of};
 ghost use Rattle.sql_print.specs.StatementSpelling.{spelling};
 ghost use Rattle.sql_reach.specs.Closing.{closed};
 ghost use Rattle.sql_tree.specs.StatementView.{view};
@@ -11,9 +11,9 @@ ghost use Rattle.session_steps.specs.Keeping.{item_kept, settled, statement_kept
 ghost use Rattle.session_steps.specs.Turned.{EndsAs, IsTurn};
 
 use log_entries::Item;
-use logged_items::{Before, Items, item_of};
-use name_const::close_stmt;
+use proc_parts::name_const::close_stmt;
 use session_ctx::Ctx;
+use session_desk::logged_items::{Before, Items, item_of};
 use session_desk::{Call, Desk, Open, Session, how_logged};
 use sql_locals::Locals;
 use sql_print::print;

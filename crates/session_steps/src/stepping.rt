@@ -1,13 +1,13 @@
 //! A statement run, with what it changed kept as its item.
 ghost use Rattle.std.specs.Prelude.{◌≡◌, [], false, int_le, pos, IfOk, IsTrue};
-ghost use Rattle.logged_items.specs.Items.{numbers_of};
+ghost use Rattle.session_desk.specs.logged_items.Items.{numbers_of};
 ghost use Rattle.sql_print.specs.StatementSpelling.{spelling};
 ghost use Rattle.sql_tree.specs.Statement.{evaluate};
 ghost use Rattle.sql_tree.specs.StatementView.{view};
 ghost use Rattle.sql_tree.specs.View.{view_trees};
 ghost use Rattle.sql_reach.specs.Closing.{closed};
 ghost use Rattle.sql_reach.specs.Reach.{is_definition};
-ghost use Rattle.prog_run.specs.Runs.{Spends};
+ghost use Rattle.proc_parts.specs.prog_run.Runs.{Spends};
 ghost use Rattle.proc_parts.specs.Calls.{left_of};
 ghost use Rattle.session_model.specs.Commands.{changes_of_own};
 ghost use Rattle.session_model.specs.Running.{expressions_run, statement_run, values_run, with_context};
@@ -19,7 +19,7 @@ ghost use Rattle.session_steps.specs.Turned.{EndsWith, giving};
 
 use crate::keeping::{Kept, Start, keep, keep_closed, keep_printed, start_of};
 use crate::running::{evaluate, run};
-use prog_run::{Meter, Outcome};
+use proc_parts::prog_run::{Meter, Outcome};
 use session_desk::{Call, Desk, Session};
 use sql_locals::Locals;
 use sql_tree::{Expr, Stmt};

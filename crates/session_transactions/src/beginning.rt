@@ -2,13 +2,13 @@
 ghost use Rattle.std.specs.Prelude.{◌≡◌, IfOk, OnErr};
 ghost use Rattle.session_model.specs.Commands.{begin_turn};
 ghost use Rattle.session_steps.specs.Calls.{called};
-ghost use Rattle.session_desk.specs.Desk.{shared_of};
+ghost use Rattle.session_steps.specs.session_desk.Desk.{shared_of};
 ghost use Rattle.session_steps.specs.Turned.{IsTurn};
 
 use crate::ending::commit_open;
 use answer_text::Answer;
 use node_answers::ok;
-use session_desk::{Call, Desk, Open, Session};
+use session_steps::session_desk::{Call, Desk, Open, Session};
 use std::alloc::Global;
 use val_types::NoMemory;
 

@@ -3,14 +3,14 @@ ghost use Rattle.std.specs.Prelude.{◌≡◌, IfOk, OnErr, OnOk};
 ghost use Rattle.session_model.specs.Running.{commit_entries, commit_open, commit_shared, items_of};
 ghost use Rattle.session_model.specs.Commands.{commit_turn, rollback_turn};
 ghost use Rattle.session_steps.specs.Calls.{called};
-ghost use Rattle.session_desk.specs.Desk.{shared_of};
-ghost use Rattle.session_desk.specs.Logging.{Logs};
+ghost use Rattle.session_steps.specs.session_desk.Desk.{shared_of};
+ghost use Rattle.session_steps.specs.session_desk.Logging.{Logs};
 ghost use Rattle.session_steps.specs.Turned.{IsTurn, Moves};
 
 use answer_text::Answer;
 use node_answers::ok;
 use session_ctx::Ctx;
-use session_desk::{Call, Desk, Open, Session};
+use session_steps::session_desk::{Call, Desk, Open, Session};
 use std::alloc::Global;
 use val_types::NoMemory;
 

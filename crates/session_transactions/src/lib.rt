@@ -21,6 +21,10 @@ mod beginning;
 mod ending;
 mod savepoints;
 
+// The crates below that this one speaks of, passed on: who stands above names them through it.
 pub use beginning::begin;
 pub use ending::{commit, commit_open, rollback};
+pub use node_answers;
 pub use savepoints::{release_savepoint, rollback_to, savepoint};
+pub use session_steps;
+pub use session_steps::session_desk;

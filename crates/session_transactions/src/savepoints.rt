@@ -3,12 +3,12 @@ ghost use Rattle.std.specs.Prelude.{◌≡◌, IfOk, OnErr};
 ghost use Rattle.log_entries.specs.declared.entries.Item.{Item as LoggedItem};
 ghost use Rattle.session_model.specs.Commands.{back_turn, release_in, save_turn};
 ghost use Rattle.session_steps.specs.Calls.{called};
-ghost use Rattle.session_desk.specs.Desk.{shared_of};
+ghost use Rattle.session_steps.specs.session_desk.Desk.{shared_of};
 ghost use Rattle.session_steps.specs.Turned.{IsTurn};
 
 use answer_text::Answer;
 use node_answers::{ok, refused};
-use session_desk::{Call, Desk, Session};
+use session_steps::session_desk::{Call, Desk, Session};
 use std::alloc::Global;
 use val_types::{Bytes, NoMemory};
 

@@ -14,25 +14,25 @@ use Rattle.sql_tree.specs.View.{view_trees}
 use Rattle.sql_tree.specs.declared.expressions.Expr.{Expr}
 use Rattle.sql_meaning.specs.Changing.{Did}
 use Rattle.sql_meaning.specs.Running.{most_nested}
-use Rattle.prog_run.specs.declared.meter.Meter.{Meter}
-use Rattle.prog_run.specs.declared.meter.Outcome.{Outcome}
-use Rattle.prog_run.specs.Runs.{Spends, outcome_of}
-use Rattle.node_answers.specs.Telling.{told_answer}
+use Rattle.session_sets.specs.prog_run.declared.meter.Meter.{Meter}
+use Rattle.session_sets.specs.prog_run.declared.meter.Outcome.{Outcome}
+use Rattle.session_sets.specs.prog_run.Runs.{Spends, outcome_of}
+use Rattle.session_transactions.specs.node_answers.Telling.{told_answer}
 use Rattle.proc_model.specs.Talk.{brought}
 use Rattle.proc_model.specs.Procedures as procedures
-use Rattle.proc_parts.specs.Calls.{left_of}
+use Rattle.session_sets.specs.proc_parts.Calls.{left_of}
 use Rattle.session_model.specs.Answers.{ok, ok_warned, refused, showing, with_warning}
 use Rattle.session_model.specs.Sessions.{Session, Shared}
 use Rattle.session_model.specs.Running.{Call, Fuel, Given, Turn, did_answer, expressions_run, full, given_answer, statement_run}
 use Rattle.session_model.specs.Commands.{given_turn}
 use Rattle.session_model.specs.Calling.{Reached, arguments_run, called_by, called_with, came_to, steps_of}
-use Rattle.session_steps.specs.Calls.{call_of}
-use Rattle.session_desk.specs.Desk.{shared_of}
-use Rattle.session_steps.specs.Ran.{fuel_at, full_meter, told_given, told_of}
+use Rattle.session_transactions.specs.session_steps.Calls.{call_of}
+use Rattle.session_transactions.specs.session_desk.Desk.{shared_of}
+use Rattle.session_transactions.specs.session_steps.Ran.{fuel_at, full_meter, told_given, told_of}
 use Rattle.session_calls.specs.Stepping.{Stood}
-use Rattle.session_steps.specs.Turned.{EndsWith, IsTurn, Moves, giving}
-use Rattle.session_steps.specs.declared.keeping.Kept.{Kept}
-use Rattle.session_desk.specs.declared.desk.Desk.{Desk}
+use Rattle.session_transactions.specs.session_steps.Turned.{EndsWith, IsTurn, Moves, giving}
+use Rattle.session_transactions.specs.session_steps.declared.keeping.Kept.{Kept}
+use Rattle.session_transactions.specs.session_desk.declared.desk.Desk.{Desk}
 use Rattle.session_calls.proofs.Counting.{Counts, values_count}
 
 -- ---- a change, a SELECT or a DO

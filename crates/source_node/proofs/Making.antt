@@ -21,24 +21,24 @@ use Rattle.log_entries.specs.declared.entries.Item.{Item}
 use Rattle.log_entries.specs.declared.entries.Entry.{Entry}
 use Rattle.log_entries.specs.declared.entries.Entry.TheVariants.{Definition}
 use Rattle.log_model.specs.Log.{LogPlace, behind}
-use Rattle.logged_items.specs.Items.{item_by_text}
-use Rattle.logged_items.specs.Logged.{Encodes, in_log}
-use Rattle.prog_run.specs.declared.meter.Outcome.{Outcome}
-use Rattle.prog_run.specs.Contents.{Contents, base_of, committed_tables, without_changes}
-use Rattle.prog_run.specs.Runs.{Makes}
+use Rattle.session_calls.specs.logged_items.Items.{item_by_text}
+use Rattle.session_calls.specs.logged_items.Logged.{Encodes, in_log}
+use Rattle.session_sets.specs.prog_run.declared.meter.Outcome.{Outcome}
+use Rattle.session_sets.specs.prog_run.Contents.{Contents, base_of, committed_tables, without_changes}
+use Rattle.session_sets.specs.prog_run.Runs.{Makes}
 use Rattle.proc_model.specs.Procedures.{plain_refusal}
 use Rattle.proc_model.specs.Talk.{Refusal}
 use Rattle.session_model.specs.Answers.{ok, refused, refused_as}
 use Rattle.session_model.specs.Sessions.{Session, Shared}
 use Rattle.session_model.specs.Running.{Turn, commit_entries, commit_open, commit_shared, counted_in, held_by, is_full, is_other, items_of, transaction_of, writing_refusal}
 use Rattle.session_model.specs.Commands.{define_turn, definition_turn, made_turn, unless_answered, with_answer}
-use Rattle.session_desk.specs.declared.desk.Desk.{Desk}
-use Rattle.session_steps.specs.Calls.{call_of}
-use Rattle.session_desk.specs.Desk.{has_any, shared_by, shared_of}
-use Rattle.session_desk.specs.Logging.{Logs}
-use Rattle.session_steps.specs.Turned.{IsTurn, Moves, behind_turn, not_begun}
-use Rattle.session_desk.proofs.Logging.{definition_place, log_on, logs_from, one_logged, same_entry}
-use Rattle.session_steps.proofs.Turns.{turn_is}
+use Rattle.session_transactions.specs.session_desk.declared.desk.Desk.{Desk}
+use Rattle.session_transactions.specs.session_steps.Calls.{call_of}
+use Rattle.session_transactions.specs.session_desk.Desk.{has_any, shared_by, shared_of}
+use Rattle.session_transactions.specs.session_desk.Logging.{Logs}
+use Rattle.session_transactions.specs.session_steps.Turned.{IsTurn, Moves, behind_turn, not_begun}
+use Rattle.session_transactions.proofs.session_desk.Logging.{definition_place, log_on, logs_from, one_logged, same_entry}
+use Rattle.session_transactions.proofs.session_steps.Turns.{turn_is}
 
 pub none_if : (cs : List Change) → has_any cs ≡ false → cs ≡ []
 none_if [] e = refl

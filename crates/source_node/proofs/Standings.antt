@@ -10,14 +10,14 @@ use Rattle.log_entries.specs.declared.entries.Entry.{Entry}
 use Rattle.log_model.specs.Log.{LogPlace, counted_all, head, log}
 use Rattle.log_model.proofs.Growing.{goes_on}
 use Rattle.entry_groups.specs.Entries.{CanLogAll}
-use Rattle.logged_items.specs.Logged.{in_log}
+use Rattle.session_calls.specs.logged_items.Logged.{in_log}
 use Rattle.session_model.specs.Sessions.{Shared, State}
 use Rattle.session_model.specs.Holding.{Holds, with_nothing}
 use Rattle.session_model.specs.Machine.{Machine, Step, StepsAreKept, Whole, kept, kept_entry, kept_step, log_of, machine_after, nowhere, opened, step, whole}
-use Rattle.session_desk.specs.Desk.{shared_of}
+use Rattle.session_transactions.specs.session_desk.Desk.{shared_of}
 use Rattle.source_node.specs.Standing.{Kept, Stands, no_session, state_of}
-use Rattle.session_desk.specs.Logging.{Logs, logged}
-use Rattle.session_desk.proofs.Logging.{logged_is}
+use Rattle.session_transactions.specs.session_desk.Logging.{Logs, logged}
+use Rattle.session_transactions.proofs.session_desk.Logging.{logged_is}
 
 -- ---- a step
 

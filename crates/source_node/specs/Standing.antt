@@ -4,8 +4,8 @@ use Rattle.port_traits.specs.declared.identity.Identity.{Identity}
 use Rattle.log_entries.specs.declared.entries.Item.{Item}
 use Rattle.session_model.specs.Sessions.{Session, State}
 use Rattle.session_model.specs.Machine.{Machine, kept_state, log_of}
-use Rattle.session_desk.specs.declared.desk.Desk.{Desk}
-use Rattle.session_desk.specs.Desk.{shared_of}
+use Rattle.session_transactions.specs.session_desk.declared.desk.Desk.{Desk}
+use Rattle.session_transactions.specs.session_desk.Desk.{shared_of}
 
 -- who the node is, what its sessions share with the log, and each session by its number
 pub record Kept : Type 0 where

@@ -7,12 +7,12 @@ ghost use Rattle.catalog_rules.specs.Checks.{session_scope, statement_refusal};
 ghost use Rattle.catalog_rules.specs.Creating.{ddl_refusal};
 ghost use Rattle.sql_reach.specs.Reach.{is_definition};
 ghost use Rattle.session_model.specs.Running.{writing_refusal};
-ghost use Rattle.session_desk.specs.Desk.{shared_of};
+ghost use Rattle.session_transactions.specs.session_desk.Desk.{shared_of};
 
 use answer_text::Answer;
 use catalog::Catalog;
 use program_creation::{function_refusal, procedure_refusal, trigger_refusal};
-use session_desk::{Desk, checked, refused_as};
+use session_transactions::session_desk::{Desk, checked, refused_as};
 use sql_locals::Locals;
 use sql_tree::{CreateTable, Routine, Stmt, TriggerDef};
 use std::alloc::Global;

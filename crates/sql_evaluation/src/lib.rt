@@ -41,6 +41,7 @@ mod value_lists;
 mod views;
 mod world;
 
+// The crates below that this one speaks of, passed on: who stands above names them through it.
 pub use built_ins::{of_many, of_none, of_one, of_three, of_two};
 pub use choices::{case_value, first_known, first_of_two, if_value};
 pub use expressions::value;
@@ -53,6 +54,7 @@ pub use session_values::{
     unix_timestamp, user, user_variable, uuid,
 };
 pub use sorting::{count_of, cut};
+pub use sql_stage;
 pub use value_lists::values;
 pub use views::{Views, seeing};
 pub use world::{Around, View};

@@ -15,11 +15,11 @@ use Rattle.sql_tree.specs.declared.statements.Parameter.{Parameter}
 use Rattle.sql_tree.specs.declared.statements.Target.{Target}
 use Rattle.sql_tree.specs.declared.statements.Time.{Time}
 use Rattle.sql_tree.specs.declared.statements.Cause.{Cause}
-use Rattle.catalog_rules.specs.Names.{is_among, place_among}
-use Rattle.catalog_rules.specs.Objects.{function_in, trigger_for, parameters_of, result_of, body_of, trigger_body, columns_of}
+use Rattle.log_entries.specs.catalog_rules.Names.{is_among, place_among}
+use Rattle.log_entries.specs.catalog_rules.Objects.{function_in, trigger_for, parameters_of, result_of, body_of, trigger_body, columns_of}
 use Rattle.sql_locals.specs.Types.{column_type}
-use Rattle.catalog_rules.specs.Nodes.{Node, no_sight, nodes_of, nodes_of_tree, nodes_of_trees}
-use Rattle.catalog_rules.specs.Checks.{statement_refusal, expression_refusal}
+use Rattle.log_entries.specs.catalog_rules.Nodes.{Node, no_sight, nodes_of, nodes_of_tree, nodes_of_trees}
+use Rattle.log_entries.specs.catalog_rules.Checks.{statement_refusal, expression_refusal}
 use Rattle.sql_meaning.specs.Scenes.{Action, ◌>>=◌, pure, fail, needed, require, each, carried_on, spend_turn, Scene}
 use Rattle.sql_meaning.specs.Frames.{Setting, Running, Below, Frame, only_locals}
 use Rattle.sql_meaning.specs.Values.{value, values, holds, rows_of_query}

@@ -1,6 +1,6 @@
 -- What statements and evaluations of a session do leads on, and spends turns.
 use Rattle.sql_tree.specs.Statement.{Statement}
-use Rattle.catalog_rules.specs.Nodes.{no_sight, nodes_of, nodes_of_trees}
+use Rattle.log_entries.specs.catalog_rules.Nodes.{no_sight, nodes_of, nodes_of_trees}
 use Rattle.sql_meaning.specs.Scenes.{Scene, Ending, done, failed, Action, undone_from, undone}
 use Rattle.sql_meaning.specs.Frames.{only_locals}
 use Rattle.sql_meaning.specs.Values.{values}

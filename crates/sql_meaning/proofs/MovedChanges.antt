@@ -11,16 +11,16 @@ use Rattle.val_types.specs.declared.definitions.TableDef.{TableDef}
 use Rattle.val_types.specs.Fitting.{fitting, greatest_of, row_fits}
 use Rattle.val_types.specs.Keys.{primary_key, same_values}
 use Rattle.auto_inc.specs.Generating.{Sequence, after_generated, after_explicit}
-use Rattle.table_rules.specs.Tables.{Table}
-use Rattle.table_rules.specs.Stored.{rows_beside, key_in_way, key_tests, row_in_way}
+use Rattle.log_entries.specs.table_rules.Tables.{Table}
+use Rattle.log_entries.specs.table_rules.Stored.{rows_beside, key_in_way, key_tests, row_in_way}
 use Rattle.sql_tree.specs.Tree.{Tree, Part, Orders}
 use Rattle.sql_tree.specs.Statement.{Supply, rows, rows_of}
 use Rattle.sql_tree.specs.declared.expressions.Count.{Count}
 use Rattle.sql_tree.specs.declared.statements.Time.TheVariants as times
 use Rattle.sql_tree.specs.declared.statements.Cause.{Cause}
 use Rattle.sql_tree.specs.declared.statements.Cause.TheVariants as causes
-use Rattle.catalog_rules.specs.Names.{place_among}
-use Rattle.catalog_rules.specs.Objects.{columns_of}
+use Rattle.log_entries.specs.catalog_rules.Names.{place_among}
+use Rattle.log_entries.specs.catalog_rules.Objects.{columns_of}
 use Rattle.sql_meaning.specs.Scenes.{Scene, Action, ◌>>=◌, pure, answered, needed, require, each, kept_by, counted, carried_on, make, table_now, counter_now, raise_counter}
 use Rattle.sql_meaning.specs.Frames.{Running, Below, World, Frame, sees}
 use Rattle.sql_meaning.specs.Values.{value, values, is_kept, order_values, rows_of_query}

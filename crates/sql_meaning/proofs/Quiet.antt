@@ -2,8 +2,8 @@
 use Rattle.std.proofs.Common.{◌≡◌, ℕ, zero, suc, List, Option, None, Some, refl}
 use Rattle.val_types.specs.declared.value.Value.{Value}
 use Rattle.sql_tree.specs.Statement.{select, evaluate}
-use Rattle.catalog_rules.specs.Nodes.{nodes_of, nodes_of_trees, no_sight}
-use Rattle.catalog_rules.specs.Objects.{function_in}
+use Rattle.log_entries.specs.catalog_rules.Nodes.{nodes_of, nodes_of_trees, no_sight}
+use Rattle.log_entries.specs.catalog_rules.Objects.{function_in}
 use Rattle.sql_tree.specs.Statement.{Program}
 use Rattle.sql_meaning.specs.Scenes.{Scene, Ending, done, failed, Action, ◌>>=◌, pure, needed, undone_from, undone}
 use Rattle.sql_meaning.specs.Frames.{Setting, Running, Below, only_locals}

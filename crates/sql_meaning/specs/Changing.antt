@@ -11,18 +11,18 @@ use Rattle.val_types.specs.declared.definitions.TableDef.{TableDef}
 use Rattle.val_types.specs.Fitting.{fitting, greatest_of, is_null, row_fits}
 use Rattle.val_types.specs.Keys.{primary_key, same_values}
 use Rattle.auto_inc.specs.Generating.{Sequence, next_value, after_generated, after_explicit}
-use Rattle.table_rules.specs.Tables.{Table}
-use Rattle.table_rules.specs.Stored.{row_of_key, rows_beside, key_in_way, key_tests, row_in_way}
+use Rattle.log_entries.specs.table_rules.Tables.{Table}
+use Rattle.log_entries.specs.table_rules.Stored.{row_of_key, rows_beside, key_in_way, key_tests, row_in_way}
 use Rattle.sql_tree.specs.Tree.{Tree, Part, Orders}
 use Rattle.sql_tree.specs.Statement.{Supply, rows, rows_of}
 use Rattle.sql_tree.specs.declared.expressions.Count.{Count}
 use Rattle.sql_tree.specs.declared.statements.Time.TheVariants as times
 use Rattle.sql_tree.specs.declared.statements.Cause.{Cause}
 use Rattle.sql_tree.specs.declared.statements.Cause.TheVariants as causes
-use Rattle.catalog_rules.specs.Names.{place_among}
-use Rattle.catalog_rules.specs.Objects.{columns_of}
-use Rattle.catalog_rules.specs.Defined.{places_of}
-use Rattle.catalog_rules.specs.Checks.{given_columns}
+use Rattle.log_entries.specs.catalog_rules.Names.{place_among}
+use Rattle.log_entries.specs.catalog_rules.Objects.{columns_of}
+use Rattle.log_entries.specs.catalog_rules.Defined.{places_of}
+use Rattle.log_entries.specs.catalog_rules.Checks.{given_columns}
 use Rattle.sql_meaning.specs.Scenes.{Action, ◌>>=◌, pure, fail, answered, needed, require, each, kept_by, counted, carried_on, table_now, make, counter_now, raise_counter}
 use Rattle.sql_meaning.specs.Frames.{World, Frame, sees, limited_to}
 use Rattle.sql_meaning.specs.Values.{value, values, is_kept, order_values, rows_of_query, sorted, directions}

@@ -13,8 +13,8 @@ use Rattle.sql_tree.specs.declared.statements.Cause.{Cause}
 use Rattle.sql_locals.specs.Locals.{find_local}
 use Rattle.value_rules.specs.Functions.{text_value}
 use Rattle.value_rules.specs.Selecting.{cut}
-use Rattle.catalog_rules.specs.Names.{same_name, place_among, first_made}
-use Rattle.catalog_rules.specs.Objects.{Object, columns_of}
+use Rattle.log_entries.specs.catalog_rules.Names.{same_name, place_among, first_made}
+use Rattle.log_entries.specs.catalog_rules.Objects.{Object, columns_of}
 use Rattle.sql_meaning.specs.Scenes.{Action, pure, answered}
 
 -- ---- the session

@@ -2,12 +2,12 @@
 use Rattle.std.specs.Prelude.{◌≡◌, ℕ, List, ◌++◌, Some, None}
 use Rattle.val_types.specs.declared.value.Value.{Value}
 use Rattle.val_types.specs.declared.change.Change.{Change}
-use Rattle.table_rules.specs.Stored.{all_applied}
+use Rattle.log_entries.specs.table_rules.Stored.{all_applied}
 use Rattle.sql_tree.specs.Tree.{Trees, Query}
 use Rattle.sql_tree.specs.Statement.{Statement, select, evaluate}
 use Rattle.sql_locals.specs.declared.locals.Local.{Local}
 use Rattle.sql_meaning.specs.Scenes.{Scene, Ending, done, failed}
-use Rattle.catalog_rules.specs.Objects.{function_in}
+use Rattle.log_entries.specs.catalog_rules.Objects.{function_in}
 use Rattle.sql_meaning.specs.Frames.{Setting, Running}
 use Rattle.sql_meaning.specs.Running.{level_of, effect, evaluation}
 

@@ -8,3 +8,6 @@ pub mod Turns
 pub mod Values
 pub mod Within
 pub mod Worked
+-- the crates below that this one speaks of, passed on
+pub use Rattle.log_entries.specs.catalog_rules as catalog_rules
+pub use Rattle.log_entries.specs as log_entries

@@ -19,7 +19,7 @@ use Rattle.sql_tree.specs.Tree.{Tree, literal, name, column, new_column, old_col
 use Rattle.sql_tree.specs.Tree.{Trees, no_tree, tree, Arms, no_arm, arm, Part, no_part, part, Query, query, Selected, items, all_columns, aggregates}
 use Rattle.sql_tree.specs.Tree.{Aggregates, no_aggregate, count_all, aggregate, no_origin, from_table, Orders, no_order, order_by}
 use Rattle.sql_tree.specs.BuiltIns.{Manner, all_arguments, first_known, chosen, about}
-use Rattle.catalog_rules.specs.Names.{same_name}
+use Rattle.log_entries.specs.catalog_rules.Names.{same_name}
 use Rattle.log_entries.specs.Variables.{variable_value}
 use Rattle.sql_meaning.specs.Scenes.{Action, ◌>>=◌, pure, fail, answered, needed, each, kept_by, table_now, draw, next_uuid}
 use Rattle.sql_meaning.specs.Frames.{Context, World, Frame, sees, column_if, named_value, qualified_value, limited, capped}

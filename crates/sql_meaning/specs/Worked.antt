@@ -4,7 +4,7 @@ use Rattle.val_types.specs.declared.value.Value.{Value}
 use Rattle.val_types.specs.declared.value.Value.TheVariants.{Null, Int}
 use Rattle.val_types.specs.declared.definitions.TableDef.{TableDef}
 use Rattle.auto_inc.specs.declared.counters.Counter.{Counter}
-use Rattle.table_rules.specs.Tables.{Table}
+use Rattle.log_entries.specs.table_rules.Tables.{Table}
 use Rattle.val_types.specs.declared.ops.BinOp.TheVariants as ops
 use Rattle.sql_tree.specs.Tree.{Tree, literal, name, binary, no_origin, part, query, items}
 use Rattle.sql_tree.specs.Statement.{Statement, Program, program, rows, insert_into, select, set_all, block, while_steps, return_value}
@@ -13,9 +13,9 @@ use Rattle.sql_tree.specs.StatementView.{statements_of}
 use Rattle.sql_tree.specs.Worked.{parameter_of, column_of, declared_as}
 use Rattle.sql_tree.specs.declared.statements.Target.{Target}
 use Rattle.sql_tree.specs.declared.statements.SqlType.{SqlType}
-use Rattle.catalog_rules.specs.Objects.{Object, table}
-use Rattle.catalog_rules.specs.Defined.{definition_of}
-use Rattle.catalog_rules.specs.Worked.{create_t, create_a, counted}
+use Rattle.log_entries.specs.catalog_rules.Objects.{Object, table}
+use Rattle.log_entries.specs.catalog_rules.Defined.{definition_of}
+use Rattle.log_entries.specs.catalog_rules.Worked.{create_t, create_a, counted}
 use Rattle.sql_meaning.specs.Scenes.{Scene, Ending, done, failed}
 use Rattle.sql_meaning.specs.Frames.{Context, Setting}
 use Rattle.sql_meaning.specs.Changing.{Did}

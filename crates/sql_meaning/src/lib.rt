@@ -27,9 +27,11 @@ mod laws;
 mod worked;
 mod worked_programs;
 
+// The crates below that this one speaks of, passed on: who stands above names them through it.
 pub use laws::{
     more_fuel_does_the_same, parts_are_well, reading_changes_nothing, statements_end_well,
     turns_never_rise,
 };
+pub use log_entries;
 pub use worked::{expressions, keys_in_way, rows_changed, selected_rows, values_generated};
 pub use worked_programs::{functions_called, nesting_and_turns, triggers_fired};

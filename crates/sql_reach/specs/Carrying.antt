@@ -7,13 +7,13 @@ use Rattle.std.specs.Ordering.{nat_cmp}
 use Rattle.std.specs.Cmp.Lexicographic.{slice_cmp}
 use Rattle.val_types.specs.declared.value.Value.{Value}
 use Rattle.val_types.specs.declared.ops.Func.{Func}
-use Rattle.catalog_rules.specs.Names.{same_name}
-use Rattle.catalog_rules.specs.Objects.{Object}
-use Rattle.catalog_rules.specs.Nodes.{Node, a_built_in, a_random_number, a_system_variable, a_user_variable, nodes_of}
+use Rattle.sql_meaning.specs.catalog_rules.Names.{same_name}
+use Rattle.sql_meaning.specs.catalog_rules.Objects.{Object}
+use Rattle.sql_meaning.specs.catalog_rules.Nodes.{Node, a_built_in, a_random_number, a_system_variable, a_user_variable, nodes_of}
 use Rattle.sql_tree.specs.BuiltIns.{about}
 use Rattle.sql_tree.specs.Statement.{Statement}
-use Rattle.log_entries.specs.Variables.{variable_value}
-use Rattle.log_entries.specs.declared.carried.Carried.{Carried}
+use Rattle.sql_meaning.specs.log_entries.Variables.{variable_value}
+use Rattle.sql_meaning.specs.log_entries.declared.carried.Carried.{Carried}
 use Rattle.sql_meaning.specs.Frames.{Context}
 use Rattle.sql_reach.specs.Reach.{reached_nodes}
 

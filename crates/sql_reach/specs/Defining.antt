@@ -4,7 +4,7 @@ use Rattle.val_types.specs.declared.definitions.TableDef.{TableDef}
 use Rattle.auto_inc.specs.declared.counters.Counter.{Counter}
 use Rattle.auto_inc.specs.Counting.{changed_for, counters_beside}
 use Rattle.sql_tree.specs.Statement.{Statement, create_table, drop_table, truncate}
-use Rattle.catalog_rules.specs.Defined.{definition_of}
+use Rattle.sql_meaning.specs.catalog_rules.Defined.{definition_of}
 
 -- the counter of a table that is made with an AUTO_INCREMENT column begins at 1
 abbrev pub counters_with : TableDef → List Counter → List Counter

@@ -4,3 +4,5 @@ pub mod Defining
 pub mod Reach
 pub mod Reasons
 pub mod Worked
+-- the crates below that this one speaks of, passed on
+pub use Rattle.sql_meaning.specs as sql_meaning

@@ -6,9 +6,9 @@ use Rattle.sql_tree.specs.Statement.{Statement, create_table, create_function, c
 use Rattle.sql_tree.specs.Statement.{Trigger, trigger}
 use Rattle.sql_tree.specs.declared.statements.Cause.{Cause}
 use Rattle.sql_tree.specs.declared.statements.Cause.TheVariants as causes
-use Rattle.catalog_rules.specs.Names.{same_name}
-use Rattle.catalog_rules.specs.Objects.{Object, table, function, procedure, reaction, name_of, body_of, trigger_body, same_event}
-use Rattle.catalog_rules.specs.Nodes.{Node, a_function_call, a_statement, nodes_of}
+use Rattle.sql_meaning.specs.catalog_rules.Names.{same_name}
+use Rattle.sql_meaning.specs.catalog_rules.Objects.{Object, table, function, procedure, reaction, name_of, body_of, trigger_body, same_event}
+use Rattle.sql_meaning.specs.catalog_rules.Nodes.{Node, a_function_call, a_statement, nodes_of}
 
 -- the events that an INSERT causes, with ON DUPLICATE KEY UPDATE also updates
 abbrev pub insert_events : {A : Type 0} → List A → List Cause

@@ -6,9 +6,9 @@ use Rattle.val_types.specs.declared.definitions.TableDef.{TableDef}
 use Rattle.val_types.specs.declared.ops.Func.{Func}
 use Rattle.sql_tree.specs.BuiltIns.{about}
 use Rattle.sql_tree.specs.Statement.{Statement, insert_into, replace_into, Supply, rows, rows_of}
-use Rattle.catalog_rules.specs.Names.{same_name}
-use Rattle.catalog_rules.specs.Objects.{Object, table_in}
-use Rattle.catalog_rules.specs.Nodes.{Node, a_built_in, a_random_number, a_system_variable, a_limit, a_statement, nodes_of}
+use Rattle.sql_meaning.specs.catalog_rules.Names.{same_name}
+use Rattle.sql_meaning.specs.catalog_rules.Objects.{Object, table_in}
+use Rattle.sql_meaning.specs.catalog_rules.Nodes.{Node, a_built_in, a_random_number, a_system_variable, a_limit, a_statement, nodes_of}
 use Rattle.sql_reach.specs.Reach.{body_nodes, reached_programs, reached_nodes}
 
 -- A reason for which a statement is unsafe.

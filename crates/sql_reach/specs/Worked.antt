@@ -10,7 +10,7 @@ use Rattle.sql_locals.specs.declared.locals.Local.{Local}
 use Rattle.sql_tree.specs.declared.statements.Cause.TheVariants as causes
 use Rattle.val_types.specs.declared.definitions.ColType.{ColType}
 use Rattle.sql_tree.specs.declared.statements.Time.TheVariants as times
-use Rattle.catalog_rules.specs.Objects.{Object, table, function, reaction}
+use Rattle.sql_meaning.specs.catalog_rules.Objects.{Object, table, function, reaction}
 use Rattle.sql_meaning.specs.Worked.{t_def, l_def, giving, inserting}
 
 -- a local

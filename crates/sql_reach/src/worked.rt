@@ -9,8 +9,8 @@ ghost use Rattle.sql_tree.specs.Statement.{delete_rows, drop_table, insert_into,
 ghost use Rattle.sql_tree.specs.View.{trees_of};
 ghost use Rattle.sql_tree.specs.Worked.{row_of};
 ghost use Rattle.sql_tree.specs.declared.expressions.Count.TheVariants as counts;
-ghost use Rattle.catalog_rules.specs.Objects.{function, table};
-ghost use Rattle.catalog_rules.specs.Worked.{id, v};
+ghost use Rattle.sql_meaning.specs.catalog_rules.Objects.{function, table};
+ghost use Rattle.sql_meaning.specs.catalog_rules.Worked.{id, v};
 ghost use Rattle.sql_meaning.specs.Worked.{a_def, adding_nine, context, inserting, n, selecting, t_def};
 ghost use Rattle.sql_reach.specs.Carrying.{carried};
 ghost use Rattle.sql_reach.specs.Closing.{closed};

@@ -2,7 +2,7 @@
 use Rattle.std.specs.Prelude.{[], ◌∷◌, ◌++◌}
 use Rattle.sql_tree.specs.View.{view_tree, view_trees}
 use Rattle.sql_tree.specs.StatementView.{view}
-use Rattle.catalog_rules.specs.Nodes.{no_sight, nodes_of, nodes_of_tree, nodes_of_trees}
+use Rattle.sql_meaning.specs.catalog_rules.Nodes.{no_sight, nodes_of, nodes_of_tree, nodes_of_trees}
 use Rattle.sql_meaning.specs.Frames.{Running}
 use Rattle.sql_meaning.specs.Running.{tables_named}
 use Rattle.sql_stage.specs.declared.running.Running.{Running as Chain, fold-Running}

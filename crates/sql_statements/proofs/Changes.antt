@@ -13,8 +13,8 @@ use Rattle.sql_tree.specs.declared.statements.DeleteStmt.{DeleteStmt}
 use Rattle.sql_meaning.specs.Scenes.{Scene, Ending, Action, done, failed, then_do, pure, each, table_now}
 use Rattle.sql_meaning.specs.Changing.{Did, affected_rows}
 use Rattle.sql_stage.specs.Stage.{EndsAs, EndsAsBy}
-use Rattle.sql_evaluation.specs.declared.world.Around.{Around}
-use Rattle.sql_evaluation.specs.declared.world.View.{View as Shown}
+use Rattle.changed_rows.specs.sql_evaluation.declared.world.Around.{Around}
+use Rattle.changed_rows.specs.sql_evaluation.declared.world.View.{View as Shown}
 use Rattle.changed_rows.specs.Changed.{updated_in, deleted_in}
 use Rattle.sql_statements.specs.declared.did.Did.{Did as Done}
 use Rattle.sql_statements.specs.Did.{did_of}

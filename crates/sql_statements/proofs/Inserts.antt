@@ -17,11 +17,11 @@ use Rattle.std.proofs.lemmas.List.{drop_all}
 use Rattle.sql_meaning.specs.Scenes.{Scene, Ending, Action, done, failed, then_do, pure, carried_on, table_now, ◌>>=◌}
 use Rattle.sql_meaning.specs.Changing.{Did, Inserting, Manner, did_insert, nothing_inserted}
 use Rattle.sql_stage.specs.Stage.{EndsAs, EndsAsBy}
-use Rattle.sql_evaluation.specs.declared.world.Around.{Around}
-use Rattle.sql_evaluation.specs.declared.world.View.{View as Shown}
-use Rattle.sql_evaluation.specs.Seen.{values_in}
-use Rattle.sql_evaluation.specs.Seen.{rows_in as query_in}
-use Rattle.sql_evaluation.proofs.Branching.{rest_is}
+use Rattle.changed_rows.specs.sql_evaluation.declared.world.Around.{Around}
+use Rattle.changed_rows.specs.sql_evaluation.declared.world.View.{View as Shown}
+use Rattle.changed_rows.specs.sql_evaluation.Seen.{values_in}
+use Rattle.changed_rows.specs.sql_evaluation.Seen.{rows_in as query_in}
+use Rattle.changed_rows.proofs.sql_evaluation.Branching.{rest_is}
 use Rattle.changed_rows.specs.Changed.{inserted_in, inserting_of}
 use Rattle.changed_rows.specs.declared.inserting.Inserting.{Inserting as SoFar}
 use Rattle.sql_statements.specs.declared.did.Did.{Did as Done}

@@ -5,3 +5,6 @@ pub mod Looping
 pub mod Picked
 pub mod Shown
 pub mod Viewed
+-- the crates below that this one speaks of, passed on
+pub use Rattle.changed_rows.proofs as changed_rows
+pub use Rattle.changed_rows.proofs.sql_evaluation as sql_evaluation

@@ -10,9 +10,9 @@ use Rattle.sql_meaning.specs.Scenes.{Scene, Ending, Action, done, failed, then_d
 use Rattle.sql_meaning.specs.Frames.{sees, limited_to}
 use Rattle.sql_meaning.specs.Values.{is_kept, sorted, directions}
 use Rattle.sql_stage.specs.Stage.{EndsAs}
-use Rattle.sql_evaluation.specs.declared.world.View.{View as Shown}
-use Rattle.sql_evaluation.specs.declared.world.Around.{Around}
-use Rattle.sql_evaluation.specs.Seen.{where_in, keyed_in, ordered_in, world_of, frame_of}
+use Rattle.changed_rows.specs.sql_evaluation.declared.world.View.{View as Shown}
+use Rattle.changed_rows.specs.sql_evaluation.declared.world.Around.{Around}
+use Rattle.changed_rows.specs.sql_evaluation.Seen.{where_in, keyed_in, ordered_in, world_of, frame_of}
 use Rattle.sql_statements.specs.Changed.{chosen_in}
 
 kept_all : (rows : List (List Value)) (scene : Scene) → kept_by (λ row. pure true) rows scene ≡ done rows scene

@@ -14,10 +14,10 @@ use Rattle.sql_meaning.specs.Scenes.{Scene, done, failed}
 use Rattle.sql_meaning.specs.Changing.{Did, Manner, replacing, updating, affected_rows}
 use Rattle.sql_meaning.specs.Running.{manner_of, perform, rows_shown}
 use Rattle.sql_stage.specs.Stage.{EndsAsBy}
-use Rattle.sql_evaluation.specs.declared.world.Around.{Around}
-use Rattle.sql_evaluation.specs.declared.world.View.{View as Seen}
-use Rattle.sql_evaluation.specs.Seen.{values_in, frame_of, world_of}
-use Rattle.sql_evaluation.specs.Seen.{rows_in as query_in}
+use Rattle.changed_rows.specs.sql_evaluation.declared.world.Around.{Around}
+use Rattle.changed_rows.specs.sql_evaluation.declared.world.View.{View as Seen}
+use Rattle.changed_rows.specs.sql_evaluation.Seen.{values_in, frame_of, world_of}
+use Rattle.changed_rows.specs.sql_evaluation.Seen.{rows_in as query_in}
 use Rattle.sql_statements.specs.declared.did.Did.{Did as Done}
 use Rattle.sql_statements.specs.Did.{did_of}
 use Rattle.sql_statements.specs.Changed.{insert_in, update_in, delete_in, select_in, do_in}

@@ -18,10 +18,10 @@ use Rattle.sql_meaning.specs.Running.{rows_shown}
 use Rattle.sql_meaning.specs.Changing.{Did, affected_rows, Inserting, Manner, chosen_rows, update_table, delete_from_table, insert_supply, insert_into_table}
 use Rattle.sql_stage.specs.declared.stage.Stage.{Stage}
 use Rattle.sql_stage.specs.Stage.{scene_of}
-use Rattle.sql_evaluation.specs.declared.world.View.{View as Shown}
-use Rattle.sql_evaluation.specs.declared.world.Around.{Around}
-use Rattle.sql_evaluation.specs.Seen.{frame_of, values_in, world_of}
-use Rattle.sql_evaluation.specs.Seen.{rows_in as query_in}
+use Rattle.changed_rows.specs.sql_evaluation.declared.world.View.{View as Shown}
+use Rattle.changed_rows.specs.sql_evaluation.declared.world.Around.{Around}
+use Rattle.changed_rows.specs.sql_evaluation.Seen.{frame_of, values_in, world_of}
+use Rattle.changed_rows.specs.sql_evaluation.Seen.{rows_in as query_in}
 use Rattle.changed_rows.specs.Changed.{StandsAt, deleted_in, inserted_in, updated_in}
 use Rattle.sql_statements.specs.declared.target.Target.{Target}
 

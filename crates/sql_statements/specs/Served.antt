@@ -11,7 +11,7 @@ use Rattle.sql_meaning.specs.Frames.{Below}
 use Rattle.sql_stage.specs.declared.stage.Stage.{Stage}
 use Rattle.sql_stage.specs.declared.running.Running.{Running as UnderWay}
 use Rattle.sql_stage.specs.Stage.{EndsAs, EndsAsBy, scene_of}
-use Rattle.sql_evaluation.specs.Seen.{running_of}
+use Rattle.changed_rows.specs.sql_evaluation.Seen.{running_of}
 use Rattle.changed_rows.specs.Firing.{left_of}
 
 -- what a call by a closure gives

@@ -3,11 +3,11 @@ ghost use Rattle.std.specs.Prelude.{◌≡◌};
 ghost use Rattle.sql_tree.specs.View.{view_orders, view_part};
 ghost use Rattle.sql_meaning.specs.Frames.{limited_to};
 ghost use Rattle.sql_stage.specs.Stage.{EndsAs, LeadsOn, scene_of};
-ghost use Rattle.sql_evaluation.specs.Seen.{Evaluates, LeadsAlways, where_in};
+ghost use Rattle.changed_rows.specs.sql_evaluation.Seen.{Evaluates, LeadsAlways, where_in};
 ghost use Rattle.sql_statements.specs.Changed.{chosen_in};
 
+use changed_rows::sql_evaluation::{Around, Views, count_of, cut, kept_rows, ordered_rows};
 use sharing::Shared;
-use sql_evaluation::{Around, Views, count_of, cut, kept_rows, ordered_rows};
 use sql_locals::Locals;
 use sql_stage::Stage;
 use sql_tree::{Count, Expr, OrderItem};

@@ -1,7 +1,7 @@
 //! DELETE.
 ghost use Rattle.std.specs.Prelude.{◌≡◌};
 ghost use Rattle.sql_stage.specs.Stage.{EndsAs, EndsAsBy, LeadsOn, scene_of};
-ghost use Rattle.sql_evaluation.specs.Seen.{Evaluates, LeadsAlways, world_of};
+ghost use Rattle.changed_rows.specs.sql_evaluation.Seen.{Evaluates, LeadsAlways, world_of};
 ghost use Rattle.changed_rows.specs.Changed.{StandsAt};
 ghost use Rattle.sql_statements.specs.Changed.{delete_in, deletes_in};
 ghost use Rattle.sql_statements.specs.Did.{did_of};
@@ -9,9 +9,9 @@ ghost use Rattle.sql_statements.specs.Did.{did_of};
 use crate::choosing::chosen_rows;
 use crate::did::{Did, affecting};
 use crate::target::{find_target, rows_there};
+use changed_rows::sql_evaluation::{Around, Views};
 use changed_rows::{ChangedTable, Executor, delete_row};
 use sharing::Shared;
-use sql_evaluation::{Around, Views};
 use sql_stage::Stage;
 use sql_tree::{DeleteStmt, Expr};
 use std::alloc::Global;

@@ -1,11 +1,11 @@
 //! Who evaluates and fires triggers for a statement.
-ghost use Rattle.sql_evaluation.specs.Seen.{CallsLead};
+ghost use Rattle.changed_rows.specs.sql_evaluation.Seen.{CallsLead};
 ghost use Rattle.changed_rows.specs.Firing.{FiresLead};
 ghost use Rattle.sql_statements.specs.Served.{CallsBelow, FiresBelow};
 
 use changed_rows::Executor;
+use changed_rows::sql_evaluation::{Around, Views, value};
 use sharing::Shared;
-use sql_evaluation::{Around, Views, value};
 use sql_stage::{Running, Stage};
 use sql_tree::{Cause, Expr, Time};
 use std::alloc::Global;

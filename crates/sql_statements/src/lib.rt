@@ -39,5 +39,8 @@ mod performing;
 mod target;
 mod updating;
 
+// The crates below that this one speaks of, passed on: who stands above names them through it.
+pub use changed_rows;
+pub use changed_rows::sql_evaluation;
 pub use did::Did;
 pub use performing::perform;

@@ -15,9 +15,9 @@ use Rattle.sql_reach.specs.Reach.{is_definition}
 use Rattle.text_answers.specs.Answers.{TextAnswer, text_answer}
 use Rattle.applier_model.specs.Groups.{Applied, define_allowed, define_if}
 use Rattle.applier_model.specs.Texts.{statement_by, statement_in, most_text}
-use Rattle.prog_run.specs.Contents.{Contents, base_of}
-use Rattle.prog_run.specs.Runs.{Defines, Makes}
-use Rattle.prog_run.specs.declared.meter.Outcome.{Outcome}
+use Rattle.row_apply.specs.prog_run.Contents.{Contents, base_of}
+use Rattle.row_apply.specs.prog_run.Runs.{Defines, Makes}
+use Rattle.row_apply.specs.prog_run.declared.meter.Outcome.{Outcome}
 use Rattle.stmt_apply.specs.Applying.{applied_in}
 use Rattle.stmt_apply.specs.Ending.{EndsBy, IsRefusal}
 

@@ -18,11 +18,11 @@ use Rattle.catalog_objects.specs.Keys.{objects_of}
 use Rattle.sql_meaning.specs.Frames.{Context}
 use Rattle.sql_meaning.specs.Leading.{EndsWell, Leads}
 use Rattle.sql_meaning.proofs.LedBodies.{statements_end}
-use Rattle.prog_run.specs.declared.meter.Meter.{Meter}
-use Rattle.prog_run.specs.declared.meter.Outcome.{Outcome}
-use Rattle.prog_run.specs.Contents.{Contents, IsTogether, committed_tables, counted_names, without_changes}
-use Rattle.prog_run.specs.Carrying.{given_up}
-use Rattle.prog_run.specs.Runs.{LeavesAll, Runs, moment, scene_at, setting_at}
+use Rattle.row_apply.specs.prog_run.declared.meter.Meter.{Meter}
+use Rattle.row_apply.specs.prog_run.declared.meter.Outcome.{Outcome}
+use Rattle.row_apply.specs.prog_run.Contents.{Contents, IsTogether, committed_tables, counted_names, without_changes}
+use Rattle.row_apply.specs.prog_run.Carrying.{given_up}
+use Rattle.row_apply.specs.prog_run.Runs.{LeavesAll, Runs, moment, scene_at, setting_at}
 use Rattle.row_apply.specs.Ends.{Stays}
 
 -- ---- a statement was run

@@ -5,8 +5,8 @@ use Rattle.port_traits.specs.declared.identity.Draw.{Draw}
 use Rattle.sql_meaning.specs.Running.{most_nested, most_turns}
 use Rattle.applier_model.specs.Texts.{Applier}
 use Rattle.applier_model.specs.Groups.{Applied, applier_of}
-use Rattle.prog_run.specs.declared.meter.Meter.{Meter}
-use Rattle.prog_run.specs.Contents.{Contents, base_of}
+use Rattle.row_apply.specs.prog_run.declared.meter.Meter.{Meter}
+use Rattle.row_apply.specs.prog_run.Contents.{Contents, base_of}
 
 -- who applies: a replica with a draw, and the catalog that is there
 abbrev pub applier_in : Identity → Draw → Contents → Applier

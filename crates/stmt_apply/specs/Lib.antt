@@ -3,3 +3,6 @@ pub mod Ending
 pub mod Following
 pub mod Needing
 pub mod UnderWay
+-- the crates below that this one speaks of, passed on
+pub use Rattle.row_apply.specs.prog_run as prog_run
+pub use Rattle.row_apply.specs as row_apply

@@ -7,7 +7,7 @@ use Rattle.transaction_sizes.specs.Sizes.{changes_size}
 use Rattle.applier_model.specs.Stops.{Differs}
 use Rattle.applier_model.specs.Texts.{Applier, carried_of, carry_text, stops_at}
 use Rattle.applier_model.specs.Groups.{Going, Applied, and_then, applied_by, going_from, items_carried, store_of, text_ended}
-use Rattle.prog_run.specs.Contents.{Contents, base_of}
+use Rattle.row_apply.specs.prog_run.Contents.{Contents, base_of}
 use Rattle.row_apply.specs.Ends.{progress_in}
 use Rattle.row_apply.specs.declared.stop.Stop.{Stop}
 use Rattle.row_apply.specs.declared.stop.Stop.TheVariants as stop

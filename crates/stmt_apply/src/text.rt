@@ -16,7 +16,7 @@ use crate::needs::Needs;
 use crate::reading::statement_in;
 use event_codec::QueryView;
 use port_traits::{Draw, Identity};
-use prog_run::{Meter, Work, run_stmt};
+use row_apply::prog_run::{Meter, Work, run_stmt};
 use session_ctx::Ctx;
 use sql_locals::Locals;
 use sql_tree::Stmt;

@@ -16,7 +16,7 @@ use crate::under_way::{UnderWay, find_map};
 use event_codec::{Event, MapView, QueryView, RowsView};
 use log_groups::{Items, Part};
 use port_traits::{Draw, Identity};
-use prog_run::Work;
+use row_apply::prog_run::Work;
 use row_apply::{Stop, carry_change, stop_at};
 use row_image::rows_of;
 use std::alloc::Global;

@@ -21,11 +21,11 @@ use Rattle.sql_meaning.specs.Frames.{View}
 use Rattle.sql_meaning.specs.Changing.{fitted}
 use Rattle.sql_meaning.specs.Running.{Body, Ended, fitted_result, function_body, local_for, row_left, seen_as, step}
 use Rattle.sql_stage.specs.Stage.{EndsAs}
-use Rattle.sql_evaluation.specs.declared.world.Around.{Around}
-use Rattle.sql_evaluation.specs.declared.world.View.{View as Shown}
-use Rattle.sql_evaluation.specs.Seen.{Anywhere, world_of}
-use Rattle.sql_evaluation.proofs.Branching.{rest_is}
-use Rattle.changed_rows.specs.Firing.{left_of}
+use Rattle.sql_statements.specs.sql_evaluation.declared.world.Around.{Around}
+use Rattle.sql_statements.specs.sql_evaluation.declared.world.View.{View as Shown}
+use Rattle.sql_statements.specs.sql_evaluation.Seen.{Anywhere, world_of}
+use Rattle.sql_statements.proofs.sql_evaluation.Branching.{rest_is}
+use Rattle.sql_statements.specs.changed_rows.Firing.{left_of}
 use Rattle.stored_programs.specs.Bodies.{ended_at, view_in}
 use Rattle.stored_programs.specs.Steps.{locals_for, row_of_view, step_in, triggered_in}
 use Rattle.stored_programs.proofs.Acting.{Same, ends_so}

@@ -7,3 +7,5 @@ pub mod Performed
 pub mod Stepping
 pub mod Calling
 pub mod Nesting
+-- the crates below that this one speaks of, passed on
+pub use Rattle.sql_statements.proofs.sql_evaluation as sql_evaluation

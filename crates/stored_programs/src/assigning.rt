@@ -5,16 +5,16 @@ ghost use Rattle.sql_tree.specs.StatementView.{view, view_assignments};
 ghost use Rattle.sql_meaning.specs.Changing.{put_at};
 ghost use Rattle.sql_meaning.specs.Running.{assign_local, assign_new, assign_one};
 ghost use Rattle.sql_stage.specs.Stage.{EndsAs, EndsAsBy, LeadsOn, scene_of};
-ghost use Rattle.sql_evaluation.specs.Seen.{Anywhere, Calls, CallsLead};
+ghost use Rattle.sql_statements.specs.sql_evaluation.Seen.{Anywhere, Calls, CallsLead};
 ghost use Rattle.stored_programs.specs.Bodies.{AnywhereBy, body_of, body_then, ended_at, put_in_column, world_with};
 ghost use Rattle.stored_programs.specs.Steps.{all_assigned, assigned_values, step_in, values_to_set};
 
 use crate::body::{Body, fit, take_first};
 use crate::evaluating::{check_statement_here, value_here, with_statement};
-use changed_rows::place_of;
 use sharing::Shared;
-use sql_evaluation::{Around, View};
 use sql_stage::{Running, Stage};
+use sql_statements::changed_rows::place_of;
+use sql_statements::sql_evaluation::{Around, View};
 use sql_tree::{Assignment, Stmt, Target};
 use std::alloc::Global;
 use val_types::{Bytes, Duplicate, List, Row, SqlError, SqlRefusal, TableDef, Value, type_fits};
@@ -53,7 +53,7 @@ fn put(mut row: Row, place: usize, value: Value) -> Row
 }
 
 /// A copy of a row with a value put at a place: 1054 where there is no column, or why the value does not fit.
-#[tactic(auto, using(changed_rows::proofs::Fitted::columns))]
+#[tactic(auto, using(sql_statements::proofs::changed_rows::Fitted::columns))]
 fn with_value(
     alloc: Global,
     definition: &TableDef,

@@ -7,14 +7,14 @@ ghost use Rattle.catalog_rules.specs.Nodes.{no_sight, nodes_of, nodes_of_tree};
 ghost use Rattle.sql_meaning.specs.Running.{body_checked, checked, frame_of, scope_of, tables_named};
 ghost use Rattle.sql_meaning.specs.Values.{value};
 ghost use Rattle.sql_stage.specs.Stage.{EndsAs, LeadsOn, scene_of};
-ghost use Rattle.sql_evaluation.specs.Seen.{Anywhere, Calls, CallsLead, running_of, setting_of, world_of};
+ghost use Rattle.sql_statements.specs.sql_evaluation.Seen.{Anywhere, Calls, CallsLead, running_of, setting_of, world_of};
 ghost use Rattle.stored_programs.specs.Bodies.{body_of, world_with};
 ghost use Rattle.stored_programs.specs.Steps.{holds_in_body, preset_in_body, value_in_body};
 
 use crate::body::{Body, row_in};
 use expr_ops::holds;
-use sql_evaluation::{Around, Views, value};
 use sql_stage::{Running, Stage};
+use sql_statements::sql_evaluation::{Around, Views, value};
 use sql_tree::{Expr, Stmt};
 use std::alloc::Global;
 use step_checks::{check_expression, check_statement};
@@ -54,7 +54,7 @@ fn check_here<'a>(around: &Around<'a>, body: &'a Body, e: &Expr) -> Result<(), S
 }
 
 /// The checks of a statement where a body stands.
-#[tactic(auto, unfolding(sql_evaluation::specs::Seen::world_of))]
+#[tactic(auto, unfolding(sql_statements::specs::sql_evaluation::Seen::world_of))]
 pub(crate) fn check_statement_here<'a>(
     around: &Around<'a>,
     body: &'a Body,
@@ -73,7 +73,7 @@ pub(crate) fn check_statement_here<'a>(
 }
 
 /// The value of an expression where a body stands, without checks.
-#[tactic(auto, unfolding(sql_evaluation::specs::Seen::world_of, sql_evaluation::specs::Seen::frame_of))]
+#[tactic(auto, unfolding(sql_statements::specs::sql_evaluation::Seen::world_of, sql_statements::specs::sql_evaluation::Seen::frame_of))]
 pub(crate) fn value_here<
     'a,
     F: Fn(&mut Stage, &Running<'_>, &Bytes, List<Value>) -> Result<Value, SqlRefusal>,

@@ -8,7 +8,7 @@ use Rattle.val_types.specs.declared.change.Change.TheVariants.{Insert, Update, D
 use Rattle.val_types.specs.declared.value.Value.{Value}
 use Rattle.val_types.specs.declared.value.Value.TheVariants.{Null, Int, Text}
 use Rattle.log_entries.specs.declared.entries.Item.{Item}
-use Rattle.log_model.specs.Items.{item_size}
+use Rattle.row_events.specs.log_model.Items.{item_size}
 
 -- ---- changes
 

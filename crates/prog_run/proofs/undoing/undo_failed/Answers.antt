@@ -1,8 +1,8 @@
 use Rattle.std.proofs.Common.{[]}
 use Rattle.sql_tree.specs.StatementView.{view}
 use Rattle.sql_meaning.specs.Running.{perform}
-use Rattle.sql_evaluation.specs.Seen.{frame_of, world_of}
-use Rattle.sql_statements.specs.Did.{did_of}
+use Rattle.stored_programs.specs.sql_evaluation.Seen.{frame_of, world_of}
+use Rattle.stored_programs.specs.sql_statements.Did.{did_of}
 use Rattle.prog_run.proofs.Undone.{undone_ends}
 use Rattle.prog_run.proofs.undoing.undo_failed.Goals as goal
 

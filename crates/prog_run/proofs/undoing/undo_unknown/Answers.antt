@@ -1,6 +1,6 @@
 use Rattle.std.proofs.Common.{[]}
 use Rattle.sql_tree.specs.View.{view_trees}
-use Rattle.sql_evaluation.specs.Seen.{values_in}
+use Rattle.stored_programs.specs.sql_evaluation.Seen.{values_in}
 use Rattle.prog_run.proofs.Undone.{undone_gives}
 use Rattle.prog_run.proofs.undoing.undo_unknown.Goals as goal
 

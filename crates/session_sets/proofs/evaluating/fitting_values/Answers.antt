@@ -1,6 +1,6 @@
 use Rattle.std.proofs.Common.{Ok, Err, ap, ◌∙◌}
 use Rattle.log_entries.specs.declared.entries.Item.{Item}
-use Rattle.proc_parts.specs.Calls.{left_of}
+use Rattle.session_steps.specs.proc_parts.Calls.{left_of}
 use Rattle.sql_tree.specs.StatementView.{view}
 use Rattle.sql_tree.specs.View.{view_trees}
 use Rattle.session_model.specs.Commands.{is_open}

@@ -4,7 +4,7 @@ use Rattle.sql_tree.specs.View.{view_trees}
 use Rattle.session_model.specs.Commands.{set_turn}
 use Rattle.session_sets.specs.Assigning.{set_parts}
 use Rattle.session_steps.specs.Calls.{called}
-use Rattle.session_desk.specs.Desk.{shared_of}
+use Rattle.session_steps.specs.session_desk.Desk.{shared_of}
 use Rattle.session_sets.proofs.SetParts.{set_taken_apart}
 use Rattle.session_steps.proofs.Turns.{turn_if}
 use Rattle.session_sets.proofs.setting.set.Goals as goal

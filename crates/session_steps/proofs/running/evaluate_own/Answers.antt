@@ -1,5 +1,5 @@
 use Rattle.std.proofs.Common.{length}
-use Rattle.logged_items.specs.Logged.{in_log}
+use Rattle.session_desk.specs.logged_items.Logged.{in_log}
 use Rattle.sql_tree.specs.View.{view_trees}
 use Rattle.session_steps.proofs.Bases.{gives_own}
 use Rattle.session_steps.proofs.running.evaluate_own.Goals as goal

@@ -1,5 +1,5 @@
 use Rattle.std.proofs.Common.{length}
-use Rattle.logged_items.specs.Logged.{in_log}
+use Rattle.session_desk.specs.logged_items.Logged.{in_log}
 use Rattle.sql_tree.specs.StatementView.{view}
 use Rattle.session_steps.proofs.Bases.{comes_beside_at}
 use Rattle.session_steps.proofs.running.run_beside.Goals as goal

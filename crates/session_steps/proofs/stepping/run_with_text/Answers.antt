@@ -1,6 +1,6 @@
 use Rattle.std.proofs.Common.{Ok, Err, subst}
 use Rattle.log_entries.specs.declared.entries.Item.{Item}
-use Rattle.prog_run.specs.declared.meter.Outcome.{Outcome}
+use Rattle.proc_parts.specs.prog_run.declared.meter.Outcome.{Outcome}
 use Rattle.proc_parts.specs.Calls.{left_of}
 use Rattle.sql_tree.specs.StatementView.{view}
 use Rattle.session_model.specs.Sessions.{Session}

@@ -1,8 +1,8 @@
 use Rattle.std.proofs.Common.{refl}
 use Rattle.sql_meaning.specs.Running.{effect}
 use Rattle.sql_meaning.specs.Running.{level_of}
-use Rattle.catalog_rules.specs.Checks.{statement_refusal}
-use Rattle.catalog_rules.specs.Checks.{expression_refusal}
+use Rattle.log_entries.specs.catalog_rules.Checks.{statement_refusal}
+use Rattle.log_entries.specs.catalog_rules.Checks.{expression_refusal}
 use Rattle.sql_meaning.proofs.worked_programs.nesting_and_turns.Goals as goal
 
 pub returns-clause-one_level : goal.returns-clause-one_level
