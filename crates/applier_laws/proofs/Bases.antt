@@ -8,15 +8,15 @@ use Rattle.table_rules.specs.Stored.{all_applied}
 use Rattle.table_rules.specs.Stores.{definitions_of, names_differ}
 use Rattle.table_rules.proofs.Storing.{some_same, turn_back}
 use Rattle.sql_tree.specs.Statement.{Statement, create_table, create_function, create_procedure, create_trigger, drop_table, drop_function, drop_procedure, drop_trigger, truncate}
-use Rattle.catalog_rules.specs.Objects.{Object, function, procedure, reaction}
-use Rattle.catalog_rules.specs.Defined.{definition_of}
-use Rattle.catalog_rules.specs.Creating.{ddl_refusal, catalog_after}
-use Rattle.catalog_rules.specs.Bases.{Base, tables_after, defined, definitions_in}
-use Rattle.log_entries.specs.declared.entries.Entry.{Entry}
-use Rattle.log_entries.specs.declared.entries.Entry.TheVariants.{Transaction, Definition, LogStart}
-use Rattle.log_entries.specs.Entries.{with_tables, entry_applied}
-use Rattle.session_model.specs.Machine.{Whole}
-use Rattle.session_model.specs.Holding.{changes_of, define, changes_in}
+use Rattle.statement_names.specs.catalog_rules.Objects.{Object, function, procedure, reaction}
+use Rattle.statement_names.specs.catalog_rules.Defined.{definition_of}
+use Rattle.statement_names.specs.catalog_rules.Creating.{ddl_refusal, catalog_after}
+use Rattle.statement_names.specs.catalog_rules.Bases.{Base, tables_after, defined, definitions_in}
+use Rattle.entry_groups.specs.log_entries.declared.entries.Entry.{Entry}
+use Rattle.entry_groups.specs.log_entries.declared.entries.Entry.TheVariants.{Transaction, Definition, LogStart}
+use Rattle.entry_groups.specs.log_entries.Entries.{with_tables, entry_applied}
+use Rattle.session_replays.specs.session_model.Machine.{Whole}
+use Rattle.session_replays.specs.session_model.Holding.{changes_of, define, changes_in}
 use Rattle.applier_laws.specs.Following.{BaseHolds}
 use Rattle.applier_laws.specs.Laws.{BasesHold}
 use Rattle.applier_laws.proofs.Catalogs.{named, beside, created_free, names_more, definitions_more, definitions_behind, kept_more, tables_beside_are, objects_beside_are, names_fewer, kept_fewer, cleared_are, kept_cleared, functions_out, procedures_out, triggers_out, program_made}

@@ -12,15 +12,15 @@ use Rattle.std.proofs.lemmas.Cmp.{nat_list_cmp_total, same_from_slice_cmp}
 use Rattle.val_types.specs.declared.value.Value.{Value}
 use Rattle.event_codec.specs.declared.event.IntVarKind.TheVariants.{LastInsertId, InsertId}
 use Rattle.sql_tree.specs.Statement.{Statement}
-use Rattle.catalog_rules.specs.Objects.{Object}
-use Rattle.catalog_rules.specs.Nodes.{nodes_of}
-use Rattle.log_entries.specs.Variables.{variable_set, variable_value}
-use Rattle.log_entries.specs.declared.carried.Carried.{Carried}
-use Rattle.log_model.specs.Items.{step_of, query_of}
+use Rattle.statement_names.specs.catalog_rules.Objects.{Object}
+use Rattle.statement_names.specs.catalog_rules.Nodes.{nodes_of}
+use Rattle.entry_groups.specs.log_entries.Variables.{variable_set, variable_value}
+use Rattle.entry_groups.specs.log_entries.declared.carried.Carried.{Carried}
+use Rattle.entry_groups.specs.log_model.Items.{step_of, query_of}
 use Rattle.entry_groups.specs.Ids.{IsId, HasIds}
-use Rattle.sql_meaning.specs.Frames.{Context}
-use Rattle.sql_reach.specs.Reach.{reached_nodes}
-use Rattle.sql_reach.specs.Carrying.{draws, user_variable_at, in_byte_order, if_asked, carried}
+use Rattle.statement_names.specs.sql_meaning.Frames.{Context}
+use Rattle.statement_names.specs.sql_reach.Reach.{reached_nodes}
+use Rattle.statement_names.specs.sql_reach.Carrying.{draws, user_variable_at, in_byte_order, if_asked, carried}
 use Rattle.statement_names.specs.Rising.{by_bytes, Above, Rises}
 use Rattle.statement_names.proofs.Placed.{rises_put}
 use Rattle.applier_model.specs.Texts.{Needs, no_needs, increment_of, offset_of, carried_of}

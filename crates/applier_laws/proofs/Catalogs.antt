@@ -16,10 +16,10 @@ use Rattle.table_rules.proofs.Places.{name_is, name_self}
 use Rattle.table_rules.proofs.Taking.{is_kept}
 use Rattle.sql_tree.specs.Statement.{Program, Trigger, create_table}
 use Rattle.sql_tree.specs.declared.statements.CreateTable.{CreateTable}
-use Rattle.catalog_rules.specs.Names.{same_name}
-use Rattle.catalog_rules.specs.Objects.{Object, table, function, procedure, reaction, table_in, name_of, trigger_name, trigger_table}
-use Rattle.catalog_rules.specs.Creating.{ddl_refusal, goes_with_table, is_function_named, is_procedure_named, is_trigger_named, objects_but}
-use Rattle.catalog_rules.specs.Bases.{definitions_in, definition_if, table_without_rows}
+use Rattle.statement_names.specs.catalog_rules.Names.{same_name}
+use Rattle.statement_names.specs.catalog_rules.Objects.{Object, table, function, procedure, reaction, table_in, name_of, trigger_name, trigger_table}
+use Rattle.statement_names.specs.catalog_rules.Creating.{ddl_refusal, goes_with_table, is_function_named, is_procedure_named, is_trigger_named, objects_but}
+use Rattle.statement_names.specs.catalog_rules.Bases.{definitions_in, definition_if, table_without_rows}
 
 -- ---- names
 

@@ -25,9 +25,9 @@ use Rattle.table_rules.proofs.Taking.{Kept, as_kept, taken_out, tables_reversibl
 use Rattle.event_codec.specs.declared.event.RowsKind.{RowsKind}
 use Rattle.event_codec.specs.declared.event.RowsKind.TheVariants.{Write, Update, Delete}
 use Rattle.event_codec.specs.Event.{Map, Rows}
-use Rattle.log_model.specs.Images.{Read, row_at, change_at, changes_at, changes_of, map_types}
-use Rattle.log_model.specs.Images as images
-use Rattle.log_model.specs.Items.{types_in, kind_of}
+use Rattle.entry_groups.specs.log_model.Images.{Read, row_at, change_at, changes_at, changes_of, map_types}
+use Rattle.entry_groups.specs.log_model.Images as images
+use Rattle.entry_groups.specs.log_model.Items.{types_in, kind_of}
 use Rattle.applier_model.specs.Stops.{Differs}
 use Rattle.applier_model.specs.Rows.{Store, is_same_type, are_same_types, types_of, takes_row, images_of, matches, taken_if, replacing, removing, storing_refusal, table_refusal, change_refusal, with_change, change_if, carry_change}
 use Rattle.applier_model.specs.Texts.{Progress}

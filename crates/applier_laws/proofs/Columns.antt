@@ -15,11 +15,11 @@ use Rattle.table_rules.specs.Tables.{Table}
 use Rattle.table_rules.specs.Stored.{has_name, table_named}
 use Rattle.table_rules.specs.Stores.{definitions_of}
 use Rattle.table_rules.proofs.Places.{name_is, name_self}
-use Rattle.catalog_rules.specs.Names.{is_among}
+use Rattle.statement_names.specs.catalog_rules.Names.{is_among}
 use Rattle.event_codec.specs.Event.{Map}
-use Rattle.log_model.specs.Groups.{find}
-use Rattle.log_model.specs.Images.{types_of, map_types}
-use Rattle.log_model.specs.Items.{distinct, tables_of, columns_in, types_in, kind_of, type_code, type_metadata, map_of, maps_from, same_name, AreTypes, CanCarry, CanCarryAll}
+use Rattle.entry_groups.specs.log_model.Groups.{find}
+use Rattle.entry_groups.specs.log_model.Images.{types_of, map_types}
+use Rattle.entry_groups.specs.log_model.Items.{distinct, tables_of, columns_in, types_in, kind_of, type_code, type_metadata, map_of, maps_from, same_name, AreTypes, CanCarry, CanCarryAll}
 use Rattle.applier_laws.proofs.Catalogs.{name_turned}
 
 -- ---- by a table

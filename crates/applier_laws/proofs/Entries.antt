@@ -11,25 +11,25 @@ use Rattle.table_rules.specs.Stored.{all_applied}
 use Rattle.table_rules.proofs.Equations.{applied_none}
 use Rattle.table_rules.proofs.Storing.{some_same}
 use Rattle.sql_tree.specs.Statement.{Statement}
-use Rattle.catalog_rules.specs.Creating.{ddl_refusal, catalog_after}
-use Rattle.catalog_rules.specs.Bases.{Base, tables_after, defined}
+use Rattle.statement_names.specs.catalog_rules.Creating.{ddl_refusal, catalog_after}
+use Rattle.statement_names.specs.catalog_rules.Bases.{Base, tables_after, defined}
 use Rattle.event_codec.specs.Event.{query}
 use Rattle.event_codec.specs.Writing.{size}
-use Rattle.log_entries.specs.declared.entries.Item.{Item}
-use Rattle.log_entries.specs.declared.entries.Entry.TheVariants.{Transaction, Definition, LogStart}
-use Rattle.log_entries.specs.Entries.{with_tables}
-use Rattle.log_model.specs.Items.{item_events, AreCarried}
-use Rattle.log_model.specs.Log.{begin_query}
-use Rattle.log_model.specs.Written.{placed}
+use Rattle.entry_groups.specs.log_entries.declared.entries.Item.{Item}
+use Rattle.entry_groups.specs.log_entries.declared.entries.Entry.TheVariants.{Transaction, Definition, LogStart}
+use Rattle.entry_groups.specs.log_entries.Entries.{with_tables}
+use Rattle.entry_groups.specs.log_model.Items.{item_events, AreCarried}
+use Rattle.entry_groups.specs.log_model.Log.{begin_query}
+use Rattle.entry_groups.specs.log_model.Written.{placed}
 use Rattle.entry_groups.specs.Ids.{AllSayIds}
-use Rattle.transaction_sizes.specs.Sizes.{all_sizes, all_changes_size, most_bytes}
-use Rattle.sql_meaning.specs.Leading.{StatementsEndWell}
-use Rattle.sql_reach.specs.Defining.{counters_after}
-use Rattle.sql_reach.specs.Reach.{is_definition}
-use Rattle.session_ctx.specs.Carrying.{CarriedStandsIn}
-use Rattle.independence_laws.specs.Laws.{StatementsAreFollowed}
-use Rattle.session_model.specs.Machine.{Whole, kept_of}
-use Rattle.session_model.specs.Holding.{changes_in, define, AreOne, IsDefined}
+use Rattle.applier_model.specs.transaction_sizes.Sizes.{all_sizes, all_changes_size, most_bytes}
+use Rattle.statement_names.specs.sql_meaning.Leading.{StatementsEndWell}
+use Rattle.statement_names.specs.sql_reach.Defining.{counters_after}
+use Rattle.statement_names.specs.sql_reach.Reach.{is_definition}
+use Rattle.applier_model.specs.session_ctx.Carrying.{CarriedStandsIn}
+use Rattle.session_replays.specs.independence_laws.Laws.{StatementsAreFollowed}
+use Rattle.session_replays.specs.session_model.Machine.{Whole, kept_of}
+use Rattle.session_replays.specs.session_model.Holding.{changes_in, define, AreOne, IsDefined}
 use Rattle.applier_model.specs.Stops.{Differs}
 use Rattle.applier_model.specs.Texts.{Progress, statement_in, stops_at}
 use Rattle.applier_model.specs.Groups.{Going, Applied, and_then, going_from, items_carried, applied_by, define_if, define_allowed, applier_of, store_of, group_carried}

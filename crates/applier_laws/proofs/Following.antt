@@ -1,11 +1,11 @@
 -- The entries of a run can be carried out as their source did.
 use Rattle.std.proofs.Common.{◌≡◌, true, false, List, [], ◌∷◌, ◌++◌, inl, inr, true≢false, sym, ◌∙◌}
 use Rattle.val_types.specs.declared.change.Change.{Change}
-use Rattle.catalog_rules.specs.Bases.{Base}
-use Rattle.independence_laws.specs.Followed.{is_followed}
-use Rattle.log_entries.specs.declared.entries.Entry.TheVariants.{Transaction, Definition, LogStart}
-use Rattle.session_model.specs.Machine.{Whole}
-use Rattle.session_model.specs.Holding.{changes_of}
+use Rattle.statement_names.specs.catalog_rules.Bases.{Base}
+use Rattle.session_replays.specs.independence_laws.Followed.{is_followed}
+use Rattle.entry_groups.specs.log_entries.declared.entries.Entry.TheVariants.{Transaction, Definition, LogStart}
+use Rattle.session_replays.specs.session_model.Machine.{Whole}
+use Rattle.session_replays.specs.session_model.Holding.{changes_of}
 use Rattle.session_replays.specs.Again.{Gives, AllGive}
 use Rattle.session_replays.specs.Followed.{IsFollowed, AllFollow}
 use Rattle.session_replays.specs.Texts.{SaysItself, AllSay}

@@ -8,14 +8,14 @@ use Rattle.table_rules.specs.Stored.{all_applied}
 use Rattle.table_rules.proofs.Equations.{all_applied_behind}
 use Rattle.event_codec.specs.Event.{Body, table_map, rows, Map, Rows}
 use Rattle.event_codec.specs.Writing.{size}
-use Rattle.log_entries.specs.declared.entries.Item.{Item}
-use Rattle.log_model.specs.Groups.{find}
-use Rattle.log_model.specs.Images.{changes_of}
-use Rattle.log_model.specs.Items.{tables_of, maps_from, pieces_of, all_rows, changes_item, spelled, text_of, at_time, item_size, IsCarried, changes_by, CanCarryAll}
-use Rattle.log_model.specs.Spelling.{rows_item, maps_before, bodies_of, FitsOne, EndWell, IsItem}
-use Rattle.log_model.specs.Written.{Stamped, placed, total}
-use Rattle.log_model.proofs.Carrying.{carried, item_spelled}
-use Rattle.transaction_sizes.specs.Sizes.{changes_size, most_bytes}
+use Rattle.entry_groups.specs.log_entries.declared.entries.Item.{Item}
+use Rattle.entry_groups.specs.log_model.Groups.{find}
+use Rattle.entry_groups.specs.log_model.Images.{changes_of}
+use Rattle.entry_groups.specs.log_model.Items.{tables_of, maps_from, pieces_of, all_rows, changes_item, spelled, text_of, at_time, item_size, IsCarried, changes_by, CanCarryAll}
+use Rattle.entry_groups.specs.log_model.Spelling.{rows_item, maps_before, bodies_of, FitsOne, EndWell, IsItem}
+use Rattle.entry_groups.specs.log_model.Written.{Stamped, placed, total}
+use Rattle.entry_groups.proofs.log_model.Carrying.{carried, item_spelled}
+use Rattle.applier_model.specs.transaction_sizes.Sizes.{changes_size, most_bytes}
 use Rattle.applier_model.specs.Texts.{Progress, Applier}
 use Rattle.applier_model.specs.Groups.{and_then, rows_ended, first_place, carry_rows, items_carried}
 use Rattle.applier_laws.proofs.Columns.{changed_among, MapsFit, maps_fit}

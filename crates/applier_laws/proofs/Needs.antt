@@ -4,11 +4,11 @@ use Rattle.val_types.specs.declared.value.Value.{Value}
 use Rattle.event_codec.specs.declared.event.IntVarKind.TheVariants.{LastInsertId, InsertId}
 use Rattle.event_codec.specs.Event.{Body, int_var, rand, user_var}
 use Rattle.event_codec.specs.Writing.{size}
-use Rattle.log_entries.specs.Variables.{variable_set}
-use Rattle.log_model.specs.Events.{Placed}
-use Rattle.log_model.specs.Items.{at_time}
-use Rattle.log_model.specs.Spelling.{some_of, vars_before}
-use Rattle.log_model.specs.Written.{Stamped, placed, total}
+use Rattle.entry_groups.specs.log_entries.Variables.{variable_set}
+use Rattle.entry_groups.specs.log_model.Events.{Placed}
+use Rattle.entry_groups.specs.log_model.Items.{at_time}
+use Rattle.entry_groups.specs.log_model.Spelling.{some_of, vars_before}
+use Rattle.entry_groups.specs.log_model.Written.{Stamped, placed, total}
 use Rattle.applier_model.specs.Texts.{Progress, Applier, Needs, no_needs}
 use Rattle.applier_model.specs.Groups.{Going, and_then, with_number, with_needs, event_carried, items_carried}
 use Rattle.applier_laws.proofs.Carrying.{with_some, with_seeds, with_vars, needs_by}

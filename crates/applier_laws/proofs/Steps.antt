@@ -7,10 +7,10 @@ use Rattle.val_types.specs.declared.definitions.TableDef.{TableDef}
 use Rattle.table_rules.specs.Tables.{Table}
 use Rattle.event_codec.specs.Event.{Body, Map}
 use Rattle.event_codec.specs.Writing.{size}
-use Rattle.log_model.specs.Events.{Placed}
-use Rattle.log_model.specs.Items.{at_time}
-use Rattle.log_model.specs.Written.{Stamped, placed, total}
-use Rattle.transaction_sizes.specs.Sizes.{changes_size, most_bytes}
+use Rattle.entry_groups.specs.log_model.Events.{Placed}
+use Rattle.entry_groups.specs.log_model.Items.{at_time}
+use Rattle.entry_groups.specs.log_model.Written.{Stamped, placed, total}
+use Rattle.applier_model.specs.transaction_sizes.Sizes.{changes_size, most_bytes}
 use Rattle.applier_model.specs.Stops.{stop_at}
 use Rattle.applier_model.specs.Texts.{Progress, Applier, Needs, no_needs}
 use Rattle.applier_model.specs.Groups.{Going, with_bytes, is_too_large, item_ended, and_then, event_carried, items_carried}

@@ -16,32 +16,32 @@ use Rattle.table_rules.proofs.Storing.{some_same}
 use Rattle.event_codec.specs.Event.{Body, query}
 use Rattle.event_codec.specs.Writing.{size}
 use Rattle.sql_tree.specs.Statement.{Statement, insert_into, replace_into, update_rows, delete_rows, select, evaluate}
-use Rattle.catalog_rules.specs.Bases.{Base, definitions_in}
-use Rattle.catalog_rules.specs.Checks.{session_scope, statement_refusal}
-use Rattle.catalog_rules.specs.Objects.{Object}
-use Rattle.log_entries.specs.declared.carried.Carried.{Carried}
-use Rattle.log_entries.specs.declared.entries.Item.{Item}
-use Rattle.log_model.specs.Items.{query_of, text_of, changes_item, spelled, at_time, item_size}
-use Rattle.log_model.specs.Spelling.{bodies_of}
-use Rattle.log_model.specs.Written.{Stamped, placed, total}
+use Rattle.statement_names.specs.catalog_rules.Bases.{Base, definitions_in}
+use Rattle.statement_names.specs.catalog_rules.Checks.{session_scope, statement_refusal}
+use Rattle.statement_names.specs.catalog_rules.Objects.{Object}
+use Rattle.entry_groups.specs.log_entries.declared.carried.Carried.{Carried}
+use Rattle.entry_groups.specs.log_entries.declared.entries.Item.{Item}
+use Rattle.entry_groups.specs.log_model.Items.{query_of, text_of, changes_item, spelled, at_time, item_size}
+use Rattle.entry_groups.specs.log_model.Spelling.{bodies_of}
+use Rattle.entry_groups.specs.log_model.Written.{Stamped, placed, total}
 use Rattle.entry_groups.specs.Ids.{HasIds}
-use Rattle.transaction_sizes.specs.Sizes.{changes_size, most_bytes}
-use Rattle.text_answers.specs.Answers.{a_statement, text_answer}
-use Rattle.sql_meaning.specs.Changing.{Did}
-use Rattle.sql_meaning.specs.Frames.{Context, Setting}
-use Rattle.sql_meaning.specs.Leading.{Leads, EndsWell, StatementsEndWell}
-use Rattle.sql_meaning.specs.Running.{most_nested, effect}
-use Rattle.sql_meaning.specs.Scenes.{Scene, Ending}
-use Rattle.sql_reach.specs.Carrying.{carried}
-use Rattle.sql_reach.specs.Defining.{number_of_bytes}
-use Rattle.session_ctx.specs.Carrying.{context_carried, StandsIn, CarriedStandsIn}
-use Rattle.session_ctx.specs.Contexts.{seeds_drawn}
-use Rattle.independence_laws.specs.Laws.{AreAlikeFor, EndsAs, StatementsAreFollowed}
-use Rattle.proc_model.specs.Procedures.{is_plain}
-use Rattle.session_model.specs.Sessions.{tables_with}
-use Rattle.session_model.specs.Running.{setting_of}
-use Rattle.session_model.specs.Machine.{Whole}
-use Rattle.session_model.specs.Holding.{changes_of}
+use Rattle.applier_model.specs.transaction_sizes.Sizes.{changes_size, most_bytes}
+use Rattle.applier_model.specs.text_answers.Answers.{a_statement, text_answer}
+use Rattle.statement_names.specs.sql_meaning.Changing.{Did}
+use Rattle.statement_names.specs.sql_meaning.Frames.{Context, Setting}
+use Rattle.statement_names.specs.sql_meaning.Leading.{Leads, EndsWell, StatementsEndWell}
+use Rattle.statement_names.specs.sql_meaning.Running.{most_nested, effect}
+use Rattle.statement_names.specs.sql_meaning.Scenes.{Scene, Ending}
+use Rattle.statement_names.specs.sql_reach.Carrying.{carried}
+use Rattle.statement_names.specs.sql_reach.Defining.{number_of_bytes}
+use Rattle.applier_model.specs.session_ctx.Carrying.{context_carried, StandsIn, CarriedStandsIn}
+use Rattle.applier_model.specs.session_ctx.Contexts.{seeds_drawn}
+use Rattle.session_replays.specs.independence_laws.Laws.{AreAlikeFor, EndsAs, StatementsAreFollowed}
+use Rattle.session_replays.specs.proc_model.Procedures.{is_plain}
+use Rattle.session_replays.specs.session_model.Sessions.{tables_with}
+use Rattle.session_replays.specs.session_model.Running.{setting_of}
+use Rattle.session_replays.specs.session_model.Machine.{Whole}
+use Rattle.session_replays.specs.session_model.Holding.{changes_of}
 use Rattle.session_replays.specs.Again.{scene_again, Gives}
 use Rattle.applier_model.specs.Texts.{Progress, Applier, scene_of, progress_of, ended_as, may_stand, statement_by, statement_in, checked, allowed, carry_text, stops_at}
 use Rattle.applier_model.specs.Groups.{and_then, text_ended, event_carried, applier_of}

@@ -11,19 +11,19 @@ use Rattle.table_rules.specs.Stored.{all_applied}
 use Rattle.table_rules.specs.Stores.{definitions_of}
 use Rattle.table_rules.proofs.Equations.{applied_none, all_applied_behind}
 use Rattle.table_rules.proofs.Storing.{some_same}
-use Rattle.catalog_rules.specs.Bases.{Base}
-use Rattle.catalog_rules.specs.Objects.{Object}
-use Rattle.log_model.specs.Items.{spelled, item_events, item_size, IsCarried, AreCarried}
-use Rattle.log_model.specs.Spelling.{bodies_of}
-use Rattle.log_model.specs.Written.{Stamped, placed}
+use Rattle.statement_names.specs.catalog_rules.Bases.{Base}
+use Rattle.statement_names.specs.catalog_rules.Objects.{Object}
+use Rattle.entry_groups.specs.log_model.Items.{spelled, item_events, item_size, IsCarried, AreCarried}
+use Rattle.entry_groups.specs.log_model.Spelling.{bodies_of}
+use Rattle.entry_groups.specs.log_model.Written.{Stamped, placed}
 use Rattle.entry_groups.specs.Ids.{SaysIds, AllSayIds}
-use Rattle.transaction_sizes.specs.Sizes.{changes_size, all_sizes, all_changes_size, most_bytes}
-use Rattle.sql_meaning.specs.Leading.{StatementsEndWell}
-use Rattle.session_ctx.specs.Carrying.{CarriedStandsIn}
-use Rattle.independence_laws.specs.Laws.{StatementsAreFollowed}
-use Rattle.session_model.specs.Running.{definitions_changed}
-use Rattle.session_model.specs.Machine.{Whole, kept_of}
-use Rattle.session_model.specs.Holding.{changes_of, changes_in, IsMade, AreMade}
+use Rattle.applier_model.specs.transaction_sizes.Sizes.{changes_size, all_sizes, all_changes_size, most_bytes}
+use Rattle.statement_names.specs.sql_meaning.Leading.{StatementsEndWell}
+use Rattle.applier_model.specs.session_ctx.Carrying.{CarriedStandsIn}
+use Rattle.session_replays.specs.independence_laws.Laws.{StatementsAreFollowed}
+use Rattle.session_replays.specs.session_model.Running.{definitions_changed}
+use Rattle.session_replays.specs.session_model.Machine.{Whole, kept_of}
+use Rattle.session_replays.specs.session_model.Holding.{changes_of, changes_in, IsMade, AreMade}
 use Rattle.applier_model.specs.Texts.{Progress, Applier}
 use Rattle.applier_model.specs.Groups.{items_carried, applier_of}
 use Rattle.applier_laws.specs.Following.{BaseHolds, ItemCanFollow, AllCanFollow}

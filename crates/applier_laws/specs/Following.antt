@@ -3,14 +3,14 @@ use Rattle.std.specs.Prelude.{◌≡◌, ℕ, true, false, List, [], ◌∷◌, 
 use Rattle.table_rules.specs.Changes.{AreKept}
 use Rattle.table_rules.specs.Stores.{definitions_of, names_differ}
 use Rattle.val_types.specs.declared.change.Change.{Change}
-use Rattle.catalog_rules.specs.Bases.{Base, definitions_in}
-use Rattle.independence_laws.specs.Followed.{is_followed}
-use Rattle.log_entries.specs.declared.entries.Entry.{Entry}
-use Rattle.log_entries.specs.declared.entries.Entry.TheVariants.{Transaction, Definition, LogStart}
-use Rattle.log_model.specs.Log.{LogPlace}
+use Rattle.statement_names.specs.catalog_rules.Bases.{Base, definitions_in}
+use Rattle.session_replays.specs.independence_laws.Followed.{is_followed}
+use Rattle.entry_groups.specs.log_entries.declared.entries.Entry.{Entry}
+use Rattle.entry_groups.specs.log_entries.declared.entries.Entry.TheVariants.{Transaction, Definition, LogStart}
+use Rattle.entry_groups.specs.log_model.Log.{LogPlace}
 use Rattle.entry_groups.specs.Entries.{StaysInLog, CanLog}
-use Rattle.session_model.specs.Machine.{Whole, kept_entry}
-use Rattle.session_model.specs.Holding.{changes_of, EntryMade}
+use Rattle.session_replays.specs.session_model.Machine.{Whole, kept_entry}
+use Rattle.session_replays.specs.session_model.Holding.{changes_of, EntryMade}
 use Rattle.session_replays.specs.Again.{Gives, EntryGives}
 use Rattle.session_replays.specs.Followed.{EntriesFollow}
 use Rattle.session_replays.specs.Texts.{SaysItself, EntriesSay}

@@ -3,13 +3,13 @@ use Rattle.std.specs.Prelude.{◌≡◌, ℕ, List, Some, Ok}
 use Rattle.auto_inc.specs.declared.counters.Counter.{Counter}
 use Rattle.port_traits.specs.declared.identity.Identity.{Identity}
 use Rattle.port_traits.specs.declared.identity.Draw.{Draw}
-use Rattle.catalog_rules.specs.Bases.{Base, empty_base}
-use Rattle.log_entries.specs.declared.entries.Entry.{Entry}
-use Rattle.log_entries.specs.Entries.{entry_applied}
-use Rattle.log_model.specs.Log.{LogPlace}
+use Rattle.statement_names.specs.catalog_rules.Bases.{Base, empty_base}
+use Rattle.entry_groups.specs.log_entries.declared.entries.Entry.{Entry}
+use Rattle.entry_groups.specs.log_entries.Entries.{entry_applied}
+use Rattle.entry_groups.specs.log_model.Log.{LogPlace}
 use Rattle.entry_groups.specs.Entries.{group_of_entry}
-use Rattle.session_model.specs.Machine.{Whole, kept_entry}
-use Rattle.session_model.specs.Holding.{changes_of, define}
+use Rattle.session_replays.specs.session_model.Machine.{Whole, kept_entry}
+use Rattle.session_replays.specs.session_model.Holding.{changes_of, define}
 use Rattle.applier_model.specs.Groups.{group_carried}
 use Rattle.applier_laws.specs.Following.{BaseHolds, CanFollow}
 

@@ -2,9 +2,9 @@
 ghost use Rattle.applier_laws.specs.Following.{EntriesOfRunsFollow};
 ghost use Rattle.applier_laws.specs.Laws.{BasesHold, EntryIsCarried};
 
-use independence_laws::statements_are_followed;
-use session_ctx::carried_context_stands_in;
-use sql_meaning::statements_end_well;
+use applier_model::session_ctx::carried_context_stands_in;
+use session_replays::independence_laws::statements_are_followed;
+use statement_names::sql_meaning::statements_end_well;
 
 /// A law: what holds of bases holds with nothing, and behind each entry.
 pub fn bases_hold()

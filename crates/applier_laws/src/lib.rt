@@ -27,4 +27,10 @@
 
 mod laws;
 
+// The crates below that this one speaks of, passed on: who stands above names them through it.
+pub use applier_model::{session_ctx, transaction_sizes};
+pub use entry_groups;
+pub use entry_groups::log_model;
 pub use laws::{bases_hold, entries_of_runs_follow, entry_is_carried};
+pub use session_replays;
+pub use session_replays::session_model;

@@ -8,12 +8,12 @@ use Rattle.event_codec.specs.Event.{Body, query, rotate, int_var, rand, user_var
 use Rattle.port_traits.specs.declared.identity.Identity.{Identity}
 use Rattle.port_traits.specs.declared.identity.Draw.{Draw}
 use Rattle.sql_tree.specs.Statement.{Statement as Tree}
-use Rattle.catalog_rules.specs.Bases.{Base, defined}
-use Rattle.catalog_rules.specs.Creating.{ddl_refusal}
-use Rattle.log_entries.specs.Variables.{variable_set}
-use Rattle.log_model.specs.Events.{Placed}
-use Rattle.log_model.specs.Groups.{Form, start, next_log, ddl, txn, Group, find}
-use Rattle.log_model.specs.Images.{changes_of}
+use Rattle.session_ctx.specs.catalog_rules.Bases.{Base, defined}
+use Rattle.session_ctx.specs.catalog_rules.Creating.{ddl_refusal}
+use Rattle.transaction_sizes.specs.log_entries.Variables.{variable_set}
+use Rattle.transaction_sizes.specs.log_model.Events.{Placed}
+use Rattle.transaction_sizes.specs.log_model.Groups.{Form, start, next_log, ddl, txn, Group, find}
+use Rattle.transaction_sizes.specs.log_model.Images.{changes_of}
 use Rattle.transaction_sizes.specs.Sizes.{changes_size, most_bytes}
 use Rattle.sql_reach.specs.Defining.{counters_after}
 use Rattle.sql_reach.specs.Reach.{is_definition}

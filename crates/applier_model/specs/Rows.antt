@@ -19,7 +19,7 @@ use Rattle.table_rules.specs.Tables.{Table}
 use Rattle.table_rules.specs.Changes.{applied, may_put, without}
 use Rattle.table_rules.specs.Stored.{table_named}
 use Rattle.event_codec.specs.Event.{Map}
-use Rattle.log_model.specs.Images.{map_types}
+use Rattle.transaction_sizes.specs.log_model.Images.{map_types}
 use Rattle.applier_model.specs.Stops.{Differs}
 
 -- ---- the columns of a map and of a table

@@ -7,14 +7,14 @@ use Rattle.port_traits.specs.declared.identity.Draw.{Draw}
 use Rattle.event_codec.specs.declared.event.Step.{Step}
 use Rattle.event_codec.specs.Event.{Query}
 use Rattle.sql_tree.specs.Statement.{Statement, insert_into, replace_into, update_rows, delete_rows, select, evaluate}
-use Rattle.catalog_rules.specs.Objects.{Object}
-use Rattle.catalog_rules.specs.Checks.{session_scope, statement_refusal}
-use Rattle.log_entries.specs.declared.carried.Carried.{Carried}
+use Rattle.session_ctx.specs.catalog_rules.Objects.{Object}
+use Rattle.session_ctx.specs.catalog_rules.Checks.{session_scope, statement_refusal}
+use Rattle.transaction_sizes.specs.log_entries.declared.carried.Carried.{Carried}
 use Rattle.session_ctx.specs.Carrying.{context_carried}
-use Rattle.sql_meaning.specs.Changing.{Did}
-use Rattle.sql_meaning.specs.Frames.{Context}
-use Rattle.sql_meaning.specs.Running.{most_nested, most_turns, effect}
-use Rattle.sql_meaning.specs.Scenes.{Scene, Ending, done, failed}
+use Rattle.session_ctx.specs.sql_meaning.Changing.{Did}
+use Rattle.session_ctx.specs.sql_meaning.Frames.{Context}
+use Rattle.session_ctx.specs.sql_meaning.Running.{most_nested, most_turns, effect}
+use Rattle.session_ctx.specs.sql_meaning.Scenes.{Scene, Ending, done, failed}
 use Rattle.sql_reach.specs.Defining.{number_of_bytes}
 use Rattle.text_answers.specs.Answers.{TextAnswer, a_statement, a_syntax_error, too_deep, text_answer}
 use Rattle.applier_model.specs.Rows.{Store}

@@ -11,10 +11,10 @@ use Rattle.event_codec.specs.declared.event.RowsKind.{RowsKind}
 use Rattle.event_codec.specs.Event.{Body, query, rows, Map}
 use Rattle.port_traits.specs.declared.identity.Identity.{Identity}
 use Rattle.port_traits.specs.declared.identity.Draw.{Draw}
-use Rattle.catalog_rules.specs.Bases.{Base}
-use Rattle.catalog_rules.specs.Objects.{table}
-use Rattle.log_model.specs.Events.{Placed}
-use Rattle.log_model.specs.Groups.{Group, txn}
+use Rattle.session_ctx.specs.catalog_rules.Bases.{Base}
+use Rattle.session_ctx.specs.catalog_rules.Objects.{table}
+use Rattle.transaction_sizes.specs.log_model.Events.{Placed}
+use Rattle.transaction_sizes.specs.log_model.Groups.{Group, txn}
 use Rattle.applier_model.specs.Stops.{Differs}
 use Rattle.applier_model.specs.Groups.{Applied, group_carried}
 

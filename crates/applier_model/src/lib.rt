@@ -20,6 +20,10 @@
 
 mod worked;
 
+// The crates below that this one speaks of, passed on: who stands above names them through it.
+pub use session_ctx;
+pub use transaction_sizes;
+pub use transaction_sizes::row_image;
 pub use worked::{
     differing_rows, first_value_carried, long_texts, rows_carried, texts_refused, texts_run,
     variables_of_one_item,

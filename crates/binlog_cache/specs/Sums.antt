@@ -1,12 +1,12 @@
 -- Items with how many bytes all up to each have, at most the greatest number of 64 bits.
 use Rattle.std.specs.Prelude.{◌≡◌, ℕ, ◌+◌, List, [], ◌∷◌, map}
 use Rattle.event_codec.specs.Event.{query, xid}
-use Rattle.log_entries.specs.declared.carried.Carried.{Carried}
-use Rattle.log_entries.specs.declared.entries.Item.{Item}
-use Rattle.log_model.specs.Log.{begin_query}
-use Rattle.log_model.specs.Written.{Stamped}
-use Rattle.log_model.specs.Items.{item_size}
-use Rattle.row_events.specs.Sizes.{bounded}
+use Rattle.transaction_sizes.specs.log_entries.declared.carried.Carried.{Carried}
+use Rattle.transaction_sizes.specs.log_entries.declared.entries.Item.{Item}
+use Rattle.transaction_sizes.specs.log_model.Log.{begin_query}
+use Rattle.transaction_sizes.specs.log_model.Written.{Stamped}
+use Rattle.transaction_sizes.specs.log_model.Items.{item_size}
+use Rattle.transaction_sizes.specs.row_events.Sizes.{bounded}
 use Rattle.transaction_sizes.specs.Sizes.{changes_size}
 use Rattle.binlog_cache.specs.declared.kept.Kept.{Kept}
 

@@ -22,4 +22,8 @@
 mod catalog;
 mod refusing;
 
+// The crates below that this one speaks of, passed on: who stands above names them through it.
 pub use catalog::Catalog;
+pub use catalog_statements::catalog_objects;
+pub use program_creation;
+pub use program_creation::table_creation;

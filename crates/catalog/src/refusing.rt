@@ -2,11 +2,11 @@
 ghost use Rattle.std.specs.Prelude.{◌≡◌, false, if◌then◌else◌, Some, None};
 ghost use Rattle.sql_tree.specs.Statement.{create_table};
 ghost use Rattle.sql_tree.specs.StatementView.{view};
-ghost use Rattle.catalog_objects.specs.Keys.{objects_of};
-ghost use Rattle.catalog_rules.specs.Creating.{ddl_checks, ddl_refusal, first_refusal};
+ghost use Rattle.catalog_statements.specs.catalog_objects.Keys.{objects_of};
+ghost use Rattle.catalog_statements.specs.catalog_rules.Creating.{ddl_checks, ddl_refusal, first_refusal};
 ghost use Rattle.catalog.specs.Answers.{is_create};
 
-use catalog_objects::Objects;
+use catalog_statements::catalog_objects::Objects;
 use program_creation::table_creation::table_refusal;
 use sql_tree::{CreateTable, Stmt};
 use val_types::SqlError;

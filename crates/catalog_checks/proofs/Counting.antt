@@ -7,9 +7,9 @@ use Rattle.val_types.specs.declared.definitions.TableDef.{TableDef}
 use Rattle.val_types.specs.declared.definitions.ColumnDef.{ColumnDef}
 use Rattle.sql_tree.specs.Tree.{Tree, Aggregates}
 use Rattle.sql_tree.specs.declared.expressions.Aggregate.{Aggregate}
-use Rattle.catalog_rules.specs.Names.{same_name, is_among, has_twice}
-use Rattle.catalog_rules.specs.Objects.{columns_of}
-use Rattle.catalog_rules.specs.Checks.{has_width, count_of_aggregates, is_left_out, must_be_given}
+use Rattle.catalog_objects.specs.catalog_rules.Names.{same_name, is_among, has_twice}
+use Rattle.catalog_objects.specs.catalog_rules.Objects.{columns_of}
+use Rattle.catalog_objects.specs.catalog_rules.Checks.{has_width, count_of_aggregates, is_left_out, must_be_given}
 use Rattle.std.specs.Option.{option_map}
 use Rattle.std.specs.Prelude.{◌==◌, nat_eq}
 use Rattle.sql_tree.specs.declared.expressions.Expr.{Expr}
@@ -17,11 +17,11 @@ use Rattle.sql_tree.specs.declared.statements.Routine.{Routine}
 use Rattle.sql_tree.specs.Statement.{Program}
 use Rattle.sql_tree.specs.View.{view_trees, view_aggregate, view_aggregates, aggregate_before}
 use Rattle.sql_tree.specs.StatementView.{view_program}
-use Rattle.catalog_rules.specs.Nodes.{count_of_trees}
-use Rattle.catalog_rules.specs.Objects.{parameters_of}
+use Rattle.catalog_objects.specs.catalog_rules.Nodes.{count_of_trees}
+use Rattle.catalog_objects.specs.catalog_rules.Objects.{parameters_of}
 use Rattle.sql_tree.specs.Statement.{Supply}
 use Rattle.std.proofs.lemmas.List.{length-map}
-use Rattle.catalog_rules.specs.Ranks.{Asked, given_rank, rank_unless}
+use Rattle.catalog_objects.specs.catalog_rules.Ranks.{Asked, given_rank, rank_unless}
 use Rattle.catalog_objects.proofs.Parts.{program_seen}
 use Rattle.catalog_checks.specs.Asking.{called_rank}
 

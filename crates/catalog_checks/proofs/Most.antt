@@ -3,8 +3,8 @@ use Rattle.std.proofs.Common.{◌≡◌, ℕ, min, List, [], ◌∷◌, refl, ar
 use Rattle.sql_tree.specs.Tree.{Tree, Trees, no_tree, tree, Arms, no_arm, arm, Aggregates, no_aggregate, count_all, aggregate, Orders, no_order, order_by}
 use Rattle.sql_tree.specs.Statement.{Declared, Statements, no_statement, statement, Branches, no_branch, branch}
 use Rattle.sql_tree.specs.declared.statements.Target.{Target}
-use Rattle.catalog_rules.specs.Nodes.{Sight}
-use Rattle.catalog_rules.specs.Ranks.{Asked, trees_rank, arms_rank, aggregates_rank, orders_rank, rows_rank, sets_rank, assignments_rank, declared_rank, steps_rank, branches_rank}
+use Rattle.catalog_objects.specs.catalog_rules.Nodes.{Sight}
+use Rattle.catalog_objects.specs.catalog_rules.Ranks.{Asked, trees_rank, arms_rank, aggregates_rank, orders_rank, rows_rank, sets_rank, assignments_rank, declared_rank, steps_rank, branches_rank}
 
 step : (a k : ℕ) → min 10 k ≡ k → min 10 (min a k) ≡ min a k
 step a k e = omega arith

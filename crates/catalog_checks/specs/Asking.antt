@@ -5,9 +5,9 @@ use Rattle.val_types.specs.declared.definitions.TableDef.{TableDef}
 use Rattle.sql_tree.specs.Tree.{Part, Orders}
 use Rattle.sql_tree.specs.declared.statements.Routine.{Routine}
 use Rattle.sql_locals.specs.declared.locals.Local.{Local}
-use Rattle.catalog_rules.specs.Nodes.{Sight, no_sight, in_sight, sight_of_update}
-use Rattle.catalog_rules.specs.Checks.{Scope}
-use Rattle.catalog_rules.specs.Ranks.{Asked, rank_unless, part_rank, orders_rank}
+use Rattle.catalog_objects.specs.catalog_rules.Nodes.{Sight, no_sight, in_sight, sight_of_update}
+use Rattle.catalog_objects.specs.catalog_rules.Checks.{Scope}
+use Rattle.catalog_objects.specs.catalog_rules.Ranks.{Asked, rank_unless, part_rank, orders_rank}
 use Rattle.catalog_objects.specs.Keys.{objects_of}
 use Rattle.catalog_checks.specs.declared.sight.Sight.{fold-Sight}
 use Rattle.catalog_checks.specs.declared.sight.Sight as code

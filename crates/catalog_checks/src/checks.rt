@@ -2,11 +2,11 @@
 ghost use Rattle.std.specs.Prelude.{◌≡◌, Some, None};
 ghost use Rattle.std.specs.Option.{option_copied};
 ghost use Rattle.sql_tree.specs.View.{view_trees};
-ghost use Rattle.catalog_rules.specs.Names.{is_among, same_name};
-ghost use Rattle.catalog_rules.specs.Bodies.{readable_variables, session_variables};
-ghost use Rattle.catalog_rules.specs.Nodes.{count_of_trees};
-ghost use Rattle.catalog_rules.specs.Checks.{is_known_name};
-ghost use Rattle.catalog_rules.specs.Ranks.{is_target, changing, read_rank, function_rank, procedure_rank, count_rank, count_if_rank, limit_rank, target_rank};
+ghost use Rattle.catalog_objects.specs.catalog_rules.Names.{is_among, same_name};
+ghost use Rattle.catalog_objects.specs.catalog_rules.Bodies.{readable_variables, session_variables};
+ghost use Rattle.catalog_objects.specs.catalog_rules.Nodes.{count_of_trees};
+ghost use Rattle.catalog_objects.specs.catalog_rules.Checks.{is_known_name};
+ghost use Rattle.catalog_objects.specs.catalog_rules.Ranks.{is_target, changing, read_rank, function_rank, procedure_rank, count_rank, count_if_rank, limit_rank, target_rank};
 ghost use Rattle.catalog_checks.specs.Asking.{asked_of, called_rank, names_of, sight_of};
 
 use crate::ranks::{

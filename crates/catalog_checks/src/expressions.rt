@@ -1,7 +1,7 @@
 //! What refuses the expressions and SELECTs of a statement, in one walk.
 ghost use Rattle.std.specs.Prelude.{◌≡◌, min};
 ghost use Rattle.sql_tree.specs.View.{view_tree, view_trees, view_arms, view_part, view_query, view_selected, view_aggregates, view_from, view_orders};
-ghost use Rattle.catalog_rules.specs.Ranks.{tree_rank, trees_rank, arms_rank, part_rank, query_rank, selected_rank, aggregates_rank, origin_rank, orders_rank};
+ghost use Rattle.catalog_objects.specs.catalog_rules.Ranks.{tree_rank, trees_rank, arms_rank, part_rank, query_rank, selected_rank, aggregates_rank, origin_rank, orders_rank};
 ghost use Rattle.catalog_checks.specs.Asking.{asked_of, sight_of};
 
 use crate::checks::{Checks, count_of, is_readable};

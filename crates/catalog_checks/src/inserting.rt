@@ -6,11 +6,11 @@ ghost use Rattle.sql_tree.specs.View.{view_query, view_aggregates};
 ghost use Rattle.sql_tree.specs.StatementView.{view_rows, view_supply};
 ghost use Rattle.val_types.specs.declared.definitions.ColumnDef.{ColumnDef};
 ghost use Rattle.catalog_objects.specs.Keys.{objects_of};
-ghost use Rattle.catalog_rules.specs.Names.{has_twice, is_among};
-ghost use Rattle.catalog_rules.specs.Objects.{columns_of};
-ghost use Rattle.catalog_rules.specs.Nodes.{count_of_trees};
-ghost use Rattle.catalog_rules.specs.Checks.{count_of_aggregates, has_column, has_width, is_left_out, must_be_given, width_of_query};
-ghost use Rattle.catalog_rules.specs.Ranks.{given_rank, insert_rank};
+ghost use Rattle.catalog_objects.specs.catalog_rules.Names.{has_twice, is_among};
+ghost use Rattle.catalog_objects.specs.catalog_rules.Objects.{columns_of};
+ghost use Rattle.catalog_objects.specs.catalog_rules.Nodes.{count_of_trees};
+ghost use Rattle.catalog_objects.specs.catalog_rules.Checks.{count_of_aggregates, has_column, has_width, is_left_out, must_be_given, width_of_query};
+ghost use Rattle.catalog_objects.specs.catalog_rules.Ranks.{given_rank, insert_rank};
 ghost use Rattle.catalog_checks.specs.Asking.{asked_of};
 
 use crate::checks::{Checks, count_of};

@@ -24,6 +24,8 @@ mod refusing;
 mod sight;
 mod statements;
 
+// The crates below that this one speaks of, passed on: who stands above names them through it.
+pub use catalog_objects;
 pub use checks::{Checks, is_session_variable};
 pub use inserting::{has_twice, is_among};
 pub use refusing::{expression_refusal, statement_refusal};

@@ -1,6 +1,6 @@
 //! Ranks: how early an error comes in the order of checks.
 ghost use Rattle.std.specs.Prelude.{◌≡◌};
-ghost use Rattle.catalog_rules.specs.Ranks.{code_of, rank_unless};
+ghost use Rattle.catalog_objects.specs.catalog_rules.Ranks.{code_of, rank_unless};
 
 use val_types::SqlError;
 

@@ -4,7 +4,7 @@ ghost use Rattle.std.specs.Option.{option_copied};
 ghost use Rattle.sql_tree.specs.View.{view_tree};
 ghost use Rattle.sql_tree.specs.StatementView.{view};
 ghost use Rattle.catalog_objects.specs.Keys.{objects_of};
-ghost use Rattle.catalog_rules.specs.Checks.{expression_refusal, statement_refusal};
+ghost use Rattle.catalog_objects.specs.catalog_rules.Checks.{expression_refusal, statement_refusal};
 ghost use Rattle.catalog_checks.specs.Asking.{scope_with};
 
 use crate::checks::Checks;

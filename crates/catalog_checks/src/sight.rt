@@ -3,8 +3,8 @@ ghost use Rattle.std.specs.Prelude.{◌≡◌};
 ghost use Rattle.std.specs.List.{list_any};
 ghost use Rattle.std.specs.Option.{option_copied};
 ghost use Rattle.catalog_objects.specs.Keys.{objects_of};
-ghost use Rattle.catalog_rules.specs.Checks.{row_has_column, has_column, is_known_column, is_known_inserted, table_has_column};
-ghost use Rattle.catalog_rules.specs.Ranks.{has_table};
+ghost use Rattle.catalog_objects.specs.catalog_rules.Checks.{row_has_column, has_column, is_known_column, is_known_inserted, table_has_column};
+ghost use Rattle.catalog_objects.specs.catalog_rules.Ranks.{has_table};
 ghost use Rattle.catalog_checks.specs.Asking.{sight_of};
 
 use catalog_objects::Objects;

@@ -2,8 +2,8 @@
 ghost use Rattle.std.specs.Prelude.{◌≡◌};
 ghost use Rattle.sql_tree.specs.View.{view_part, view_orders};
 ghost use Rattle.sql_tree.specs.StatementView.{view, view_rows, view_supply, view_sets, view_assignments, view_declarations, view_insert, view_replace, view_update, view_delete, view_statements, view_branches, view_otherwise};
-ghost use Rattle.catalog_rules.specs.Ranks.{part_rank, rows_rank, supply_rank, sets_rank, assignments_rank, declared_rank, changed_rank, statement_rank, steps_rank, branches_rank, otherwise_rank};
-ghost use Rattle.catalog_rules.specs.Nodes.{in_sight, no_sight};
+ghost use Rattle.catalog_objects.specs.catalog_rules.Ranks.{part_rank, rows_rank, supply_rank, sets_rank, assignments_rank, declared_rank, changed_rank, statement_rank, steps_rank, branches_rank, otherwise_rank};
+ghost use Rattle.catalog_objects.specs.catalog_rules.Nodes.{in_sight, no_sight};
 ghost use Rattle.catalog_checks.specs.Asking.{asked_of, condition_rank, sight_of};
 
 use crate::checks::{Checks, count_of};

@@ -8,5 +8,3 @@ pub mod Nodes
 pub mod Objects
 pub mod Ranks
 pub mod Worked
--- the crates below that this one speaks of, passed on
-pub use Rattle.table_rules.specs as table_rules

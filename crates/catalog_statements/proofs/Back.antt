@@ -12,9 +12,9 @@ use Rattle.sql_tree.specs.declared.statements.Column.{Column}
 use Rattle.sql_tree.specs.declared.statements.UniqueKey.{UniqueKey}
 use Rattle.sql_tree.specs.declared.statements.CreateTable.{CreateTable}
 use Rattle.sql_locals.specs.Types.{column_type}
-use Rattle.catalog_rules.specs.Names.{same_name, is_among, place_among}
-use Rattle.catalog_rules.specs.Defined.{written_type, defined_column, names_of_columns, places_of, auto_place, defined_key, definition_of, written_column, written_columns, names_at, written_key, written_table}
-use Rattle.catalog_rules.specs.Creating.{has_unknown}
+use Rattle.catalog_objects.specs.catalog_rules.Names.{same_name, is_among, place_among}
+use Rattle.catalog_objects.specs.catalog_rules.Defined.{written_type, defined_column, names_of_columns, places_of, auto_place, defined_key, definition_of, written_column, written_columns, names_at, written_key, written_table}
+use Rattle.catalog_objects.specs.catalog_rules.Creating.{has_unknown}
 
 -- ---- types and columns
 

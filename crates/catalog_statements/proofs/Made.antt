@@ -6,10 +6,10 @@ use Rattle.sql_tree.specs.declared.statements.CreateTable.{CreateTable}
 use Rattle.sql_tree.specs.declared.statements.Column.{Column}
 use Rattle.sql_tree.specs.declared.statements.UniqueKey.{UniqueKey}
 use Rattle.sql_tree.specs.Statement.{Statement, Program, Trigger, trigger, create_table, create_function, create_procedure, create_trigger}
-use Rattle.catalog_rules.specs.Bodies.{Kind, of_function, of_procedure, of_trigger, body_codes, declared_types, has_code}
-use Rattle.catalog_rules.specs.Objects.{Object, table, function, procedure, reaction, name_of, table_in, function_in, procedure_in, trigger_in, trigger_for}
-use Rattle.catalog_rules.specs.Defined.{names_of_columns, definition_of, written_table}
-use Rattle.catalog_rules.specs.Creating.{Check, counted_columns, catalog_after, is_ill_type, keys_of, program_types, row_width, runs_before_storing, ddl_refusal, first_refusal, has_unknown, program_checks, table_checks, trigger_checks}
+use Rattle.catalog_objects.specs.catalog_rules.Bodies.{Kind, of_function, of_procedure, of_trigger, body_codes, declared_types, has_code}
+use Rattle.catalog_objects.specs.catalog_rules.Objects.{Object, table, function, procedure, reaction, name_of, table_in, function_in, procedure_in, trigger_in, trigger_for}
+use Rattle.catalog_objects.specs.catalog_rules.Defined.{names_of_columns, definition_of, written_table}
+use Rattle.catalog_objects.specs.catalog_rules.Creating.{Check, counted_columns, catalog_after, is_ill_type, keys_of, program_types, row_width, runs_before_storing, ddl_refusal, first_refusal, has_unknown, program_checks, table_checks, trigger_checks}
 use Rattle.catalog_statements.specs.Stated.{statement_of, object_made, AreFewPrograms, AreFewTables, HasRoom, IsMadeByItsStatement, MayWait, StatementIsThatOfMaking}
 use Rattle.catalog_statements.proofs.Back.{table_back}
 

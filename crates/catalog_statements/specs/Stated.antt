@@ -1,9 +1,9 @@
 -- The CREATE statement of an object.
 use Rattle.std.specs.Prelude.{◌≡◌, false, nat_le, List, [], ◌∷◌, ◌++◌, Option, Some, None, is_none}
 use Rattle.sql_tree.specs.Statement.{Statement, create_table, create_function, create_procedure, create_trigger, Trigger, trigger}
-use Rattle.catalog_rules.specs.Objects.{Object, table, function, procedure, reaction, name_of, table_in, function_in, procedure_in, trigger_in, trigger_for, count_of_tables, count_of_programs}
-use Rattle.catalog_rules.specs.Defined.{definition_of, written_table}
-use Rattle.catalog_rules.specs.Creating.{ddl_refusal, catalog_after}
+use Rattle.catalog_objects.specs.catalog_rules.Objects.{Object, table, function, procedure, reaction, name_of, table_in, function_in, procedure_in, trigger_in, trigger_for, count_of_tables, count_of_programs}
+use Rattle.catalog_objects.specs.catalog_rules.Defined.{definition_of, written_table}
+use Rattle.catalog_objects.specs.catalog_rules.Creating.{ddl_refusal, catalog_after}
 
 -- an object's statement: of a table the CREATE TABLE that its definition is written as, of a program its tree as it stands
 abbrev pub statement_of : Object → Statement

@@ -1,6 +1,6 @@
 //! The CREATE TABLE that a table's definition is written as.
 ghost use Rattle.std.specs.Prelude.{◌≡◌, [], false, map, nat_eq, slice_index_or, IfOk};
-ghost use Rattle.catalog_rules.specs.Defined.{names_at, written_column, written_columns, written_key, written_table, written_type};
+ghost use Rattle.catalog_objects.specs.catalog_rules.Defined.{names_at, written_column, written_columns, written_key, written_table, written_type};
 ghost use Rattle.std.specs.Option.{option_map_or};
 ghost use Rattle.val_types.specs.declared.definitions.ColumnDef.{ColumnDef};
 

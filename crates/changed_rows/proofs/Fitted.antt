@@ -6,7 +6,7 @@ use Rattle.val_types.specs.declared.definitions.ColumnDef.{ColumnDef}
 use Rattle.val_types.specs.declared.definitions.TableDef.{TableDef}
 use Rattle.val_types.specs.declared.refusal.SqlRefusal.TheVariants.{Sql}
 use Rattle.val_types.specs.Fitting.{fitting}
-use Rattle.sql_meaning.specs.Changing.{put_at, has_missing, none_missing}
+use Rattle.sql_evaluation.specs.sql_meaning.Changing.{put_at, has_missing, none_missing}
 use Rattle.sql_evaluation.specs.Seen.{Anywhere}
 
 -- no column there

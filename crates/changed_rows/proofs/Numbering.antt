@@ -3,8 +3,8 @@ use Rattle.std.proofs.Common.{◌≡◌, ℕ, Bool, true, Some, None, ℤ, refl}
 use Rattle.std.specs.Prelude.{is_some}
 use Rattle.std.specs.Option.{option_map}
 use Rattle.auto_inc.specs.Generating.{Sequence, next_value}
-use Rattle.sql_meaning.specs.Frames.{World}
-use Rattle.sql_meaning.specs.Changing.{generated_next}
+use Rattle.sql_evaluation.specs.sql_meaning.Frames.{World}
+use Rattle.sql_evaluation.specs.sql_meaning.Changing.{generated_next}
 
 -- ---- the next value
 

@@ -10,13 +10,13 @@ use Rattle.sql_tree.specs.View.{view_tree}
 use Rattle.sql_tree.specs.StatementView.{view_set, view_sets}
 use Rattle.sql_tree.specs.declared.statements.ColumnSet.{ColumnSet}
 use Rattle.sql_tree.specs.declared.statements.Cause.TheVariants as causes
-use Rattle.catalog_rules.specs.Names.{place_among}
-use Rattle.catalog_rules.specs.Objects.{columns_of}
-use Rattle.sql_meaning.specs.Scenes.{Scene, Ending, Action, done, failed, then_do, pure, needed, ◌>>=◌}
-use Rattle.sql_meaning.specs.Frames.{sees}
-use Rattle.sql_meaning.specs.Values.{value}
-use Rattle.sql_meaning.specs.Changing.{assign_column, put_at, before_row, after_row, none_missing, store_update}
-use Rattle.sql_stage.specs.Stage.{EndsAs}
+use Rattle.sql_evaluation.specs.catalog_rules.Names.{place_among}
+use Rattle.sql_evaluation.specs.catalog_rules.Objects.{columns_of}
+use Rattle.sql_evaluation.specs.sql_meaning.Scenes.{Scene, Ending, Action, done, failed, then_do, pure, needed, ◌>>=◌}
+use Rattle.sql_evaluation.specs.sql_meaning.Frames.{sees}
+use Rattle.sql_evaluation.specs.sql_meaning.Values.{value}
+use Rattle.sql_evaluation.specs.sql_meaning.Changing.{assign_column, put_at, before_row, after_row, none_missing, store_update}
+use Rattle.sql_evaluation.specs.sql_stage.Stage.{EndsAs}
 use Rattle.sql_evaluation.specs.declared.world.View.{View as Shown}
 use Rattle.sql_evaluation.specs.declared.world.Around.{Around}
 use Rattle.sql_evaluation.specs.Seen.{value_in, seen, with_row, Inside, Anywhere, world_of, frame_of}

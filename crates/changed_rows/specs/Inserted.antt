@@ -3,8 +3,8 @@ use Rattle.std.specs.Prelude.{◌≡◌, ℕ, Bool, List, [], zip, find, Option,
 use Rattle.val_types.specs.declared.value.Value.{Value}
 use Rattle.val_types.specs.declared.definitions.TableDef.{TableDef}
 use Rattle.table_rules.specs.Stored.{row_in_way}
-use Rattle.sql_meaning.specs.Scenes.{Scene, Action, done, ◌>>=◌, pure, carried_on, table_now}
-use Rattle.sql_meaning.specs.Changing.{Manner, Inserting, Counted, put_at, left_out_row, none_missing, asked_place, count_row, put_row, place_row, delete_row}
+use Rattle.sql_evaluation.specs.sql_meaning.Scenes.{Scene, Action, done, ◌>>=◌, pure, carried_on, table_now}
+use Rattle.sql_evaluation.specs.sql_meaning.Changing.{Manner, Inserting, Counted, put_at, left_out_row, none_missing, asked_place, count_row, put_row, place_row, delete_row}
 use Rattle.sql_evaluation.specs.declared.world.View.{View as Shown}
 use Rattle.sql_evaluation.specs.declared.world.Around.{Around}
 use Rattle.sql_evaluation.specs.Seen.{frame_of, world_of}

@@ -5,10 +5,10 @@ ghost use Rattle.std.specs.Prelude.{◌≡◌, ◌==◌, false, IfOk, slice_inde
 ghost use Rattle.val_types.specs.declared.value.Value.TheVariants.{Null};
 ghost use Rattle.val_types.specs.Fitting.{is_null};
 ghost use Rattle.std.specs.Option.{option_map_or};
-ghost use Rattle.catalog_rules.specs.Names.{place_among};
-ghost use Rattle.catalog_rules.specs.Objects.{columns_of};
+ghost use Rattle.sql_evaluation.specs.catalog_rules.Names.{place_among};
+ghost use Rattle.sql_evaluation.specs.catalog_rules.Objects.{columns_of};
 ghost use Rattle.sql_evaluation.specs.Seen.{Anywhere};
-ghost use Rattle.sql_meaning.specs.Changing.{asked_place, asks, has_missing, is_missing, left_out_row, left_out_value, none_missing, put_at};
+ghost use Rattle.sql_evaluation.specs.sql_meaning.Changing.{asked_place, asks, has_missing, is_missing, left_out_row, left_out_value, none_missing, put_at};
 
 use std::alloc::Global;
 use val_types::{

@@ -55,5 +55,6 @@ pub use deleting::delete_row;
 pub use executor::Executor;
 pub use inserting::{Inserting, Insertion, Manner, insert_row};
 pub use sql_evaluation;
+pub use sql_evaluation::{session_ctx, sql_stage};
 pub use table::ChangedTable;
 pub use updating::update_row;

@@ -7,7 +7,7 @@ ghost use Rattle.val_types.specs.Text.{is_plain, quoted_of, text_of};
 ghost use Rattle.val_types.specs.declared.value.Value.TheVariants.{Text};
 ghost use Rattle.sql_print.specs.Names.{count_if, count_of, doubled, limit_if, names_of, offset_if, quoted_name};
 ghost use Rattle.sql_print.specs.Spelling.{tree_text};
-ghost use Rattle.sql_meaning.specs.Frames.{number_or_none};
+ghost use Rattle.sql_reach.specs.sql_meaning.Frames.{number_or_none};
 ghost use Rattle.sql_reach.specs.Closing.{closed_count, closed_name, number_if};
 ghost use Rattle.sql_tree.specs.declared.expressions.Count.TheVariants.{Name};
 ghost use Rattle.closed_length.specs.Closed.{closed_count_if, closed_limit};

@@ -20,4 +20,5 @@ mod statements;
 mod words;
 
 // The crates below that this one speaks of, passed on: who stands above names them through it.
+pub use sql_reach::log_entries;
 pub use statements::closed_length;

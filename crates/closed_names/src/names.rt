@@ -1,7 +1,7 @@
 //! Names and the numbers of LIMITs, with locals closed in.
 ghost use Rattle.std.specs.Prelude.{◌≡◌, IfOk};
-ghost use Rattle.sql_meaning.specs.Frames.{number_or_none};
-ghost use Rattle.sql_reach.specs.Closing.{closed_count, closed_name, number_if};
+ghost use Rattle.closed_length.specs.sql_meaning.Frames.{number_or_none};
+ghost use Rattle.closed_length.specs.sql_reach.Closing.{closed_count, closed_name, number_if};
 ghost use Rattle.sql_tree.specs.View.{view_tree};
 ghost use Rattle.sql_tree.specs.declared.expressions.Count.TheVariants as counts;
 ghost use Rattle.closed_length.specs.Closed.{closed_count_if, closed_limit};

@@ -10,9 +10,9 @@ use Rattle.sql_tree.specs.declared.expressions.Count.{Count}
 use Rattle.sql_tree.specs.declared.expressions.Count.TheVariants as counts
 use Rattle.sql_locals.specs.Locals.{find_from, find_local}
 use Rattle.sql_locals.specs.declared.locals.Local.{Local}
-use Rattle.catalog_rules.specs.Nodes.{Node, a_name, a_column, a_new_column, an_old_column, an_inserted_value, a_user_variable, a_system_variable, a_built_in, a_random_number, a_function_call, a_table_read, a_limit, a_statement, nodes_of}
-use Rattle.sql_meaning.specs.Frames.{number_or_none}
-use Rattle.sql_meaning.specs.Running.{is_ill_count, is_ill_limit}
+use Rattle.closed_length.specs.catalog_rules.Nodes.{Node, a_name, a_column, a_new_column, an_old_column, an_inserted_value, a_user_variable, a_system_variable, a_built_in, a_random_number, a_function_call, a_table_read, a_limit, a_statement, nodes_of}
+use Rattle.closed_length.specs.sql_meaning.Frames.{number_or_none}
+use Rattle.closed_length.specs.sql_meaning.Running.{is_ill_count, is_ill_limit}
 use Rattle.node_walk.specs.Asking.{asks_node}
 use Rattle.node_walk.specs.declared.asking.Ask.TheVariants.{IllLimit}
 use Rattle.closed_length.specs.Growing.{greatest}

@@ -2,8 +2,8 @@
 ghost use Rattle.std.specs.Prelude.{◌≡◌, IfOk, map};
 ghost use Rattle.std.specs.List.{list_any};
 ghost use Rattle.sql_tree.specs.StatementView.{view};
-ghost use Rattle.catalog_rules.specs.Nodes.{nodes_of};
-ghost use Rattle.sql_meaning.specs.Running.{is_ill_limit};
+ghost use Rattle.closed_length.specs.catalog_rules.Nodes.{nodes_of};
+ghost use Rattle.closed_length.specs.sql_meaning.Running.{is_ill_limit};
 ghost use Rattle.closing_checks.specs.Refusing.{CanClose, numbered};
 ghost use Rattle.proc_model.specs.Closing.{is_nameless, limit_refusal};
 

@@ -11,8 +11,8 @@ use Rattle.sql_tree.specs.Statement.{Statement, create_table, create_function, c
 use Rattle.sql_tree.specs.Statement.{Supply, rows, rows_of}
 use Rattle.sql_tree.specs.declared.expressions.Count.{Count}
 use Rattle.sql_tree.specs.declared.expressions.Limit.{Limit}
-use Rattle.catalog_rules.specs.Nodes.{Sight, no_sight, in_sight, sight_of_update, Node, a_name, a_column, a_new_column, an_old_column, an_inserted_value, a_user_variable, a_system_variable, a_built_in, a_random_number, a_function_call, a_table_read, a_limit, a_statement, count_of_trees, limit_nodes, count_nodes}
-use Rattle.catalog_rules.specs.Nodes.{nodes_of_tree, nodes_of_trees, nodes_of_arms, nodes_of_part, nodes_of_query, nodes_of_selected, nodes_of_aggregates, nodes_of_origin, nodes_of_orders, nodes_of_sets, nodes_of_rows, nodes_of_supply, nodes_of}
+use Rattle.sql_reach.specs.catalog_rules.Nodes.{Sight, no_sight, in_sight, sight_of_update, Node, a_name, a_column, a_new_column, an_old_column, an_inserted_value, a_user_variable, a_system_variable, a_built_in, a_random_number, a_function_call, a_table_read, a_limit, a_statement, count_of_trees, limit_nodes, count_nodes}
+use Rattle.sql_reach.specs.catalog_rules.Nodes.{nodes_of_tree, nodes_of_trees, nodes_of_arms, nodes_of_part, nodes_of_query, nodes_of_selected, nodes_of_aggregates, nodes_of_origin, nodes_of_orders, nodes_of_sets, nodes_of_rows, nodes_of_supply, nodes_of}
 use Rattle.closing_laws.specs.Laws.{is_closable}
 use Rattle.sql_reach.specs.Closing.{limit_mapped, tree_mapped, trees_mapped, arms_mapped, part_mapped, query_mapped, selected_mapped, aggregates_mapped, origin_mapped, orders_mapped, set_mapped, supply_mapped, statement_mapped}
 

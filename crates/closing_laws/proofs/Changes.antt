@@ -12,16 +12,16 @@ use Rattle.sql_tree.specs.Statement.{Statement, create_table, create_function, c
 use Rattle.sql_tree.specs.Statement.{Supply, rows, rows_of}
 use Rattle.sql_tree.specs.declared.expressions.Count.{Count}
 use Rattle.sql_tree.specs.declared.statements.Cause.TheVariants as causes
-use Rattle.catalog_rules.specs.Names.{place_among}
-use Rattle.catalog_rules.specs.Objects.{columns_of}
-use Rattle.catalog_rules.specs.Defined.{places_of}
-use Rattle.catalog_rules.specs.Checks.{given_columns}
+use Rattle.sql_reach.specs.catalog_rules.Names.{place_among}
+use Rattle.sql_reach.specs.catalog_rules.Objects.{columns_of}
+use Rattle.sql_reach.specs.catalog_rules.Defined.{places_of}
+use Rattle.sql_reach.specs.catalog_rules.Checks.{given_columns}
 use Rattle.sql_locals.specs.declared.locals.Local.{Local}
-use Rattle.sql_meaning.specs.Scenes.{Action, ◌>>=◌, pure, needed, each, kept_by, counted, carried_on, table_now}
-use Rattle.sql_meaning.specs.Frames.{World, Frame, sees, only_locals}
-use Rattle.sql_meaning.specs.Values.{values, sorted}
-use Rattle.sql_meaning.specs.Changing.{put_at, left_out_row, asked_place, none_missing, before_row, after_row, delete_row, assign_column, store_update, update_row, Inserting, nothing_inserted, Manner, refusing, ignoring, replacing, updating, Counted, count_row, put_row, passed_by, updating_frame, settle, insert_row, affected_rows, did_insert, insert_supply, insert_into_table, chosen_rows}
-use Rattle.sql_meaning.specs.Running.{manner_of, rows_shown, perform}
+use Rattle.sql_reach.specs.sql_meaning.Scenes.{Action, ◌>>=◌, pure, needed, each, kept_by, counted, carried_on, table_now}
+use Rattle.sql_reach.specs.sql_meaning.Frames.{World, Frame, sees, only_locals}
+use Rattle.sql_reach.specs.sql_meaning.Values.{values, sorted}
+use Rattle.sql_reach.specs.sql_meaning.Changing.{put_at, left_out_row, asked_place, none_missing, before_row, after_row, delete_row, assign_column, store_update, update_row, Inserting, nothing_inserted, Manner, refusing, ignoring, replacing, updating, Counted, count_row, put_row, passed_by, updating_frame, settle, insert_row, affected_rows, did_insert, insert_supply, insert_into_table, chosen_rows}
+use Rattle.sql_reach.specs.sql_meaning.Running.{manner_of, rows_shown, perform}
 use Rattle.sql_reach.specs.Closing.{trees_mapped, part_mapped, orders_mapped, set_mapped, supply_mapped, statement_mapped, closed_name, closed_count}
 use Rattle.closing_laws.specs.Laws.{holds_short}
 use Rattle.closing_laws.proofs.Values.{with_locals, limited_to_closed, directions_closed, value_closed, values_closed, is_kept_closed, order_closed, query_closed}

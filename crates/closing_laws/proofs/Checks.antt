@@ -13,13 +13,13 @@ use Rattle.sql_tree.specs.declared.expressions.Count.{Count}
 use Rattle.sql_tree.specs.declared.expressions.Count.TheVariants as counts
 use Rattle.sql_locals.specs.declared.locals.Local.{Local}
 use Rattle.sql_locals.specs.Locals.{find_from, find_local}
-use Rattle.catalog_rules.specs.Names.{is_among, has_twice}
-use Rattle.catalog_rules.specs.Objects.{Object, table_in}
-use Rattle.catalog_rules.specs.Bodies.{has_code}
-use Rattle.catalog_rules.specs.Nodes.{Sight, no_sight, Node, a_name, a_column, a_new_column, an_old_column, an_inserted_value, a_user_variable, a_system_variable, a_built_in, a_random_number, a_function_call, a_table_read, a_limit, a_statement, count_of_trees, nodes_of, nodes_of_tree, nodes_of_rows, table_read_at}
-use Rattle.catalog_rules.specs.Checks.{session_scope, unless, has_column, table_has_column, limit_codes, given_columns, is_left_out, count_of_aggregates, width_of_origin, width_of_query, has_width, tables_read, reads_its_target, columns_codes, insert_codes, set_codes, change_codes, statement_codes, node_codes, check_order, statement_refusal}
-use Rattle.sql_meaning.specs.Frames.{number_or_none}
-use Rattle.sql_meaning.specs.Running.{is_ill_count, is_ill_limit}
+use Rattle.sql_reach.specs.catalog_rules.Names.{is_among, has_twice}
+use Rattle.sql_reach.specs.catalog_rules.Objects.{Object, table_in}
+use Rattle.sql_reach.specs.catalog_rules.Bodies.{has_code}
+use Rattle.sql_reach.specs.catalog_rules.Nodes.{Sight, no_sight, Node, a_name, a_column, a_new_column, an_old_column, an_inserted_value, a_user_variable, a_system_variable, a_built_in, a_random_number, a_function_call, a_table_read, a_limit, a_statement, count_of_trees, nodes_of, nodes_of_tree, nodes_of_rows, table_read_at}
+use Rattle.sql_reach.specs.catalog_rules.Checks.{session_scope, unless, has_column, table_has_column, limit_codes, given_columns, is_left_out, count_of_aggregates, width_of_origin, width_of_query, has_width, tables_read, reads_its_target, columns_codes, insert_codes, set_codes, change_codes, statement_codes, node_codes, check_order, statement_refusal}
+use Rattle.sql_reach.specs.sql_meaning.Frames.{number_or_none}
+use Rattle.sql_reach.specs.sql_meaning.Running.{is_ill_count, is_ill_limit}
 use Rattle.sql_reach.specs.Closing.{statement_mapped, trees_mapped, query_mapped, origin_mapped, aggregates_mapped, set_mapped, supply_mapped, const_if, closed_name, number_if, closed_by, closed_count, closed}
 use Rattle.closing_laws.specs.Laws.{ClosedIsAllowed, is_closable, scope_with}
 use Rattle.closing_laws.proofs.Asking.{Alike, as_many, is_plain, rows_asked, statement_asked}

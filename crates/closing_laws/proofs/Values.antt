@@ -22,9 +22,9 @@ use Rattle.sql_tree.specs.declared.expressions.Limit.{Limit}
 use Rattle.sql_locals.specs.Locals.{find_from, find_local}
 use Rattle.sql_locals.specs.declared.locals.Local.{Local}
 use Rattle.sql_tree.specs.BuiltIns.{about}
-use Rattle.sql_meaning.specs.Scenes.{Action, ◌>>=◌, pure, answered, needed, each, kept_by, table_now, draw}
-use Rattle.sql_meaning.specs.Frames.{World, Frame, sees, column_in_view, number_or_none, count_value, limited, limited_to, capped}
-use Rattle.sql_meaning.specs.Values.{function_value, by_manner, holds, unless_known, found_or, membership, only_value, has_rows, sorted, directions, functions_of, formed, value, values, found_among, value_of_arms, value_of_part, value_of_if, value_at, first_known_of, is_kept, order_values, argument_values, shown_rows, row_alone, rows_of_query}
+use Rattle.sql_reach.specs.sql_meaning.Scenes.{Action, ◌>>=◌, pure, answered, needed, each, kept_by, table_now, draw}
+use Rattle.sql_reach.specs.sql_meaning.Frames.{World, Frame, sees, column_in_view, number_or_none, count_value, limited, limited_to, capped}
+use Rattle.sql_reach.specs.sql_meaning.Values.{function_value, by_manner, holds, unless_known, found_or, membership, only_value, has_rows, sorted, directions, functions_of, formed, value, values, found_among, value_of_arms, value_of_part, value_of_if, value_at, first_known_of, is_kept, order_values, argument_values, shown_rows, row_alone, rows_of_query}
 use Rattle.sql_reach.specs.Closing.{limit_mapped, tree_mapped, trees_mapped, arms_mapped, part_mapped, query_mapped, selected_mapped, aggregates_mapped, orders_mapped, const_if, closed_name, number_if, closed_by, closed_count}
 use Rattle.closing_laws.specs.Laws.{is_short, holds_short}
 

@@ -9,11 +9,11 @@ use Rattle.sql_tree.specs.Statement.{Statement, create_table, create_function, c
 use Rattle.sql_tree.specs.declared.statements.SqlType.TheVariants as types
 use Rattle.sql_locals.specs.declared.locals.Local.{Local}
 use Rattle.sql_locals.specs.Locals.{find_local}
-use Rattle.catalog_rules.specs.Nodes.{Sight, no_sight, Node, a_name, nodes_of, nodes_of_tree, nodes_of_trees, table_at, table_changed}
-use Rattle.sql_meaning.specs.Scenes.{undone}
-use Rattle.sql_meaning.specs.Frames.{Context, Setting, World, only_locals}
-use Rattle.sql_meaning.specs.Values.{values}
-use Rattle.sql_meaning.specs.Running.{tables_named, level_of, forced_for, effect, evaluation, perform}
+use Rattle.sql_reach.specs.catalog_rules.Nodes.{Sight, no_sight, Node, a_name, nodes_of, nodes_of_tree, nodes_of_trees, table_at, table_changed}
+use Rattle.sql_reach.specs.sql_meaning.Scenes.{undone}
+use Rattle.sql_reach.specs.sql_meaning.Frames.{Context, Setting, World, only_locals}
+use Rattle.sql_reach.specs.sql_meaning.Values.{values}
+use Rattle.sql_reach.specs.sql_meaning.Running.{tables_named, level_of, forced_for, effect, evaluation, perform}
 use Rattle.sql_reach.specs.Closing.{statement_mapped, trees_mapped, const_if, closed_name, closed_count, closed}
 use Rattle.closing_laws.specs.Laws.{FittedIsShort, ClosedDoesTheSame, ClosedGivesTheSame}
 use Rattle.closing_laws.proofs.Asking.{Alike, trees_asked, statement_asked}

@@ -13,12 +13,12 @@ use Rattle.sql_locals.specs.Locals.{has_literal}
 use Rattle.sql_locals.specs.Types.{column_type, has_size}
 use Rattle.sql_print.specs.StatementSpelling.{spelling}
 use Rattle.sql_syntax.specs.Texts.{reads}
-use Rattle.catalog_rules.specs.Objects.{Object}
-use Rattle.catalog_rules.specs.Nodes.{nodes_of}
-use Rattle.catalog_rules.specs.Checks.{Scope, session_scope, statement_refusal}
-use Rattle.sql_meaning.specs.Scenes.{Scene}
-use Rattle.sql_meaning.specs.Frames.{Setting}
-use Rattle.sql_meaning.specs.Running.{effect, evaluation, is_ill_limit}
+use Rattle.sql_reach.specs.catalog_rules.Objects.{Object}
+use Rattle.sql_reach.specs.catalog_rules.Nodes.{nodes_of}
+use Rattle.sql_reach.specs.catalog_rules.Checks.{Scope, session_scope, statement_refusal}
+use Rattle.sql_reach.specs.sql_meaning.Scenes.{Scene}
+use Rattle.sql_reach.specs.sql_meaning.Frames.{Setting}
+use Rattle.sql_reach.specs.sql_meaning.Running.{effect, evaluation, is_ill_limit}
 use Rattle.sql_reach.specs.Closing.{trees_mapped, closed_name, closed_count, closed}
 
 -- ---- values of locals

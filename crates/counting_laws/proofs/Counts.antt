@@ -17,7 +17,7 @@ use Rattle.sql_tree.specs.Statement.{Statement, create_table, create_function, c
 use Rattle.sql_tree.specs.declared.expressions.Count.{Count}
 use Rattle.sql_tree.specs.declared.statements.Cause.{Cause}
 use Rattle.sql_tree.specs.declared.statements.Cause.TheVariants as causes
-use Rattle.catalog_rules.specs.Nodes.{nodes_of}
+use Rattle.sql_meaning.specs.catalog_rules.Nodes.{nodes_of}
 use Rattle.sql_meaning.specs.Scenes.{Scene, Ending, done, failed, Action, then_do, ◌>>=◌, pure, fail, require, each, counted, carried_on, make, noted, table_now, undone_from, undone}
 use Rattle.sql_meaning.specs.Frames.{Below, World, Frame, only_locals}
 use Rattle.sql_meaning.specs.Values.{values, rows_of_query}

@@ -7,9 +7,9 @@ use Rattle.event_codec.specs.Event.{Body, query, xid, format_description}
 use Rattle.event_codec.specs.Reading.{short}
 use Rattle.event_codec.specs.Writing.{size, format_description_bytes, layout_bytes}
 use Rattle.byte_fields.specs.Field.{number_bytes}
-use Rattle.log_entries.specs.declared.entries.Item.{Item}
-use Rattle.log_entries.specs.declared.entries.Entry.{Entry}
-use Rattle.log_entries.specs.declared.entries.Entry.TheVariants.{Transaction, Definition, LogStart}
+use Rattle.log_model.specs.log_entries.declared.entries.Item.{Item}
+use Rattle.log_model.specs.log_entries.declared.entries.Entry.{Entry}
+use Rattle.log_model.specs.log_entries.declared.entries.Entry.TheVariants.{Transaction, Definition, LogStart}
 use Rattle.log_model.specs.Events.{Place, events_from, stop_from}
 use Rattle.log_model.specs.Groups.{Stage, first, between, Move, go, close, refuse, move, Group, group, not_whole, group_at}
 use Rattle.log_model.specs.Items.{query_of, spelled, at_time, item_events, AreCarried}

@@ -1,3 +1,5 @@
 pub mod Parting
 pub mod Cutting
 pub mod EntryLaws
+-- the crates below that this one speaks of, passed on
+pub use Rattle.log_model.proofs as log_model

@@ -3,9 +3,9 @@ use Rattle.std.specs.Prelude.{◌≡◌, ◌<◌, ◌≤◌, ◌^◌, ℕ, ◌+�
 use Rattle.std.specs.Str.{bytes_eq}
 use Rattle.event_codec.specs.Event.{query}
 use Rattle.event_codec.specs.Writing.{size}
-use Rattle.log_entries.specs.declared.entries.Item.{Item}
-use Rattle.log_entries.specs.declared.entries.Entry.{Entry}
-use Rattle.log_entries.specs.declared.entries.Entry.TheVariants.{Transaction, Definition, LogStart}
+use Rattle.log_model.specs.log_entries.declared.entries.Item.{Item}
+use Rattle.log_model.specs.log_entries.declared.entries.Entry.{Entry}
+use Rattle.log_model.specs.log_entries.declared.entries.Entry.TheVariants.{Transaction, Definition, LogStart}
 use Rattle.log_model.specs.Groups.{Form, start, ddl, txn, Group}
 use Rattle.log_model.specs.Items.{query_of, item_events, AreCarried}
 use Rattle.log_model.specs.Log.{LogPlace, begin_query, transaction, definition, behind, counted}

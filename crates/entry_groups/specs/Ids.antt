@@ -1,7 +1,7 @@
 -- The ids that a log can say of the items that it has by their texts.
 use Rattle.std.specs.Prelude.{◌-◌, ◌^◌, Bool, true, false, List, [], ◌∷◌, ℤ, pos, ◌≤ℤ◌, IfSome}
-use Rattle.log_entries.specs.declared.carried.Carried.{Carried}
-use Rattle.log_entries.specs.declared.entries.Item.{Item}
+use Rattle.log_model.specs.log_entries.declared.carried.Carried.{Carried}
+use Rattle.log_model.specs.log_entries.declared.entries.Item.{Item}
 
 -- An id that a log can say: it is written by its 64 bits and read as a natural number, so it is one below 2^63.
 pub record IsId (id : ℤ) : Type 0 where

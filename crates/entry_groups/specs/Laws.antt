@@ -1,7 +1,7 @@
 -- Entries are read again as their groups, and a front of one as nothing whole.
 use Rattle.std.specs.Prelude.{◌≡◌, ◌<◌, ◌≤◌, ◌^◌, ℕ, ◌+◌, List, ◌++◌, length}
-use Rattle.log_entries.specs.declared.entries.Item.{Item}
-use Rattle.log_entries.specs.declared.entries.Entry.{Entry}
+use Rattle.log_model.specs.log_entries.declared.entries.Item.{Item}
+use Rattle.log_model.specs.log_entries.declared.entries.Entry.{Entry}
 use Rattle.log_model.specs.Groups.{Group, group, not_whole, group_at}
 use Rattle.log_model.specs.Log.{LogPlace, description, entry_bytes, counted_all, written_to}
 use Rattle.log_model.specs.Written.{bytes_of}

@@ -21,7 +21,10 @@
 
 mod laws;
 
+// The crates below that this one speaks of, passed on: who stands above names them through it.
 pub use laws::{
     entries_can_log_on, entry_is_cut, entry_is_read, few_are_cut, groups_have_bounds,
     relay_is_read, start_is_cut, start_is_read, start_relay_is_read,
 };
+pub use log_model;
+pub use log_model::log_entries;

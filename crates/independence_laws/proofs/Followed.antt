@@ -11,20 +11,20 @@ use Rattle.val_types.specs.declared.ops.Func0.{Func0}
 use Rattle.sql_tree.specs.Statement.{Statement, create_table, create_function, create_procedure, create_trigger, drop_table, drop_function, drop_procedure, drop_trigger, truncate, insert_into, replace_into, update_rows, delete_rows, select, evaluate, set_all, call_procedure, begin, commit, rollback, savepoint, rollback_to, release_savepoint, block, if_steps, while_steps, return_value}
 use Rattle.sql_tree.specs.declared.statements.Time.{Time}
 use Rattle.sql_tree.specs.declared.statements.Cause.{Cause}
-use Rattle.catalog_rules.specs.Names.{same_name}
-use Rattle.catalog_rules.specs.Objects.{Object, function, reaction, function_in, trigger_for}
-use Rattle.catalog_rules.specs.Checks.{statement_refusal, expression_refusal}
-use Rattle.catalog_rules.specs.Nodes.{Node, a_name, a_column, a_new_column, an_old_column, an_inserted_value, a_user_variable, a_system_variable, a_built_in, a_random_number, a_function_call, a_table_read, a_limit, a_statement, nodes_of}
-use Rattle.log_entries.specs.Variables.{variable_value}
-use Rattle.sql_meaning.specs.Scenes.{Scene, Ending, done, failed, undone_from}
-use Rattle.sql_meaning.specs.Frames.{Context, Setting, World, Frame, only_locals}
-use Rattle.sql_meaning.specs.Values.{system_value}
-use Rattle.sql_meaning.specs.Changing.{Did, replacing}
-use Rattle.sql_meaning.specs.Running.{manner_of, perform, world_of, uses_forced, forced_for, effect}
-use Rattle.sql_meaning.specs.Fuel.{HasMore, DoneAgain, StatementsKeep}
-use Rattle.sql_reach.specs.Carrying.{asks_last_id, draws, user_variable_at, in_byte_order, variables_reached, if_asked, carried_by, carried}
-use Rattle.sql_reach.specs.Reach.{causes_event, body_nodes, reached_programs, reached_nodes}
-use Rattle.sql_reach.specs.Reasons.{is_unsafe_function, names_server_id, inserts_counted}
+use Rattle.session_ctx.specs.catalog_rules.Names.{same_name}
+use Rattle.session_ctx.specs.catalog_rules.Objects.{Object, function, reaction, function_in, trigger_for}
+use Rattle.session_ctx.specs.catalog_rules.Checks.{statement_refusal, expression_refusal}
+use Rattle.session_ctx.specs.catalog_rules.Nodes.{Node, a_name, a_column, a_new_column, an_old_column, an_inserted_value, a_user_variable, a_system_variable, a_built_in, a_random_number, a_function_call, a_table_read, a_limit, a_statement, nodes_of}
+use Rattle.session_ctx.specs.log_entries.Variables.{variable_value}
+use Rattle.session_ctx.specs.sql_meaning.Scenes.{Scene, Ending, done, failed, undone_from}
+use Rattle.session_ctx.specs.sql_meaning.Frames.{Context, Setting, World, Frame, only_locals}
+use Rattle.session_ctx.specs.sql_meaning.Values.{system_value}
+use Rattle.session_ctx.specs.sql_meaning.Changing.{Did, replacing}
+use Rattle.session_ctx.specs.sql_meaning.Running.{manner_of, perform, world_of, uses_forced, forced_for, effect}
+use Rattle.session_ctx.specs.sql_meaning.Fuel.{HasMore, DoneAgain, StatementsKeep}
+use Rattle.reach_laws.specs.sql_reach.Carrying.{asks_last_id, draws, user_variable_at, in_byte_order, variables_reached, if_asked, carried_by, carried}
+use Rattle.reach_laws.specs.sql_reach.Reach.{causes_event, body_nodes, reached_programs, reached_nodes}
+use Rattle.reach_laws.specs.sql_reach.Reasons.{is_unsafe_function, names_server_id, inserts_counted}
 use Rattle.session_ctx.specs.Carrying.{StandsIn}
 use Rattle.independence_laws.proofs.Relation.{AreAlike, EndsAlike}
 use Rattle.independence_laws.proofs.Alike.{Known, alike_law}

@@ -4,9 +4,9 @@ use Rattle.std.specs.Prelude.{is_some}
 use Rattle.std.specs.Option.{option_map_or}
 use Rattle.val_types.specs.declared.definitions.TableDef.{TableDef}
 use Rattle.sql_tree.specs.Statement.{create_table, create_function, create_procedure, create_trigger, drop_table, drop_function, drop_procedure, drop_trigger, truncate, insert_into, replace_into, update_rows, delete_rows, select, evaluate, set_all, call_procedure, begin, commit, rollback, savepoint, rollback_to, release_savepoint, block, if_steps, while_steps, return_value}
-use Rattle.catalog_rules.specs.Objects.{Object, table_in}
-use Rattle.catalog_rules.specs.Nodes.{Node, a_name, a_column, a_new_column, an_old_column, an_inserted_value, a_user_variable, a_system_variable, a_built_in, a_random_number, a_function_call, a_table_read, a_limit, a_statement}
-use Rattle.sql_reach.specs.Reasons.{is_counted, inserts_counted}
+use Rattle.session_ctx.specs.catalog_rules.Objects.{Object, table_in}
+use Rattle.session_ctx.specs.catalog_rules.Nodes.{Node, a_name, a_column, a_new_column, an_old_column, an_inserted_value, a_user_variable, a_system_variable, a_built_in, a_random_number, a_function_call, a_table_read, a_limit, a_statement}
+use Rattle.reach_laws.specs.sql_reach.Reasons.{is_counted, inserts_counted}
 use Rattle.reach_laws.proofs.Reaching.{table_inserted}
 use Rattle.reach_laws.proofs.Expressions.{IsNoStatement}
 

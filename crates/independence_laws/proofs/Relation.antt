@@ -1,9 +1,9 @@
 -- Two scenes in which a statement does the same, whoever runs it: what they have in common.
 use Rattle.std.specs.Prelude.{◌≡◌, List}
 use Rattle.table_rules.specs.Stores.{definitions_of}
-use Rattle.catalog_rules.specs.Bases.{definitions_in}
-use Rattle.catalog_rules.specs.Objects.{Object}
-use Rattle.sql_meaning.specs.Scenes.{Scene, Ending, done, failed}
+use Rattle.session_ctx.specs.catalog_rules.Bases.{definitions_in}
+use Rattle.session_ctx.specs.catalog_rules.Objects.{Object}
+use Rattle.session_ctx.specs.sql_meaning.Scenes.{Scene, Ending, done, failed}
 
 -- The same tables with the definitions of the catalog, the same changes, as many turns; the same seeds where RAND() is reached. Counters
 -- and the count of UUIDs are not in it.

@@ -11,8 +11,8 @@ use Rattle.std.proofs.lemmas.Bool.Decides.{nat_tests}
 use Rattle.std.proofs.lemmas.Cmp.{same_from_slice_cmp}
 use Rattle.val_types.specs.declared.value.Value.{Value}
 use Rattle.table_rules.proofs.Places.{name_is, name_self}
-use Rattle.catalog_rules.specs.Nodes.{Node, a_user_variable}
-use Rattle.sql_reach.specs.Carrying.{user_variable_at, put_by_order, put_name, in_byte_order}
+use Rattle.session_ctx.specs.catalog_rules.Nodes.{Node, a_user_variable}
+use Rattle.reach_laws.specs.sql_reach.Carrying.{user_variable_at, put_by_order, put_name, in_byte_order}
 use Rattle.reach_laws.specs.Members.{In}
 use Rattle.reach_laws.proofs.Members.{clash}
 

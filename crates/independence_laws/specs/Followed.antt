@@ -2,10 +2,10 @@
 use Rattle.std.specs.Prelude.{Bool, true, false, not, ◌&&◌, ◌||◌, List, flat_map}
 use Rattle.std.specs.List.{list_all, list_any}
 use Rattle.sql_tree.specs.Statement.{Statement}
-use Rattle.catalog_rules.specs.Objects.{Object}
-use Rattle.catalog_rules.specs.Nodes.{Node, a_built_in, nodes_of}
-use Rattle.sql_reach.specs.Reach.{body_nodes, reached_programs, reached_nodes}
-use Rattle.sql_reach.specs.Reasons.{Reason, a_function, is_unsafe_function, names_server_id, inserts_counted, reasons}
+use Rattle.session_ctx.specs.catalog_rules.Objects.{Object}
+use Rattle.session_ctx.specs.catalog_rules.Nodes.{Node, a_built_in, nodes_of}
+use Rattle.reach_laws.specs.sql_reach.Reach.{body_nodes, reached_programs, reached_nodes}
+use Rattle.reach_laws.specs.sql_reach.Reasons.{Reason, a_function, is_unsafe_function, names_server_id, inserts_counted, reasons}
 
 -- a call of UUID(), SYSDATE(), USER() or ROW_COUNT(), whose value is that of a node or of a session and is not carried
 abbrev pub names_own_function : Node → Bool

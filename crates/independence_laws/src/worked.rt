@@ -5,9 +5,9 @@ ghost use Rattle.sql_tree.specs.BuiltIns.{on_none};
 ghost use Rattle.sql_tree.specs.Tree.{call, floor_rand, no_order, no_part, no_tree, part, system_variable};
 ghost use Rattle.sql_tree.specs.Statement.{delete_rows};
 ghost use Rattle.sql_tree.specs.declared.expressions.Count.TheVariants as counts;
-ghost use Rattle.catalog_rules.specs.Objects.{table};
-ghost use Rattle.sql_meaning.specs.Worked.{a_def, inserting, n, selecting};
-ghost use Rattle.sql_reach.specs.Worked.{u_and_w, with_trigger};
+ghost use Rattle.session_ctx.specs.catalog_rules.Objects.{table};
+ghost use Rattle.session_ctx.specs.sql_meaning.Worked.{a_def, inserting, n, selecting};
+ghost use Rattle.reach_laws.specs.sql_reach.Worked.{u_and_w, with_trigger};
 ghost use Rattle.independence_laws.specs.Followed.{is_followed, is_unsafe_by_rand_alone};
 
 /// RAND() alone; beside it USER(), @@server_id or a LIMIT. UUID() behind a function behind a function, NOW(); a trigger that

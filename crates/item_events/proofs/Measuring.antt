@@ -7,10 +7,10 @@ use Rattle.byte_fields.proofs.FieldLaws.{field_width}
 use Rattle.val_types.specs.declared.value.Value.{Value}
 use Rattle.event_codec.specs.Event.{Body, Query, query, user_var}
 use Rattle.event_codec.specs.Writing.{size, step_bytes, query_bytes, user_var_bytes, value_bytes}
-use Rattle.log_entries.specs.declared.carried.Carried.{Carried}
-use Rattle.log_model.specs.Items.{at_time, query_of, text_of}
-use Rattle.log_model.specs.Spelling.{bodies_of}
-use Rattle.log_model.specs.Written.{total}
+use Rattle.row_events.specs.log_entries.declared.carried.Carried.{Carried}
+use Rattle.row_events.specs.log_model.Items.{at_time, query_of, text_of}
+use Rattle.row_events.specs.log_model.Spelling.{bodies_of}
+use Rattle.row_events.specs.log_model.Written.{total}
 use Rattle.row_events.specs.Sizes.{bounded, sizes}
 use Rattle.row_events.proofs.GoingOn.{total_append, total_any, at_time_append}
 use Rattle.item_events.specs.Parts.{numbers, variables}

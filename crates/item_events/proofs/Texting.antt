@@ -8,10 +8,10 @@ use Rattle.val_types.specs.declared.value.Value.{Value}
 use Rattle.event_codec.specs.declared.event.Header.{Header}
 use Rattle.event_codec.specs.declared.event.IntVarKind.TheVariants.{LastInsertId, InsertId}
 use Rattle.event_codec.specs.Event.{Body, query, user_var, int_var, rand}
-use Rattle.log_entries.specs.declared.carried.Carried.{Carried}
-use Rattle.log_model.specs.Items.{at_time, query_of, text_of}
-use Rattle.log_model.specs.Spelling.{bodies_of, some_of, vars_before}
-use Rattle.log_model.specs.Written.{Stamped, CanWriteAll}
+use Rattle.row_events.specs.log_entries.declared.carried.Carried.{Carried}
+use Rattle.row_events.specs.log_model.Items.{at_time, query_of, text_of}
+use Rattle.row_events.specs.log_model.Spelling.{bodies_of, some_of, vars_before}
+use Rattle.row_events.specs.log_model.Written.{Stamped, CanWriteAll}
 use Rattle.row_events.specs.Writing.{Wrote, GoesOn}
 use Rattle.row_events.proofs.GoingOn.{starts, goes, ends, next, fails, at_time_append}
 use Rattle.item_events.specs.Parts.{if_some, numbers, variables}

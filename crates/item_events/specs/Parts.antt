@@ -5,7 +5,7 @@ use Rattle.std.specs.Int.{w64, cast_unsigned}
 use Rattle.val_types.specs.declared.value.Value.{Value}
 use Rattle.event_codec.specs.declared.event.IntVarKind.TheVariants.{LastInsertId, InsertId}
 use Rattle.event_codec.specs.Event.{Body, int_var, rand, user_var}
-use Rattle.log_entries.specs.declared.carried.Carried.{Carried}
+use Rattle.row_events.specs.log_entries.declared.carried.Carried.{Carried}
 
 -- the event of what is there
 abbrev pub if_some : {X : Type 0} → (X → Body) → Option X → List Body

@@ -1,13 +1,13 @@
 //! The events of an item.
 ghost use Rattle.std.specs.Prelude.{IfOk, OnErr};
 ghost use Rattle.byte_fields.specs.Field.{BeginsWith};
-ghost use Rattle.log_model.specs.Items.{item_events, IsCarried};
-ghost use Rattle.log_model.specs.Written.{CanWriteAll};
+ghost use Rattle.row_events.specs.log_model.Items.{item_events, IsCarried};
+ghost use Rattle.row_events.specs.log_model.Written.{CanWriteAll};
 ghost use Rattle.row_events.specs.Writing.{Wrote};
 
 use crate::text::put_text;
 use event_codec::Header;
-use log_entries::Item;
+use row_events::log_entries::Item;
 use row_events::put_rows;
 use std::alloc::Global;
 use val_types::{Bytes, NoMemory};

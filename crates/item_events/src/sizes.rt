@@ -5,14 +5,14 @@ ghost use Rattle.std.specs.Option.{option_map};
 ghost use Rattle.event_codec.specs.declared.event.IntVarKind.{IntVarKind};
 ghost use Rattle.event_codec.specs.Event.{int_var, query, rand, user_var};
 ghost use Rattle.event_codec.specs.Writing.{size, step_bytes, value_bytes};
-ghost use Rattle.log_model.specs.Items.{at_time, item_size, query_of, step_of, text_of};
-ghost use Rattle.log_model.specs.Spelling.{bodies_of};
-ghost use Rattle.log_model.specs.Written.{total};
+ghost use Rattle.row_events.specs.log_model.Items.{at_time, item_size, query_of, step_of, text_of};
+ghost use Rattle.row_events.specs.log_model.Spelling.{bodies_of};
+ghost use Rattle.row_events.specs.log_model.Written.{total};
 ghost use Rattle.row_events.specs.Sizes.{bounded, sizes};
 ghost use Rattle.item_events.specs.Parts.{if_some, numbers, variables};
 
 use crate::text::step_of;
-use log_entries::{Carried, Item, Vars};
+use row_events::log_entries::{Carried, Item, Vars};
 use row_events::rows_size;
 use val_types::{Bytes, Value};
 

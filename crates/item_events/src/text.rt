@@ -4,14 +4,14 @@ ghost use Rattle.std.specs.Int.{w64, cast_unsigned};
 ghost use Rattle.std.specs.Option.{option_map};
 ghost use Rattle.byte_fields.specs.Field.{BeginsWith};
 ghost use Rattle.event_codec.specs.Event.{int_var, query, rand, user_var, value_of};
-ghost use Rattle.log_model.specs.Items.{at_time, query_of, step_of, text_of};
-ghost use Rattle.log_model.specs.Spelling.{bodies_of};
-ghost use Rattle.log_model.specs.Written.{CanWriteAll};
+ghost use Rattle.row_events.specs.log_model.Items.{at_time, query_of, step_of, text_of};
+ghost use Rattle.row_events.specs.log_model.Spelling.{bodies_of};
+ghost use Rattle.row_events.specs.log_model.Written.{CanWriteAll};
 ghost use Rattle.row_events.specs.Writing.{Wrote};
 ghost use Rattle.item_events.specs.Parts.{if_some, numbers, variables};
 
 use event_codec::{Event, Header, IntVarKind, QueryView, Step, UserVarView, VarValue};
-use log_entries::{Carried, Vars};
+use row_events::log_entries::{Carried, Vars};
 use row_events::put;
 use val_types::{Bytes, NoMemory, Value};
 

@@ -2,8 +2,8 @@
 use Rattle.std.specs.Prelude.{◌≡◌, List, [], ◌∷◌, ◌++◌, flat_map, Option, Some}
 use Rattle.std.specs.Option.{option_map, option_and_then}
 use Rattle.val_types.specs.declared.change.Change.{Change}
-use Rattle.catalog_rules.specs.table_rules.Tables.{Table}
-use Rattle.catalog_rules.specs.table_rules.Stored.{all_applied}
+use Rattle.table_rules.specs.Tables.{Table}
+use Rattle.table_rules.specs.Stored.{all_applied}
 use Rattle.catalog_rules.specs.Bases.{Base}
 use Rattle.log_entries.specs.declared.entries.Entry.{Entry}
 use Rattle.log_entries.specs.declared.entries.Entry.TheVariants.{Transaction, Definition, LogStart}

@@ -2,4 +2,3 @@ pub mod Entries
 pub mod Variables
 -- the crates below that this one speaks of, passed on
 pub use Rattle.catalog_rules.specs as catalog_rules
-pub use Rattle.catalog_rules.specs.table_rules as table_rules

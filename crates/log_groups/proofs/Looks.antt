@@ -12,10 +12,10 @@ use Rattle.event_codec.specs.declared.fault.Fault.TheVariants.{Damaged, Foreign}
 use Rattle.event_codec.specs.Event.{Body, query, rotate, int_var, rand, user_var, format_description, xid, table_map, rows, Query, Map, Rows, Seen}
 use Rattle.event_codec.specs.Reading.{Reading, event, none, Stop, short, damaged, foreign, reading, read_as, headed, body_at, Within}
 use Rattle.event_codec.proofs.Lying.{lies_within}
-use Rattle.log_model.specs.Events.{Place, Placed, past, events_from, stop_from}
-use Rattle.log_model.specs.Groups.{Stage, first, between, maps, in_rows, go, close, refuse, move, int_var_move, rows_move, Scan, done, stopped, scan, start, group, not_whole, damaged_at, until_xid, stop_next, txn_of, begun_by, group_at}
-use Rattle.log_model.specs.Images.{are_rows}
-use Rattle.log_model.proofs.Walking.{events_some, events_none, stop_none}
+use Rattle.row_image.specs.log_model.Events.{Place, Placed, past, events_from, stop_from}
+use Rattle.row_image.specs.log_model.Groups.{Stage, first, between, maps, in_rows, go, close, refuse, move, int_var_move, rows_move, Scan, done, stopped, scan, start, group, not_whole, damaged_at, until_xid, stop_next, txn_of, begun_by, group_at}
+use Rattle.row_image.specs.log_model.Images.{are_rows}
+use Rattle.row_image.proofs.log_model.Walking.{events_some, events_none, stop_none}
 use Rattle.whole_groups.proofs.Staying.{event_front, number_front}
 use Rattle.log_groups.specs.declared.growing.Mark.{Mark}
 use Rattle.log_groups.specs.declared.growing.Mark.TheVariants as mark

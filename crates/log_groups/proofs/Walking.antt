@@ -4,9 +4,9 @@ use Rattle.std.specs.Prelude.{if◌then◌else◌, ◌==◌}
 use Rattle.event_codec.specs.Event.{Seen, Body, query, rotate, int_var, rand, user_var, format_description, xid, table_map, rows, Map, Query}
 use Rattle.event_codec.specs.Reading.{event, none, Stop, reading, Within}
 use Rattle.event_codec.proofs.Lying.{lies_within}
-use Rattle.log_model.specs.Events.{Place, Placed, past, events_from, stop_from}
-use Rattle.log_model.specs.Groups.{until_xid, is_xid, find, Stage, go, close, refuse, move, Scan, scan, scanned, txn, Next, group, damaged_at, stop_next, txn_of, begun_by, group_at, statement_of}
-use Rattle.log_model.proofs.Walking.{events_some, stop_some, events_none, stop_none}
+use Rattle.row_image.specs.log_model.Events.{Place, Placed, past, events_from, stop_from}
+use Rattle.row_image.specs.log_model.Groups.{until_xid, is_xid, find, Stage, go, close, refuse, move, Scan, scan, scanned, txn, Next, group, damaged_at, stop_next, txn_of, begun_by, group_at, statement_of}
+use Rattle.row_image.proofs.log_model.Walking.{events_some, stop_some, events_none, stop_none}
 use Rattle.log_groups.specs.declared.stage.Move as moves
 use Rattle.log_groups.specs.declared.stage.Move.TheVariants as move_is
 use Rattle.log_groups.specs.declared.stage.Stage.TheVariants as stage_is

@@ -5,8 +5,8 @@ use Rattle.event_codec.specs.declared.event.IntVarKind.{IntVarKind}
 use Rattle.event_codec.specs.declared.event.IntVarKind.TheVariants.{LastInsertId, InsertId}
 use Rattle.event_codec.specs.Event.{Body, query, rotate, int_var, rand, user_var, format_description, xid, table_map, rows, Query, Seen}
 use Rattle.event_codec.specs.Reading.{event, reading}
-use Rattle.log_model.specs.Events.{Place, Placed, past, events_from, stop_from}
-use Rattle.log_model.specs.Groups.{Stage, first, between, vars, maps, in_rows, scan, Next, group, not_whole, damaged_at, foreign_at, until_xid, group_at}
+use Rattle.row_image.specs.log_model.Events.{Place, Placed, past, events_from, stop_from}
+use Rattle.row_image.specs.log_model.Groups.{Stage, first, between, vars, maps, in_rows, scan, Next, group, not_whole, damaged_at, foreign_at, until_xid, group_at}
 use Rattle.log_groups.specs.declared.growing.Mark.{Mark}
 use Rattle.log_groups.specs.declared.growing.Mark.TheVariants as mark
 use Rattle.log_groups.specs.declared.growing.Progress.{Progress}

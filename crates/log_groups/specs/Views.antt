@@ -2,8 +2,8 @@
 use Rattle.std.specs.Prelude.{◌≡◌, ◌==◌, ◌≤◌, if◌then◌else◌, ℕ, Bool, true, false, List, [], ◌∷◌, take, drop, Option, Some, None}
 use Rattle.event_codec.specs.Event.{Body, query, rotate, int_var, rand, user_var, format_description, xid, table_map, rows, Map, seen, query_of}
 use Rattle.event_codec.specs.declared.event.QueryView.{QueryView}
-use Rattle.log_model.specs.Events.{Place, Placed, events_from}
-use Rattle.log_model.specs.Groups.{Stage, first, between, vars, maps, in_rows, Move, go, close, refuse, Statement, Form, start, next_log, ddl, txn, Group, Next, group, not_whole, damaged_at, foreign_at, until_xid}
+use Rattle.row_image.specs.log_model.Events.{Place, Placed, events_from}
+use Rattle.row_image.specs.log_model.Groups.{Stage, first, between, vars, maps, in_rows, Move, go, close, refuse, Statement, Form, start, next_log, ddl, txn, Group, Next, group, not_whole, damaged_at, foreign_at, until_xid}
 use Rattle.log_groups.specs.declared.items.Items.{Items}
 use Rattle.log_groups.specs.declared.items.Part.{Part}
 use Rattle.log_groups.specs.declared.stage.Stage as code_stage_type

@@ -2,7 +2,7 @@
 ghost use Rattle.std.specs.Prelude.{◌≡◌, ◌≤◌, ◌<◌, ◌^◌, ◌+◌, length, take, drop, IfSome};
 ghost use Rattle.std.specs.Option.{option_map};
 ghost use Rattle.event_codec.specs.Event.{body_of, map_of};
-ghost use Rattle.log_model.specs.Groups.{find, is_xid};
+ghost use Rattle.row_image.specs.log_model.Groups.{find, is_xid};
 ghost use Rattle.log_groups.specs.Views.{ends_item, map_with, maps_in, part_of, parts, place_of, walked};
 
 use event_codec::{Event, MapView, Read, read_event};

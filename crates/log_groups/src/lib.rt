@@ -35,7 +35,11 @@ mod items;
 mod reading;
 mod stage;
 
+// The crates below that this one speaks of, passed on: who stands above names them through it.
 pub use group::{Form, Group, Next};
 pub use growing::{Look, Mark, Progress, look_at, looks_stay};
 pub use items::{Items, Part};
 pub use reading::next_group;
+pub use row_image;
+pub use whole_groups;
+pub use whole_groups::log_entries;

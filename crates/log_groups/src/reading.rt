@@ -1,8 +1,8 @@
 //! The group at the front of some bytes.
 ghost use Rattle.std.specs.Prelude.{◌≡◌, ◌<◌, ◌^◌, ◌+◌};
 ghost use Rattle.event_codec.specs.Event.{body_of, query_of, seen, size_of};
-ghost use Rattle.log_model.specs.Events.{events_from, stop_from};
-ghost use Rattle.log_model.specs.Groups.{begun_by, first, group_at, scan, txn_of};
+ghost use Rattle.row_image.specs.log_model.Events.{events_from, stop_from};
+ghost use Rattle.row_image.specs.log_model.Groups.{begun_by, first, group_at, scan, txn_of};
 ghost use Rattle.log_groups.specs.Views.{next_of, place_of, query_at};
 
 use crate::group::{Form, Group, Next};

@@ -2,8 +2,8 @@
 ghost use Rattle.std.specs.Prelude.{◌≡◌, ◌<◌, ◌^◌, ◌+◌, ◌++◌, ◌∷◌, [], take};
 ghost use Rattle.event_codec.specs.Event.{body_of, map_of, rows_of, seen, table_map};
 ghost use Rattle.event_codec.specs.Reading.{event, reading};
-ghost use Rattle.log_model.specs.Events.{past};
-ghost use Rattle.log_model.specs.Groups.{begin_move, between_move, find, go, in_rows_move, int_var_move, maps, maps_move, move, rows_move, text_move};
+ghost use Rattle.row_image.specs.log_model.Events.{past};
+ghost use Rattle.row_image.specs.log_model.Groups.{begin_move, between_move, find, go, in_rows_move, int_var_move, maps, maps_move, move, rows_move, text_move};
 ghost use Rattle.log_groups.specs.Views.{IsMaps, IsNoMaps, StandsAt, StandsThen, maps_in, move_of, parts, place_of, stage_of};
 
 use crate::items::{Items, find_map};

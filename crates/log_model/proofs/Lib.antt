@@ -10,3 +10,5 @@ pub mod ReadAgain
 pub mod Carrying
 pub mod OneGroup
 pub mod Growing
+-- the crates below that this one speaks of, passed on
+pub use Rattle.log_entries.proofs as log_entries

@@ -41,6 +41,7 @@ mod worked;
 mod worked_images;
 mod writing_laws;
 
+// The crates below that this one speaks of, passed on: who stands above names them through it.
 pub use event_laws::{events_end, events_go_on};
 pub use group_laws::{
     fronts_go_on, not_whole_is_front, read_is_spelled, spelled_is_read, whole_is_items,
@@ -50,6 +51,7 @@ pub use item_laws::{
     changes_are_carried, definition_is_one_group, entries_have_length, heads_have_length,
     item_is_spelled, log_goes_on, log_start_is_read, transaction_is_one_group,
 };
+pub use log_entries;
 pub use worked::{
     first_log_by_hand, log_starts, row_inserted, rows_cut, rows_items_by_hand, texts_by_hand,
 };

@@ -1,12 +1,12 @@
 -- Groups that are looked at while their bytes are read.
 use Rattle.std.proofs.Common.{◌≡◌, ◌≤◌, inl, inr, ℕ, ◌+◌, Bool, true, false, List, length, Option, refl, sym, ap, ◌∙◌, subst, arith}
-use Rattle.log_model.specs.Groups.{Next, group, not_whole, damaged_at, foreign_at, group_at}
+use Rattle.log_groups.specs.log_model.Groups.{Next, group, not_whole, damaged_at, foreign_at, group_at}
 use Rattle.log_groups.specs.declared.growing.Progress.{Progress}
 use Rattle.log_groups.specs.Growing.{IsLooked, IsSettled}
 use Rattle.log_groups.proofs.Looks.{looks_stay}
 use Rattle.log_reader.specs.declared.reader.Found.{Found}
 use Rattle.log_reader.specs.declared.reader.Found.TheVariants as found
-use Rattle.whole_groups.proofs.Lying.{group_lies}
+use Rattle.log_groups.proofs.whole_groups.Lying.{group_lies}
 use Rattle.log_reader.specs.Reading.{Reader, next_pos, Took, IsEnd, IsDamaged, Reads}
 use Rattle.log_reader.specs.Reading as reading
 use Rattle.log_reader.specs.Filling.{Grows}

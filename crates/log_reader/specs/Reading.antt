@@ -1,7 +1,7 @@
 -- A log read from an input, group by group: what one call takes and finds.
 use Rattle.std.specs.Prelude.{◌≡◌, ◌≤◌, ◌<◌, ◌⊎◌, ℕ, ◌+◌, Bool, true, false, List, [], ◌++◌, length, Option, option_map, IfSome}
-use Rattle.log_model.specs.Groups.{Group, group, not_whole, damaged_at, foreign_at, group_at}
-use Rattle.log_model.specs.Log.{magic}
+use Rattle.log_groups.specs.log_model.Groups.{Group, group, not_whole, damaged_at, foreign_at, group_at}
+use Rattle.log_groups.specs.log_model.Log.{magic}
 use Rattle.whole_logs.specs.Passing.{names_next}
 use Rattle.log_reader.specs.declared.reader.Found.{Found}
 use Rattle.log_reader.specs.declared.reader.Found.TheVariants as found

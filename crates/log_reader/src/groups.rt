@@ -2,7 +2,7 @@
 ghost use Rattle.std.specs.Prelude.{◌≡◌, ◌≤◌, ◌<◌, ◌+◌, ◌^◌, ◌++◌, [], false, length, option_map, IfErr, IfOk, OnErr, OnOk};
 ghost use Rattle.log_groups.specs.Growing.{IsSettled};
 ghost use Rattle.log_groups.specs.Views.{form_of};
-ghost use Rattle.log_model.specs.Groups.{group_at, not_whole};
+ghost use Rattle.log_groups.specs.log_model.Groups.{group_at, not_whole};
 ghost use Rattle.run_streams.specs.Stops.{StopsReading};
 ghost use Rattle.whole_logs.specs.Passing.{names_next};
 ghost use Rattle.log_reader.specs.declared.reader.Found.TheVariants as found;

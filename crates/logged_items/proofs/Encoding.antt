@@ -7,17 +7,17 @@ use Rattle.byte_fields.specs.Field.{number_bytes}
 use Rattle.event_codec.specs.declared.event.Step.{Step}
 use Rattle.event_codec.specs.Event.{Body, Query, format_description, query, xid}
 use Rattle.event_codec.specs.Writing.{size, format_description_bytes, layout_bytes, query_bytes, step_bytes}
-use Rattle.log_entries.specs.declared.entries.Item.{Item}
-use Rattle.log_entries.specs.declared.entries.Entry.TheVariants.{Transaction, Definition}
-use Rattle.sql_meaning.specs.Frames.{Context}
-use Rattle.log_model.specs.Items.{at_time, changes_item, item_events, item_size, query_of, step_of, text_of, AreCarried, IsCarried}
-use Rattle.log_model.specs.Log.{begin_query, description, transaction, version}
-use Rattle.log_model.specs.Spelling.{bodies_of}
-use Rattle.log_model.specs.Written.{Stamped, bytes_of, total, CanWriteAll}
-use Rattle.row_events.specs.Sizes.{bounded}
-use Rattle.row_events.proofs.GoingOn.{total_append}
+use Rattle.entry_groups.specs.log_entries.declared.entries.Item.{Item}
+use Rattle.entry_groups.specs.log_entries.declared.entries.Entry.TheVariants.{Transaction, Definition}
+use Rattle.unsafe_rules.specs.sql_meaning.Frames.{Context}
+use Rattle.entry_groups.specs.log_model.Items.{at_time, changes_item, item_events, item_size, query_of, step_of, text_of, AreCarried, IsCarried}
+use Rattle.entry_groups.specs.log_model.Log.{begin_query, description, transaction, version}
+use Rattle.entry_groups.specs.log_model.Spelling.{bodies_of}
+use Rattle.entry_groups.specs.log_model.Written.{Stamped, bytes_of, total, CanWriteAll}
+use Rattle.row_laws.specs.row_events.Sizes.{bounded}
+use Rattle.row_laws.proofs.row_events.GoingOn.{total_append}
 use Rattle.row_laws.proofs.Writable.{writable}
-use Rattle.transaction_sizes.specs.Sizes.{all_sizes, most_bytes}
+use Rattle.binlog_cache.specs.transaction_sizes.Sizes.{all_sizes, most_bytes}
 use Rattle.entry_groups.specs.Ids.{AllSayIds, SaysIds}
 use Rattle.logged_items.specs.Items.{item_by_text}
 use Rattle.logged_items.specs.Logged.{AreLogged, Encodes, HaveForms, IsLogged, IsLoggedBy}

@@ -12,8 +12,8 @@ use Rattle.val_types.specs.declared.definitions.ColType.TheVariants.{Int as IntT
 use Rattle.val_types.specs.declared.definitions.ColumnDef.{ColumnDef}
 use Rattle.val_types.specs.Errors.{out_of_range, too_long_for_column}
 use Rattle.val_types.specs.Fitting.{fitting, is_bigint, is_int, is_null, may_hold, row_fits}
-use Rattle.log_model.specs.Images.{IsRow, IsValue}
-use Rattle.log_model.specs.Items.{AreTypes, kind_of}
+use Rattle.entry_groups.specs.log_model.Images.{IsRow, IsValue}
+use Rattle.entry_groups.specs.log_model.Items.{AreTypes, kind_of}
 
 both : (p q : Bool) → p && q ≡ true → (p ≡ true) × (q ≡ true)
 both true true e = (refl, refl)

@@ -9,9 +9,9 @@ use Rattle.event_codec.specs.declared.event.Step.{Step}
 use Rattle.event_codec.specs.Event.{Body, int_var, query, rand}
 use Rattle.event_codec.specs.Laws.{Fits, FitsValue}
 use Rattle.event_codec.specs.Writing.{HasForm}
-use Rattle.log_entries.specs.declared.carried.Carried.{Carried}
-use Rattle.log_model.specs.Items.{query_of, text_of}
-use Rattle.log_model.specs.Spelling.{bodies_of, some_of, vars_before}
+use Rattle.entry_groups.specs.log_entries.declared.carried.Carried.{Carried}
+use Rattle.entry_groups.specs.log_model.Items.{query_of, text_of}
+use Rattle.entry_groups.specs.log_model.Spelling.{bodies_of, some_of, vars_before}
 use Rattle.logged_items.specs.Logged.{AreValues, HaveForms}
 
 -- ---- user variables

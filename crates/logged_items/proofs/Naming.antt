@@ -10,8 +10,8 @@ use Rattle.std.proofs.lemmas.Slice.Eq.{bytes_eq-Decides}
 use Rattle.val_types.specs.declared.change.Change.{Change}
 use Rattle.val_types.specs.Changes.{table_of}
 use Rattle.val_types.specs.declared.definitions.TableDef.{TableDef}
-use Rattle.catalog_rules.specs.Names.{is_among, same_name}
-use Rattle.sql_reach.specs.Carrying.{put_by_order, put_name}
+use Rattle.catalog_checks.specs.catalog_rules.Names.{is_among, same_name}
+use Rattle.unsafe_rules.specs.sql_reach.Carrying.{put_by_order, put_name}
 use Rattle.logged_items.specs.Items.{among}
 
 tied : (a b : List ℕ) (o : Ordering) → o ≡ slice_cmp nat_cmp a b → is_eq o ≡ same_name a b

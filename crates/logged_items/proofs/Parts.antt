@@ -2,13 +2,13 @@
 use Rattle.std.proofs.Common.{◌≡◌, ℕ, List, Bool, true, false, Option, ℤ, refl, ap, ◌∙◌}
 use Rattle.std.specs.List.{list_any}
 use Rattle.std.specs.Option.{option_map}
-use Rattle.log_entries.specs.declared.carried.Carried.{Carried}
-use Rattle.catalog_rules.specs.Nodes.{Node, nodes_of}
-use Rattle.catalog_rules.specs.Objects.{Object}
+use Rattle.entry_groups.specs.log_entries.declared.carried.Carried.{Carried}
+use Rattle.catalog_checks.specs.catalog_rules.Nodes.{Node, nodes_of}
+use Rattle.catalog_checks.specs.catalog_rules.Objects.{Object}
 use Rattle.sql_tree.specs.Statement.{Statement}
-use Rattle.sql_meaning.specs.Frames.{Context}
-use Rattle.sql_reach.specs.Carrying.{asks_last_id, carried, carried_by, draws, if_asked}
-use Rattle.sql_reach.specs.Reach.{reached_nodes}
+use Rattle.unsafe_rules.specs.sql_meaning.Frames.{Context}
+use Rattle.unsafe_rules.specs.sql_reach.Carrying.{asks_last_id, carried, carried_by, draws, if_asked}
+use Rattle.unsafe_rules.specs.sql_reach.Reach.{reached_nodes}
 use Rattle.logged_items.specs.declared.before.Before.{Before}
 use Rattle.logged_items.specs.Items.{as_before}
 

@@ -3,12 +3,12 @@ use Rattle.std.specs.Prelude.{ℕ, Bool, false, List, [], filter, map, None}
 use Rattle.val_types.specs.declared.change.Change.{Change}
 use Rattle.val_types.specs.declared.definitions.TableDef.{TableDef}
 use Rattle.val_types.specs.Changes.{table_of}
-use Rattle.catalog_rules.specs.Names.{is_among}
-use Rattle.catalog_rules.specs.Objects.{Object}
-use Rattle.catalog_rules.specs.Bases.{definitions_in}
-use Rattle.log_entries.specs.declared.carried.Carried.{Carried}
-use Rattle.log_entries.specs.declared.entries.Item.{Item}
-use Rattle.sql_meaning.specs.Frames.{Context}
+use Rattle.catalog_checks.specs.catalog_rules.Names.{is_among}
+use Rattle.catalog_checks.specs.catalog_rules.Objects.{Object}
+use Rattle.catalog_checks.specs.catalog_rules.Bases.{definitions_in}
+use Rattle.entry_groups.specs.log_entries.declared.carried.Carried.{Carried}
+use Rattle.entry_groups.specs.log_entries.declared.entries.Item.{Item}
+use Rattle.unsafe_rules.specs.sql_meaning.Frames.{Context}
 use Rattle.logged_items.specs.declared.before.Before.{Before}
 
 -- ---- tables

@@ -4,11 +4,11 @@ use Rattle.val_types.specs.declared.value.Value.{Value}
 use Rattle.event_codec.specs.Event.{Body}
 use Rattle.event_codec.specs.Laws.{Fits, FitsValue}
 use Rattle.event_codec.specs.Writing.{HasForm}
-use Rattle.log_entries.specs.declared.entries.Item.{Item}
-use Rattle.log_entries.specs.declared.entries.Entry.{Entry}
-use Rattle.log_model.specs.Items.{CanCarryAll, text_of}
-use Rattle.log_model.specs.Log.{LogPlace, entry_bytes}
-use Rattle.log_model.specs.Spelling.{bodies_of}
+use Rattle.entry_groups.specs.log_entries.declared.entries.Item.{Item}
+use Rattle.entry_groups.specs.log_entries.declared.entries.Entry.{Entry}
+use Rattle.entry_groups.specs.log_model.Items.{CanCarryAll, text_of}
+use Rattle.entry_groups.specs.log_model.Log.{LogPlace, entry_bytes}
+use Rattle.entry_groups.specs.log_model.Spelling.{bodies_of}
 use Rattle.row_laws.specs.Laws.{AreNamed}
 use Rattle.entry_groups.specs.Entries.{CanLog}
 use Rattle.entry_groups.specs.Ids.{HasIds}

@@ -1,17 +1,17 @@
 //! What a statement changes of a context while it runs.
 ghost use Rattle.std.specs.Prelude.{◌≡◌, IfOk};
 ghost use Rattle.std.specs.Option.{option_map};
-ghost use Rattle.catalog_objects.specs.Keys.{objects_of};
+ghost use Rattle.catalog_checks.specs.catalog_objects.Keys.{objects_of};
 ghost use Rattle.logged_items.specs.Items.{as_before, numbers_of};
-ghost use Rattle.sql_reach.specs.Carrying.{carried};
+ghost use Rattle.unsafe_rules.specs.sql_reach.Carrying.{carried};
 ghost use Rattle.sql_tree.specs.StatementView.{view};
 
-use catalog_objects::Objects;
-use log_entries::Carried;
-use session_ctx::Ctx;
+use catalog_checks::catalog_objects::Objects;
+use entry_groups::log_entries::Carried;
 use sql_tree::Stmt;
 use std::alloc::Global;
 use unsafe_rules::carried;
+use unsafe_rules::session_ctx::Ctx;
 use val_types::NoMemory;
 
 /// What an item may carry of the context before its statement, and the statement may have changed since.

@@ -2,15 +2,15 @@
 //! and the numbers of a context are those that events have.
 ghost use Rattle.std.specs.Prelude.{◌≡◌, ◌<◌, ◌^◌, [], ◌∷◌, map};
 ghost use Rattle.std.specs.Bool.{OnTrue};
-ghost use Rattle.log_model.specs.Images.{IsChange, IsRow};
-ghost use Rattle.log_model.specs.Items.{AreTypes, CanCarry, CanCarryAll, columns_in, kind_of, rows_kind_of};
+ghost use Rattle.entry_groups.specs.log_model.Images.{IsChange, IsRow};
+ghost use Rattle.entry_groups.specs.log_model.Items.{AreTypes, CanCarry, CanCarryAll, columns_in, kind_of, rows_kind_of};
 ghost use Rattle.logged_items.specs.Logged.{HasRows, IsLogged};
-ghost use Rattle.row_events.specs.Tables.{columns_seen};
+ghost use Rattle.row_laws.specs.row_events.Tables.{columns_seen};
 ghost use Rattle.row_laws.specs.Laws.{AreNamed};
 ghost use Rattle.val_types.specs.Changes.{table_of};
 
 use crate::texts::can_carry_text;
-use log_entries::Item;
+use entry_groups::log_entries::Item;
 use val_types::{Bytes, Change, ColType, ColumnDef, List, Row, TableDef, row_fits};
 
 /// The greatest length of a name of a table.

@@ -1,15 +1,15 @@
 //! The bytes of a CREATE, DROP or TRUNCATE.
 ghost use Rattle.std.specs.Prelude.{◌≡◌, ◌<◌, ◌≤◌, ◌^◌, ℕ, IfOk, IfSome};
-ghost use Rattle.log_entries.specs.declared.entries.Entry.TheVariants.{Definition};
-ghost use Rattle.log_model.specs.Items.{step_of};
+ghost use Rattle.entry_groups.specs.log_entries.declared.entries.Entry.TheVariants.{Definition};
+ghost use Rattle.entry_groups.specs.log_model.Items.{step_of};
 ghost use Rattle.logged_items.specs.Items.{item_by_text};
 ghost use Rattle.logged_items.specs.Logged.{Encodes};
 
 use crate::items::LAST_END;
 use event_codec::{Event, Header, QueryView, Step};
-use row_events::put;
-use session_ctx::Ctx;
+use row_laws::row_events::put;
 use std::alloc::{AllocError, Global};
+use unsafe_rules::session_ctx::Ctx;
 use val_types::{Bytes, NoMemory};
 
 /// The most bytes that a QUERY has beside its text.

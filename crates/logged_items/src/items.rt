@@ -1,14 +1,14 @@
 //! The items of a transaction that a log can carry.
 ghost use Rattle.std.specs.Prelude.{◌≡◌, ◌≤◌, ◌++◌, ◌∷◌, ℕ, [], length, nat_lt, take, IfOk, OnErr, OnOk};
-ghost use Rattle.log_entries.specs.declared.entries.Entry.TheVariants.{Transaction};
+ghost use Rattle.entry_groups.specs.log_entries.declared.entries.Entry.TheVariants.{Transaction};
 ghost use Rattle.logged_items.specs.Logged.{Encodes};
-ghost use Rattle.row_events.specs.Sizes.{bounded};
-ghost use Rattle.transaction_sizes.specs.Sizes.{are_too_large, most_bytes};
+ghost use Rattle.row_laws.specs.row_events.Sizes.{bounded};
+ghost use Rattle.binlog_cache.specs.transaction_sizes.Sizes.{are_too_large, most_bytes};
 
 use crate::carrying::{have_words, is_logged};
 use binlog_cache::Cache;
+use entry_groups::log_entries::Item;
 use event_codec::Header;
-use log_entries::Item;
 use std::alloc::{AllocError, Global};
 use std::marker::Model;
 use val_types::{Bytes, NoMemory};
@@ -31,7 +31,7 @@ pub struct Items {
 
 impl Model for Items {
     ghost use Rattle.std.specs.Prelude.{List};
-    ghost use Rattle.log_entries.specs.declared.entries.Item.{Item as LoggedItem};
+    ghost use Rattle.entry_groups.specs.log_entries.declared.entries.Item.{Item as LoggedItem};
     ghost use Rattle.logged_items.specs.Logged.{AreLogged};
 
     ghost Value = { List LoggedItem };

@@ -1,17 +1,17 @@
 //! The item of a statement.
 ghost use Rattle.std.specs.Prelude.{◌≡◌, IfOk};
-ghost use Rattle.catalog_objects.specs.Keys.{objects_of};
+ghost use Rattle.catalog_checks.specs.catalog_objects.Keys.{objects_of};
 ghost use Rattle.logged_items.specs.Items.{as_before, statement_item};
-ghost use Rattle.sql_reach.specs.Carrying.{carried};
+ghost use Rattle.unsafe_rules.specs.sql_reach.Carrying.{carried};
 ghost use Rattle.sql_tree.specs.StatementView.{view};
 
 use crate::before::{Before, carried_before};
 use crate::tables::definitions_changed;
-use catalog_objects::Objects;
-use log_entries::Item;
-use session_ctx::Ctx;
+use catalog_checks::catalog_objects::Objects;
+use entry_groups::log_entries::Item;
 use sql_tree::Stmt;
 use std::alloc::Global;
+use unsafe_rules::session_ctx::Ctx;
 use val_types::{Bytes, Change, List, NoMemory};
 
 /// The item of a statement, by its rows or by its text: the text as given, with what it carries of the context before it, the

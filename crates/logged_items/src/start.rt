@@ -1,10 +1,10 @@
 //! How a log begins.
 ghost use Rattle.std.specs.Prelude.{◌≡◌, length, IfOk};
-ghost use Rattle.log_model.specs.Log.{head};
+ghost use Rattle.entry_groups.specs.log_model.Log.{head};
 
+use entry_groups::log_model::heads_have_length;
 use event_codec::{Event, Header};
-use log_model::heads_have_length;
-use row_events::put;
+use row_laws::row_events::put;
 use std::alloc::Global;
 use val_types::{Bytes, NoMemory};
 

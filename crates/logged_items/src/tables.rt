@@ -1,15 +1,15 @@
 //! The definitions of the tables that changes change.
 ghost use Rattle.std.specs.Prelude.{◌≡◌, ◌++◌, ◌∷◌, ℕ, [], List as Items, map, IfOk, OnOk};
-ghost use Rattle.catalog_objects.specs.Keys.{objects_of};
-ghost use Rattle.catalog_rules.specs.Bases.{definitions_in};
-ghost use Rattle.catalog_rules.specs.Names.{is_among};
+ghost use Rattle.catalog_checks.specs.catalog_objects.Keys.{objects_of};
+ghost use Rattle.catalog_checks.specs.catalog_rules.Bases.{definitions_in};
+ghost use Rattle.catalog_checks.specs.catalog_rules.Names.{is_among};
 ghost use Rattle.logged_items.specs.Items.{among, definitions_changed};
 ghost use Rattle.val_types.specs.Changes.{table_of};
 
+use catalog_checks::catalog_objects::{Object, Objects};
 use catalog_checks::is_among;
-use catalog_objects::{Object, Objects};
-use statement_names::Names;
 use std::alloc::Global;
+use unsafe_rules::statement_names::Names;
 use val_types::{Bytes, Change, Duplicate, List, NoMemory, TableDef};
 
 /// Puts a copy of a definition at the end, where its table is among some names.

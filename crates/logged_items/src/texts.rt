@@ -5,12 +5,12 @@ ghost use Rattle.std.specs.Int.{w64, cast_unsigned};
 ghost use Rattle.std.specs.Option.{option_map};
 ghost use Rattle.event_codec.specs.Laws.{FitsValue};
 ghost use Rattle.entry_groups.specs.Ids.{HasIds, IsId};
-ghost use Rattle.log_model.specs.Items.{text_of};
-ghost use Rattle.log_model.specs.Spelling.{bodies_of};
+ghost use Rattle.entry_groups.specs.log_model.Items.{text_of};
+ghost use Rattle.entry_groups.specs.log_model.Spelling.{bodies_of};
 ghost use Rattle.logged_items.specs.Logged.{AreValues, HaveForms};
 
 use crate::carrying::have_words;
-use log_entries::{Carried, Vars};
+use entry_groups::log_entries::{Carried, Vars};
 use val_types::{Bytes, Value};
 
 /// The modulus of RAND()'s seeds.

@@ -1,8 +1,8 @@
 //! Expressions and SELECTs with locals closed in.
 ghost use Rattle.std.specs.Prelude.{◌≡◌, IfOk};
 ghost use Rattle.sql_tree.specs.View.{view_aggregate, view_aggregates, view_arm, view_arms, view_orders, view_origin, view_part, view_query, view_selected, view_tree, view_trees};
-ghost use Rattle.closed_length.specs.Closed.{closed_aggregates, closed_arms, closed_orders, closed_origin, closed_part, closed_query, closed_selected, closed_tree, closed_trees};
-ghost use Rattle.closed_length.specs.Items.{closed_aggregate, closed_arm};
+ghost use Rattle.closed_names.specs.closed_length.Closed.{closed_aggregates, closed_arms, closed_orders, closed_origin, closed_part, closed_query, closed_selected, closed_tree, closed_trees};
+ghost use Rattle.closed_names.specs.closed_length.Items.{closed_aggregate, closed_arm};
 
 use closed_names::{close_limit, close_name};
 use sql_locals::Locals;

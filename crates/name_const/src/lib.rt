@@ -23,6 +23,8 @@ mod expressions;
 mod statements;
 
 // The crates below that this one speaks of, passed on: who stands above names them through it.
+pub use closed_names::log_entries;
 pub use closing::close_over;
 pub use closing_checks;
+pub use closing_checks::proc_model;
 pub use statements::close_stmt;

@@ -5,7 +5,7 @@ use Rattle.sql_syntax.specs.Texts.{reads}
 use Rattle.sql_parse.specs.Answers.{IsCause}
 use Rattle.sql_parse.specs.declared.parsing.ParseRefusal.{ParseRefusal}
 use Rattle.sql_parse.specs.declared.parsing.ParseRefusal.TheVariants.{Syntax, Deep, NoMemory}
-use Rattle.text_answers.specs.Answers.{IsAnswered, a_statement, text_answer}
+use Rattle.session_model.specs.text_answers.Answers.{IsAnswered, a_statement, text_answer}
 use Rattle.node_answers.specs.ReadTexts.{IsRefusedText}
 
 pub is_statement : (text : List ℕ) → IsAnswered text → (s : Statement) → reads text s → text_answer text ≡ a_statement s

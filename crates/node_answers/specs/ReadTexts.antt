@@ -2,7 +2,7 @@
 use Rattle.std.specs.Prelude.{◌≡◌}
 use Rattle.sql_parse.specs.declared.parsing.ParseRefusal.{ParseRefusal}
 use Rattle.sql_parse.specs.declared.parsing.ParseRefusal.TheVariants.{Syntax, Deep, NoMemory}
-use Rattle.text_answers.specs.Answers.{TextAnswer, a_syntax_error, too_deep}
+use Rattle.session_model.specs.text_answers.Answers.{TextAnswer, a_syntax_error, too_deep}
 
 -- the place of the error, too deep, or memory is short
 abbrev pub IsRefusedText : TextAnswer → ParseRefusal → Type 0

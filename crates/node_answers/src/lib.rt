@@ -21,8 +21,14 @@ mod answers;
 mod fault;
 mod reading;
 
+// The crates below that this one speaks of, passed on: who stands above names them through it.
 pub use answers::{
     ok, refused, refused_at, refused_by, row_count_after, showing, told, with_warning,
 };
 pub use fault::NodeFault;
+pub use prog_run;
+pub use prog_run::{catalog, program_creation, table_creation};
 pub use reading::statement_of;
+pub use session_model;
+pub use session_model::session_ctx;
+pub use sql_parse;

@@ -1,13 +1,13 @@
 //! What a text is.
 ghost use Rattle.std.specs.Prelude.{◌≡◌, ◌≤◌, length, IfErr, IfOk};
 ghost use Rattle.sql_tree.specs.StatementView.{view};
-ghost use Rattle.text_answers.specs.Answers.{a_statement, text_answer};
+ghost use Rattle.session_model.specs.text_answers.Answers.{a_statement, text_answer};
 ghost use Rattle.node_answers.specs.ReadTexts.{IsRefusedText};
 
+use session_model::text_answers::texts_are_answered;
 use sql_parse::{ParseRefusal, parse};
 use sql_tree::Stmt;
 use std::alloc::Global;
-use text_answers::texts_are_answered;
 use val_types::NoMemory;
 
 /// A value on the heap. Where there is no memory, it is dropped.

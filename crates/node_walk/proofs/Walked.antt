@@ -12,8 +12,8 @@ use Rattle.sql_tree.specs.Statement.{Statements, no_statement, statement, Branch
 use Rattle.sql_tree.specs.declared.expressions.Limit.{Limit}
 use Rattle.sql_tree.specs.declared.expressions.Count.{Count}
 use Rattle.sql_tree.specs.declared.statements.Target.{Target}
-use Rattle.catalog_rules.specs.Nodes.{Node, Sight, a_limit, no_sight, in_sight, sight_in, sight_of_update, limit_nodes, count_nodes, nodes_of_tree, nodes_of_trees, nodes_of_arms, nodes_of_part, nodes_of_query, nodes_of_selected, nodes_of_aggregates, nodes_of_origin, nodes_of_orders}
-use Rattle.catalog_rules.specs.Nodes.{nodes_of_sets, nodes_of_rows, nodes_of_supply, nodes_of_assignments, nodes_of_declared, nodes_of, nodes_of_steps, nodes_of_branches, nodes_of_otherwise}
+use Rattle.catalog_objects.specs.catalog_rules.Nodes.{Node, Sight, a_limit, no_sight, in_sight, sight_in, sight_of_update, limit_nodes, count_nodes, nodes_of_tree, nodes_of_trees, nodes_of_arms, nodes_of_part, nodes_of_query, nodes_of_selected, nodes_of_aggregates, nodes_of_origin, nodes_of_orders}
+use Rattle.catalog_objects.specs.catalog_rules.Nodes.{nodes_of_sets, nodes_of_rows, nodes_of_supply, nodes_of_assignments, nodes_of_declared, nodes_of, nodes_of_steps, nodes_of_branches, nodes_of_otherwise}
 use Rattle.node_walk.specs.declared.asking.Ask.{Ask}
 use Rattle.node_walk.specs.Asking.{asks_built_in, asks_call, asks_limit, asks_node, asks_random_number, asks_statement, asks_system_variable, asks_table}
 use Rattle.node_walk.specs.Walking.{in_count, in_limit, in_tree, in_trees, in_arms, in_part, in_query, in_selected, in_aggregates, in_origin, in_orders, in_sets, in_rows, in_supply, in_assignments, in_declared, in_steps, in_branches, in_otherwise, in_statement}

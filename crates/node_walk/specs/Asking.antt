@@ -5,8 +5,8 @@ use Rattle.val_types.specs.declared.ops.Func.{Func}
 use Rattle.sql_tree.specs.Statement.{Statement}
 use Rattle.sql_tree.specs.StatementView.{view_trigger}
 use Rattle.sql_tree.specs.declared.expressions.Count.{Count}
-use Rattle.catalog_rules.specs.Names.{same_name}
-use Rattle.catalog_rules.specs.Nodes.{Node, a_name, a_column, a_new_column, an_old_column, an_inserted_value, a_user_variable, a_system_variable, a_built_in, a_random_number, a_function_call, a_table_read, a_limit, a_statement, table_changed}
+use Rattle.catalog_objects.specs.catalog_rules.Names.{same_name}
+use Rattle.catalog_objects.specs.catalog_rules.Nodes.{Node, a_name, a_column, a_new_column, an_old_column, an_inserted_value, a_user_variable, a_system_variable, a_built_in, a_random_number, a_function_call, a_table_read, a_limit, a_statement, table_changed}
 use Rattle.catalog_objects.specs.Keys.{objects_of}
 use Rattle.sql_reach.specs.sql_meaning.Running.{is_ill_count}
 use Rattle.sql_reach.specs.Reach.{is_change, fires_trigger}

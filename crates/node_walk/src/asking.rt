@@ -2,8 +2,8 @@
 ghost use Rattle.std.specs.Prelude.{◌≡◌, false, is_some, not};
 ghost use Rattle.std.specs.Option.{option_map_or};
 ghost use Rattle.catalog_objects.specs.Keys.{objects_of};
-ghost use Rattle.catalog_rules.specs.Names.{same_name};
-ghost use Rattle.catalog_rules.specs.Nodes.{a_statement, table_changed};
+ghost use Rattle.catalog_objects.specs.catalog_rules.Names.{same_name};
+ghost use Rattle.catalog_objects.specs.catalog_rules.Nodes.{a_statement, table_changed};
 ghost use Rattle.sql_reach.specs.sql_meaning.Frames.{number_or_none};
 ghost use Rattle.sql_reach.specs.sql_meaning.Running.{is_ill_count};
 ghost use Rattle.sql_tree.specs.StatementView.{view, view_supply, view_trigger};

@@ -1,7 +1,7 @@
 //! Whether what is asked holds of a node of an expression or SELECT.
 ghost use Rattle.std.specs.Prelude.{◌≡◌};
 ghost use Rattle.std.specs.List.{list_any};
-ghost use Rattle.catalog_rules.specs.Nodes.{no_sight, nodes_of_tree, nodes_of_trees};
+ghost use Rattle.catalog_objects.specs.catalog_rules.Nodes.{no_sight, nodes_of_tree, nodes_of_trees};
 ghost use Rattle.node_walk.specs.Asking.{asks_node};
 ghost use Rattle.sql_tree.specs.View.{view_aggregates, view_arms, view_from, view_orders, view_part, view_query, view_selected, view_tree, view_trees};
 ghost use Rattle.node_walk.specs.Walking.{in_aggregates, in_arms, in_count, in_limit, in_orders, in_origin, in_part, in_query, in_selected, in_tree, in_trees};

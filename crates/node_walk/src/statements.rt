@@ -1,7 +1,7 @@
 //! Whether what is asked holds of a node of a statement.
 ghost use Rattle.std.specs.Prelude.{◌≡◌};
 ghost use Rattle.std.specs.List.{list_any};
-ghost use Rattle.catalog_rules.specs.Nodes.{nodes_of};
+ghost use Rattle.catalog_objects.specs.catalog_rules.Nodes.{nodes_of};
 ghost use Rattle.node_walk.specs.Asking.{asks_node};
 ghost use Rattle.sql_tree.specs.View.{view_part};
 ghost use Rattle.sql_tree.specs.StatementView.{view, view_assignments, view_branches, view_declarations, view_delete, view_insert, view_otherwise, view_replace, view_rows, view_sets, view_statements, view_supply, view_update};

@@ -2,13 +2,13 @@
 ghost use Rattle.std.specs.Prelude.{◌≡◌, ◌++◌, ◌∷◌, [], map, OnOk};
 ghost use Rattle.std.specs.Option.{option_map};
 ghost use Rattle.event_codec.specs.Event.{body_of, map_of, seen};
-ghost use Rattle.log_model.specs.Events.{events_from};
-ghost use Rattle.log_model.specs.Groups.{find};
-ghost use Rattle.log_print.specs.Lines.{line_of};
-ghost use Rattle.whole_logs.specs.Printed.{lines_from, map_for, maps_behind};
+ghost use Rattle.log_reader.specs.log_model.Events.{events_from};
+ghost use Rattle.log_reader.specs.log_model.Groups.{find};
+ghost use Rattle.log_reader.specs.log_print.Lines.{line_of};
+ghost use Rattle.log_reader.specs.whole_logs.Printed.{lines_from, map_for, maps_behind};
 
 use event_codec::{Event, MapView, Read, read_event};
-use log_print::line;
+use log_reader::log_print::line;
 use std::alloc::Global;
 use val_types::{Bytes, List, NoMemory};
 

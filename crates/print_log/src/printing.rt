@@ -1,17 +1,17 @@
 //! A log that is read from the input and shown on the output.
 ghost use Rattle.std.specs.Prelude.{◌≡◌, ◌≤◌, [], IfErr, OnErr, OnOk};
 ghost use Rattle.fault_counts.specs.Causes.{Rose};
-ghost use Rattle.log_model.specs.Events.{events_from};
-ghost use Rattle.run_streams.specs.Stops.{StopsWriting, failed_writes, status_of};
-ghost use Rattle.run_streams.specs.Wrote.{Wrote, WroteFront};
-ghost use Rattle.whole_logs.specs.Printed.{lines_from};
+ghost use Rattle.log_reader.specs.log_model.Events.{events_from};
+ghost use Rattle.log_reader.specs.run_streams.Stops.{StopsWriting, failed_writes, status_of};
+ghost use Rattle.log_reader.specs.run_streams.Wrote.{Wrote, WroteFront};
+ghost use Rattle.log_reader.specs.whole_logs.Printed.{lines_from};
 ghost use Rattle.print_log.specs.Ends.{PrintEnds};
 
 use crate::lines::put_lines;
 use answer_text::Status;
+use log_reader::run_streams::{with_status, write_line};
 use log_reader::{Found, LogReader, read_magic};
 use port_traits::{Sink, Source};
-use run_streams::{with_status, write_line};
 use std::alloc::Global;
 use val_types::Bytes;
 

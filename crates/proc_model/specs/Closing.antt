@@ -8,7 +8,7 @@ use Rattle.sql_tree.specs.declared.expressions.Count.TheVariants as counts
 use Rattle.sql_locals.specs.Locals.{find_local, has_literal}
 use Rattle.sql_locals.specs.declared.locals.Local.{Local}
 use Rattle.sql_print.specs.StatementSpelling.{spelling}
-use Rattle.catalog_rules.specs.Nodes.{Node, a_limit, nodes_of}
+use Rattle.sql_reach.specs.catalog_rules.Nodes.{Node, a_limit, nodes_of}
 use Rattle.sql_reach.specs.sql_meaning.Running.{is_ill_limit}
 use Rattle.sql_reach.specs.Closing.{closed}
 

@@ -15,9 +15,9 @@ use Rattle.sql_tree.specs.declared.statements.Target.{Target}
 use Rattle.sql_locals.specs.Locals.{find_local, set_local}
 use Rattle.sql_locals.specs.Types.{column_type}
 use Rattle.sql_locals.specs.declared.locals.Local.{Local}
-use Rattle.catalog_rules.specs.Checks.{Scope, statement_refusal}
-use Rattle.catalog_rules.specs.Names.{is_among, first_made}
-use Rattle.catalog_rules.specs.Objects.{Object, procedure_in, parameters_of, body_of}
+use Rattle.sql_reach.specs.catalog_rules.Checks.{Scope, statement_refusal}
+use Rattle.sql_reach.specs.catalog_rules.Names.{is_among, first_made}
+use Rattle.sql_reach.specs.catalog_rules.Objects.{Object, procedure_in, parameters_of, body_of}
 use Rattle.sql_reach.specs.sql_meaning.Within.{values_assigned}
 use Rattle.sql_reach.specs.Closing.{closed}
 use Rattle.answer_text.specs.declared.answer.Answer.{Answer}

@@ -11,7 +11,7 @@ use Rattle.sql_tree.specs.declared.statements.SqlType.{SqlType}
 use Rattle.sql_tree.specs.declared.statements.Target.{Target}
 use Rattle.sql_locals.specs.declared.locals.Local.{Local}
 use Rattle.val_types.specs.declared.definitions.ColType.TheVariants as kinds
-use Rattle.catalog_rules.specs.Objects.{Object, procedure}
+use Rattle.sql_reach.specs.catalog_rules.Objects.{Object, procedure}
 use Rattle.sql_reach.specs.sql_meaning.Running.{most_nested, most_turns}
 use Rattle.sql_reach.specs.sql_meaning.Worked.{n}
 use Rattle.answer_text.specs.declared.answer.End.{End}

@@ -8,13 +8,13 @@ use Rattle.sql_tree.specs.Tree.{Tree}
 use Rattle.sql_tree.specs.StatementView.{view_assignments}
 use Rattle.sql_tree.specs.declared.statements.Assignment.{Assignment}
 use Rattle.sql_tree.specs.declared.statements.Target.{Target}
-use Rattle.catalog_rules.specs.Names.{first_made}
+use Rattle.name_const.specs.catalog_rules.Names.{first_made}
 use Rattle.prog_run.proofs.sql_evaluation.Branching.{rest_is}
 use Rattle.val_types.specs.Fitting.{fitting}
 use Rattle.sql_tree.specs.Statement.{Statement, evaluate, set_all}
 use Rattle.sql_locals.specs.Locals.{set_local}
-use Rattle.sql_meaning.specs.Within.{values_assigned}
-use Rattle.proc_model.specs.Talk.{Rules, Led, Talk}
+use Rattle.name_const.specs.sql_meaning.Within.{values_assigned}
+use Rattle.name_const.specs.proc_model.Talk.{Rules, Led, Talk}
 use Rattle.proc_parts.specs.declared.runner.RunRefusal.{RunRefusal}
 use Rattle.proc_parts.specs.declared.runner.RunRefusal.TheVariants.{Sql}
 use Rattle.proc_parts.specs.declared.world.World.{World}
@@ -22,7 +22,7 @@ use Rattle.proc_parts.specs.Calls.{EndsBy, always, plainly, refusal_of}
 use Rattle.proc_parts.specs.Parts.{Assigns, AssignsAll, step_at, values_at}
 use Rattle.proc_parts.proofs.Behind.{Onto, onto_start, onto_on, onto_ends, onto_done, failed_ends}
 use Rattle.sql_locals.specs.declared.locals.Local.{Local}
-use Rattle.proc_model.specs.Procedures.{Held, Ending, Action, done, failed, ◌>>=◌, assign_all, assign_one, assignment_refusal, assignments_of, carried_on, local_refusal, misfit}
+use Rattle.name_const.specs.proc_model.Procedures.{Held, Ending, Action, done, failed, ◌>>=◌, assign_all, assign_one, assignment_refusal, assignments_of, carried_on, local_refusal, misfit}
 
 pub no_local : (found : Option Local) (v : Value) → None ≡ found → Some 1193 ≡ local_refusal found v
 no_local found v is = ap (λ (o : Option Local). local_refusal o v) is

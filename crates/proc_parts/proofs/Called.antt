@@ -7,11 +7,11 @@ use Rattle.sql_tree.specs.View.{view_trees}
 use Rattle.sql_tree.specs.Statement.{Statement, evaluate, call_procedure}
 use Rattle.sql_tree.specs.declared.expressions.Expr.{Expr}
 use Rattle.sql_locals.specs.declared.locals.Local.{Local}
-use Rattle.catalog_rules.specs.Checks.{statement_refusal}
+use Rattle.name_const.specs.catalog_rules.Checks.{statement_refusal}
 use Rattle.prog_run.specs.catalog.Answers.{Lets, answer_of}
-use Rattle.proc_model.specs.Closing.{closing_refusal}
-use Rattle.proc_model.specs.Talk.{Rules, Led}
-use Rattle.proc_model.specs.Procedures.{Held, Action, done, pure, let_through, evaluate_with, scope_of, ◌>>=◌}
+use Rattle.name_const.specs.proc_model.Closing.{closing_refusal}
+use Rattle.name_const.specs.proc_model.Talk.{Rules, Led}
+use Rattle.name_const.specs.proc_model.Procedures.{Held, Action, done, pure, let_through, evaluate_with, scope_of, ◌>>=◌}
 use Rattle.proc_parts.specs.declared.runner.RunRefusal.{RunRefusal}
 use Rattle.proc_parts.specs.declared.world.World.{World}
 use Rattle.proc_parts.specs.Calls.{EndsBy, Passes, always, expressions_of, plainly, widened, world_of}

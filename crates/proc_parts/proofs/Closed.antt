@@ -6,11 +6,11 @@ use Rattle.sql_tree.specs.Statement.{Statement, insert_into, replace_into, updat
 use Rattle.sql_tree.specs.StatementView.{view}
 use Rattle.sql_tree.specs.declared.statements.Stmt.{Stmt}
 use Rattle.sql_locals.specs.declared.locals.Local.{Local}
-use Rattle.sql_reach.specs.Closing.{closed}
+use Rattle.name_const.specs.sql_reach.Closing.{closed}
 use Rattle.name_const.specs.closing_checks.Refusing.{CanClose}
 use Rattle.name_const.specs.Refusing.{Closes}
-use Rattle.proc_model.specs.Closing.{closing_refusal}
-use Rattle.proc_model.specs.Procedures.{is_plain}
+use Rattle.name_const.specs.proc_model.Closing.{closing_refusal}
+use Rattle.name_const.specs.proc_model.Procedures.{is_plain}
 use Rattle.proc_parts.specs.Calls.{Passes}
 
 pub passes_too : (r : Result (Unit {0}) SqlRefusal) (s : Statement) (locals : List Local) → CanClose r s locals → Passes r (closing_refusal s locals)

@@ -5,11 +5,11 @@ use Rattle.val_types.specs.declared.value.Value.TheVariants.{Null}
 use Rattle.sql_tree.specs.Tree.{Tree, part, no_part}
 use Rattle.sql_tree.specs.Statement.{Statement}
 use Rattle.sql_locals.specs.declared.locals.Local.{Local}
-use Rattle.sql_meaning.specs.Within.{do_one}
+use Rattle.name_const.specs.sql_meaning.Within.{do_one}
 use Rattle.value_rules.specs.Operators.{truth_of, with_value}
 use Rattle.value_rules.specs.Functions.{is_known_true}
-use Rattle.proc_model.specs.Talk.{Rules, Led}
-use Rattle.proc_model.specs.Procedures.{Held, done, Action, ◌>>=◌, answered, value_of}
+use Rattle.name_const.specs.proc_model.Talk.{Rules, Led}
+use Rattle.name_const.specs.proc_model.Procedures.{Held, done, Action, ◌>>=◌, answered, value_of}
 use Rattle.proc_parts.specs.declared.runner.RunRefusal.{RunRefusal}
 use Rattle.proc_parts.specs.declared.runner.RunRefusal.TheVariants.{Sql}
 use Rattle.proc_parts.specs.declared.world.World.{World}

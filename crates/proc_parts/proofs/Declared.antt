@@ -8,8 +8,8 @@ use Rattle.sql_tree.specs.StatementView.{view_declaration, view_declarations}
 use Rattle.sql_tree.specs.declared.statements.Declaration.{Declaration}
 use Rattle.sql_locals.specs.declared.locals.Local.{Local}
 use Rattle.prog_run.proofs.sql_evaluation.Branching.{rest_is}
-use Rattle.proc_model.specs.Talk.{Rules, Led, Talk}
-use Rattle.proc_model.specs.Procedures.{Held, Ending, done, ◌>>=◌, answered, all_tried, add_local, preset_value, declare, carried_on}
+use Rattle.name_const.specs.proc_model.Talk.{Rules, Led, Talk}
+use Rattle.name_const.specs.proc_model.Procedures.{Held, Ending, done, ◌>>=◌, answered, all_tried, add_local, preset_value, declare, carried_on}
 use Rattle.proc_parts.specs.declared.runner.RunRefusal.{RunRefusal}
 use Rattle.proc_parts.specs.declared.world.World.{World}
 use Rattle.proc_parts.specs.Calls.{EndsBy, Tries, always, plainly, widened, world_of}

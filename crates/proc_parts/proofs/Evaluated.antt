@@ -5,9 +5,9 @@ use Rattle.val_types.specs.declared.value.Value.TheVariants.{Null}
 use Rattle.val_types.specs.declared.refusal.SqlRefusal.{SqlRefusal}
 use Rattle.sql_tree.specs.Statement.{Statement, evaluate}
 use Rattle.sql_locals.specs.declared.locals.Local.{Local}
-use Rattle.proc_model.specs.Closing.{closing_refusal}
-use Rattle.proc_model.specs.Talk.{Rules}
-use Rattle.proc_model.specs.Procedures.{Held, Action, ◌>>=◌, pure, evaluate_with, first_value}
+use Rattle.name_const.specs.proc_model.Closing.{closing_refusal}
+use Rattle.name_const.specs.proc_model.Talk.{Rules}
+use Rattle.name_const.specs.proc_model.Procedures.{Held, Action, ◌>>=◌, pure, evaluate_with, first_value}
 use Rattle.proc_parts.specs.declared.runner.RunRefusal.{RunRefusal}
 use Rattle.proc_parts.specs.declared.world.World.{World}
 use Rattle.proc_parts.specs.Calls.{EndsBy, Passes, expressions_of, is_do, widened, plainly}

@@ -4,14 +4,14 @@ use Rattle.val_types.specs.declared.refusal.SqlRefusal.{SqlRefusal}
 use Rattle.val_types.specs.declared.refusal.SqlRefusal.TheVariants as sql
 use Rattle.sql_tree.specs.Statement.{Statement}
 use Rattle.sql_locals.specs.declared.locals.Local.{Local}
-use Rattle.proc_model.specs.Talk.{Rules}
+use Rattle.name_const.specs.proc_model.Talk.{Rules}
 use Rattle.sql_tree.specs.StatementView.{view}
 use Rattle.sql_tree.specs.declared.statements.Stmt.{Stmt}
-use Rattle.sql_reach.specs.Closing.{closed}
+use Rattle.name_const.specs.sql_reach.Closing.{closed}
 use Rattle.name_const.specs.Refusing.{Closes}
 use Rattle.prog_run.specs.declared.meter.Outcome.{Outcome}
-use Rattle.proc_model.specs.Closing.{closing_refusal}
-use Rattle.proc_model.specs.Procedures.{Held, Action, done, ◌>>=◌, pure, let_through, note, noted, run_closed}
+use Rattle.name_const.specs.proc_model.Closing.{closing_refusal}
+use Rattle.name_const.specs.proc_model.Procedures.{Held, Action, done, ◌>>=◌, pure, let_through, note, noted, run_closed}
 use Rattle.proc_parts.specs.declared.runner.RunRefusal.{RunRefusal}
 use Rattle.proc_parts.specs.declared.world.World.{World}
 use Rattle.proc_parts.specs.Calls.{EndsBy, always, effect_of, plainly, widened}

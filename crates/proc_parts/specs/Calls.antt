@@ -5,12 +5,12 @@ use Rattle.val_types.specs.declared.value.Value.{Value}
 use Rattle.val_types.specs.declared.refusal.SqlRefusal.{SqlRefusal}
 use Rattle.val_types.specs.declared.refusal.SqlRefusal.TheVariants as sql
 use Rattle.fault_counts.specs.Causes.{Rose}
-use Rattle.catalog_objects.specs.Keys.{objects_of}
+use Rattle.name_const.specs.catalog_objects.Keys.{objects_of}
 use Rattle.prog_run.specs.sql_evaluation.Seen.{running_of}
 use Rattle.prog_run.specs.declared.meter.Meter.{Meter}
 use Rattle.prog_run.specs.declared.meter.Outcome.{Outcome}
-use Rattle.proc_model.specs.Talk.{Left, Refusal, Effect, Told, Talk, Rules, Led}
-use Rattle.proc_model.specs.Procedures.{Held, Ending, done, failed, World, call_at}
+use Rattle.name_const.specs.proc_model.Talk.{Left, Refusal, Effect, Told, Talk, Rules, Led}
+use Rattle.name_const.specs.proc_model.Procedures.{Held, Ending, done, failed, World, call_at}
 use Rattle.sql_tree.specs.Statement.{Statement, evaluate}
 use Rattle.sql_tree.specs.Tree.{Trees, no_tree}
 use Rattle.proc_parts.specs.declared.held.Held.{Held as Kept}

@@ -7,9 +7,9 @@ use Rattle.sql_tree.specs.declared.statements.Target.{Target}
 use Rattle.sql_locals.specs.declared.locals.Local.{Local}
 use Rattle.value_rules.specs.Operators.{truth_of, with_value}
 use Rattle.value_rules.specs.Functions.{is_known_true}
-use Rattle.proc_model.specs.Talk.{Rules}
+use Rattle.name_const.specs.proc_model.Talk.{Rules}
 use Rattle.proc_parts.specs.declared.runner.RunRefusal.{RunRefusal}
-use Rattle.proc_model.specs.Procedures.{Action, Held, ◌>>=◌, pure, answered, first_value, checked_values, preset_value, declare, carried_on, assign_one, plain_step, argument_values, step}
+use Rattle.name_const.specs.proc_model.Procedures.{Action, Held, ◌>>=◌, pure, answered, first_value, checked_values, preset_value, declare, carried_on, assign_one, plain_step, argument_values, step}
 use Rattle.proc_parts.specs.declared.world.World.{World}
 use Rattle.proc_parts.specs.Calls.{world_of, EndsBy, always, expressions_of}
 

@@ -1,7 +1,7 @@
 //! What the runner is asked: statements and expressions.
 ghost use Rattle.std.specs.Prelude.{◌≡◌, true};
 ghost use Rattle.sql_tree.specs.StatementView.{view};
-ghost use Rattle.proc_model.specs.Procedures.{evaluate_with, is_plain, run_closed};
+ghost use Rattle.name_const.specs.proc_model.Procedures.{evaluate_with, is_plain, run_closed};
 ghost use Rattle.proc_parts.specs.Calls.{EndsBy, Moves, effect_of, expressions_of, held_of, is_do, plainly};
 
 use crate::held::Held;

@@ -2,8 +2,8 @@
 ghost use Rattle.std.specs.Prelude.{◌≡◌};
 ghost use Rattle.sql_tree.specs.Statement.{set_all};
 ghost use Rattle.sql_tree.specs.StatementView.{view_assignments};
-ghost use Rattle.catalog_rules.specs.Names.{first_made};
-ghost use Rattle.proc_model.specs.Procedures.{assignment_refusal, assignments_of, local_refusal};
+ghost use Rattle.name_const.specs.catalog_rules.Names.{first_made};
+ghost use Rattle.name_const.specs.proc_model.Procedures.{assignment_refusal, assignments_of, local_refusal};
 ghost use Rattle.sql_locals.specs.Locals.{find_local};
 ghost use Rattle.proc_parts.specs.Calls.{EndsBy, Moves, always, held_of};
 ghost use Rattle.proc_parts.specs.Parts.{Assigns, AssignsAll, step_at};

@@ -3,9 +3,9 @@ ghost use Rattle.std.specs.Prelude.{◌≡◌, None};
 ghost use Rattle.sql_tree.specs.Statement.{call_procedure, evaluate};
 ghost use Rattle.sql_tree.specs.StatementView.{view};
 ghost use Rattle.sql_tree.specs.View.{view_trees};
-ghost use Rattle.catalog_objects.specs.Keys.{objects_of};
-ghost use Rattle.catalog_rules.specs.Checks.{statement_refusal};
-ghost use Rattle.proc_model.specs.Procedures.{scope_of};
+ghost use Rattle.name_const.specs.catalog_objects.Keys.{objects_of};
+ghost use Rattle.name_const.specs.catalog_rules.Checks.{statement_refusal};
+ghost use Rattle.name_const.specs.proc_model.Procedures.{scope_of};
 ghost use Rattle.proc_parts.specs.Calls.{Calls, CallsMove, EndsBy, Moves, Passes, always, held_of, plainly, world_of};
 ghost use Rattle.proc_parts.specs.Parts.{arguments_at, step_at};
 

@@ -2,8 +2,8 @@
 ghost use Rattle.std.specs.Prelude.{◌≡◌, true, IfOk};
 ghost use Rattle.sql_tree.specs.StatementView.{view};
 ghost use Rattle.name_const.specs.Refusing.{Closes};
-ghost use Rattle.proc_model.specs.Closing.{closing_refusal};
-ghost use Rattle.proc_model.specs.Procedures.{is_plain};
+ghost use Rattle.name_const.specs.proc_model.Closing.{closing_refusal};
+ghost use Rattle.name_const.specs.proc_model.Procedures.{is_plain};
 ghost use Rattle.proc_parts.specs.Calls.{Passes};
 
 use sql_locals::Locals;

@@ -3,7 +3,7 @@ ghost use Rattle.std.specs.Prelude.{◌≡◌, ◌∷◌, [], zip, IfOk, List, O
 ghost use Rattle.val_types.specs.declared.value.Value.{Value as SqlValue};
 ghost use Rattle.sql_tree.specs.StatementView.{view_declaration, view_declarations};
 ghost use Rattle.sql_locals.specs.Types.{column_type};
-ghost use Rattle.proc_model.specs.Procedures.{add_local, add_parameter, all_tried};
+ghost use Rattle.name_const.specs.proc_model.Procedures.{add_local, add_parameter, all_tried};
 ghost use Rattle.proc_parts.specs.Calls.{EndsBy, Moves, Tries, always, held_of, plainly};
 ghost use Rattle.proc_parts.specs.Parts.{ComesFirst, all_declared_at, declared_at};
 

@@ -3,7 +3,7 @@ ghost use Rattle.std.specs.Prelude.{◌≡◌, IfOk};
 ghost use Rattle.sql_tree.specs.Statement.{evaluate};
 ghost use Rattle.sql_tree.specs.StatementView.{view, view_assignments};
 ghost use Rattle.sql_tree.specs.View.{view_tree, view_trees};
-ghost use Rattle.sql_meaning.specs.Within.{do_one, values_assigned};
+ghost use Rattle.name_const.specs.sql_meaning.Within.{do_one, values_assigned};
 
 use sql_tree::{Assignment, Expr, Stmt};
 use std::alloc::Global;

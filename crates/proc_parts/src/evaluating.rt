@@ -2,8 +2,8 @@
 ghost use Rattle.std.specs.Prelude.{◌≡◌, true};
 ghost use Rattle.sql_tree.specs.StatementView.{view};
 ghost use Rattle.sql_tree.specs.View.{view_part, view_tree};
-ghost use Rattle.sql_meaning.specs.Within.{do_one};
-ghost use Rattle.proc_model.specs.Procedures.{first_value};
+ghost use Rattle.name_const.specs.sql_meaning.Within.{do_one};
+ghost use Rattle.name_const.specs.proc_model.Procedures.{first_value};
 ghost use Rattle.proc_parts.specs.Calls.{EndsBy, Moves, held_of, is_do, plainly};
 ghost use Rattle.proc_parts.specs.Parts.{holds_at, preset_at, value_at, values_at};
 

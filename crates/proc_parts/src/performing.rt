@@ -1,7 +1,7 @@
 //! Changes, SELECT and DO of a procedure.
 ghost use Rattle.std.specs.Prelude.{◌≡◌, true, IfOk};
 ghost use Rattle.sql_tree.specs.StatementView.{view};
-ghost use Rattle.proc_model.specs.Procedures.{is_plain, noted};
+ghost use Rattle.name_const.specs.proc_model.Procedures.{is_plain, noted};
 ghost use Rattle.proc_parts.specs.Calls.{EndsBy, Moves, always, effect_of, held_of};
 ghost use Rattle.proc_parts.specs.Parts.{plain_at};
 

@@ -2,11 +2,11 @@
 ghost use Rattle.std.specs.Prelude.{◌≡◌, ℕ, ◌≤◌, true, OnOk};
 ghost use Rattle.fault_counts.specs.Causes.{Rose};
 ghost use Rattle.sql_tree.specs.StatementView.{view};
-ghost use Rattle.proc_model.specs.Procedures.{is_plain};
+ghost use Rattle.name_const.specs.proc_model.Procedures.{is_plain};
 ghost use Rattle.proc_parts.specs.declared.runner.RunRefusal.TheVariants.{NoMemory as Wanted};
 ghost use Rattle.proc_parts.specs.Calls.{Tells, effect_of, expressions_of, is_do, left_of, plainly, widened};
 
-use proc_model::Ruled;
+use name_const::proc_model::Ruled;
 use prog_run::{Meter, Outcome};
 use sql_locals::Locals;
 use sql_tree::Stmt;

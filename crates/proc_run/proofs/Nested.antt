@@ -10,14 +10,14 @@ use Rattle.sql_tree.specs.StatementView.{view, view_program, statement_step, bra
 use Rattle.sql_tree.specs.declared.statements.Routine.{Routine, out-Routine}
 use Rattle.sql_tree.specs.declared.statements.Stmt.TheFolds.{fold_out-Routine}
 use Rattle.sql_locals.specs.declared.locals.Local.{Local}
-use Rattle.catalog_objects.specs.Keys.{objects_of}
-use Rattle.catalog_rules.specs.Names.{is_among}
-use Rattle.catalog_rules.specs.Objects.{Object, procedure_in, parameters_of}
-use Rattle.sql_stage.specs.declared.running.Running.{Running as Chain, Function, the_lemmas}
-use Rattle.sql_stage.specs.UnderWay.{under_way}
-use Rattle.sql_evaluation.specs.Seen.{running_of}
-use Rattle.proc_model.specs.Talk.{Rules}
-use Rattle.proc_model.specs.Procedures.{Held, Action, World as Around, done, ◌>>=◌, pure, fail, answered, all_tried, add_parameter, call_at, free_procedure, procedure_body, started}
+use Rattle.proc_parts.specs.catalog_objects.Keys.{objects_of}
+use Rattle.proc_parts.specs.catalog_rules.Names.{is_among}
+use Rattle.proc_parts.specs.catalog_rules.Objects.{Object, procedure_in, parameters_of}
+use Rattle.proc_parts.specs.sql_stage.declared.running.Running.{Running as Chain, Function, the_lemmas}
+use Rattle.proc_parts.specs.sql_stage.UnderWay.{under_way}
+use Rattle.proc_parts.specs.sql_evaluation.Seen.{running_of}
+use Rattle.proc_parts.specs.proc_model.Talk.{Rules}
+use Rattle.proc_parts.specs.proc_model.Procedures.{Held, Action, World as Around, done, ◌>>=◌, pure, fail, answered, all_tried, add_parameter, call_at, free_procedure, procedure_body, started}
 use Rattle.proc_parts.specs.declared.runner.RunRefusal.{RunRefusal}
 use Rattle.proc_parts.specs.declared.runner.RunRefusal.TheVariants.{Sql}
 use Rattle.proc_parts.specs.declared.world.World.{World}

@@ -2,8 +2,8 @@
 use Rattle.std.proofs.Common.{◌≡◌, ℕ, true, false, List, None, Result, Err, refl}
 use Rattle.sql_tree.specs.Statement.{Statement, create_table, create_function, create_procedure, create_trigger, drop_table, drop_function, drop_procedure, drop_trigger, truncate, insert_into, replace_into, update_rows, delete_rows, select, evaluate, set_all, call_procedure, begin, commit, rollback, savepoint, rollback_to, release_savepoint, block, if_steps, while_steps, return_value}
 use Rattle.sql_locals.specs.declared.locals.Local.{Local}
-use Rattle.proc_model.specs.Talk.{Rules}
-use Rattle.proc_model.specs.Procedures.{Held, fail, is_plain}
+use Rattle.proc_parts.specs.proc_model.Talk.{Rules}
+use Rattle.proc_parts.specs.proc_model.Procedures.{Held, fail, is_plain}
 use Rattle.proc_parts.specs.declared.runner.RunRefusal.{RunRefusal}
 use Rattle.proc_parts.specs.declared.runner.RunRefusal.TheVariants.{Sql}
 use Rattle.proc_parts.specs.declared.world.World.{World}

@@ -10,10 +10,10 @@ use Rattle.sql_tree.specs.declared.statements.Branch.{Branch, out-Branch}
 use Rattle.sql_tree.specs.declared.statements.Stmt.{Stmt, If, the_lemmas}
 use Rattle.sql_tree.specs.declared.statements.Stmt.TheFolds.{fold_out-Branch}
 use Rattle.sql_locals.specs.declared.locals.Local.{Local}
-use Rattle.sql_meaning.specs.Within.{do_one}
-use Rattle.sql_evaluation.proofs.Branching.{rest_is}
-use Rattle.proc_model.specs.Talk.{Rules, Led, Talk, ends}
-use Rattle.proc_model.specs.Procedures.{Held, Ending, done, failed, Action, ◌>>=◌, pure, fail, turn_spent, spend_turn, steps}
+use Rattle.proc_parts.specs.sql_meaning.Within.{do_one}
+use Rattle.proc_parts.proofs.sql_evaluation.Branching.{rest_is}
+use Rattle.proc_parts.specs.proc_model.Talk.{Rules, Led, Talk, ends}
+use Rattle.proc_parts.specs.proc_model.Procedures.{Held, Ending, done, failed, Action, ◌>>=◌, pure, fail, turn_spent, spend_turn, steps}
 use Rattle.proc_parts.specs.declared.runner.RunRefusal.{RunRefusal}
 use Rattle.proc_parts.specs.declared.runner.RunRefusal.TheVariants.{Sql}
 use Rattle.proc_parts.specs.declared.world.World.{World}

@@ -1,7 +1,7 @@
 -- What a CALL answers, by how its procedure ended.
 use Rattle.std.specs.Prelude.{◌≡◌, Result, Ok, Err}
-use Rattle.proc_model.specs.Talk.{Refusal}
-use Rattle.proc_model.specs.Procedures.{Held, Ending, done, failed, came}
+use Rattle.proc_parts.specs.proc_model.Talk.{Refusal}
+use Rattle.proc_parts.specs.proc_model.Procedures.{Held, Ending, done, failed, came}
 use Rattle.answer_text.specs.declared.answer.Answer.{Answer}
 use Rattle.proc_parts.specs.declared.runner.RunRefusal.{RunRefusal}
 use Rattle.proc_parts.specs.declared.runner.RunRefusal.TheVariants.{Sql, Device, NoMemory}

@@ -4,7 +4,7 @@ use Rattle.val_types.specs.declared.value.Value.{Value}
 use Rattle.sql_tree.specs.Statement.{block, if_steps, while_steps, set_all, call_procedure}
 use Rattle.sql_tree.specs.Statement.{Statement, Statements, Branches, Otherwise, Program}
 use Rattle.sql_locals.specs.declared.locals.Local.{Local}
-use Rattle.proc_model.specs.Procedures.{is_plain, Action, steps, step_of_branches, steps_otherwise, turns, procedure_body}
+use Rattle.proc_parts.specs.proc_model.Procedures.{is_plain, Action, steps, step_of_branches, steps_otherwise, turns, procedure_body}
 use Rattle.proc_parts.specs.declared.world.World.{World}
 use Rattle.proc_parts.specs.Calls.{world_of}
 use Rattle.proc_parts.specs.Parts.{holds_at}

@@ -1,18 +1,18 @@
 //! A CALL of a session.
 ghost use Rattle.std.specs.Prelude.{◌≡◌, ◌≤◌, Err, IfOk};
 ghost use Rattle.fault_counts.specs.Causes.{Rose};
-ghost use Rattle.catalog_objects.specs.Keys.{objects_of};
-ghost use Rattle.proc_model.specs.Procedures.{Came, IsCall};
+ghost use Rattle.proc_parts.specs.catalog_objects.Keys.{objects_of};
+ghost use Rattle.proc_parts.specs.proc_model.Procedures.{Came, IsCall};
 ghost use Rattle.proc_parts.specs.Calls.{held_of, left_of};
 ghost use Rattle.proc_run.specs.Answers.{AnswersBy};
 ghost use Rattle.proc_run.specs.declared.calls.CallRefusal.TheVariants.{Device};
 
 use crate::nesting::call_procedure;
 use answer_text::{Answer, End};
-use catalog::Catalog;
+use proc_parts::catalog::Catalog;
 use proc_parts::prog_run::Meter;
+use proc_parts::sql_stage::Running;
 use proc_parts::{Held, RunRefusal, Runner, World};
-use sql_stage::Running;
 use std::alloc::Global;
 use thiserror::Error;
 use val_types::{Bytes, List, Value};

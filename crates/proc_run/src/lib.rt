@@ -28,4 +28,5 @@ mod steps;
 
 // The crates below that this one speaks of, passed on: who stands above names them through it.
 pub use calls::{CallRefusal, call};
-pub use proc_parts::prog_run;
+pub use proc_parts;
+pub use proc_parts::{proc_model, session_ctx};

@@ -2,18 +2,18 @@
 ghost use Rattle.std.specs.Prelude.{◌≡◌, ◌<◌, ◌-◌, ◌∷◌, None};
 ghost use Rattle.proc_parts.specs.declared.runner.RunRefusal.TheVariants.{Sql};
 ghost use Rattle.sql_tree.specs.StatementView.{view_program};
-ghost use Rattle.catalog_objects.specs.Keys.{objects_of};
-ghost use Rattle.sql_evaluation.specs.Seen.{running_of};
+ghost use Rattle.proc_parts.specs.catalog_objects.Keys.{objects_of};
+ghost use Rattle.proc_parts.specs.sql_evaluation.Seen.{running_of};
 ghost use Rattle.proc_parts.specs.Calls.{EndsBy, Moves, held_of, plainly, world_of};
 ghost use Rattle.proc_run.specs.Steps.{body_at};
 
 use crate::steps::step;
+use proc_parts::sql_stage::Running;
+use proc_parts::step_checks::is_called;
 use proc_parts::{Held, RunRefusal, Runner, World, parameters};
 use sql_locals::Locals;
-use sql_stage::Running;
 use sql_tree::Routine;
 use std::alloc::Global;
-use step_checks::is_called;
 use val_types::{Bytes, List, SqlError, Value};
 
 /// A name that is no procedure's.

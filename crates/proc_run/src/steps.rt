@@ -3,7 +3,7 @@ ghost use Rattle.std.specs.Prelude.{◌≡◌, true};
 ghost use Rattle.sql_tree.specs.Statement.{block, while_steps};
 ghost use Rattle.sql_tree.specs.StatementView.{view, view_declarations, view_otherwise, view_statements};
 ghost use Rattle.sql_tree.specs.View.{view_tree};
-ghost use Rattle.proc_model.specs.Procedures.{is_plain};
+ghost use Rattle.proc_parts.specs.proc_model.Procedures.{is_plain};
 ghost use Rattle.proc_parts.specs.Calls.{Calls, CallsMove, EndsBy, Moves, always, held_of, world_of};
 ghost use Rattle.proc_parts.specs.Parts.{step_at};
 ghost use Rattle.proc_run.specs.Steps.{has_form, otherwise_at, steps_at};

@@ -2,9 +2,9 @@
 use Rattle.std.proofs.Common.{refl, ◌≡◌, [], Option, None, ℤ}
 use Rattle.sql_tree.specs.Tree.{Trees}
 use Rattle.sql_tree.specs.Statement.{Statement}
-use Rattle.catalog_rules.specs.Nodes.{nodes_of, nodes_of_trees, no_sight}
-use Rattle.sql_meaning.specs.Scenes.{Scene, undone}
-use Rattle.sql_meaning.specs.Running.{perform, tables_named, forced_for, effect, evaluation}
+use Rattle.statement_names.specs.catalog_rules.Nodes.{nodes_of, nodes_of_trees, no_sight}
+use Rattle.statement_names.specs.sql_meaning.Scenes.{Scene, undone}
+use Rattle.statement_names.specs.sql_meaning.Running.{perform, tables_named, forced_for, effect, evaluation}
 use Rattle.stored_programs.specs.sql_evaluation.declared.world.Around.{Around}
 use Rattle.stored_programs.specs.sql_evaluation.Seen.{setting_of, world_of, frame_of, running_of, values_in}
 

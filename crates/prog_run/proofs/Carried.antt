@@ -11,7 +11,7 @@ use Rattle.table_rules.specs.Stores.{Store, definitions_of, can_take_back}
 use Rattle.table_rules.specs.Leads.{Leads}
 use Rattle.table_rules.proofs.Equations.{all_applied_behind}
 use Rattle.table_rules.proofs.Leading.{all_inverse_both, still_taken_back, none_taken_back}
-use Rattle.catalog_objects.specs.declared.object.Object.{Object}
+use Rattle.catalog.specs.catalog_objects.declared.object.Object.{Object}
 use Rattle.prog_run.specs.Contents.{Contents, without_changes}
 use Rattle.prog_run.specs.Carrying.{ChangesRows}
 use Rattle.prog_run.specs.Together.{AreTogether}

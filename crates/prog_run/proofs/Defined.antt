@@ -10,16 +10,16 @@ use Rattle.table_rules.specs.Stored.{table_named, tables_beside, tables_cleared}
 use Rattle.table_rules.specs.Stores.{Store, IsWhole}
 use Rattle.sql_tree.specs.Statement.{Statement, create_table}
 use Rattle.sql_tree.specs.declared.statements.CreateTable.{CreateTable}
-use Rattle.catalog_rules.specs.Objects.{table, table_in}
-use Rattle.catalog_rules.specs.Objects as rules
-use Rattle.catalog_rules.specs.Defined.{definition_of}
-use Rattle.catalog_rules.specs.Creating.{ddl_refusal, catalog_after, goes_with_table, objects_but}
-use Rattle.catalog_rules.specs.Bases.{Base, tables_after}
+use Rattle.statement_names.specs.catalog_rules.Objects.{table, table_in}
+use Rattle.statement_names.specs.catalog_rules.Objects as rules
+use Rattle.statement_names.specs.catalog_rules.Defined.{definition_of}
+use Rattle.statement_names.specs.catalog_rules.Creating.{ddl_refusal, catalog_after, goes_with_table, objects_but}
+use Rattle.statement_names.specs.catalog_rules.Bases.{Base, tables_after}
 use Rattle.catalog.specs.Answers.{Makes as Made}
-use Rattle.catalog_objects.specs.declared.object.Object.{Object}
-use Rattle.catalog_objects.specs.Keys.{objects_of}
-use Rattle.sql_stage.specs.declared.stage.Stage.{Stage}
-use Rattle.sql_reach.specs.Defining.{counters_after, counters_with}
+use Rattle.catalog.specs.catalog_objects.declared.object.Object.{Object}
+use Rattle.catalog.specs.catalog_objects.Keys.{objects_of}
+use Rattle.stage_undo.specs.sql_stage.declared.stage.Stage.{Stage}
+use Rattle.statement_names.specs.sql_reach.Defining.{counters_after, counters_with}
 use Rattle.prog_run.specs.Contents.{Contents}
 use Rattle.prog_run.specs.Runs.{Makes, definition_refusal, outcome_of_none, contents_of}
 use Rattle.prog_run.specs.Together.{AreTogether}

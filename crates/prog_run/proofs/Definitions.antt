@@ -18,14 +18,14 @@ use Rattle.table_rules.proofs.Places.{name_is, name_self}
 use Rattle.table_rules.proofs.Leading.{none_taken_back}
 use Rattle.sql_tree.specs.Statement.{Statement, Program, Trigger, create_table, create_function, create_procedure, create_trigger, drop_table, drop_function, drop_procedure, drop_trigger, truncate, insert_into, replace_into, update_rows, delete_rows, select, evaluate, set_all, call_procedure, begin, commit, rollback, savepoint, rollback_to, release_savepoint, block, if_steps, while_steps, return_value}
 use Rattle.sql_tree.specs.declared.statements.CreateTable.{CreateTable}
-use Rattle.catalog_rules.specs.Names.{same_name}
-use Rattle.catalog_rules.specs.Objects.{table, function, procedure, reaction, table_in}
-use Rattle.catalog_rules.specs.Objects as rules
-use Rattle.catalog_rules.specs.Creating.{ddl_refusal, goes_with_table, is_function_named, is_procedure_named, is_trigger_named, objects_but, catalog_after}
-use Rattle.catalog_rules.specs.Bases.{definitions_in, definition_if}
-use Rattle.catalog_objects.specs.declared.object.Object.{Object}
-use Rattle.catalog_objects.specs.Keys.{objects_of}
-use Rattle.sql_reach.specs.Defining.{counters_with}
+use Rattle.statement_names.specs.catalog_rules.Names.{same_name}
+use Rattle.statement_names.specs.catalog_rules.Objects.{table, function, procedure, reaction, table_in}
+use Rattle.statement_names.specs.catalog_rules.Objects as rules
+use Rattle.statement_names.specs.catalog_rules.Creating.{ddl_refusal, goes_with_table, is_function_named, is_procedure_named, is_trigger_named, objects_but, catalog_after}
+use Rattle.statement_names.specs.catalog_rules.Bases.{definitions_in, definition_if}
+use Rattle.catalog.specs.catalog_objects.declared.object.Object.{Object}
+use Rattle.catalog.specs.catalog_objects.Keys.{objects_of}
+use Rattle.statement_names.specs.sql_reach.Defining.{counters_with}
 use Rattle.prog_run.specs.Contents.{counted_name, counted_names}
 use Rattle.prog_run.specs.Together.{AreTogether, is_drop_of_program}
 

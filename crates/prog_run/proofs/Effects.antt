@@ -5,12 +5,12 @@ use Rattle.val_types.specs.declared.refusal.SqlRefusal.{SqlRefusal}
 use Rattle.sql_tree.specs.Tree.{Trees}
 use Rattle.sql_tree.specs.Statement.{Statement}
 use Rattle.sql_locals.specs.declared.locals.Local.{Local}
-use Rattle.catalog_rules.specs.Nodes.{nodes_of, nodes_of_trees, no_sight}
-use Rattle.sql_meaning.specs.Scenes.{Scene, Ending, undone}
-use Rattle.sql_meaning.specs.Frames.{Setting}
-use Rattle.sql_meaning.specs.Changing.{Did}
-use Rattle.sql_meaning.specs.Running.{perform, tables_named, forced_for, effect, evaluation}
-use Rattle.sql_stage.specs.Stage.{EndsAs, EndsAsBy}
+use Rattle.statement_names.specs.catalog_rules.Nodes.{nodes_of, nodes_of_trees, no_sight}
+use Rattle.statement_names.specs.sql_meaning.Scenes.{Scene, Ending, undone}
+use Rattle.statement_names.specs.sql_meaning.Frames.{Setting}
+use Rattle.statement_names.specs.sql_meaning.Changing.{Did}
+use Rattle.statement_names.specs.sql_meaning.Running.{perform, tables_named, forced_for, effect, evaluation}
+use Rattle.stage_undo.specs.sql_stage.Stage.{EndsAs, EndsAsBy}
 use Rattle.stored_programs.specs.sql_evaluation.declared.world.Around.{Around}
 use Rattle.stored_programs.specs.sql_evaluation.Seen.{setting_of, running_of, world_of, frame_of, values_in}
 use Rattle.stored_programs.specs.sql_statements.declared.did.Did.{Did as Done}

@@ -15,12 +15,12 @@ use Rattle.table_rules.specs.Stores.{Store, definitions_of, can_take_back, keeps
 use Rattle.table_rules.proofs.Equations.{applied_none, applied_front, all_applied_behind}
 use Rattle.table_rules.proofs.Storing.{some_same, all_inverse_front, definitions_kept, turn_back}
 use Rattle.table_rules.proofs.Leading.{all_inverse_both, none_taken_back, last_taken_back}
-use Rattle.catalog_objects.specs.declared.object.Object.{Object}
-use Rattle.catalog_objects.specs.Keys.{objects_of}
-use Rattle.catalog_rules.specs.Bases.{definitions_in}
+use Rattle.catalog.specs.catalog_objects.declared.object.Object.{Object}
+use Rattle.catalog.specs.catalog_objects.Keys.{objects_of}
+use Rattle.statement_names.specs.catalog_rules.Bases.{definitions_in}
 use Rattle.auto_inc.specs.Counting.{tables_of}
 use Rattle.prog_run.specs.Contents.{counted_names}
-use Rattle.dml_rows.specs.Noted.{StaysReversible}
+use Rattle.stage_undo.specs.dml_rows.Noted.{StaysReversible}
 use Rattle.prog_run.specs.Contents.{IsTogether, without_changes}
 use Rattle.prog_run.specs.Together.{AreTogether}
 

@@ -14,13 +14,13 @@ use Rattle.sql_tree.specs.Statement.{Supply, rows, rows_of}
 use Rattle.sql_tree.specs.Statement.{Statement, create_table, create_function, create_procedure, create_trigger, drop_table, drop_function, drop_procedure, drop_trigger, truncate, insert_into, replace_into, update_rows, delete_rows, select, evaluate, set_all, call_procedure, begin, commit, rollback, savepoint, rollback_to, release_savepoint, block, if_steps, while_steps, return_value}
 use Rattle.sql_locals.specs.declared.locals.Local.{Local}
 use Rattle.sql_tree.specs.declared.statements.Cause.TheVariants as causes
-use Rattle.catalog_rules.specs.Nodes.{nodes_of}
-use Rattle.sql_meaning.specs.Scenes.{Scene, Ending, done, failed, Action, then_do, ◌>>=◌, pure, fail, needed, each, counted, carried_on, make, table_now, counter_now, raise_counter, undone_from}
-use Rattle.sql_meaning.specs.Frames.{Setting, World, Frame, only_locals}
-use Rattle.sql_meaning.specs.Values.{values, rows_of_query}
-use Rattle.sql_meaning.specs.Changing.{put_at, asked_place, asks, none_missing, before_row, after_row, delete_row, update_row, Inserting, nothing_inserted, Manner, refusing, ignoring, replacing, updating, generated_next, Counted, type_at, generate_at, given_value, count_row, put_row, clear_way, passed_by, updating_frame, settle, place_row, left_out_row, insert_row, insert_supply, insert_into_table, chosen_rows, Did, did_insert, affected_rows}
+use Rattle.statement_names.specs.catalog_rules.Nodes.{nodes_of}
+use Rattle.statement_names.specs.sql_meaning.Scenes.{Scene, Ending, done, failed, Action, then_do, ◌>>=◌, pure, fail, needed, each, counted, carried_on, make, table_now, counter_now, raise_counter, undone_from}
+use Rattle.statement_names.specs.sql_meaning.Frames.{Setting, World, Frame, only_locals}
+use Rattle.statement_names.specs.sql_meaning.Values.{values, rows_of_query}
+use Rattle.statement_names.specs.sql_meaning.Changing.{put_at, asked_place, asks, none_missing, before_row, after_row, delete_row, update_row, Inserting, nothing_inserted, Manner, refusing, ignoring, replacing, updating, generated_next, Counted, type_at, generate_at, given_value, count_row, put_row, clear_way, passed_by, updating_frame, settle, place_row, left_out_row, insert_row, insert_supply, insert_into_table, chosen_rows, Did, did_insert, affected_rows}
 use Rattle.prog_run.specs.Together.{Counts}
-use Rattle.sql_meaning.specs.Running.{manner_of, rows_shown, perform, world_of, forced_for, uses_forced, effect}
+use Rattle.statement_names.specs.sql_meaning.Running.{manner_of, rows_shown, perform, world_of, forced_for, uses_forced, effect}
 
 -- what an action gives, where it gives something
 record Gives {A : Type 0} (P : A → Type 0) (m : Action A) : Type 0 where

@@ -9,17 +9,17 @@ use Rattle.port_traits.specs.declared.identity.Draw.{Draw}
 use Rattle.sql_tree.specs.Tree.{Trees}
 use Rattle.sql_tree.specs.Statement.{Statement, evaluate}
 use Rattle.sql_locals.specs.declared.locals.Local.{Local}
-use Rattle.catalog_objects.specs.declared.object.Object.{Object}
-use Rattle.catalog_objects.specs.Keys.{objects_of}
-use Rattle.sql_meaning.specs.Scenes.{Scene, Ending, done, failed}
-use Rattle.sql_meaning.specs.Frames.{Context, Setting}
-use Rattle.sql_meaning.specs.Changing.{Did}
-use Rattle.sql_meaning.specs.Running.{effect, evaluation, context_after}
-use Rattle.sql_stage.specs.declared.stage.Stage.{Stage}
-use Rattle.sql_stage.specs.Stage.{scene_of, LeadsOn}
-use Rattle.sql_stage.proofs.Leading.{rows_led, counters_led, names_led}
+use Rattle.catalog.specs.catalog_objects.declared.object.Object.{Object}
+use Rattle.catalog.specs.catalog_objects.Keys.{objects_of}
+use Rattle.statement_names.specs.sql_meaning.Scenes.{Scene, Ending, done, failed}
+use Rattle.statement_names.specs.sql_meaning.Frames.{Context, Setting}
+use Rattle.statement_names.specs.sql_meaning.Changing.{Did}
+use Rattle.statement_names.specs.sql_meaning.Running.{effect, evaluation, context_after}
+use Rattle.stage_undo.specs.sql_stage.declared.stage.Stage.{Stage}
+use Rattle.stage_undo.specs.sql_stage.Stage.{scene_of, LeadsOn}
+use Rattle.stage_undo.proofs.sql_stage.Leading.{rows_led, counters_led, names_led}
 use Rattle.stage_undo.specs.Back.{IsBack}
-use Rattle.sql_reach.specs.Defining.{number_of_bytes}
+use Rattle.statement_names.specs.sql_reach.Defining.{number_of_bytes}
 use Rattle.prog_run.specs.declared.meter.Meter.{Meter}
 use Rattle.prog_run.specs.declared.meter.Outcome.{Outcome}
 use Rattle.prog_run.specs.Runs.{moment, scene_at, setting_at, Runs, Evaluated, LeavesAll, contents_of, Comes, Gives}

@@ -5,11 +5,11 @@ use Rattle.std.proofs.lemmas.List.{append-nil}
 use Rattle.val_types.specs.declared.list.List.{List as Items}
 use Rattle.sql_tree.specs.View.{view_trees}
 use Rattle.sql_tree.specs.declared.expressions.Expr.{Expr}
-use Rattle.catalog_rules.specs.Nodes.{nodes_of_trees, no_sight}
-use Rattle.sql_meaning.specs.Frames.{Running}
-use Rattle.sql_meaning.specs.Running.{tables_named}
-use Rattle.sql_stage.specs.declared.running.Running.{Running as Chain, Tables, Expressions, the_lemmas}
-use Rattle.sql_stage.specs.UnderWay.{under_way}
+use Rattle.statement_names.specs.catalog_rules.Nodes.{nodes_of_trees, no_sight}
+use Rattle.statement_names.specs.sql_meaning.Frames.{Running}
+use Rattle.statement_names.specs.sql_meaning.Running.{tables_named}
+use Rattle.stage_undo.specs.sql_stage.declared.running.Running.{Running as Chain, Tables, Expressions, the_lemmas}
+use Rattle.stage_undo.specs.sql_stage.UnderWay.{under_way}
 
 abbrev pub nothing_running : Running
 nothing_running = record { tables = []; functions = [] }

@@ -9,9 +9,9 @@ use Rattle.table_rules.specs.Tables.{Table}
 use Rattle.table_rules.specs.Changes.{AreKept}
 use Rattle.table_rules.specs.Stored.{all_applied, all_inverse}
 use Rattle.table_rules.specs.Stores.{definitions_of}
-use Rattle.catalog_rules.specs.Bases.{Base, definitions_in}
-use Rattle.catalog_objects.specs.declared.object.Object.{Object}
-use Rattle.catalog_objects.specs.Keys.{objects_of}
+use Rattle.statement_names.specs.catalog_rules.Bases.{Base, definitions_in}
+use Rattle.catalog.specs.catalog_objects.declared.object.Object.{Object}
+use Rattle.catalog.specs.catalog_objects.Keys.{objects_of}
 
 -- The objects of the catalog, the tables as they stand, the changes that can be taken back from them, and the counters.
 pub record Contents : Type 0 where

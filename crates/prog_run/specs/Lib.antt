@@ -4,4 +4,8 @@ pub mod Runs
 pub mod Together
 -- the crates below that this one speaks of, passed on
 pub use Rattle.catalog.specs as catalog
+pub use Rattle.catalog.specs.catalog_objects as catalog_objects
+pub use Rattle.stage_undo.specs.dml_rows as dml_rows
+pub use Rattle.stored_programs.specs.session_ctx as session_ctx
 pub use Rattle.stored_programs.specs.sql_evaluation as sql_evaluation
+pub use Rattle.stage_undo.specs.sql_stage as sql_stage

@@ -4,10 +4,10 @@ use Rattle.val_types.specs.declared.change.Change.{Change}
 use Rattle.auto_inc.specs.declared.counters.Counter.{Counter}
 use Rattle.auto_inc.specs.Counting.{tables_of}
 use Rattle.table_rules.specs.Stores.{Store, definitions_of, can_take_back}
-use Rattle.catalog_rules.specs.Bases.{definitions_in}
+use Rattle.statement_names.specs.catalog_rules.Bases.{definitions_in}
 use Rattle.sql_tree.specs.Statement.{Statement, drop_function, drop_procedure, drop_trigger}
-use Rattle.catalog_objects.specs.declared.object.Object.{Object}
-use Rattle.catalog_objects.specs.Keys.{objects_of}
+use Rattle.catalog.specs.catalog_objects.declared.object.Object.{Object}
+use Rattle.catalog.specs.catalog_objects.Keys.{objects_of}
 use Rattle.prog_run.specs.Contents.{counted_names}
 
 -- the changes can be taken back without memory; tables and counters are those of the catalog

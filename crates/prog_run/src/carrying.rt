@@ -3,13 +3,13 @@ ghost use Rattle.std.specs.Prelude.{◌≡◌, max, true};
 ghost use Rattle.auto_inc.specs.Counting.{behind, changed_for, tables_of};
 ghost use Rattle.table_rules.specs.Stored.{deletion, fits_table, insertion, replacement};
 ghost use Rattle.row_store.specs.Stores.{Stores};
-ghost use Rattle.dml_rows.specs.Noted.{Notes};
+ghost use Rattle.stage_undo.specs.dml_rows.Noted.{Notes};
 ghost use Rattle.prog_run.specs.Carrying.{ChangesRows, given_up};
 
 use crate::work::Work;
 use auto_inc::Counters;
-use dml_rows::{delete_row, insert_row, take_back_to, update_row};
 use row_store::RowRefusal;
+use stage_undo::dml_rows::{delete_row, insert_row, take_back_to, update_row};
 use val_types::{Bytes, Row};
 
 impl Work {

@@ -1,16 +1,16 @@
 //! What a statement sees of the context, and what it leaves there.
 ghost use Rattle.std.specs.Prelude.{◌≡◌, None, IfSome};
 ghost use Rattle.sql_tree.specs.StatementView.{view};
-ghost use Rattle.catalog_objects.specs.Keys.{objects_of};
-ghost use Rattle.sql_meaning.specs.Running.{context_after, forced_for, uses_forced};
+ghost use Rattle.catalog.specs.catalog_objects.Keys.{objects_of};
+ghost use Rattle.statement_names.specs.sql_meaning.Running.{context_after, forced_for, uses_forced};
 ghost use Rattle.stored_programs.specs.sql_evaluation.Seen.{setting_of};
 ghost use Rattle.prog_run.specs.Together.{Counts};
 
-use catalog_objects::Objects;
-use session_ctx::Ctx;
+use catalog::catalog_objects::Objects;
 use sql_locals::Locals;
-use sql_stage::Running;
 use sql_tree::Stmt;
+use stage_undo::sql_stage::Running;
+use stored_programs::session_ctx::Ctx;
 use stored_programs::sql_evaluation::Around;
 
 /// Whether a statement uses a forced INSERT_ID.

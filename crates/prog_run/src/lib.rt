@@ -55,7 +55,10 @@ mod work;
 
 // The crates below that this one speaks of, passed on: who stands above names them through it.
 pub use catalog;
+pub use catalog::{catalog_objects, program_creation, table_creation};
 pub use defining::is_definition;
 pub use meter::{Meter, Outcome};
 pub use running::{eval_list, run_stmt};
+pub use stage_undo::sql_stage;
+pub use stored_programs::{session_ctx, step_checks};
 pub use work::Work;

@@ -1,6 +1,6 @@
 //! The number that bytes are.
 ghost use Rattle.std.specs.Prelude.{◌≡◌, ◌≤◌, length};
-ghost use Rattle.sql_reach.specs.Defining.{number_of_bytes};
+ghost use Rattle.statement_names.specs.sql_reach.Defining.{number_of_bytes};
 
 /// At most 16 bytes as a number, the most significant first.
 pub(crate) fn number_of_bytes(bytes: &[u8]) -> u128

@@ -1,12 +1,12 @@
 //! What is under way where a session runs a statement.
 ghost use Rattle.std.specs.Prelude.{◌≡◌, []};
 ghost use Rattle.sql_tree.specs.View.{view_trees};
-ghost use Rattle.catalog_rules.specs.Nodes.{no_sight, nodes_of_trees};
-ghost use Rattle.sql_meaning.specs.Running.{tables_named};
+ghost use Rattle.statement_names.specs.catalog_rules.Nodes.{no_sight, nodes_of_trees};
+ghost use Rattle.statement_names.specs.sql_meaning.Running.{tables_named};
 ghost use Rattle.stored_programs.specs.sql_evaluation.Seen.{running_of};
 
-use sql_stage::Running;
 use sql_tree::Expr;
+use stage_undo::sql_stage::Running;
 use val_types::{Bytes, List};
 
 /// Nothing.

@@ -9,9 +9,9 @@ use Rattle.sql_tree.specs.Statement.{Statement, create_table, create_function, c
 use Rattle.sql_tree.specs.Statement.{Statements, no_statement, statement, Branches, no_branch, branch, Otherwise, no_else, else_steps}
 use Rattle.sql_tree.specs.declared.statements.SqlType.{SqlType}
 use Rattle.sql_tree.specs.declared.statements.Target.{Target}
-use Rattle.catalog_rules.specs.Names.{is_among}
-use Rattle.catalog_rules.specs.Bodies.{Kind, is_of_function, is_of_procedure, writes_new_row, session_variables, declared_names, has_code, allowed, variable_codes, target_codes, assignment_codes, body_codes, steps_codes, branches_codes, otherwise_codes, declared_types, types_in_steps, types_in_branches, types_in_otherwise}
-use Rattle.catalog_rules.specs.Creating.{is_ill_type}
+use Rattle.table_creation.specs.catalog_rules.Names.{is_among}
+use Rattle.table_creation.specs.catalog_rules.Bodies.{Kind, is_of_function, is_of_procedure, writes_new_row, session_variables, declared_names, has_code, allowed, variable_codes, target_codes, assignment_codes, body_codes, steps_codes, branches_codes, otherwise_codes, declared_types, types_in_steps, types_in_branches, types_in_otherwise}
+use Rattle.table_creation.specs.catalog_rules.Creating.{is_ill_type}
 use Rattle.program_creation.specs.BodyRanks.{met_rank, types_rank, allowed_rank, variable_rank, target_rank, assignments_rank, type_rank, declared_rank, body_rank, steps_rank, branches_rank, otherwise_rank}
 
 met_step : (a b c d : Bool) → cond (a || b) 0 (cond (c || d) 1 3) ≡ min (cond a 0 (cond c 1 3)) (cond b 0 (cond d 1 3))

@@ -3,7 +3,7 @@ use Rattle.std.proofs.Common.{◌≡◌, ℕ, min, List, [], ◌∷◌, refl, ar
 use Rattle.sql_tree.specs.Tree.{Tree}
 use Rattle.sql_tree.specs.Statement.{Declared, Statements, no_statement, statement, Branches, no_branch, branch}
 use Rattle.sql_tree.specs.declared.statements.Target.{Target}
-use Rattle.catalog_rules.specs.Bodies.{Kind}
+use Rattle.table_creation.specs.catalog_rules.Bodies.{Kind}
 use Rattle.program_creation.specs.BodyRanks.{assignments_rank, declared_rank, steps_rank, branches_rank}
 
 step : (a k : ℕ) → min 3 k ≡ k → min 3 (min a k) ≡ min a k

@@ -5,9 +5,9 @@ use Rattle.std.specs.List.{list_any}
 use Rattle.sql_tree.specs.Statement.{Statement, Program, program}
 use Rattle.sql_tree.specs.declared.statements.SqlType.{SqlType}
 use Rattle.sql_tree.specs.declared.statements.Parameter.{Parameter}
-use Rattle.catalog_rules.specs.Bodies.{Kind, body_codes, declared_types, has_code}
-use Rattle.catalog_rules.specs.Objects.{Object, body_of}
-use Rattle.catalog_rules.specs.Creating.{is_ill_type, first_refusal, ddl_checks, ddl_refusal, parameter_names, program_types}
+use Rattle.table_creation.specs.catalog_rules.Bodies.{Kind, body_codes, declared_types, has_code}
+use Rattle.table_creation.specs.catalog_rules.Objects.{Object, body_of}
+use Rattle.table_creation.specs.catalog_rules.Creating.{is_ill_type, first_refusal, ddl_checks, ddl_refusal, parameter_names, program_types}
 use Rattle.program_creation.specs.BodyRanks.{met_rank, types_rank, body_rank}
 use Rattle.program_creation.specs.Refusing.{code_by, trigger_code, program_rank}
 use Rattle.program_creation.proofs.BodyRanking.{body_law, types_append}

@@ -7,9 +7,9 @@ use Rattle.sql_tree.specs.Statement.{Statement, create_table, create_function, c
 use Rattle.sql_tree.specs.Statement.{Statements, no_statement, statement, Branches, no_branch, branch, Otherwise, no_else, else_steps}
 use Rattle.sql_tree.specs.declared.statements.SqlType.{SqlType}
 use Rattle.sql_tree.specs.declared.statements.Target.{Target}
-use Rattle.catalog_rules.specs.Names.{is_among}
-use Rattle.catalog_rules.specs.Bodies.{Kind, is_of_function, is_of_procedure, writes_new_row, session_variables, declared_names, has_code}
-use Rattle.catalog_rules.specs.Creating.{is_ill_type}
+use Rattle.table_creation.specs.catalog_rules.Names.{is_among}
+use Rattle.table_creation.specs.catalog_rules.Bodies.{Kind, is_of_function, is_of_procedure, writes_new_row, session_variables, declared_names, has_code}
+use Rattle.table_creation.specs.catalog_rules.Creating.{is_ill_type}
 
 -- how early the first of some errors comes, and of some types
 abbrev pub met_rank : List ℕ → ℕ

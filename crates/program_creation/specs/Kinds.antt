@@ -1,5 +1,5 @@
 -- The kind of stored program that a kind of the code stands for.
-use Rattle.catalog_rules.specs.Bodies.{Kind, of_function, of_procedure, of_trigger}
+use Rattle.table_creation.specs.catalog_rules.Bodies.{Kind, of_function, of_procedure, of_trigger}
 use Rattle.program_creation.specs.declared.kinds.Kind.{Kind as Given}
 use Rattle.program_creation.specs.declared.kinds.Kind.TheVariants as kinds
 

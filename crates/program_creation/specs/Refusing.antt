@@ -2,7 +2,7 @@
 use Rattle.std.specs.Prelude.{ℕ, Bool, cond, ◌==◌, min, map, option_to_list, Option, Some, None}
 use Rattle.sql_tree.specs.Statement.{Program, program}
 use Rattle.sql_tree.specs.declared.statements.Parameter.{Parameter}
-use Rattle.catalog_rules.specs.Bodies.{Kind}
+use Rattle.table_creation.specs.catalog_rules.Bodies.{Kind}
 use Rattle.program_creation.specs.BodyRanks.{types_rank, body_rank}
 
 -- the error of a rank, or 30009 where there are programs enough

@@ -2,7 +2,7 @@
 use Rattle.std.specs.Prelude.{ℕ, List, [], ◌++◌, map}
 use Rattle.sql_tree.specs.StatementView.{view_declarations}
 use Rattle.sql_tree.specs.declared.statements.Parameter.{Parameter}
-use Rattle.catalog_rules.specs.Bodies.{declared_names}
+use Rattle.table_creation.specs.catalog_rules.Bodies.{declared_names}
 use Rattle.program_creation.specs.declared.scope.Names.{Names, fold-Names}
 use Rattle.program_creation.specs.declared.scope.Names.TheOpen.{Names-F}
 

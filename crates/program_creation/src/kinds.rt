@@ -1,6 +1,6 @@
 //! The kinds of stored programs, which may hold different statements.
 ghost use Rattle.std.specs.Prelude.{◌≡◌};
-ghost use Rattle.catalog_rules.specs.Bodies.{is_of_function, is_of_procedure, writes_new_row};
+ghost use Rattle.table_creation.specs.catalog_rules.Bodies.{is_of_function, is_of_procedure, writes_new_row};
 ghost use Rattle.program_creation.specs.Kinds.{kind_of};
 
 /// A kind of stored program; a trigger may write the row that is to be stored, where it runs before an INSERT or UPDATE.

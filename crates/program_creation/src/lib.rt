@@ -27,3 +27,4 @@ pub use kinds::Kind;
 pub use refusing::{function_refusal, procedure_refusal, trigger_refusal};
 pub use scope::Names;
 pub use table_creation;
+pub use table_creation::catalog_checks;

@@ -2,12 +2,12 @@
 ghost use Rattle.std.specs.Prelude.{◌≡◌, map};
 ghost use Rattle.std.specs.List.{list_any};
 ghost use Rattle.sql_tree.specs.declared.statements.Parameter.{Parameter};
-ghost use Rattle.catalog_rules.specs.Creating.{is_ill_type};
+ghost use Rattle.table_creation.specs.catalog_rules.Creating.{is_ill_type};
 ghost use Rattle.program_creation.specs.BodyRanks.{allowed_rank, type_rank, variable_rank};
 ghost use Rattle.program_creation.specs.Refusing.{code_by, trigger_code};
 
-use catalog_checks::is_session_variable;
 use sql_tree::{Parameter, SqlType};
+use table_creation::catalog_checks::is_session_variable;
 use table_creation::is_ill_type;
 use val_types::{Bytes, List, SqlError};
 

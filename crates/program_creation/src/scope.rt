@@ -2,12 +2,12 @@
 ghost use Rattle.std.specs.Prelude.{◌≡◌, map};
 ghost use Rattle.sql_tree.specs.StatementView.{view_declarations};
 ghost use Rattle.sql_tree.specs.declared.statements.Parameter.{Parameter};
-ghost use Rattle.catalog_rules.specs.Names.{is_among};
-ghost use Rattle.catalog_rules.specs.Bodies.{declared_names};
+ghost use Rattle.table_creation.specs.catalog_rules.Names.{is_among};
+ghost use Rattle.table_creation.specs.catalog_rules.Bodies.{declared_names};
 ghost use Rattle.program_creation.specs.Scopes.{names_of};
 
-use catalog_checks::is_among;
 use sql_tree::{Declaration, Parameter};
+use table_creation::catalog_checks::is_among;
 use val_types::{Bytes, List};
 
 /// Names in scope, the innermost block first.

@@ -8,11 +8,11 @@ use Rattle.table_rules.specs.Tables.{Table}
 use Rattle.table_rules.specs.Stored.{has_name, table_named}
 use Rattle.table_rules.proofs.Places.{name_is}
 use Rattle.sql_tree.specs.Statement.{Statement}
-use Rattle.catalog_rules.specs.Objects.{function, reaction, body_of, trigger_body}
-use Rattle.catalog_rules.specs.Nodes.{Node, a_name, a_column, a_new_column, an_old_column, an_inserted_value, a_user_variable, a_system_variable, a_built_in, a_random_number, a_function_call, a_table_read, a_limit, a_statement, no_sight, nodes_of, nodes_of_tree}
-use Rattle.sql_meaning.specs.Scenes.{Scene, Ending, done, failed, Action, then_do, needed, undone_from}
-use Rattle.sql_meaning.specs.Frames.{Setting, only_locals}
-use Rattle.sql_meaning.specs.Running.{perform, world_of, uses_forced, forced_for, effect}
+use Rattle.sql_reach.specs.catalog_rules.Objects.{function, reaction, body_of, trigger_body}
+use Rattle.sql_reach.specs.catalog_rules.Nodes.{Node, a_name, a_column, a_new_column, an_old_column, an_inserted_value, a_user_variable, a_system_variable, a_built_in, a_random_number, a_function_call, a_table_read, a_limit, a_statement, no_sight, nodes_of, nodes_of_tree}
+use Rattle.sql_reach.specs.sql_meaning.Scenes.{Scene, Ending, done, failed, Action, then_do, needed, undone_from}
+use Rattle.sql_reach.specs.sql_meaning.Frames.{Setting, only_locals}
+use Rattle.sql_reach.specs.sql_meaning.Running.{perform, world_of, uses_forced, forced_for, effect}
 use Rattle.sql_reach.specs.Reach.{body_nodes, reached_programs, reached_nodes}
 use Rattle.reach_laws.specs.Members.{In}
 use Rattle.reach_laws.specs.Agreeing.{AgreeOn}

@@ -3,8 +3,8 @@
 -- Each round has what the one before it has. As long as it has more, it has at least as many as there were rounds; so that with as many
 -- rounds as the catalog has objects nothing is left to find.
 use Rattle.std.proofs.Common.{◌≡◌, ◌≤◌, ◌<◌, ℕ, zero, suc, ◌⊎◌, inl, inr, Bool, true, false, List, [], ◌∷◌, ◌++◌, cond, filter, flat_map, length, refl, ap, subst, arith}
-use Rattle.catalog_rules.specs.Objects.{Object, table, function, procedure, reaction, name_of}
-use Rattle.catalog_rules.specs.Nodes.{Node, a_function_call, a_statement}
+use Rattle.sql_reach.specs.catalog_rules.Objects.{Object, table, function, procedure, reaction, name_of}
+use Rattle.sql_reach.specs.catalog_rules.Nodes.{Node, a_function_call, a_statement}
 use Rattle.sql_reach.specs.Reach.{calls_function, fires_trigger, body_nodes, is_reached_from, one_round, rounds, reached_programs, reached_nodes}
 use Rattle.reach_laws.specs.Members.{In}
 use Rattle.reach_laws.specs.Laws.{CallsAreReached, TriggersAreReached, BodiesAreReached}

@@ -6,7 +6,7 @@ use Rattle.val_types.specs.declared.value.Value.{Value}
 use Rattle.val_types.specs.declared.change.Change.{Change}
 use Rattle.val_types.specs.declared.definitions.TableDef.{TableDef}
 use Rattle.table_rules.specs.Tables.{Table}
-use Rattle.sql_meaning.specs.Scenes.{Action, ◌>>=◌, pure, fail, answered, needed, require, each, kept_by, counted, carried_on, make, table_now, counter_now, raise_counter, draw, next_uuid, spend_turn}
+use Rattle.sql_reach.specs.sql_meaning.Scenes.{Action, ◌>>=◌, pure, fail, answered, needed, require, each, kept_by, counted, carried_on, make, table_now, counter_now, raise_counter, draw, next_uuid, spend_turn}
 
 -- A way in which two actions may be alike. `random` is whether they may draw, `exact` whether their counters are the same, `changing`
 -- whether they may change tables, `Known` what is known of a table that is found under a name.

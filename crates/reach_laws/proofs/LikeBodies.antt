@@ -18,16 +18,16 @@ use Rattle.sql_tree.specs.declared.statements.Cause.{Cause}
 use Rattle.sql_tree.specs.declared.statements.Cause.TheVariants as causes
 use Rattle.table_rules.proofs.Places.{name_self}
 use Rattle.sql_reach.specs.Reach.{causes_event, is_change}
-use Rattle.catalog_rules.specs.Names.{is_among, place_among, same_name}
-use Rattle.catalog_rules.specs.Objects.{function_in, trigger_for, parameters_of, result_of, body_of, trigger_body, columns_of}
+use Rattle.sql_reach.specs.catalog_rules.Names.{is_among, place_among, same_name}
+use Rattle.sql_reach.specs.catalog_rules.Objects.{function_in, trigger_for, parameters_of, result_of, body_of, trigger_body, columns_of}
 use Rattle.sql_locals.specs.Types.{column_type}
-use Rattle.catalog_rules.specs.Nodes.{Node, Sight, a_statement, a_function_call, no_sight, in_sight, sight_of_update, count_nodes, nodes_of, nodes_of_tree, nodes_of_part, nodes_of_orders, nodes_of_sets, nodes_of_supply, nodes_of_declared, nodes_of_steps, nodes_of_branches, nodes_of_otherwise}
-use Rattle.catalog_rules.specs.Checks.{statement_refusal, expression_refusal}
-use Rattle.sql_meaning.specs.Scenes.{Action, ◌>>=◌, pure, fail, needed, require, each, carried_on, spend_turn}
-use Rattle.sql_meaning.specs.Frames.{World, Setting, Running, Below, Frame}
-use Rattle.sql_meaning.specs.Values.{value, values, holds, rows_of_query}
-use Rattle.sql_meaning.specs.Changing.{fitted, put_at, replacing}
-use Rattle.sql_meaning.specs.Running.{manner_of, perform, Body, Ended, unless_returned, frame_of, scope_of, is_ill_limit, also_running, let_through, checked, body_value, changes_running, body_checked, body_perform, assign_local, assign_new, assign_one, body_set, declare_name, preset_value, declare, turns, turns_left, step, steps, step_of_branches, steps_otherwise, local_for, fitted_result, function_body, in_function, start_function, call_function, seen_as, run_trigger, fire_trigger, level_of, world_of, tables_named}
+use Rattle.sql_reach.specs.catalog_rules.Nodes.{Node, Sight, a_statement, a_function_call, no_sight, in_sight, sight_of_update, count_nodes, nodes_of, nodes_of_tree, nodes_of_part, nodes_of_orders, nodes_of_sets, nodes_of_supply, nodes_of_declared, nodes_of_steps, nodes_of_branches, nodes_of_otherwise}
+use Rattle.sql_reach.specs.catalog_rules.Checks.{statement_refusal, expression_refusal}
+use Rattle.sql_reach.specs.sql_meaning.Scenes.{Action, ◌>>=◌, pure, fail, needed, require, each, carried_on, spend_turn}
+use Rattle.sql_reach.specs.sql_meaning.Frames.{World, Setting, Running, Below, Frame}
+use Rattle.sql_reach.specs.sql_meaning.Values.{value, values, holds, rows_of_query}
+use Rattle.sql_reach.specs.sql_meaning.Changing.{fitted, put_at, replacing}
+use Rattle.sql_reach.specs.sql_meaning.Running.{manner_of, perform, Body, Ended, unless_returned, frame_of, scope_of, is_ill_limit, also_running, let_through, checked, body_value, changes_running, body_checked, body_perform, assign_local, assign_new, assign_one, body_set, declare_name, preset_value, declare, turns, turns_left, step, steps, step_of_branches, steps_otherwise, local_for, fitted_result, function_body, in_function, start_function, call_function, seen_as, run_trigger, fire_trigger, level_of, world_of, tables_named}
 use Rattle.reach_laws.proofs.Members.{both, of_each}
 use Rattle.reach_laws.proofs.Reaching.{table_inserted, expressions_of, Decided, Fired, IsReach, LikeBelow}
 use Rattle.reach_laws.proofs.Like.{IsLikeness, bind_like, pure_like, fail_like, needed_like, require_like, if_like, each_like, every_like, carried_like, carry_like}

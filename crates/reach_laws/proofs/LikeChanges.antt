@@ -21,13 +21,13 @@ use Rattle.sql_tree.specs.declared.statements.Time.{Time}
 use Rattle.sql_tree.specs.declared.statements.Time.TheVariants as times
 use Rattle.sql_tree.specs.declared.statements.Cause.{Cause}
 use Rattle.sql_tree.specs.declared.statements.Cause.TheVariants as causes
-use Rattle.catalog_rules.specs.Names.{place_among}
-use Rattle.catalog_rules.specs.Objects.{columns_of}
-use Rattle.catalog_rules.specs.Nodes.{Node, Sight, no_sight, nodes_of_tree, nodes_of_trees, nodes_of_part, nodes_of_orders, nodes_of_supply}
-use Rattle.sql_meaning.specs.Scenes.{Action, ◌>>=◌, pure, answered, needed, require, each, kept_by, counted, carried_on, make, table_now, raise_counter}
-use Rattle.sql_meaning.specs.Frames.{World, Frame, sees, Setting, Running, Below}
-use Rattle.sql_meaning.specs.Values.{value, values, is_kept, order_values, rows_of_query}
-use Rattle.sql_meaning.specs.Changing.{fitted, type_at, put_at, asks, asked_place, has_missing, none_missing, before_row, after_row, delete_row, assign_column, take_out, put_in_place, is_there, store_update, update_row, Inserting, nothing_inserted, Manner, refusing, ignoring, replacing, updating, generated_next, Counted, generate_at, given_value, count_row, put_row, clear_way, passed_by, updating_frame, settle, place_row, left_out_row, insert_row, insert_supply, insert_into_table, chosen_rows, update_table, delete_from_table}
+use Rattle.sql_reach.specs.catalog_rules.Names.{place_among}
+use Rattle.sql_reach.specs.catalog_rules.Objects.{columns_of}
+use Rattle.sql_reach.specs.catalog_rules.Nodes.{Node, Sight, no_sight, nodes_of_tree, nodes_of_trees, nodes_of_part, nodes_of_orders, nodes_of_supply}
+use Rattle.sql_reach.specs.sql_meaning.Scenes.{Action, ◌>>=◌, pure, answered, needed, require, each, kept_by, counted, carried_on, make, table_now, raise_counter}
+use Rattle.sql_reach.specs.sql_meaning.Frames.{World, Frame, sees, Setting, Running, Below}
+use Rattle.sql_reach.specs.sql_meaning.Values.{value, values, is_kept, order_values, rows_of_query}
+use Rattle.sql_reach.specs.sql_meaning.Changing.{fitted, type_at, put_at, asks, asked_place, has_missing, none_missing, before_row, after_row, delete_row, assign_column, take_out, put_in_place, is_there, store_update, update_row, Inserting, nothing_inserted, Manner, refusing, ignoring, replacing, updating, generated_next, Counted, generate_at, given_value, count_row, put_row, clear_way, passed_by, updating_frame, settle, place_row, left_out_row, insert_row, insert_supply, insert_into_table, chosen_rows, update_table, delete_from_table}
 use Rattle.reach_laws.proofs.Members.{of_each}
 use Rattle.reach_laws.proofs.Reaching.{Decided, Fired, IsReach, LikeBelow}
 use Rattle.reach_laws.proofs.Like.{IsLikeness, bind_like, pure_like, fail_like, answered_like, needed_like, require_like, if_like, every_like, kept_like, counted_like, carried_like, carry_like, make_like, table_like, raise_like}

@@ -12,15 +12,15 @@ use Rattle.val_types.specs.declared.ops.Agg.{Agg}
 use Rattle.value_rules.specs.Functions.{builtin_value}
 use Rattle.value_rules.specs.Moments.{moment_text}
 use Rattle.value_rules.specs.Random.{scaled}
-use Rattle.log_entries.specs.Variables.{variable_value}
+use Rattle.sql_reach.specs.log_entries.Variables.{variable_value}
 use Rattle.sql_tree.specs.Tree.{Tree, literal, name, column, new_column, old_column, user_variable, system_variable, unary, binary, is_in, choice, subquery, exists, call, built_in, values_of, name_const, floor_rand}
 use Rattle.sql_tree.specs.Tree.{Trees, no_tree, tree, Arms, no_arm, arm, Part, no_part, part, Query, query, Selected, items, all_columns, aggregates}
 use Rattle.sql_tree.specs.Tree.{Aggregates, no_aggregate, count_all, aggregate, no_origin, from_table, Orders, no_order, order_by}
 use Rattle.sql_tree.specs.BuiltIns.{Manner, all_arguments, first_known, chosen, about}
-use Rattle.catalog_rules.specs.Nodes.{Node, Sight, a_user_variable, a_system_variable, a_built_in, in_sight, count_of_trees, limit_nodes, nodes_of_tree, nodes_of_trees, nodes_of_arms, nodes_of_part, nodes_of_query, nodes_of_selected, nodes_of_aggregates, nodes_of_origin, nodes_of_orders}
-use Rattle.sql_meaning.specs.Scenes.{Action, ◌>>=◌, pure, answered, needed, each, kept_by, table_now, draw, next_uuid}
-use Rattle.sql_meaning.specs.Frames.{Running, Below, World, Frame, sees, capped, Setting}
-use Rattle.sql_meaning.specs.Values.{system_value, session_value, function_value, by_manner, holds, unless_known, found_or, only_value, formed, functions_of, value, values, found_among, value_of_arms, value_of_part, value_of_if, value_at, first_known_of, is_kept, order_values, argument_values, shown_rows, row_alone, rows_of_query}
+use Rattle.sql_reach.specs.catalog_rules.Nodes.{Node, Sight, a_user_variable, a_system_variable, a_built_in, in_sight, count_of_trees, limit_nodes, nodes_of_tree, nodes_of_trees, nodes_of_arms, nodes_of_part, nodes_of_query, nodes_of_selected, nodes_of_aggregates, nodes_of_origin, nodes_of_orders}
+use Rattle.sql_reach.specs.sql_meaning.Scenes.{Action, ◌>>=◌, pure, answered, needed, each, kept_by, table_now, draw, next_uuid}
+use Rattle.sql_reach.specs.sql_meaning.Frames.{Running, Below, World, Frame, sees, capped, Setting}
+use Rattle.sql_reach.specs.sql_meaning.Values.{system_value, session_value, function_value, by_manner, holds, unless_known, found_or, only_value, formed, functions_of, value, values, found_among, value_of_arms, value_of_part, value_of_if, value_at, first_known_of, is_kept, order_values, argument_values, shown_rows, row_alone, rows_of_query}
 use Rattle.reach_laws.proofs.Members.{both}
 use Rattle.reach_laws.proofs.Reaching.{IsReach, LikeBelow}
 use Rattle.reach_laws.proofs.Like.{IsLikeness, bind_like, pure_like, pure_same, fail_like, answered_like, needed_like, if_like, every_like, kept_like, table_like}

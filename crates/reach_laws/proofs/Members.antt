@@ -1,7 +1,7 @@
 -- What is among some items, and what holds of all of them.
 use Rattle.std.proofs.Common.{◌≡◌, ◌⊎◌, inl, inr, Bool, true, false, ◌||◌, List, [], ◌∷◌, ◌++◌, cond, filter, flat_map, refl, sym, ap, ◌∙◌, subst}
 use Rattle.std.specs.List.{AllByRecursion, list_any}
-use Rattle.catalog_rules.specs.Nodes.{Node}
+use Rattle.sql_reach.specs.catalog_rules.Nodes.{Node}
 use Rattle.reach_laws.specs.Members.{In}
 
 pub in_front : {A : Type 0} (a : A) (xs ys : List A) → In a xs → In a (xs ++ ys)

@@ -7,9 +7,9 @@ use Rattle.sql_tree.specs.Statement.{Statement, create_table, create_function, c
 use Rattle.sql_tree.specs.declared.statements.Time.{Time}
 use Rattle.sql_tree.specs.declared.statements.Cause.{Cause}
 use Rattle.sql_tree.specs.declared.statements.Cause.TheVariants as causes
-use Rattle.catalog_rules.specs.Names.{same_name}
-use Rattle.catalog_rules.specs.Objects.{Object, table, function, procedure, reaction, name_of, function_in, trigger_for, waits_for, same_time, same_event}
-use Rattle.catalog_rules.specs.Nodes.{a_statement, nodes_of}
+use Rattle.sql_reach.specs.catalog_rules.Names.{same_name}
+use Rattle.sql_reach.specs.catalog_rules.Objects.{Object, table, function, procedure, reaction, name_of, function_in, trigger_for, waits_for, same_time, same_event}
+use Rattle.sql_reach.specs.catalog_rules.Nodes.{a_statement, nodes_of}
 use Rattle.sql_reach.specs.Reach.{causes_event, fires_trigger}
 use Rattle.reach_laws.specs.Members.{In}
 

@@ -9,11 +9,11 @@ use Rattle.sql_tree.specs.Tree.{Tree}
 use Rattle.sql_tree.specs.Statement.{Statement, Program, Trigger, insert_into, replace_into, update_rows, delete_rows, select, evaluate}
 use Rattle.sql_tree.specs.declared.statements.Time.{Time}
 use Rattle.sql_tree.specs.declared.statements.Cause.{Cause}
-use Rattle.catalog_rules.specs.Checks.{Scope, statement_refusal, expression_refusal}
-use Rattle.catalog_rules.specs.Objects.{function_in, trigger_for, body_of, trigger_body}
-use Rattle.catalog_rules.specs.Nodes.{Node, a_built_in, a_random_number, a_function_call, a_statement, no_sight, in_sight, sight_of_update, count_nodes, nodes_of, nodes_of_tree, nodes_of_trees, nodes_of_part, nodes_of_query, nodes_of_orders, nodes_of_sets, nodes_of_supply}
-use Rattle.sql_meaning.specs.Scenes.{Action}
-use Rattle.sql_meaning.specs.Frames.{Setting, Running, Below}
+use Rattle.sql_reach.specs.catalog_rules.Checks.{Scope, statement_refusal, expression_refusal}
+use Rattle.sql_reach.specs.catalog_rules.Objects.{function_in, trigger_for, body_of, trigger_body}
+use Rattle.sql_reach.specs.catalog_rules.Nodes.{Node, a_built_in, a_random_number, a_function_call, a_statement, no_sight, in_sight, sight_of_update, count_nodes, nodes_of, nodes_of_tree, nodes_of_trees, nodes_of_part, nodes_of_query, nodes_of_orders, nodes_of_sets, nodes_of_supply}
+use Rattle.sql_reach.specs.sql_meaning.Scenes.{Action}
+use Rattle.sql_reach.specs.sql_meaning.Frames.{Setting, Running, Below}
 use Rattle.sql_reach.specs.Reach.{causes_event, is_change}
 use Rattle.reach_laws.specs.Agreeing.{SameAt}
 

@@ -10,14 +10,14 @@ use Rattle.table_rules.specs.Tables.{Table}
 use Rattle.table_rules.specs.Stored.{table_named}
 use Rattle.sql_tree.specs.Statement.{Statement, create_table, create_function, create_procedure, create_trigger, drop_table, drop_function, drop_procedure, drop_trigger, truncate, insert_into, replace_into, update_rows, delete_rows, select, evaluate, set_all, call_procedure, begin, commit, rollback, savepoint, rollback_to, release_savepoint, block, if_steps, while_steps, return_value}
 use Rattle.sql_tree.specs.declared.statements.Cause.{Cause}
-use Rattle.catalog_rules.specs.Objects.{function, body_of}
-use Rattle.catalog_rules.specs.Nodes.{Node, a_name, a_column, a_new_column, an_old_column, an_inserted_value, a_user_variable, a_system_variable, a_built_in, a_random_number, a_function_call, a_table_read, a_limit, a_statement, no_sight, nodes_of, nodes_of_trees}
-use Rattle.sql_meaning.specs.Scenes.{Scene, Ending, done, failed, Action, then_do, needed, undone_from, undone}
-use Rattle.sql_meaning.specs.Frames.{Setting, only_locals}
-use Rattle.sql_meaning.specs.Values.{values}
-use Rattle.sql_meaning.specs.Running.{perform, level_of, world_of, forced_for, tables_named, effect, evaluation}
-use Rattle.sql_meaning.specs.Leading.{scene_after, StaysAsItWas}
-use Rattle.sql_meaning.proofs.Steps.{IsMoved, staying, bind_moved, pure_moved, fail_moved, table_moved, raise_moved, draw_moved, uuid_moved, spend_moved}
+use Rattle.sql_reach.specs.catalog_rules.Objects.{function, body_of}
+use Rattle.sql_reach.specs.catalog_rules.Nodes.{Node, a_name, a_column, a_new_column, an_old_column, an_inserted_value, a_user_variable, a_system_variable, a_built_in, a_random_number, a_function_call, a_table_read, a_limit, a_statement, no_sight, nodes_of, nodes_of_trees}
+use Rattle.sql_reach.specs.sql_meaning.Scenes.{Scene, Ending, done, failed, Action, then_do, needed, undone_from, undone}
+use Rattle.sql_reach.specs.sql_meaning.Frames.{Setting, only_locals}
+use Rattle.sql_reach.specs.sql_meaning.Values.{values}
+use Rattle.sql_reach.specs.sql_meaning.Running.{perform, level_of, world_of, forced_for, tables_named, effect, evaluation}
+use Rattle.sql_reach.specs.sql_meaning.Leading.{scene_after, StaysAsItWas}
+use Rattle.sql_reach.proofs.sql_meaning.Steps.{IsMoved, staying, bind_moved, pure_moved, fail_moved, table_moved, raise_moved, draw_moved, uuid_moved, spend_moved}
 use Rattle.sql_reach.specs.Reach.{is_change, is_definition, holds_change, is_writing_function, causes_event, body_nodes, reached_programs, reached_nodes, writes}
 use Rattle.reach_laws.specs.Members.{In}
 use Rattle.reach_laws.specs.Agreeing.{SameOfSession, SameFunction, SameAt}

@@ -7,11 +7,11 @@ use Rattle.val_types.specs.declared.definitions.TableDef.{TableDef}
 use Rattle.sql_tree.specs.Tree.{Tree, query, items, all_columns, aggregates, no_origin, from_table}
 use Rattle.sql_tree.specs.Statement.{Supply, rows, rows_of}
 use Rattle.sql_tree.specs.Statement.{Statement, create_table, create_function, create_procedure, create_trigger, drop_table, drop_function, drop_procedure, drop_trigger, truncate, insert_into, replace_into, update_rows, delete_rows, select, evaluate, set_all, call_procedure, begin, commit, rollback, savepoint, rollback_to, release_savepoint, block, if_steps, while_steps, return_value}
-use Rattle.catalog_rules.specs.Names.{same_name, is_among, has_twice}
-use Rattle.catalog_rules.specs.Bodies.{has_code}
-use Rattle.catalog_rules.specs.Objects.{Object, table_in, function_in, procedure_in, parameters_of}
-use Rattle.catalog_rules.specs.Nodes.{Node, a_name, a_column, a_new_column, an_old_column, an_inserted_value, a_user_variable, a_system_variable, a_built_in, a_random_number, a_function_call, a_table_read, a_limit, a_statement, no_sight, nodes_of, nodes_of_tree, count_of_trees}
-use Rattle.catalog_rules.specs.Checks.{Scope, unless, has_column, given_columns, is_left_out, has_width, tables_read, reads_its_target, columns_codes, statement_codes, node_codes, check_order, first_code, statement_refusal, expression_refusal}
+use Rattle.sql_reach.specs.catalog_rules.Names.{same_name, is_among, has_twice}
+use Rattle.sql_reach.specs.catalog_rules.Bodies.{has_code}
+use Rattle.sql_reach.specs.catalog_rules.Objects.{Object, table_in, function_in, procedure_in, parameters_of}
+use Rattle.sql_reach.specs.catalog_rules.Nodes.{Node, a_name, a_column, a_new_column, an_old_column, an_inserted_value, a_user_variable, a_system_variable, a_built_in, a_random_number, a_function_call, a_table_read, a_limit, a_statement, no_sight, nodes_of, nodes_of_tree, count_of_trees}
+use Rattle.sql_reach.specs.catalog_rules.Checks.{Scope, unless, has_column, given_columns, is_left_out, has_width, tables_read, reads_its_target, columns_codes, statement_codes, node_codes, check_order, first_code, statement_refusal, expression_refusal}
 
 -- the same tables and procedures, and the same function wherever a node calls one
 module _ (os os' : List Object) (tables : (name : List ℕ) → table_in os' name ≡ table_in os name) (procedures : (name : List ℕ) → procedure_in os' name ≡ procedure_in os name) where

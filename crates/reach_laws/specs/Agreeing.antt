@@ -2,14 +2,14 @@
 use Rattle.std.specs.Prelude.{◌≡◌, ℕ, true, List}
 use Rattle.val_types.specs.declared.ops.Func.{Func}
 use Rattle.val_types.specs.declared.ops.Func0.{Func0}
-use Rattle.log_entries.specs.Variables.{variable_value}
+use Rattle.sql_reach.specs.log_entries.Variables.{variable_value}
 use Rattle.sql_tree.specs.Statement.{Statement}
 use Rattle.sql_tree.specs.declared.statements.Time.{Time}
 use Rattle.sql_tree.specs.declared.statements.Cause.{Cause}
-use Rattle.catalog_rules.specs.Objects.{table_in, function_in, procedure_in, trigger_for}
-use Rattle.catalog_rules.specs.Nodes.{Node, a_user_variable, a_system_variable, a_built_in, a_function_call, a_statement}
-use Rattle.sql_meaning.specs.Frames.{Setting}
-use Rattle.sql_meaning.specs.Values.{system_value}
+use Rattle.sql_reach.specs.catalog_rules.Objects.{table_in, function_in, procedure_in, trigger_for}
+use Rattle.sql_reach.specs.catalog_rules.Nodes.{Node, a_user_variable, a_system_variable, a_built_in, a_function_call, a_statement}
+use Rattle.sql_reach.specs.sql_meaning.Frames.{Setting}
+use Rattle.sql_reach.specs.sql_meaning.Values.{system_value}
 use Rattle.sql_reach.specs.Reach.{causes_event}
 use Rattle.reach_laws.specs.Members.{In}
 

@@ -5,12 +5,12 @@ use Rattle.sql_tree.specs.Statement.{Program, Trigger, Statement, evaluate}
 use Rattle.sql_tree.specs.declared.statements.Time.{Time}
 use Rattle.sql_tree.specs.declared.statements.Cause.{Cause}
 use Rattle.sql_locals.specs.declared.locals.Local.{Local}
-use Rattle.catalog_rules.specs.Objects.{Object, function, reaction, function_in, trigger_for}
-use Rattle.catalog_rules.specs.Nodes.{Node, a_function_call, a_statement, nodes_of}
-use Rattle.sql_meaning.specs.Scenes.{Scene}
-use Rattle.sql_meaning.specs.Frames.{Setting}
-use Rattle.sql_meaning.specs.Running.{effect, evaluation}
-use Rattle.sql_meaning.specs.Leading.{scene_after, StaysAsItWas}
+use Rattle.sql_reach.specs.catalog_rules.Objects.{Object, function, reaction, function_in, trigger_for}
+use Rattle.sql_reach.specs.catalog_rules.Nodes.{Node, a_function_call, a_statement, nodes_of}
+use Rattle.sql_reach.specs.sql_meaning.Scenes.{Scene}
+use Rattle.sql_reach.specs.sql_meaning.Frames.{Setting}
+use Rattle.sql_reach.specs.sql_meaning.Running.{effect, evaluation}
+use Rattle.sql_reach.specs.sql_meaning.Leading.{scene_after, StaysAsItWas}
 use Rattle.sql_reach.specs.Reach.{causes_event, body_nodes, reached_programs, reached_nodes, writes}
 use Rattle.reach_laws.specs.Members.{In}
 use Rattle.reach_laws.specs.Agreeing.{AgreeOn}

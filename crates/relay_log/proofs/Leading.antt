@@ -1,13 +1,13 @@
 -- Where bytes of logs lead.
 use Rattle.std.proofs.Common.{◌≡◌, ◌≤◌, ℕ, zero, suc, ◌+◌, ◌-◌, List, [], ◌∷◌, ◌++◌, length, drop, length-drop, append-nil, refl, sym, ap, ◌∙◌, arith}
 use Rattle.std.proofs.lemmas.List.{drop-drop, drop-append-le}
-use Rattle.log_model.specs.Events.{Place as Part}
-use Rattle.log_model.specs.Groups.{Form, start, next_log, ddl, txn, Group, Next, group, not_whole, damaged_at, foreign_at, group_at}
-use Rattle.log_model.specs.Log.{LogPlace, moved}
+use Rattle.log_groups.specs.log_model.Events.{Place as Part}
+use Rattle.log_groups.specs.log_model.Groups.{Form, start, next_log, ddl, txn, Group, Next, group, not_whole, damaged_at, foreign_at, group_at}
+use Rattle.log_groups.specs.log_model.Log.{LogPlace, moved}
 use Rattle.replica_model.specs.Replica.{behind_form, behind_group, size_of, past_next, past_groups}
-use Rattle.whole_groups.specs.Laws.{Lies}
-use Rattle.whole_groups.proofs.Lying.{group_lies, nothing_there}
-use Rattle.whole_groups.proofs.Staying.{group_stays}
+use Rattle.log_groups.specs.whole_groups.Laws.{Lies}
+use Rattle.log_groups.proofs.whole_groups.Lying.{group_lies, nothing_there}
+use Rattle.log_groups.proofs.whole_groups.Staying.{group_stays}
 use Rattle.relay_log.specs.Reaching.{past_all, Reaches}
 
 -- some bytes from a place on

@@ -1,7 +1,7 @@
 -- Where the bytes lead that were fetched.
 use Rattle.std.specs.Prelude.{◌≡◌, ◌≤◌, ◌<◌, ◌^◌, ℕ, List, ◌++◌, length, drop}
-use Rattle.log_model.specs.Events.{Place as Part}
-use Rattle.log_model.specs.Log.{LogPlace}
+use Rattle.log_groups.specs.log_model.Events.{Place as Part}
+use Rattle.log_groups.specs.log_model.Log.{LogPlace}
 use Rattle.replica_model.specs.Replica.{past_groups}
 use Rattle.relay_log.specs.declared.place.Place.{Place}
 use Rattle.relay_log.specs.declared.place.Walk.{Walk}

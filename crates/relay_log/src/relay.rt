@@ -1,18 +1,18 @@
 //! What was fetched of logs and is not carried out yet.
 ghost use Rattle.std.specs.Prelude.{◌≡◌, ◌<◌, ◌≤◌, ◌+◌, ◌^◌, ◌++◌, [], drop, length, OnErr, OnOk};
 ghost use Rattle.log_groups.specs.Views.{group_seen, next_of};
-ghost use Rattle.log_model.specs.Groups.{group as whole, group_at};
+ghost use Rattle.log_groups.specs.log_model.Groups.{group as whole, group_at};
 ghost use Rattle.replica_model.specs.Replica.{behind_group, log_begin, size_of};
-ghost use Rattle.whole_groups.specs.Laws.{Lies};
+ghost use Rattle.log_groups.specs.whole_groups.Laws.{Lies};
 ghost use Rattle.relay_log.specs.Reaching.{ahead_of, IsAhead, past_all, place_seen};
 
 use crate::place::{Place, Walk};
 use crate::walking::{behind, walk};
+use log_groups::whole_groups::groups_lie_within;
 use log_groups::{Group, Next, next_group};
 use std::alloc::Global;
 use std::marker::Model;
 use val_types::NoMemory;
-use whole_groups::groups_lie_within;
 
 /// The bytes of logs that were fetched, from the applied place on. Before them may stand some that were passed, so that
 /// passing a group moves no bytes. Behind the applied place lies one up to which whole groups were walked over.

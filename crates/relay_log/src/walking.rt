@@ -1,13 +1,13 @@
 //! A walk over whole groups, which carries nothing out.
 ghost use Rattle.std.specs.Prelude.{◌≡◌, ◌≤◌, ◌<◌, ◌^◌, ◌-◌, ◌+◌, drop, length};
 ghost use Rattle.log_groups.specs.Views.{group_seen};
-ghost use Rattle.log_model.specs.Log.{moved};
+ghost use Rattle.log_groups.specs.log_model.Log.{moved};
 ghost use Rattle.replica_model.specs.Replica.{behind_group, size_of};
 ghost use Rattle.relay_log.specs.Reaching.{past_all, Reaches, place_seen};
 
 use crate::place::{Place, Walk};
+use log_groups::whole_groups::groups_lie_within;
 use log_groups::{Form, Group, Next, next_group};
-use whole_groups::groups_lie_within;
 
 /// The place behind a group that stands at a place: the end of a log leads to the next one.
 fn place_behind(place: Place, group: &Group<'_>) -> Place

@@ -40,5 +40,6 @@
 
 mod program;
 
+// The crates below that this one speaks of, passed on: who stands above names them through it.
 pub use program::top;
-pub use script_run::write_log;
+pub use script_run::{run_streams, write_log};

@@ -29,8 +29,11 @@ mod nodes;
 mod pages;
 mod starting;
 
+// The crates below that this one speaks of, passed on: who stands above names them through it.
 pub use command_line::{Known, asks_log, words};
 pub use ending::{exit_of, tell};
 pub use nodes::{number_of, replica_identity, source_identity};
 pub use pages::{Page, page_asked};
+pub use repl_run;
+pub use repl_run::run_streams;
 pub use starting::start;

@@ -3,19 +3,19 @@ use Rattle.std.proofs.Common.{◌≡◌, ◌≤◌, ◌<◌, ℕ, ◌+◌, Bool,
 use Rattle.std.specs.Option.{option_map}
 use Rattle.port_traits.specs.declared.identity.Identity.{Identity}
 use Rattle.port_traits.specs.declared.identity.Draw.{Draw}
-use Rattle.log_model.specs.Groups.{Group}
+use Rattle.log_reader.specs.log_model.Groups.{Group}
 use Rattle.log_reader.specs.Reading.{Reader, next_pos}
-use Rattle.applier_model.specs.Stops.{Differs}
-use Rattle.replica_model.specs.Applying.{Going, apply, damaged, differs, foreign}
-use Rattle.replica_model.specs.Replica.{Replica, fetched, want}
-use Rattle.replica_model.specs.Replaying.{Replay, by_form}
+use Rattle.replica_node.specs.applier_model.Stops.{Differs}
+use Rattle.replica_node.specs.replica_model.Applying.{Going, apply, damaged, differs, foreign}
+use Rattle.replica_node.specs.replica_model.Replica.{Replica, fetched, want}
+use Rattle.replica_node.specs.replica_model.Replaying.{Replay, by_form}
 use Rattle.replica_node.specs.declared.told.Applied as code_applied
 use Rattle.replica_node.specs.declared.told.Stopped.{Stopped}
 use Rattle.replica_node.specs.declared.told.Stopped.TheVariants as stopped
 use Rattle.replica_node.specs.Kept.{Kept, replica_of}
 use Rattle.replica_node.specs.Steps.{IsTold, stop_of}
-use Rattle.whole_logs.specs.Passing.{names_next}
-use Rattle.whole_groups.proofs.Lying.{group_lies}
+use Rattle.log_reader.specs.whole_logs.Passing.{names_next}
+use Rattle.log_reader.proofs.whole_groups.Lying.{group_lies}
 use Rattle.replay_log.specs.declared.replaying.Replaying as code_replaying
 use Rattle.replay_log.specs.Keeping.{IsWhole, IsBegun, Keeps, Follows}
 use Rattle.replay_log.specs.Replaying.{Stands, IsReady, IsNext, WentOn}

@@ -10,17 +10,17 @@ use Rattle.port_traits.specs.declared.identity.Identity.{Identity}
 use Rattle.port_traits.specs.declared.identity.Draw.{Draw}
 use Rattle.event_codec.specs.Event.{Body, query, rotate, int_var, rand, user_var, format_description, xid, table_map, rows, Query}
 use Rattle.event_codec.specs.Reading.{Stop, short, damaged, foreign}
-use Rattle.log_model.specs.Events.{Place, Placed, events_from, stop_from}
-use Rattle.log_model.specs.Groups.{Form, start, next_log, ddl, txn, Group, Next, group, not_whole, damaged_at, foreign_at, Scan, done, stopped, first, scan, stop_next, statement_of, alone, txn_of, begun_by, group_of, group_at}
-use Rattle.log_model.specs.Log.{LogPlace, moved}
-use Rattle.applier_model.specs.Stops.{Differs}
-use Rattle.applier_model.specs.Groups.{Applied, group_carried}
-use Rattle.replica_model.specs.Replica.{Replica, behind_form, behind_group, fetched, past_groups, past_next, size_of, want}
-use Rattle.replica_model.specs.Applying.{Going, apply, by_form, by_next, carry, carried_out, differs, go_on, moved_behind, next_at}
-use Rattle.replica_model.specs.Replaying.{Replay, carried, by_form as replay_form}
-use Rattle.whole_logs.specs.Passing.{names_next}
-use Rattle.whole_groups.proofs.Lying.{group_lies, nothing_there}
-use Rattle.whole_groups.proofs.Staying.{group_stays}
+use Rattle.log_reader.specs.log_model.Events.{Place, Placed, events_from, stop_from}
+use Rattle.log_reader.specs.log_model.Groups.{Form, start, next_log, ddl, txn, Group, Next, group, not_whole, damaged_at, foreign_at, Scan, done, stopped, first, scan, stop_next, statement_of, alone, txn_of, begun_by, group_of, group_at}
+use Rattle.log_reader.specs.log_model.Log.{LogPlace, moved}
+use Rattle.replica_node.specs.applier_model.Stops.{Differs}
+use Rattle.replica_node.specs.applier_model.Groups.{Applied, group_carried}
+use Rattle.replica_node.specs.replica_model.Replica.{Replica, behind_form, behind_group, fetched, past_groups, past_next, size_of, want}
+use Rattle.replica_node.specs.replica_model.Applying.{Going, apply, by_form, by_next, carry, carried_out, differs, go_on, moved_behind, next_at}
+use Rattle.replica_node.specs.replica_model.Replaying.{Replay, carried, by_form as replay_form}
+use Rattle.log_reader.specs.whole_logs.Passing.{names_next}
+use Rattle.log_reader.proofs.whole_groups.Lying.{group_lies, nothing_there}
+use Rattle.log_reader.proofs.whole_groups.Staying.{group_stays}
 use Rattle.replay_log.specs.Keeping.{IsWhole, IsBegun, Keeps, Follows}
 
 -- ---- the beginning of a log stands at its first place alone

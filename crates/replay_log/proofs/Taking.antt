@@ -4,16 +4,16 @@ use Rattle.answer_text.specs.declared.status.Status.{Status}
 use Rattle.answer_text.specs.declared.status.Status.TheVariants.{Done, BadWords, BadScript, ReadFault, WriteFault, SourceDisk, ReplicaDisk, SourceDamaged, ReplicaDamaged, LogDamaged, LogForeign, Differs, NoMemory}
 use Rattle.port_traits.specs.declared.identity.Identity.{Identity}
 use Rattle.port_traits.specs.declared.identity.Draw.{Draw}
-use Rattle.log_model.specs.Groups.{Group, group}
+use Rattle.log_reader.specs.log_model.Groups.{Group, group}
 use Rattle.log_reader.specs.declared.reader.Found.{Found}
 use Rattle.log_reader.specs.declared.reader.Found.TheVariants as found
 use Rattle.log_reader.specs.Behind.{CallsLead, FrontsAreKnown, LeadsTo, piece_read}
 use Rattle.log_reader.specs.Reading.{Reader, IsGroup, IsEnd, Reads, next_pos}
-use Rattle.replica_model.specs.Replaying.{Replay, by_form, all_replayed, first_replay}
-use Rattle.run_streams.specs.Stops.{status_of}
-use Rattle.whole_groups.proofs.Lying.{group_lies}
-use Rattle.whole_logs.specs.Passing.{names_next}
-use Rattle.whole_logs.specs.Walk.{ended, Piece}
+use Rattle.replica_node.specs.replica_model.Replaying.{Replay, by_form, all_replayed, first_replay}
+use Rattle.log_reader.specs.run_streams.Stops.{status_of}
+use Rattle.log_reader.proofs.whole_groups.Lying.{group_lies}
+use Rattle.log_reader.specs.whole_logs.Passing.{names_next}
+use Rattle.log_reader.specs.whole_logs.Walk.{ended, Piece}
 use Rattle.replay_log.specs.declared.replaying.Replaying as code_replaying
 use Rattle.replay_log.specs.Keeping.{IsWhole}
 use Rattle.replay_log.specs.Replaying.{Stands, IsReady, IsNext, IsStop, Went, Under, Through, ComesTo}

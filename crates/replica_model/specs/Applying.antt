@@ -2,7 +2,7 @@
 use Rattle.std.specs.Prelude.{ℕ, zero, suc, ◌+◌, ◌-◌, ◌^◌, min, nat_le, if◌then◌else◌, length, drop, Option, Some, None, Result, Ok, Err}
 use Rattle.port_traits.specs.declared.identity.Identity.{Identity}
 use Rattle.port_traits.specs.declared.identity.Draw.{Draw}
-use Rattle.log_model.specs.Groups.{Form, start, next_log, ddl, txn, Group, Next, group, not_whole, damaged_at, foreign_at, group_at}
+use Rattle.session_model.specs.log_model.Groups.{Form, start, next_log, ddl, txn, Group, Next, group, not_whole, damaged_at, foreign_at, group_at}
 use Rattle.applier_model.specs.Stops.{Differs}
 use Rattle.applier_model.specs.Groups.{Applied, group_carried}
 use Rattle.replica_model.specs.Replica.{Replica, behind_group, size_of}

@@ -4,7 +4,7 @@ use Rattle.std.specs.Fmt.{decimal}
 use Rattle.val_types.specs.Text.{row_text_of}
 use Rattle.answer_text.specs.Shown.{line}
 use Rattle.answer_text.specs.Statuses.{table_text}
-use Rattle.log_model.specs.Log.{LogPlace}
+use Rattle.session_model.specs.log_model.Log.{LogPlace}
 use Rattle.replica_model.specs.Applying.{Stop, differs, damaged, foreign, Going}
 use Rattle.replica_model.specs.Replaying.{Replay}
 

@@ -3,9 +3,9 @@ use Rattle.std.specs.Prelude.{ℕ, ◌+◌, List, [], ◌∷◌, Option, Some, N
 use Rattle.auto_inc.specs.declared.counters.Counter.{Counter}
 use Rattle.port_traits.specs.declared.identity.Identity.{Identity}
 use Rattle.port_traits.specs.declared.identity.Draw.{Draw}
-use Rattle.catalog_rules.specs.Bases.{Base, empty_base}
-use Rattle.log_model.specs.Groups.{Form, start, next_log, ddl, txn, Group}
-use Rattle.log_model.specs.Log.{LogPlace}
+use Rattle.whole_logs.specs.catalog_rules.Bases.{Base, empty_base}
+use Rattle.session_model.specs.log_model.Groups.{Form, start, next_log, ddl, txn, Group}
+use Rattle.session_model.specs.log_model.Log.{LogPlace}
 use Rattle.whole_logs.specs.Walk.{Piece, grouped}
 use Rattle.applier_model.specs.Stops.{Differs}
 use Rattle.applier_model.specs.Groups.{Applied, group_carried}

@@ -2,9 +2,9 @@
 -- has fetched from there on.
 use Rattle.std.specs.Prelude.{ℕ, zero, suc, ◌-◌, List, [], ◌++◌, length, drop}
 use Rattle.auto_inc.specs.declared.counters.Counter.{Counter}
-use Rattle.catalog_rules.specs.Bases.{Base, empty_base}
-use Rattle.log_model.specs.Groups.{Form, start, next_log, ddl, txn, Group, Next, group, not_whole, damaged_at, foreign_at, group_at}
-use Rattle.log_model.specs.Log.{LogPlace, moved}
+use Rattle.whole_logs.specs.catalog_rules.Bases.{Base, empty_base}
+use Rattle.session_model.specs.log_model.Groups.{Form, start, next_log, ddl, txn, Group, Next, group, not_whole, damaged_at, foreign_at, group_at}
+use Rattle.session_model.specs.log_model.Log.{LogPlace, moved}
 
 -- The applied place is behind the last transaction, definition or end of a log that was passed; the relay has the bytes of the log
 -- behind it.

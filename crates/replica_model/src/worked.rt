@@ -1,6 +1,6 @@
 //! Small logs, fetched and carried out, which the checker computes.
 ghost use Rattle.std.specs.Prelude.{◌≡◌, None, Some, drop, length, take};
-ghost use Rattle.log_model.specs.Worked.{first_log};
+ghost use Rattle.session_model.specs.log_model.Worked.{first_log};
 ghost use Rattle.replica_model.specs.Applying.{damaged};
 ghost use Rattle.replica_model.specs.Replica.{want};
 ghost use Rattle.replica_model.specs.Worked.{applied_from, replayed_from, replica_with, served, spoiled};

@@ -4,13 +4,13 @@ use Rattle.std.specs.Option.{option_map}
 use Rattle.std.proofs.lemmas.Bool.{le-leb, lt-leb}
 use Rattle.port_traits.specs.declared.identity.Identity.{Identity}
 use Rattle.port_traits.specs.declared.identity.Draw.{Draw}
-use Rattle.log_model.specs.Groups.{Next, not_whole, group_at}
-use Rattle.log_model.specs.Log.{moved}
+use Rattle.relay_log.specs.log_model.Groups.{Next, not_whole, group_at}
+use Rattle.relay_log.specs.log_model.Log.{moved}
 use Rattle.relay_log.specs.replica_model.Applying.{Going, Stop, apply, by_next, go_on, next_at}
 use Rattle.relay_log.specs.replica_model.Replica.{Replica}
 use Rattle.relay_log.specs.declared.place.Walk.{Walk}
 use Rattle.relay_log.specs.Reaching.{Fetched, IsAhead, place_seen}
-use Rattle.whole_groups.proofs.Lying.{nothing_there}
+use Rattle.relay_log.proofs.whole_groups.Lying.{nothing_there}
 use Rattle.replica_node.specs.declared.told.Applied.{Applied}
 use Rattle.replica_node.specs.declared.told.Step.{Step}
 use Rattle.replica_node.specs.declared.told.Step.TheVariants.{Over, Moved, Carried, Waits, Stopped as StoppedBy}

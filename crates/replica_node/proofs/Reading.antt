@@ -2,9 +2,9 @@
 use Rattle.std.proofs.Common.{◌≡◌, Bool, true, false, ◌||◌, List, refl, sym, ◌∙◌}
 use Rattle.std.specs.List.{list_any}
 use Rattle.sql_tree.specs.Statement.{Statement}
-use Rattle.catalog_rules.specs.Nodes.{nodes_of}
-use Rattle.catalog_rules.specs.Objects.{Object}
-use Rattle.sql_reach.specs.Reach.{is_change, is_definition, is_writing_function, reached_programs, writes}
+use Rattle.unsafe_rules.specs.catalog_rules.Nodes.{nodes_of}
+use Rattle.unsafe_rules.specs.catalog_rules.Objects.{Object}
+use Rattle.unsafe_rules.specs.sql_reach.Reach.{is_change, is_definition, is_writing_function, reached_programs, writes}
 
 middle : (a b c : Bool) → (a || b || c) ≡ false → b ≡ false
 middle true b c e = cc

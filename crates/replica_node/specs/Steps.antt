@@ -3,9 +3,9 @@ use Rattle.std.specs.Prelude.{◌≡◌, ◌≤◌, ◌<◌, ℕ, ◌+◌, lengt
 use Rattle.std.specs.Option.{option_map}
 use Rattle.port_traits.specs.declared.identity.Identity.{Identity}
 use Rattle.port_traits.specs.declared.identity.Draw.{Draw}
-use Rattle.applier_model.specs.Stops.{Differs}
-use Rattle.applier_model.specs.Groups.{Applied}
-use Rattle.log_model.specs.Log.{moved}
+use Rattle.relay_log.specs.applier_model.Stops.{Differs}
+use Rattle.relay_log.specs.applier_model.Groups.{Applied}
+use Rattle.relay_log.specs.log_model.Log.{moved}
 use Rattle.stmt_apply.specs.prog_run.Contents.{Contents}
 use Rattle.relay_log.specs.replica_model.Applying.{Going, Stop, differs, damaged, foreign, go_on, going_from}
 use Rattle.relay_log.specs.replica_model.Replica.{Replica}

@@ -1,17 +1,17 @@
 //! Groups carried out, one after the other.
 ghost use Rattle.std.specs.Prelude.{◌≡◌, ◌-◌, ℕ, [], length, IfOk, OnErr};
-ghost use Rattle.log_groups.specs.Views.{group_seen};
+ghost use Rattle.relay_log.specs.log_groups.Views.{group_seen};
 ghost use Rattle.stmt_apply.specs.prog_run.Contents.{base_of};
-ghost use Rattle.applier_model.specs.Groups.{group_carried};
+ghost use Rattle.relay_log.specs.applier_model.Groups.{group_carried};
 ghost use Rattle.relay_log.specs.replica_model.Applying.{Going as Under, apply, by_next, next_at};
 ghost use Rattle.replica_node.specs.Kept.{replica_of};
 ghost use Rattle.replica_node.specs.Steps.{CarriesOut, GoesOn, IsFront, IsOver, IsTold, ended_by, going_at};
 
 use crate::replica::ReplicaNode;
 use crate::told::{Applied, Step, Stopped};
-use log_groups::{Form, Group, Next};
 use port_traits::{Draw, Identity};
 use relay_log::Walk;
+use relay_log::log_groups::{Form, Group, Next};
 use std::alloc::Global;
 use stmt_apply::apply_group;
 use stmt_apply::node_answers::NodeFault;

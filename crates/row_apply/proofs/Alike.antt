@@ -2,8 +2,8 @@
 use Rattle.std.proofs.Common.{◌≡◌, ℕ, ◌<◌, List, [], ◌∷◌, map, drop, length, get_or, Bool, false, refl, sym, ap, ◌∙◌, arith}
 use Rattle.val_types.specs.declared.definitions.ColType.{ColType}
 use Rattle.val_types.specs.declared.definitions.ColumnDef.{ColumnDef}
-use Rattle.log_model.specs.Images.{types_of as types_in}
-use Rattle.row_image.proofs.Columns.{types_step}
+use Rattle.applier_model.specs.log_model.Images.{types_of as types_in}
+use Rattle.applier_model.proofs.row_image.Columns.{types_step}
 use Rattle.applier_model.specs.Rows.{are_same_types}
 
 abbrev pub kinds_of : List ColumnDef → List ColType

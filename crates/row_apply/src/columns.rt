@@ -1,11 +1,11 @@
 //! Whether the columns of a map and of a table are the same.
 ghost use Rattle.std.specs.Prelude.{◌≡◌};
 ghost use Rattle.event_codec.specs.Event.{map_of};
-ghost use Rattle.log_model.specs.Images.{map_types};
+ghost use Rattle.applier_model.specs.log_model.Images.{map_types};
 ghost use Rattle.applier_model.specs.Rows.{are_same_types, is_same_type, matches, takes_row, types_of};
 
+use applier_model::row_image::{behind_type, column_type};
 use event_codec::MapView;
-use row_image::{behind_type, column_type};
 use val_types::{Change, ColType, ColumnDef, List, Row, TableDef};
 
 /// Whether two types are one, with the same greatest length where they are texts.

@@ -39,6 +39,9 @@ mod runs;
 mod tables;
 mod writing;
 
+// The crates below that this one speaks of, passed on: who stands above names them through it.
 pub use event_sizes::rows_size;
+pub use row_image;
+pub use row_image::log_entries;
 pub use rows::{encode_rows, put_rows};
 pub use writing::put;

@@ -2,3 +2,6 @@ pub mod Columns
 pub mod Walking
 pub mod Packing
 pub mod Mapping
+-- the crates below that this one speaks of, passed on
+pub use Rattle.log_model.proofs.log_entries as log_entries
+pub use Rattle.log_model.proofs as log_model

@@ -1,1 +1,4 @@
 pub mod Walk
+-- the crates below that this one speaks of, passed on
+pub use Rattle.log_model.specs.log_entries as log_entries
+pub use Rattle.log_model.specs as log_model

@@ -35,8 +35,10 @@ mod map;
 mod row;
 mod value;
 
+// The crates below that this one speaks of, passed on: who stands above names them through it.
 pub use changes::rows_of;
 pub use column::{behind_type, column_type};
 pub use fitting::rows_fit;
+pub use log_model::log_entries;
 pub use map::{codes_of, metadata_of};
 pub use row::{put_change, put_row};

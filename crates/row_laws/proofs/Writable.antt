@@ -21,12 +21,12 @@ use Rattle.event_codec.specs.Bitmap.{bitmap_size, mask, clear_behind}
 use Rattle.event_codec.specs.Columns.{are_known, texts}
 use Rattle.event_codec.specs.Event.{Body, table_map, rows}
 use Rattle.event_codec.specs.Writing.{size, body_bytes, IsMap, CanWrite}
-use Rattle.log_model.specs.Images.{bit, byte_of, bitmap, bits_bytes, row_bytes, values_bytes, change_bytes, IsRow}
-use Rattle.log_model.specs.Items.{same_name, distinct, tables_of, id_from, kind_of, is_nullable, type_code, type_metadata, map_of, maps_from, columns_in, types_in, Piece, bytes_in, piece_of, joins, with_change, pieces_from, pieces_of, rows_of, all_rows, at_time, changes_item, CanCarry, CanCarryAll}
-use Rattle.log_model.specs.Spelling.{bodies_of}
-use Rattle.log_model.specs.Written.{Stamped, total, CanWriteAll}
-use Rattle.log_model.proofs.Bits.{length-bitmap}
-use Rattle.row_image.proofs.Packing.{as_many_values}
+use Rattle.row_events.specs.log_model.Images.{bit, byte_of, bitmap, bits_bytes, row_bytes, values_bytes, change_bytes, IsRow}
+use Rattle.row_events.specs.log_model.Items.{same_name, distinct, tables_of, id_from, kind_of, is_nullable, type_code, type_metadata, map_of, maps_from, columns_in, types_in, Piece, bytes_in, piece_of, joins, with_change, pieces_from, pieces_of, rows_of, all_rows, at_time, changes_item, CanCarry, CanCarryAll}
+use Rattle.row_events.specs.log_model.Spelling.{bodies_of}
+use Rattle.row_events.specs.log_model.Written.{Stamped, total, CanWriteAll}
+use Rattle.row_events.proofs.log_model.Bits.{length-bitmap}
+use Rattle.row_events.proofs.row_image.Packing.{as_many_values}
 use Rattle.row_events.specs.Runs.{rows_events}
 use Rattle.row_events.proofs.GoingOn.{total_append}
 use Rattle.row_events.proofs.Cutting.{item_split}

@@ -2,9 +2,9 @@
 use Rattle.std.specs.Prelude.{◌≤◌, ◌<◌, ◌^◌, ℕ, ◌+◌, List, [], ◌∷◌, length}
 use Rattle.val_types.specs.declared.change.Change.{Change}
 use Rattle.val_types.specs.declared.definitions.TableDef.{TableDef}
-use Rattle.log_model.specs.Items.{at_time, changes_item, CanCarryAll}
-use Rattle.log_model.specs.Spelling.{bodies_of}
-use Rattle.log_model.specs.Written.{total, CanWriteAll}
+use Rattle.row_events.specs.log_model.Items.{at_time, changes_item, CanCarryAll}
+use Rattle.row_events.specs.log_model.Spelling.{bodies_of}
+use Rattle.row_events.specs.log_model.Written.{total, CanWriteAll}
 
 -- names of tables have at most 64 bytes
 abbrev pub AreNamed : List TableDef → Type 0

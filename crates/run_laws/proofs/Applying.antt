@@ -4,22 +4,22 @@ use Rattle.std.specs.Prelude.{◌^◌, min, nat_le, if◌then◌else◌, take, r
 use Rattle.std.specs.Option.{option_and_then}
 use Rattle.std.proofs.lemmas.List.{drop-drop}
 use Rattle.port_traits.specs.declared.identity.Draw.{Draw}
-use Rattle.catalog_rules.specs.Bases.{Base}
-use Rattle.log_entries.specs.declared.entries.Entry.{Entry}
-use Rattle.log_entries.specs.declared.entries.Entry.TheVariants.{Transaction, Definition, LogStart}
-use Rattle.log_entries.specs.Entries.{entry_applied, after}
-use Rattle.log_model.specs.Groups.{Group, Next, group, not_whole, group_at}
-use Rattle.log_model.specs.Log.{LogPlace, behind, counted, description, entry_bytes, log}
-use Rattle.log_model.specs.Written.{bytes_of}
-use Rattle.applier_model.specs.Stops.{Differs}
-use Rattle.applier_model.specs.Groups.{Applied, and_then, group_carried}
-use Rattle.entry_groups.specs.Entries.{group_of_entry, start_group, StaysInLog, CanLog, CanLogAll}
-use Rattle.entry_groups.specs.Laws.{Fetched, partly, wholly}
-use Rattle.session_model.specs.Machine.{Whole, kept_entry, Machine, first_place}
-use Rattle.session_model.specs.Holding.{changes_of, define}
-use Rattle.session_replays.specs.Followed.{EntriesFollow}
-use Rattle.replica_model.specs.Replica.{Replica, behind_group, log_begin, size_of}
-use Rattle.replica_model.specs.Applying.{differs, Going, going_from, next_at, carried_out, carry, by_next, go_on, apply}
+use Rattle.applier_laws.specs.catalog_rules.Bases.{Base}
+use Rattle.applier_laws.specs.log_entries.declared.entries.Entry.{Entry}
+use Rattle.applier_laws.specs.log_entries.declared.entries.Entry.TheVariants.{Transaction, Definition, LogStart}
+use Rattle.applier_laws.specs.log_entries.Entries.{entry_applied, after}
+use Rattle.applier_laws.specs.log_model.Groups.{Group, Next, group, not_whole, group_at}
+use Rattle.applier_laws.specs.log_model.Log.{LogPlace, behind, counted, description, entry_bytes, log}
+use Rattle.applier_laws.specs.log_model.Written.{bytes_of}
+use Rattle.applier_laws.specs.applier_model.Stops.{Differs}
+use Rattle.applier_laws.specs.applier_model.Groups.{Applied, and_then, group_carried}
+use Rattle.applier_laws.specs.entry_groups.Entries.{group_of_entry, start_group, StaysInLog, CanLog, CanLogAll}
+use Rattle.applier_laws.specs.entry_groups.Laws.{Fetched, partly, wholly}
+use Rattle.applier_laws.specs.session_model.Machine.{Whole, kept_entry, Machine, first_place}
+use Rattle.applier_laws.specs.session_model.Holding.{changes_of, define}
+use Rattle.applier_laws.specs.session_replays.Followed.{EntriesFollow}
+use Rattle.run_model.specs.replica_model.Replica.{Replica, behind_group, log_begin, size_of}
+use Rattle.run_model.specs.replica_model.Applying.{differs, Going, going_from, next_at, carried_out, carry, by_next, go_on, apply}
 use Rattle.run_model.specs.Run.{Names, Read, nothing, bytes_to, Starts, log_with, number_before, place_before}
 use Rattle.run_model.specs.Following.{AreCommitted, all_carried, applied_of, Follows, groups_of, head_entries, place_behind, reader_at, reader_from}
 use Rattle.run_laws.proofs.Places.{Line, begun, front_of, count_of, place_of, front_place, behind_front, first_event_length, count_last, log_is, place_last, reader_last, reader_log}

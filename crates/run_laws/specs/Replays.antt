@@ -2,16 +2,16 @@
 use Rattle.std.specs.Prelude.{◌≡◌, ℕ, List, ◌∷◌, map, None}
 use Rattle.port_traits.specs.declared.identity.Identity.{Identity}
 use Rattle.port_traits.specs.declared.identity.Draw.{Draw}
-use Rattle.log_entries.specs.declared.entries.Entry.{Entry}
-use Rattle.log_entries.specs.declared.entries.Entry.TheVariants.{LogStart}
-use Rattle.log_model.specs.Groups.{Group}
-use Rattle.entry_groups.specs.Entries.{CanLogAll, start_group}
-use Rattle.whole_logs.specs.Walk.{ended, grouped, Piece}
-use Rattle.session_model.specs.Machine.{Machine, Whole, first_place, kept_entry, log_of, nowhere}
-use Rattle.session_model.specs.Holding.{with_nothing}
-use Rattle.session_replays.specs.Followed.{EntriesFollow}
-use Rattle.session_replays.specs.Replaying.{Replays}
-use Rattle.replica_model.specs.Replaying.{replayed}
+use Rattle.applier_laws.specs.log_entries.declared.entries.Entry.{Entry}
+use Rattle.applier_laws.specs.log_entries.declared.entries.Entry.TheVariants.{LogStart}
+use Rattle.applier_laws.specs.log_model.Groups.{Group}
+use Rattle.applier_laws.specs.entry_groups.Entries.{CanLogAll, start_group}
+use Rattle.run_model.specs.whole_logs.Walk.{ended, grouped, Piece}
+use Rattle.applier_laws.specs.session_model.Machine.{Machine, Whole, first_place, kept_entry, log_of, nowhere}
+use Rattle.applier_laws.specs.session_model.Holding.{with_nothing}
+use Rattle.applier_laws.specs.session_replays.Followed.{EntriesFollow}
+use Rattle.applier_laws.specs.session_replays.Replaying.{Replays}
+use Rattle.run_model.specs.replica_model.Replaying.{replayed}
 use Rattle.run_model.specs.Following.{AreCommitted, groups_of}
 
 -- A source that began its log and has put out these transactions and definitions, of which each can be read again from the log.

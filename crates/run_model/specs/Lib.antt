@@ -2,3 +2,6 @@ pub mod Asked
 pub mod Run
 pub mod Following
 pub mod Worked
+-- the crates below that this one speaks of, passed on
+pub use Rattle.replica_model.specs as replica_model
+pub use Rattle.replica_model.specs.whole_logs as whole_logs

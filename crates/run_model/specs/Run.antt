@@ -2,14 +2,14 @@
 use Rattle.std.specs.Prelude.{ℕ, ◌+◌, Bool, true, false, List, [], ◌∷◌, ◌++◌, length, map, replicate}
 use Rattle.port_traits.specs.declared.identity.Identity.{Identity}
 use Rattle.port_traits.specs.declared.identity.Draw.{Draw}
-use Rattle.log_entries.specs.declared.entries.Entry.{Entry}
-use Rattle.log_model.specs.Log.{LogPlace, counted_all, log, written_to}
-use Rattle.catalog_rules.specs.Bases.{Base, empty_base}
+use Rattle.entry_groups.specs.log_entries.declared.entries.Entry.{Entry}
+use Rattle.entry_groups.specs.log_model.Log.{LogPlace, counted_all, log, written_to}
+use Rattle.entry_groups.specs.catalog_rules.Bases.{Base, empty_base}
 use Rattle.answer_text.specs.declared.answer.Answer.{Answer}
 use Rattle.answer_text.specs.declared.report.Mark.{Mark}
 use Rattle.answer_text.specs.Shown.{shown}
-use Rattle.session_model.specs.Machine.{Whole, whole, kept_entry, nowhere, Step, step, Machine, machine_after, opened, log_bytes}
-use Rattle.session_model.specs.Holding.{Beginning}
+use Rattle.session_replays.specs.session_model.Machine.{Whole, whole, kept_entry, nowhere, Step, step, Machine, machine_after, opened, log_bytes}
+use Rattle.session_replays.specs.session_model.Holding.{Beginning}
 use Rattle.replica_model.specs.Replica.{Replica, first_replica, fetched, want}
 use Rattle.replica_model.specs.Applying.{Going, apply}
 use Rattle.replica_model.specs.Selecting.{select_answer}

@@ -1,7 +1,7 @@
 -- Small runs over both nodes, of which worked examples are made.
 use Rattle.std.specs.Prelude.{ℕ, zero, suc, ◌+◌, List, [], ◌∷◌, ◌++◌, codes, length}
 use Rattle.port_traits.specs.declared.identity.Draw.{Draw}
-use Rattle.session_model.specs.Worked.{root, draw_of}
+use Rattle.session_replays.specs.session_model.Worked.{root, draw_of}
 use Rattle.run_model.specs.Asked.{Asked, say}
 use Rattle.run_model.specs.Run.{Names, first_both, lines_shown}
 

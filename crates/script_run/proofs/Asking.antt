@@ -5,7 +5,7 @@ use Rattle.std.proofs.lemmas.List.{map-append, drop_all}
 use Rattle.std.proofs.lemmas.List.Folds.{list_all-append}
 use Rattle.script_read.specs.declared.command.Command.{Command}
 use Rattle.script_read.specs.Commands.{command_seen, what_seen}
-use Rattle.run_model.specs.Asked.{Asked, all_asked, asked_by, with_asked}
+use Rattle.run_laws.specs.run_model.Asked.{Asked, all_asked, asked_by, with_asked}
 use Rattle.script_run.specs.declared.asked.Asked as code_asked_type
 use Rattle.script_run.specs.Asking.{asked_seen}
 

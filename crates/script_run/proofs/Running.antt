@@ -8,8 +8,8 @@ use Rattle.answer_text.specs.declared.report.Mark.{Mark}
 use Rattle.answer_text.specs.declared.report.Report.{Report}
 use Rattle.answer_text.specs.declared.status.Status.{Status}
 use Rattle.answer_text.specs.declared.status.Status.TheVariants.{Done, BadWords, BadScript, ReadFault, WriteFault, SourceDisk, ReplicaDisk, SourceDamaged, ReplicaDamaged, LogDamaged, LogForeign, Differs, NoMemory}
-use Rattle.run_model.specs.Asked.{Asked}
-use Rattle.run_model.specs.Run.{Names, Both, first_both, next, end_of, told_lines, lines_shown, draws_of, kept_if, is_said, is_drawn, mark_at, last_mark}
+use Rattle.run_laws.specs.run_model.Asked.{Asked}
+use Rattle.run_laws.specs.run_model.Run.{Names, Both, first_both, next, end_of, told_lines, lines_shown, draws_of, kept_if, is_said, is_drawn, mark_at, last_mark}
 use Rattle.run_laws.specs.Laws.{GoesThrough, IsLoggedAsSet, OfEach}
 use Rattle.run_streams.specs.Reports.{first_mark}
 use Rattle.run_streams.specs.Wrote.{Wrote, WroteFront}

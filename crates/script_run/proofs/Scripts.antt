@@ -2,7 +2,7 @@
 use Rattle.std.proofs.Common.{◌≡◌, ℕ, List, [], drop, Option, Some, None, Result, Ok, Err, IfOk, IfSome, option_map, refl, sym, ap, ◌∙◌, subst}
 use Rattle.script_read.specs.Commands.{Command}
 use Rattle.script_read.specs.Script.{split_of}
-use Rattle.run_model.specs.Asked.{Asked, asked_if, asked_of}
+use Rattle.run_laws.specs.run_model.Asked.{Asked, asked_if, asked_of}
 use Rattle.run_streams.specs.Read.{IsRead, TakesUpToLimit}
 use Rattle.script_run.specs.Ran.{IsScript}
 

@@ -6,29 +6,29 @@ use Rattle.std.specs.Option.{option_map}
 use Rattle.hex.specs.Hex.{IsBytes}
 use Rattle.port_traits.specs.declared.identity.Identity.{Identity}
 use Rattle.port_traits.specs.declared.identity.Draw.{Draw}
-use Rattle.log_entries.specs.declared.entries.Item.{Item}
-use Rattle.log_entries.specs.declared.entries.Entry.{Entry}
-use Rattle.log_model.specs.Log.{LogPlace, counted_all, written_to}
+use Rattle.run_laws.specs.log_entries.declared.entries.Item.{Item}
+use Rattle.run_laws.specs.log_entries.declared.entries.Entry.{Entry}
+use Rattle.run_laws.specs.log_model.Log.{LogPlace, counted_all, written_to}
 use Rattle.answer_text.specs.declared.answer.Answer.{Answer}
 use Rattle.answer_text.specs.declared.report.Report.{Report}
 use Rattle.answer_text.specs.Shown.{shown}
-use Rattle.entry_groups.specs.Entries.{CanLogAll}
-use Rattle.entry_groups.specs.Laws.{EntriesCanLogOn}
-use Rattle.session_model.specs.Sessions.{State}
-use Rattle.session_model.specs.Holding.{FormatsDecide, Holds, with_nothing}
-use Rattle.session_model.specs.Machine.{Whole, whole, kept_entry, step, Step, opened, Machine, machine_after, log_bytes, nowhere}
-use Rattle.session_replays.specs.Replaying.{ReplaysOpen, ReplaysGoOn}
+use Rattle.run_laws.specs.entry_groups.Entries.{CanLogAll}
+use Rattle.run_laws.specs.entry_groups.Laws.{EntriesCanLogOn}
+use Rattle.run_laws.specs.session_model.Sessions.{State}
+use Rattle.run_laws.specs.session_model.Holding.{FormatsDecide, Holds, with_nothing}
+use Rattle.run_laws.specs.session_model.Machine.{Whole, whole, kept_entry, step, Step, opened, Machine, machine_after, log_bytes, nowhere}
+use Rattle.run_laws.specs.session_replays.Replaying.{ReplaysOpen, ReplaysGoOn}
 use Rattle.source_node.specs.Standing.{Stands}
-use Rattle.replica_model.specs.Replica.{Replica, fetched, first_replica, want}
-use Rattle.replica_model.specs.Applying.{Going, apply}
-use Rattle.replica_model.specs.Lines.{applied_line, fetched_line}
-use Rattle.replica_model.specs.Selecting.{select_answer}
+use Rattle.replica_node.specs.replica_model.Replica.{Replica, fetched, first_replica, want}
+use Rattle.replica_node.specs.replica_model.Applying.{Going, apply}
+use Rattle.replica_node.specs.replica_model.Lines.{applied_line, fetched_line}
+use Rattle.replica_node.specs.replica_model.Selecting.{select_answer}
 use Rattle.replica_node.specs.declared.told.Applied.{Applied}
 use Rattle.replica_node.specs.Kept.{Kept, replica_of}
 use Rattle.replica_node.specs.Steps.{IsTold, stop_of}
-use Rattle.run_model.specs.Asked.{Asked, say, select, take_bytes, take_groups}
-use Rattle.run_model.specs.Run.{Names, Both, Starts, from_nothing, log_with}
-use Rattle.run_model.specs.Following.{Follows}
+use Rattle.run_laws.specs.run_model.Asked.{Asked, say, select, take_bytes, take_groups}
+use Rattle.run_laws.specs.run_model.Run.{Names, Both, Starts, from_nothing, log_with}
+use Rattle.run_laws.specs.run_model.Following.{Follows}
 use Rattle.run_laws.specs.Laws.{IsSound, FollowsOpened, FollowsGoOn, NoApplyStops, NothingIsDamaged, NothingIsOwed}
 use Rattle.script_run.specs.declared.nodes.Nodes.{Nodes}
 use Rattle.run_streams.specs.Reports.{first_mark}

@@ -2,7 +2,7 @@
 use Rattle.std.specs.Prelude.{◌≡◌, ℕ, Bool, true, ◌&&◌, nat_lt, nat_le, List, length, map, Result, Ok, Err}
 use Rattle.answer_text.specs.declared.status.Status.{Status}
 use Rattle.answer_text.specs.declared.status.Status.TheVariants.{BadScript, NoMemory}
-use Rattle.run_model.specs.Asked.{Asked, say, select, take_bytes, take_groups}
+use Rattle.run_laws.specs.run_model.Asked.{Asked, say, select, take_bytes, take_groups}
 use Rattle.script_run.specs.declared.asked.Asked as code_asked_type
 use Rattle.script_run.specs.declared.asked.Asked.TheVariants as code_asked
 

@@ -4,3 +4,5 @@ pub mod Logged
 pub mod Ran
 pub mod Running
 pub mod Together
+-- the crates below that this one speaks of, passed on
+pub use Rattle.run_streams.specs as run_streams

@@ -4,9 +4,9 @@ use Rattle.port_traits.specs.declared.identity.Draw.{Draw}
 use Rattle.answer_text.specs.declared.report.Report.{Report}
 use Rattle.answer_text.specs.declared.status.Status.{Status}
 use Rattle.answer_text.specs.declared.status.Status.TheVariants.{Done, BadWords, BadScript, ReadFault, WriteFault, SourceDisk, ReplicaDisk, SourceDamaged, ReplicaDamaged, LogDamaged, LogForeign, Differs, NoMemory}
-use Rattle.run_model.specs.Asked.{Asked, asked_of}
-use Rattle.run_model.specs.Run.{Names, from_nothing, first_both, next, end_of, told_lines, lines_shown, of_source, of_replica, last_mark}
-use Rattle.run_model.specs.Following.{Follows}
+use Rattle.run_laws.specs.run_model.Asked.{Asked, asked_of}
+use Rattle.run_laws.specs.run_model.Run.{Names, from_nothing, first_both, next, end_of, told_lines, lines_shown, of_source, of_replica, last_mark}
+use Rattle.run_laws.specs.run_model.Following.{Follows}
 use Rattle.run_laws.specs.Laws.{AllLoggedAsSet, IsSound, NoneStops}
 use Rattle.run_streams.specs.Reports.{first_mark}
 use Rattle.run_streams.specs.Wrote.{Wrote, WroteFront}

@@ -4,8 +4,8 @@ use Rattle.port_traits.specs.declared.identity.Draw.{Draw}
 use Rattle.answer_text.specs.declared.report.Report.{Report}
 use Rattle.answer_text.specs.declared.status.Status.{Status}
 use Rattle.answer_text.specs.declared.status.Status.TheVariants.{Done, WriteFault, NoMemory}
-use Rattle.run_model.specs.Asked.{Asked}
-use Rattle.run_model.specs.Run.{Names, first_both, end_of, lines_shown}
+use Rattle.run_laws.specs.run_model.Asked.{Asked}
+use Rattle.run_laws.specs.run_model.Run.{Names, first_both, end_of, lines_shown}
 use Rattle.run_laws.specs.Laws.{AllLoggedAsSet, NoneStops}
 use Rattle.run_streams.specs.Wrote.{Wrote}
 use Rattle.script_run.specs.declared.nodes.Nodes.{Nodes}

@@ -6,9 +6,9 @@ use Rattle.answer_text.specs.declared.status.Status.{Status}
 use Rattle.answer_text.specs.declared.status.Status.TheVariants.{WriteFault, NoMemory}
 use Rattle.source_node.specs.Standing.{Stands}
 use Rattle.replica_node.specs.Kept.{replica_of}
-use Rattle.run_model.specs.Asked.{Asked}
-use Rattle.run_model.specs.Run.{Names, Both, from_nothing, first_both, next, told_lines, is_said, is_drawn, kept_if, mark_at}
-use Rattle.run_model.specs.Following.{Follows}
+use Rattle.run_laws.specs.run_model.Asked.{Asked}
+use Rattle.run_laws.specs.run_model.Run.{Names, Both, from_nothing, first_both, next, told_lines, is_said, is_drawn, kept_if, mark_at}
+use Rattle.run_laws.specs.run_model.Following.{Follows}
 use Rattle.run_laws.specs.Laws.{IsSound, IsLoggedAsSet, GoesThrough}
 use Rattle.run_streams.specs.Reports.{first_mark}
 use Rattle.run_streams.specs.Wrote.{Wrote, WroteFront}

@@ -3,7 +3,7 @@ ghost use Rattle.std.specs.Prelude.{◌≡◌, ◌≤◌, length, map, option_ma
 ghost use Rattle.std.specs.List.{list_all};
 ghost use Rattle.script_read.specs.Commands.{command_seen, what_seen};
 ghost use Rattle.script_read.specs.Split.{is_numbered, is_short};
-ghost use Rattle.run_model.specs.Asked.{all_asked, asked_by, asked_of};
+ghost use Rattle.run_laws.specs.run_model.Asked.{all_asked, asked_by, asked_of};
 ghost use Rattle.script_run.specs.Asking.{GivesAsked, asked_seen, is_fit};
 
 use answer_text::Status;

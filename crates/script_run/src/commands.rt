@@ -1,7 +1,7 @@
 //! The commands of a script, each answered before the next.
 ghost use Rattle.std.specs.Prelude.{◌≡◌, ◌<◌, ◌≤◌, ◌^◌, length, map, IfOk, IfErr, IsTrue, OnOk, OnErr};
 ghost use Rattle.std.specs.List.{list_all};
-ghost use Rattle.run_model.specs.Run.{Both, Names};
+ghost use Rattle.run_laws.specs.run_model.Run.{Both, Names};
 ghost use Rattle.run_streams.specs.Reports.{AllTold, Drawn, DrewUntil, GoesOnDrawing, IsEmpty, StaysHandedOut, Tells};
 ghost use Rattle.run_streams.specs.Stops.{StopsWriting, failed_writes, status_of};
 ghost use Rattle.script_run.specs.Asking.{asked_seen, is_fit};
@@ -16,8 +16,8 @@ use port_traits::{Env, Sink};
 use replica_node::ReplicaNode;
 use replica_node::node_answers::NodeFault;
 use run_laws::replica_follows;
+use run_laws::session_replays::transactions_replay;
 use run_streams::{open, write_line};
-use session_replays::transactions_replay;
 use source_node::SourceNode;
 use std::alloc::Global;
 use val_types::{Bytes, List};

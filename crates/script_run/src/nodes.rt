@@ -1,23 +1,23 @@
 //! A source and a replica, and one command over both.
 ghost use Rattle.std.specs.Prelude.{◌≡◌, ◌≤◌, ◌<◌, length, IfOk, IsTrue, OnOk, OnErr};
 ghost use Rattle.port_traits.specs.declared.identity.Draw.{Draw as AnyDraw};
-ghost use Rattle.run_model.specs.Asked.{say, select, take_bytes, take_groups};
-ghost use Rattle.run_model.specs.Run.{Both, Names, mark_at};
+ghost use Rattle.run_laws.specs.run_model.Asked.{say, select, take_bytes, take_groups};
+ghost use Rattle.run_laws.specs.run_model.Run.{Both, Names, mark_at};
 ghost use Rattle.run_streams.specs.Reports.{GoesOnDrawing, StaysHandedOut};
 ghost use Rattle.script_run.specs.Asking.{asked_seen, is_fit};
 ghost use Rattle.script_run.specs.Together.{CarriedOut, Grew, Shows, Together};
 
 use crate::asked::Asked;
 use answer_text::{Mark, Report, shown};
-use entry_groups::entries_can_log_on;
-use log_model::{entries_have_length, heads_have_length};
 use port_traits::Env;
 use replica_node::node_answers::NodeFault;
 use replica_node::{ReplicaNode, applied_line, fetched_line};
+use run_laws::entry_groups::entries_can_log_on;
+use run_laws::log_model::{entries_have_length, heads_have_length};
 use run_laws::replica_follows;
+use run_laws::session_model::formats_decide;
+use run_laws::session_replays::transactions_replay;
 use run_streams::take_draw;
-use session_model::formats_decide;
-use session_replays::transactions_replay;
 use source_node::SourceNode;
 use std::alloc::Global;
 use val_types::Bytes;

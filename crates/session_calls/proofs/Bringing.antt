@@ -2,23 +2,23 @@
 use Rattle.std.proofs.Common.{◌≡◌, ℕ, Bool, List, [], ◌∷◌, ◌++◌, Option, Some, None, Result, Ok, Err, IfOk, refl, sym, ap, ◌∙◌, subst, append-nil}
 use Rattle.val_types.specs.declared.value.Value.{Value}
 use Rattle.answer_text.specs.declared.answer.Answer.{Answer}
-use Rattle.log_entries.specs.declared.entries.Item.{Item}
-use Rattle.log_entries.specs.declared.entries.Entry.{Entry}
+use Rattle.proc_run.specs.log_entries.declared.entries.Item.{Item}
+use Rattle.proc_run.specs.log_entries.declared.entries.Entry.{Entry}
 use Rattle.sql_locals.specs.declared.locals.Local.{Local}
 use Rattle.sql_print.specs.StatementSpelling.{spelling}
 use Rattle.sql_tree.specs.Statement.{Statement, evaluate}
 use Rattle.sql_tree.specs.Tree.{Trees}
-use Rattle.sql_meaning.specs.Changing.{Did}
-use Rattle.sql_reach.specs.Closing.{closed}
-use Rattle.catalog_rules.specs.Checks.{session_scope}
-use Rattle.catalog_rules.specs.Objects.{Object}
-use Rattle.proc_model.specs.Talk.{Effect, Left, Led, Refusal, Talk, Told, brought}
-use Rattle.proc_model.specs.Procedures.{Came, called, scope_of}
-use Rattle.proc_model.proofs.Leading.{led_stands}
-use Rattle.session_model.specs.Answers.{with_warning}
-use Rattle.session_model.specs.Sessions.{Session, Shared}
-use Rattle.session_model.specs.Running.{Call, Given, Turn, statement_run, values_run}
-use Rattle.session_model.specs.Calling.{Reached, assign_step, came_to, effect_of, evaluate_step, reached_by, run_step, same, step_check, steps_of, told_of, unless_checked, with_counted}
+use Rattle.proc_run.specs.sql_meaning.Changing.{Did}
+use Rattle.proc_run.specs.sql_reach.Closing.{closed}
+use Rattle.proc_run.specs.catalog_rules.Checks.{session_scope}
+use Rattle.proc_run.specs.catalog_rules.Objects.{Object}
+use Rattle.proc_run.specs.proc_model.Talk.{Effect, Left, Led, Refusal, Talk, Told, brought}
+use Rattle.proc_run.specs.proc_model.Procedures.{Came, called, scope_of}
+use Rattle.proc_run.proofs.proc_model.Leading.{led_stands}
+use Rattle.node_answers.specs.session_model.Answers.{with_warning}
+use Rattle.node_answers.specs.session_model.Sessions.{Session, Shared}
+use Rattle.node_answers.specs.session_model.Running.{Call, Given, Turn, statement_run, values_run}
+use Rattle.node_answers.specs.session_model.Calling.{Reached, assign_step, came_to, effect_of, evaluate_step, reached_by, run_step, same, step_check, steps_of, told_of, unless_checked, with_counted}
 use Rattle.session_steps.specs.session_desk.Desk.{shared_of}
 use Rattle.session_calls.specs.Stepping.{AssignedStep, GaveStep, RanStep, Stood, call_by, reached, start_of, step_rules}
 use Rattle.session_steps.specs.Turned.{IsTurn, behind_turn}

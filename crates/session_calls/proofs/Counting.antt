@@ -7,22 +7,22 @@ use Rattle.port_traits.specs.declared.identity.Identity.{Identity}
 use Rattle.sql_locals.specs.declared.locals.Local.{Local}
 use Rattle.sql_tree.specs.Statement.{Statement}
 use Rattle.sql_tree.specs.Tree.{Trees}
-use Rattle.sql_reach.specs.Defining.{number_of_bytes}
-use Rattle.sql_meaning.specs.Scenes.{Scene, Ending, done, failed}
-use Rattle.sql_meaning.specs.Changing.{Did}
-use Rattle.sql_meaning.specs.Running.{context_after, effect, evaluation}
-use Rattle.log_entries.specs.declared.entries.Item.{Item}
-use Rattle.log_entries.specs.declared.entries.Entry.{Entry}
-use Rattle.log_model.specs.Log.{LogPlace, behind, counted, counted_all, log, written_to}
-use Rattle.log_model.proofs.Growing.{goes_on}
-use Rattle.entry_groups.specs.Entries.{CanLogAll}
+use Rattle.proc_run.specs.sql_reach.Defining.{number_of_bytes}
+use Rattle.proc_run.specs.sql_meaning.Scenes.{Scene, Ending, done, failed}
+use Rattle.proc_run.specs.sql_meaning.Changing.{Did}
+use Rattle.proc_run.specs.sql_meaning.Running.{context_after, effect, evaluation}
+use Rattle.proc_run.specs.log_entries.declared.entries.Item.{Item}
+use Rattle.proc_run.specs.log_entries.declared.entries.Entry.{Entry}
+use Rattle.node_answers.specs.log_model.Log.{LogPlace, behind, counted, counted_all, log, written_to}
+use Rattle.node_answers.proofs.log_model.Growing.{goes_on}
+use Rattle.session_steps.specs.entry_groups.Entries.{CanLogAll}
 use Rattle.session_steps.specs.logged_items.Logged.{in_log}
-use Rattle.proc_model.specs.Talk.{Left, Refusal, Told}
-use Rattle.session_ctx.specs.declared.session.SessionVars.{SessionVars}
-use Rattle.session_model.specs.Sessions.{Open, Session, Shared}
-use Rattle.session_model.specs.declared.format.Format.{Format}
-use Rattle.session_model.specs.Running.{Call, Given, Turn, ended, given_by, is_other, is_warned, item_of, keep, made_behind, scene_for, setting_of, settle, statement_run, takes_too_much, undone, values_run, with_context, with_counters}
-use Rattle.session_model.specs.Calling.{Reached, arguments_run, reached_by, unless_checked}
+use Rattle.proc_run.specs.proc_model.Talk.{Left, Refusal, Told}
+use Rattle.proc_run.specs.session_ctx.declared.session.SessionVars.{SessionVars}
+use Rattle.node_answers.specs.session_model.Sessions.{Open, Session, Shared}
+use Rattle.node_answers.specs.session_model.declared.format.Format.{Format}
+use Rattle.node_answers.specs.session_model.Running.{Call, Given, Turn, ended, given_by, is_other, is_warned, item_of, keep, made_behind, scene_for, setting_of, settle, statement_run, takes_too_much, undone, values_run, with_context, with_counters}
+use Rattle.node_answers.specs.session_model.Calling.{Reached, arguments_run, reached_by, unless_checked}
 use Rattle.session_steps.specs.Calls.{call_of}
 use Rattle.session_steps.specs.session_desk.Desk.{shared_of}
 use Rattle.session_calls.specs.Stepping.{Stood}

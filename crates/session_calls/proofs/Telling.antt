@@ -4,29 +4,29 @@ use Rattle.val_types.specs.declared.value.Value.{Value}
 use Rattle.val_types.specs.declared.refusal.SqlRefusal.{SqlRefusal}
 use Rattle.val_types.specs.declared.refusal.SqlRefusal.TheVariants as sql
 use Rattle.answer_text.specs.declared.answer.Answer.{Answer}
-use Rattle.log_entries.specs.declared.entries.Item.{Item}
+use Rattle.proc_run.specs.log_entries.declared.entries.Item.{Item}
 use Rattle.sql_locals.specs.declared.locals.Local.{Local}
 use Rattle.sql_print.specs.StatementSpelling.{spelling}
 use Rattle.sql_tree.specs.Statement.{Statement, evaluate, insert_into, replace_into, update_rows, delete_rows, select, create_table, create_function, create_procedure, create_trigger, drop_table, drop_function, drop_procedure, drop_trigger, truncate, set_all, call_procedure, begin, commit, rollback, savepoint, rollback_to, release_savepoint, block, if_steps, while_steps, return_value}
 use Rattle.sql_tree.specs.Tree.{Trees}
-use Rattle.sql_meaning.specs.Changing.{Did}
-use Rattle.sql_reach.specs.Closing.{closed}
-use Rattle.sql_reach.specs.Reach.{is_definition}
-use Rattle.catalog_rules.specs.Checks.{Scope}
-use Rattle.proc_run.specs.prog_run.declared.meter.Meter.{Meter}
-use Rattle.proc_run.specs.prog_run.declared.meter.Outcome.{Outcome}
-use Rattle.proc_run.specs.prog_run.Runs.{outcome_of}
-use Rattle.proc_model.specs.Talk.{Effect, Left, Refusal, Told}
-use Rattle.proc_model.specs.Procedures.{is_plain, scope_of}
-use Rattle.session_steps.specs.proc_parts.Calls as asks
-use Rattle.session_steps.specs.proc_parts.declared.runner.RunRefusal.{RunRefusal}
-use Rattle.session_steps.specs.proc_parts.declared.runner.RunRefusal.TheVariants as refuses
+use Rattle.proc_run.specs.sql_meaning.Changing.{Did}
+use Rattle.proc_run.specs.sql_reach.Closing.{closed}
+use Rattle.proc_run.specs.sql_reach.Reach.{is_definition}
+use Rattle.proc_run.specs.catalog_rules.Checks.{Scope}
+use Rattle.node_answers.specs.prog_run.declared.meter.Meter.{Meter}
+use Rattle.node_answers.specs.prog_run.declared.meter.Outcome.{Outcome}
+use Rattle.node_answers.specs.prog_run.Runs.{outcome_of}
+use Rattle.proc_run.specs.proc_model.Talk.{Effect, Left, Refusal, Told}
+use Rattle.proc_run.specs.proc_model.Procedures.{is_plain, scope_of}
+use Rattle.proc_run.specs.proc_parts.Calls as asks
+use Rattle.proc_run.specs.proc_parts.declared.runner.RunRefusal.{RunRefusal}
+use Rattle.proc_run.specs.proc_parts.declared.runner.RunRefusal.TheVariants as refuses
 use Rattle.node_answers.specs.Telling.{told_answer}
-use Rattle.catalog_rules.specs.Checks.{session_scope}
-use Rattle.session_model.specs.Sessions.{Session, Shared}
-use Rattle.session_model.specs.Running.{Call, Fuel, Given, Turn, statement_run, values_run}
-use Rattle.session_model.specs.Calling.{Reached, counted_by, effect_of, evaluate_step, reached_by, run_step, same, step_check, told_of, told_refused, told_result, unless_checked, with_counted}
-use Rattle.session_model.specs.Counting.{counted}
+use Rattle.proc_run.specs.catalog_rules.Checks.{session_scope}
+use Rattle.node_answers.specs.session_model.Sessions.{Session, Shared}
+use Rattle.node_answers.specs.session_model.Running.{Call, Fuel, Given, Turn, statement_run, values_run}
+use Rattle.node_answers.specs.session_model.Calling.{Reached, counted_by, effect_of, evaluate_step, reached_by, run_step, same, step_check, told_of, told_refused, told_result, unless_checked, with_counted}
+use Rattle.node_answers.specs.session_model.Counting.{counted}
 use Rattle.session_steps.specs.session_desk.Desk.{shared_of}
 use Rattle.session_steps.specs.Ran as outcomes
 use Rattle.session_steps.specs.Ran.{fuel_at, told_given}

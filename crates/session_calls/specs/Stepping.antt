@@ -4,13 +4,13 @@ use Rattle.val_types.specs.declared.value.Value.{Value}
 use Rattle.sql_locals.specs.declared.locals.Local.{Local}
 use Rattle.sql_tree.specs.Statement.{Statement}
 use Rattle.sql_tree.specs.Tree.{Trees}
-use Rattle.log_entries.specs.declared.entries.Item.{Item}
-use Rattle.log_model.specs.Log.{LogPlace, counted_all, written_to}
+use Rattle.proc_run.specs.log_entries.declared.entries.Item.{Item}
+use Rattle.node_answers.specs.log_model.Log.{LogPlace, counted_all, written_to}
 use Rattle.session_steps.specs.logged_items.Logged.{in_log}
-use Rattle.proc_model.specs.Talk.{Effect, Left, Rules, Told}
-use Rattle.session_model.specs.Sessions.{Session}
-use Rattle.session_model.specs.Running as running
-use Rattle.session_model.specs.Calling.{Reached, assign_step, evaluate_step, run_step}
+use Rattle.proc_run.specs.proc_model.Talk.{Effect, Left, Rules, Told}
+use Rattle.node_answers.specs.session_model.Sessions.{Session}
+use Rattle.node_answers.specs.session_model.Running as running
+use Rattle.node_answers.specs.session_model.Calling.{Reached, assign_step, evaluate_step, run_step}
 use Rattle.session_steps.specs.Calls.{call_of}
 use Rattle.session_steps.specs.session_desk.Desk.{shared_of}
 use Rattle.session_steps.specs.Turned.{IsTurn}

@@ -2,20 +2,20 @@
 ghost use Rattle.std.specs.Prelude.{◌≡◌, true};
 ghost use Rattle.fault_counts.specs.Causes.{Rose};
 ghost use Rattle.sql_tree.specs.StatementView.{view};
-ghost use Rattle.proc_model.specs.Procedures.{is_plain};
-ghost use Rattle.proc_run.specs.prog_run.Runs.{Spends};
-ghost use Rattle.session_steps.specs.proc_parts.Calls.{Tells, effect_of, expressions_of, is_do, left_of, plainly};
-ghost use Rattle.session_steps.specs.proc_parts.declared.runner.RunRefusal.TheVariants.{Sql as Refused};
+ghost use Rattle.proc_run.specs.proc_model.Procedures.{is_plain};
+ghost use Rattle.node_answers.specs.prog_run.Runs.{Spends};
+ghost use Rattle.proc_run.specs.proc_parts.Calls.{Tells, effect_of, expressions_of, is_do, left_of, plainly};
+ghost use Rattle.proc_run.specs.proc_parts.declared.runner.RunRefusal.TheVariants.{Sql as Refused};
 ghost use Rattle.node_answers.specs.Telling.{told_answer};
-ghost use Rattle.session_model.specs.Calling.{evaluate_step, run_step};
-ghost use Rattle.session_model.specs.Counting.{counted};
+ghost use Rattle.node_answers.specs.session_model.Calling.{evaluate_step, run_step};
+ghost use Rattle.node_answers.specs.session_model.Counting.{counted};
 ghost use Rattle.session_steps.specs.Calls.{called};
 ghost use Rattle.session_calls.specs.Stepping.{Stepped, reached};
 
 use answer_text::End;
+use node_answers::prog_run::{Meter, Outcome};
 use node_answers::row_count_after;
-use proc_run::prog_run::{Meter, Outcome};
-use session_steps::proc_parts::RunRefusal;
+use proc_run::proc_parts::RunRefusal;
 use session_steps::session_desk::{Call, Desk, Refusal, Session, step_check};
 use session_steps::{evaluate_closed, run_printed};
 use sql_locals::Locals;

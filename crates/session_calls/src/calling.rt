@@ -1,10 +1,10 @@
 //! A CALL of a session, with the values of its arguments.
 ghost use Rattle.std.specs.Prelude.{◌≡◌, IfOk};
-ghost use Rattle.log_entries.specs.declared.entries.Item.{Item};
-ghost use Rattle.proc_model.specs.Procedures.{called as carried_out};
-ghost use Rattle.proc_model.specs.Talk.{brought};
-ghost use Rattle.session_steps.specs.proc_parts.Calls.{left_of};
-ghost use Rattle.session_model.specs.Calling.{Reached, came_to, steps_of};
+ghost use Rattle.proc_run.specs.log_entries.declared.entries.Item.{Item};
+ghost use Rattle.proc_run.specs.proc_model.Procedures.{called as carried_out};
+ghost use Rattle.proc_run.specs.proc_model.Talk.{brought};
+ghost use Rattle.proc_run.specs.proc_parts.Calls.{left_of};
+ghost use Rattle.node_answers.specs.session_model.Calling.{Reached, came_to, steps_of};
 ghost use Rattle.session_steps.specs.Calls.{called};
 ghost use Rattle.session_calls.specs.Stepping.{Stood, call_by};
 ghost use Rattle.session_steps.specs.session_desk.declared.desk.Desk.{Desk as LeftDesk};
@@ -12,11 +12,11 @@ ghost use Rattle.session_steps.specs.Turned.{IsTurn};
 
 use crate::steps::CallSteps;
 use answer_text::Answer;
+use node_answers::prog_run::Meter;
+use node_answers::session_model::Format;
 use node_answers::{NodeFault, with_warning};
 use proc_run::CallRefusal;
-use proc_run::prog_run::Meter;
-use session_ctx::SessionVars;
-use session_model::Format;
+use proc_run::session_ctx::SessionVars;
 use session_steps::Kept;
 use session_steps::session_desk::{Call, Desk, Session};
 use std::alloc::Global;

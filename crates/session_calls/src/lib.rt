@@ -19,6 +19,4 @@ mod asked;
 mod calling;
 mod steps;
 
-// The crates below that this one speaks of, passed on: who stands above names them through it.
 pub use calling::call_steps;
-pub use session_steps::logged_items;

@@ -2,10 +2,10 @@
 ghost use Rattle.std.specs.Prelude.{ℕ};
 
 use crate::asked::{evaluate_step, run_step};
+use node_answers::prog_run::{Meter, Outcome};
 use port_traits::{Draw, Identity};
-use proc_model::Ruled;
-use proc_run::prog_run::{Meter, Outcome};
-use session_steps::proc_parts::{RunRefusal, Runner};
+use proc_run::proc_model::Ruled;
+use proc_run::proc_parts::{RunRefusal, Runner};
 use session_steps::session_desk::{Call, Desk, Session};
 use sql_locals::Locals;
 use sql_tree::Stmt;

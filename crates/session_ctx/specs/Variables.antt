@@ -3,8 +3,8 @@ use Rattle.std.specs.Prelude.{◌≡◌, ℕ, max, nat_le, Bool, true, ◌&&◌,
 use Rattle.std.specs.Ordering.{int_eq}
 use Rattle.val_types.specs.declared.value.Value.{Value}
 use Rattle.val_types.specs.declared.value.Value.TheVariants.{Null, Int, Text}
-use Rattle.sql_meaning.specs.log_entries.catalog_rules.Names.{same_name, is_among}
-use Rattle.sql_meaning.specs.log_entries.catalog_rules.Bodies.{format_name, session_variables}
+use Rattle.sql_meaning.specs.catalog_rules.Names.{same_name, is_among}
+use Rattle.sql_meaning.specs.catalog_rules.Bodies.{format_name, session_variables}
 use Rattle.sql_meaning.specs.Frames.{Context}
 use Rattle.session_ctx.specs.declared.variables.SessionVariable.{SessionVariable}
 use Rattle.session_ctx.specs.declared.variables.SessionVariable.TheVariants.{Increment, Offset, Timestamp, LastInsertId, InsertId, RandSeed1, RandSeed2}

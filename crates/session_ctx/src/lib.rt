@@ -35,9 +35,12 @@ mod session;
 mod variables;
 mod worked;
 
+// The crates below that this one speaks of, passed on: who stands above names them through it.
 pub use carrying::from_carried;
 pub use context::Ctx;
 pub use laws::{carried_context_stands_in, names_are_a_table};
 pub use session::SessionVars;
+pub use sql_meaning;
+pub use sql_meaning::log_entries;
 pub use variables::{SessionVariable, UNKNOWN_VARIABLE, WRONG_VALUE, set_variable, variable_fits};
 pub use worked::{values_refused, variables_set};

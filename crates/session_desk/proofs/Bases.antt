@@ -6,12 +6,12 @@ use Rattle.std.proofs.lemmas.List.{length-drop}
 use Rattle.val_types.specs.declared.change.Change.{Change}
 use Rattle.table_rules.specs.Tables.{Table}
 use Rattle.table_rules.proofs.Equations.{applied_none}
-use Rattle.catalog_rules.specs.Bases.{empty_base}
-use Rattle.catalog_objects.specs.Keys.{objects_of}
+use Rattle.session_model.specs.catalog_rules.Bases.{empty_base}
+use Rattle.prog_run.specs.catalog_objects.Keys.{objects_of}
 use Rattle.prog_run.specs.Contents.{Contents, nothing, IsTogether, committed_tables}
-use Rattle.log_entries.specs.declared.entries.Item.{Item}
-use Rattle.log_entries.specs.declared.entries.Entry.{Entry}
-use Rattle.log_model.specs.Log.{LogPlace, behind}
+use Rattle.session_model.specs.log_entries.declared.entries.Item.{Item}
+use Rattle.session_model.specs.log_entries.declared.entries.Entry.{Entry}
+use Rattle.session_model.specs.log_model.Log.{LogPlace, behind}
 use Rattle.session_model.specs.Sessions.{Shared, tables_with}
 use Rattle.session_model.specs.Running.{all_committed, is_other}
 use Rattle.session_desk.specs.Desk.{has_any, own_behind, shared_by}

@@ -1,12 +1,12 @@
 -- Entries that are logged.
 use Rattle.std.proofs.Common.{◌≡◌, ℕ, List, [], ◌∷◌, ◌++◌, length, refl, sym, ap, ◌∙◌, subst, append-nil, append_assoc, length-append}
 use Rattle.std.proofs.lemmas.List.{map-id}
-use Rattle.log_entries.specs.declared.entries.Item.{Item}
-use Rattle.log_entries.specs.declared.entries.Entry.{Entry}
-use Rattle.log_entries.specs.declared.entries.Entry.TheVariants.{Transaction, Definition, LogStart}
-use Rattle.log_model.specs.Log.{LogPlace, behind, counted, entry_bytes, log, moved}
-use Rattle.log_model.proofs.Growing.{definition_moves, transaction_moves}
-use Rattle.entry_groups.specs.Entries.{CanLogAll}
+use Rattle.session_model.specs.log_entries.declared.entries.Item.{Item}
+use Rattle.session_model.specs.log_entries.declared.entries.Entry.{Entry}
+use Rattle.session_model.specs.log_entries.declared.entries.Entry.TheVariants.{Transaction, Definition, LogStart}
+use Rattle.session_model.specs.log_model.Log.{LogPlace, behind, counted, entry_bytes, log, moved}
+use Rattle.session_model.proofs.log_model.Growing.{definition_moves, transaction_moves}
+use Rattle.logged_items.specs.entry_groups.Entries.{CanLogAll}
 use Rattle.logged_items.specs.Logged.{Encodes, in_log}
 use Rattle.session_model.specs.Running.{entry_by}
 use Rattle.session_desk.specs.declared.desk.Desk.{Desk}

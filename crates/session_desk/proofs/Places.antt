@@ -5,7 +5,7 @@ use Rattle.std.specs.Option.{option_map}
 use Rattle.table_rules.proofs.Places.{place, at_place}
 use Rattle.session_model.specs.Sessions.{Open, Save}
 use Rattle.session_model.specs.Commands.{is_save_of, saves_up_to}
-use Rattle.log_entries.specs.declared.entries.Item.{Item}
+use Rattle.session_model.specs.log_entries.declared.entries.Item.{Item}
 use Rattle.session_desk.specs.Saving.{changes_at, marks_of, went_back}
 
 -- ---- places

@@ -1,6 +1,6 @@
 -- How statements are logged, by their reasons.
 use Rattle.std.proofs.Common.{◌≡◌, List, [], ◌∷◌, not, false, refl}
-use Rattle.sql_reach.specs.Reasons.{Reason}
+use Rattle.session_model.specs.sql_reach.Reasons.{Reason}
 use Rattle.logged_items.specs.unsafe_rules.Unsafe.{is_nothing}
 use Rattle.session_model.specs.Formats.{is_unsafe, warns}
 use Rattle.session_model.specs.declared.format.Format.TheVariants.{Mixed}

@@ -1,8 +1,8 @@
 -- What all sessions share, as the machine has it, and by the parts that commands do to it.
 use Rattle.std.specs.Prelude.{ℕ, Bool, true, false, if◌then◌else◌, List, [], ◌∷◌, drop, length, take, Option}
 use Rattle.val_types.specs.declared.change.Change.{Change}
-use Rattle.catalog_objects.specs.Keys.{objects_of}
-use Rattle.log_model.specs.Log.{LogPlace}
+use Rattle.prog_run.specs.catalog_objects.Keys.{objects_of}
+use Rattle.session_model.specs.log_model.Log.{LogPlace}
 use Rattle.logged_items.specs.Logged.{in_log}
 use Rattle.prog_run.specs.Contents.{Contents, committed_tables}
 use Rattle.session_model.specs.Sessions.{Shared}

@@ -1,9 +1,9 @@
 -- What is logged on a desk.
 use Rattle.std.specs.Prelude.{◌≡◌, ℕ, List, [], ◌∷◌, ◌++◌, length}
-use Rattle.log_entries.specs.declared.entries.Item.{Item}
-use Rattle.log_entries.specs.declared.entries.Entry.{Entry}
-use Rattle.log_model.specs.Log.{log}
-use Rattle.entry_groups.specs.Entries.{CanLogAll}
+use Rattle.session_model.specs.log_entries.declared.entries.Item.{Item}
+use Rattle.session_model.specs.log_entries.declared.entries.Entry.{Entry}
+use Rattle.session_model.specs.log_model.Log.{log}
+use Rattle.logged_items.specs.entry_groups.Entries.{CanLogAll}
 use Rattle.logged_items.specs.Logged.{in_log}
 use Rattle.session_desk.specs.declared.desk.Desk.{Desk}
 

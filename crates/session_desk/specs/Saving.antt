@@ -1,6 +1,6 @@
 -- What adding an item and going back to a savepoint make of a transaction.
 use Rattle.std.specs.Prelude.{ℕ, Bool, true, false, List, [], ◌∷◌, ◌++◌, Option, Some, None}
-use Rattle.log_entries.specs.declared.entries.Item.{Item}
+use Rattle.session_model.specs.log_entries.declared.entries.Item.{Item}
 use Rattle.session_model.specs.Sessions.{Open, Save}
 use Rattle.session_model.specs.Commands.{cut_back}
 

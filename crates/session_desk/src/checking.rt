@@ -1,8 +1,8 @@
 //! What refuses a statement before it runs.
 ghost use Rattle.std.specs.Prelude.{◌≡◌};
 ghost use Rattle.sql_tree.specs.StatementView.{view};
-ghost use Rattle.catalog_rules.specs.Checks.{statement_refusal};
-ghost use Rattle.proc_model.specs.Procedures.{scope_of};
+ghost use Rattle.session_model.specs.catalog_rules.Checks.{statement_refusal};
+ghost use Rattle.session_model.specs.proc_model.Procedures.{scope_of};
 ghost use Rattle.session_model.specs.Answers.{refused_as};
 ghost use Rattle.session_model.specs.Calling.{step_check};
 ghost use Rattle.session_model.specs.Running.{lock_check};
@@ -25,7 +25,7 @@ pub struct Refusal {
 }
 
 impl Model for Refusal {
-    ghost use Rattle.proc_model.specs.Talk.{Refusal as WhyRefused};
+    ghost use Rattle.session_model.specs.proc_model.Talk.{Refusal as WhyRefused};
 
     ghost Value = { WhyRefused };
 

@@ -1,7 +1,7 @@
 //! What all sessions share.
 ghost use Rattle.std.specs.Prelude.{◌≡◌, ◌≤◌, [], ◌∷◌, length, None, Some, IfOk, OnErr, OnOk};
-ghost use Rattle.catalog_rules.specs.Bases.{empty_base};
-ghost use Rattle.log_entries.specs.declared.entries.Entry.TheVariants.{Transaction};
+ghost use Rattle.session_model.specs.catalog_rules.Bases.{empty_base};
+ghost use Rattle.session_model.specs.log_entries.declared.entries.Entry.TheVariants.{Transaction};
 ghost use Rattle.logged_items.specs.Logged.{in_log};
 ghost use Rattle.session_model.specs.Running.{all_committed, is_other, released, writing_check};
 ghost use Rattle.session_model.specs.Commands.{changes_of_own, dropped};

@@ -36,3 +36,4 @@ pub use formats::{HowLogged, how_logged};
 pub use logged_items;
 pub use saves::Save;
 pub use session::{Open, Session};
+pub use session_model;

@@ -4,13 +4,13 @@ ghost use Rattle.std.specs.Option.{option_map};
 ghost use Rattle.session_model.specs.Sessions.{just_opened};
 ghost use Rattle.session_model.specs.Commands.{is_save_of, saved, saves_but};
 ghost use Rattle.session_desk.specs.Saving.{changes_at, one_more_if, went_back};
-ghost use Rattle.transaction_sizes.specs.Sizes.{are_too_large};
+ghost use Rattle.session_model.specs.transaction_sizes.Sizes.{are_too_large};
 
 use crate::saves::{Save, marks_at, place_of, put_last, take_out};
-use log_entries::Item;
 use logged_items::Items;
-use session_ctx::SessionVars;
 use session_model::Format;
+use session_model::log_entries::Item;
+use session_model::session_ctx::SessionVars;
 use std::alloc::Global;
 use std::marker::Model;
 use val_types::{Bytes, Duplicate, NoMemory};
@@ -25,7 +25,7 @@ pub struct Open {
 
 impl Model for Open {
     ghost use Rattle.session_model.specs.Sessions.{Open as Transaction};
-    ghost use Rattle.log_entries.specs.declared.entries.Item.{Item as LoggedItem};
+    ghost use Rattle.session_model.specs.log_entries.declared.entries.Item.{Item as LoggedItem};
 
     ghost Value = { Transaction LoggedItem };
 
@@ -125,7 +125,7 @@ pub struct Session {
 
 impl Model for Session {
     ghost use Rattle.session_model.specs.Sessions.{Session as OneSession};
-    ghost use Rattle.log_entries.specs.declared.entries.Item.{Item as LoggedItem};
+    ghost use Rattle.session_model.specs.log_entries.declared.entries.Item.{Item as LoggedItem};
 
     ghost Value = { OneSession LoggedItem };
 

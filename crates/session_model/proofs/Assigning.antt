@@ -3,9 +3,9 @@ use Rattle.std.proofs.Common.{◌≡◌, ℕ, Bool, true, false, List, [], ◌�
 use Rattle.std.specs.Prelude.{is_some}
 use Rattle.std.specs.Option.{option_map}
 use Rattle.val_types.specs.declared.value.Value.{Value}
-use Rattle.catalog_rules.specs.Bodies.{format_name}
-use Rattle.catalog_rules.specs.Names.{same_name}
-use Rattle.log_entries.specs.declared.entries.Item.{Item}
+use Rattle.session_ctx.specs.catalog_rules.Bodies.{format_name}
+use Rattle.session_ctx.specs.catalog_rules.Names.{same_name}
+use Rattle.transaction_sizes.specs.log_entries.declared.entries.Item.{Item}
 use Rattle.session_ctx.specs.Variables.{assigned, fitting, setting}
 use Rattle.sql_tree.specs.declared.statements.Target.{Target}
 use Rattle.session_model.specs.Commands.{all_assigned, assign, assignment_refusal, first_refused, is_open, refusal_of, variable_refusal, with_format, with_setting, with_vars}

@@ -7,10 +7,10 @@ use Rattle.sql_tree.specs.Statement.{Statement, evaluate}
 use Rattle.sql_tree.specs.Tree.{Trees, no_tree, tree}
 use Rattle.sql_locals.specs.declared.locals.Local.{Local}
 use Rattle.sql_print.specs.StatementSpelling.{spelling}
-use Rattle.catalog_rules.specs.Checks.{session_scope}
-use Rattle.sql_meaning.specs.Changing.{Did}
-use Rattle.sql_meaning.specs.Leading.{StatementsEndWell, EvaluationsEndWell}
-use Rattle.sql_reach.specs.Closing.{closed}
+use Rattle.session_ctx.specs.catalog_rules.Checks.{session_scope}
+use Rattle.session_ctx.specs.sql_meaning.Changing.{Did}
+use Rattle.session_ctx.specs.sql_meaning.Leading.{StatementsEndWell, EvaluationsEndWell}
+use Rattle.proc_model.specs.sql_reach.Closing.{closed}
 use Rattle.proc_model.specs.Talk.{Left, Refusal, Told}
 use Rattle.proc_model.specs.Procedures.{scope_of, called}
 use Rattle.proc_model.proofs.Leading.{talk_keeps}

@@ -7,23 +7,23 @@ use Rattle.std.specs.Option.{option_map, option_and_then}
 use Rattle.val_types.specs.declared.change.Change.{Change}
 use Rattle.val_types.specs.declared.value.Value.{Value}
 use Rattle.table_rules.specs.Stored.{all_applied}
-use Rattle.catalog_rules.specs.Bases.{Base, defined}
-use Rattle.log_entries.specs.declared.entries.Entry.{Entry}
-use Rattle.log_entries.specs.Entries.{after}
-use Rattle.log_entries.proofs.Following.{go_on}
+use Rattle.session_ctx.specs.catalog_rules.Bases.{Base, defined}
+use Rattle.transaction_sizes.specs.log_entries.declared.entries.Entry.{Entry}
+use Rattle.transaction_sizes.specs.log_entries.Entries.{after}
+use Rattle.transaction_sizes.proofs.log_entries.Following.{go_on}
 use Rattle.sql_print.specs.StatementSpelling.{spelling}
 use Rattle.sql_tree.specs.Statement.{Statement, create_table, create_function, create_procedure, create_trigger, drop_table, drop_function, drop_procedure, drop_trigger, truncate, insert_into, replace_into, update_rows, delete_rows, select, evaluate, set_all, call_procedure, begin, commit, rollback, savepoint, rollback_to, release_savepoint, block, if_steps, while_steps, return_value}
 use Rattle.sql_tree.specs.Tree.{Tree, Trees}
 use Rattle.sql_tree.specs.declared.statements.Target.{Target}
-use Rattle.catalog_rules.specs.Creating.{ddl_refusal}
-use Rattle.catalog_rules.specs.Checks.{session_scope, statement_refusal}
+use Rattle.session_ctx.specs.catalog_rules.Creating.{ddl_refusal}
+use Rattle.session_ctx.specs.catalog_rules.Checks.{session_scope, statement_refusal}
 use Rattle.answer_text.specs.declared.answer.Answer.{Answer}
 use Rattle.text_answers.specs.Answers.{TextAnswer, a_statement, a_syntax_error, too_deep, text_answer}
-use Rattle.sql_meaning.specs.Frames.{Context}
-use Rattle.sql_meaning.specs.Running.{evaluation}
-use Rattle.sql_meaning.specs.Leading.{StatementsEndWell, EvaluationsEndWell}
-use Rattle.sql_reach.specs.Defining.{number_of_bytes}
-use Rattle.sql_reach.specs.Reach.{is_definition}
+use Rattle.session_ctx.specs.sql_meaning.Frames.{Context}
+use Rattle.session_ctx.specs.sql_meaning.Running.{evaluation}
+use Rattle.session_ctx.specs.sql_meaning.Leading.{StatementsEndWell, EvaluationsEndWell}
+use Rattle.proc_model.specs.sql_reach.Defining.{number_of_bytes}
+use Rattle.proc_model.specs.sql_reach.Reach.{is_definition}
 use Rattle.proc_model.specs.Procedures.{assignments_of}
 use Rattle.session_model.specs.Answers.{ok, refused, refused_at}
 use Rattle.session_model.specs.Sessions.{Save, Open, just_opened, Session, Shared}

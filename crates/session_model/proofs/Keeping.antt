@@ -12,12 +12,12 @@ use Rattle.sql_tree.specs.Statement.{Statement, evaluate}
 use Rattle.sql_tree.specs.Tree.{Trees}
 use Rattle.sql_locals.specs.declared.locals.Local.{Local}
 use Rattle.session_ctx.specs.declared.session.SessionVars.{SessionVars}
-use Rattle.sql_meaning.specs.Scenes.{Scene, Ending, done, failed}
-use Rattle.sql_meaning.specs.Frames.{Context}
-use Rattle.sql_meaning.specs.Changing.{Did}
-use Rattle.sql_meaning.specs.Running.{context_after, evaluation}
-use Rattle.sql_meaning.specs.Leading.{Leads, EndsWell, StatementsEndWell, EvaluationsEndWell}
-use Rattle.sql_reach.specs.Defining.{number_of_bytes}
+use Rattle.session_ctx.specs.sql_meaning.Scenes.{Scene, Ending, done, failed}
+use Rattle.session_ctx.specs.sql_meaning.Frames.{Context}
+use Rattle.session_ctx.specs.sql_meaning.Changing.{Did}
+use Rattle.session_ctx.specs.sql_meaning.Running.{context_after, evaluation}
+use Rattle.session_ctx.specs.sql_meaning.Leading.{Leads, EndsWell, StatementsEndWell, EvaluationsEndWell}
+use Rattle.proc_model.specs.sql_reach.Defining.{number_of_bytes}
 use Rattle.session_model.specs.Sessions.{Open, Session, Shared}
 use Rattle.session_model.specs.Running.{Call, Turn, Given, is_other, items_of, keep, made_behind, with_counters, scene_for, settle, ended, given_by, is_warned, item_of, with_context, setting_of, statement_run, values_run, unless_misfit, fitted, fitted_run, kept_entries, kept_open, kept_shared, takes_too_much, undone}
 use Rattle.session_model.specs.Commands.{is_open}

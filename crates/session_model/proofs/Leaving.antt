@@ -5,18 +5,18 @@ use Rattle.std.specs.Option.{option_map, option_map_or}
 use Rattle.val_types.specs.declared.change.Change.{Change}
 use Rattle.val_types.specs.declared.value.Value.{Value}
 use Rattle.answer_text.specs.declared.answer.Answer.{Answer}
-use Rattle.catalog_rules.specs.Bases.{Base, defined}
-use Rattle.catalog_rules.specs.Checks.{session_scope, statement_refusal}
-use Rattle.catalog_rules.specs.Creating.{ddl_refusal}
+use Rattle.session_ctx.specs.catalog_rules.Bases.{Base, defined}
+use Rattle.session_ctx.specs.catalog_rules.Checks.{session_scope, statement_refusal}
+use Rattle.session_ctx.specs.catalog_rules.Creating.{ddl_refusal}
 use Rattle.proc_model.specs.Talk.{Left}
 use Rattle.sql_print.specs.StatementSpelling.{spelling}
 use Rattle.sql_tree.specs.Statement.{Statement, create_table, create_function, create_procedure, create_trigger, drop_table, drop_function, drop_procedure, drop_trigger, truncate, insert_into, replace_into, update_rows, delete_rows, select, evaluate, set_all, call_procedure, begin, commit, rollback, savepoint, rollback_to, release_savepoint, block, if_steps, while_steps, return_value}
 use Rattle.sql_tree.specs.Tree.{Tree}
 use Rattle.sql_tree.specs.declared.statements.Target.{Target}
-use Rattle.sql_meaning.specs.Scenes.{Scene, Ending, done, failed}
-use Rattle.sql_meaning.specs.Changing.{Did}
-use Rattle.sql_meaning.specs.Running.{effect, evaluation, most_nested, context_after}
-use Rattle.sql_reach.specs.Defining.{number_of_bytes}
+use Rattle.session_ctx.specs.sql_meaning.Scenes.{Scene, Ending, done, failed}
+use Rattle.session_ctx.specs.sql_meaning.Changing.{Did}
+use Rattle.session_ctx.specs.sql_meaning.Running.{effect, evaluation, most_nested, context_after}
+use Rattle.proc_model.specs.sql_reach.Defining.{number_of_bytes}
 use Rattle.session_model.specs.Answers.{ok, ok_warned, refused, showing}
 use Rattle.session_model.specs.Sessions.{Save, Open, Session, Shared, tables_with}
 use Rattle.session_model.specs.Running.{Call, full, Fuel, Turn, Given, commit_open, is_other, lock_refusal, writing_refusal, takes_too_much, undone, ended, scene_for, setting_of, settle, item_of, given_by, is_warned, made_behind, with_counters, with_context, fitted, fitted_run, given_answer}

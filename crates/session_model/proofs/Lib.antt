@@ -8,3 +8,6 @@ mod Saving
 mod Staying
 pub mod Keeping
 pub mod Calling
+-- the crates below that this one speaks of, passed on
+pub use Rattle.transaction_sizes.proofs.log_model as log_model
+pub use Rattle.proc_model.proofs as proc_model

@@ -12,24 +12,24 @@ use Rattle.sql_tree.specs.Statement.{Statement, create_table, create_function, c
 use Rattle.sql_tree.specs.Tree.{Tree, Trees, no_tree, tree}
 use Rattle.sql_locals.specs.declared.locals.Local.{Local}
 use Rattle.sql_tree.specs.declared.statements.Target.{Target}
-use Rattle.catalog_rules.specs.Bases.{Base, defined}
-use Rattle.catalog_rules.specs.Checks.{session_scope, statement_refusal}
-use Rattle.catalog_rules.specs.Creating.{ddl_refusal}
+use Rattle.session_ctx.specs.catalog_rules.Bases.{Base, defined}
+use Rattle.session_ctx.specs.catalog_rules.Checks.{session_scope, statement_refusal}
+use Rattle.session_ctx.specs.catalog_rules.Creating.{ddl_refusal}
 use Rattle.sql_print.specs.StatementSpelling.{spelling}
-use Rattle.log_entries.specs.declared.entries.Item.{Item}
-use Rattle.log_entries.specs.declared.entries.Entry.{Entry}
-use Rattle.log_entries.specs.declared.entries.Entry.TheVariants.{Transaction}
+use Rattle.transaction_sizes.specs.log_entries.declared.entries.Item.{Item}
+use Rattle.transaction_sizes.specs.log_entries.declared.entries.Entry.{Entry}
+use Rattle.transaction_sizes.specs.log_entries.declared.entries.Entry.TheVariants.{Transaction}
 use Rattle.transaction_sizes.specs.Sizes.{are_too_large}
 use Rattle.answer_text.specs.declared.answer.Answer.{Answer}
 use Rattle.port_traits.specs.declared.identity.Identity.{Identity}
 use Rattle.port_traits.specs.declared.identity.Draw.{Draw}
 use Rattle.session_ctx.specs.declared.session.SessionVars.{SessionVars}
-use Rattle.sql_meaning.specs.Scenes.{Scene, Ending, done, failed}
-use Rattle.sql_meaning.specs.Frames.{Context}
-use Rattle.sql_meaning.specs.Changing.{Did}
-use Rattle.sql_meaning.specs.Running.{context_after, effect, evaluation}
-use Rattle.sql_reach.specs.Defining.{counters_after, number_of_bytes}
-use Rattle.sql_reach.specs.Closing.{closed}
+use Rattle.session_ctx.specs.sql_meaning.Scenes.{Scene, Ending, done, failed}
+use Rattle.session_ctx.specs.sql_meaning.Frames.{Context}
+use Rattle.session_ctx.specs.sql_meaning.Changing.{Did}
+use Rattle.session_ctx.specs.sql_meaning.Running.{context_after, effect, evaluation}
+use Rattle.proc_model.specs.sql_reach.Defining.{counters_after, number_of_bytes}
+use Rattle.proc_model.specs.sql_reach.Closing.{closed}
 use Rattle.proc_model.specs.Talk.{Left, Refusal, Told}
 use Rattle.proc_model.specs.Procedures.{Came, assignments_of, scope_of, called}
 use Rattle.proc_model.proofs.Leading.{talk_seen}

@@ -9,14 +9,14 @@ use Rattle.val_types.specs.declared.change.Change.{Change}
 use Rattle.table_rules.specs.Tables.{Table}
 use Rattle.table_rules.specs.Stored.{all_applied}
 use Rattle.table_rules.proofs.Equations.{all_applied_behind}
-use Rattle.catalog_rules.specs.Bases.{Base}
-use Rattle.log_entries.specs.declared.entries.Entry.{Entry}
-use Rattle.log_entries.specs.declared.entries.Entry.TheVariants.{Transaction}
-use Rattle.log_entries.specs.Entries.{after, with_tables}
-use Rattle.log_entries.proofs.Following.{go_on}
-use Rattle.sql_meaning.specs.Scenes.{Scene}
-use Rattle.sql_meaning.specs.Frames.{Context}
-use Rattle.sql_meaning.specs.Leading.{Leads}
+use Rattle.session_ctx.specs.catalog_rules.Bases.{Base}
+use Rattle.transaction_sizes.specs.log_entries.declared.entries.Entry.{Entry}
+use Rattle.transaction_sizes.specs.log_entries.declared.entries.Entry.TheVariants.{Transaction}
+use Rattle.transaction_sizes.specs.log_entries.Entries.{after, with_tables}
+use Rattle.transaction_sizes.proofs.log_entries.Following.{go_on}
+use Rattle.session_ctx.specs.sql_meaning.Scenes.{Scene}
+use Rattle.session_ctx.specs.sql_meaning.Frames.{Context}
+use Rattle.session_ctx.specs.sql_meaning.Leading.{Leads}
 use Rattle.proc_model.specs.Procedures.{plain_refusal}
 use Rattle.proc_model.specs.Talk.{Left, Refusal}
 use Rattle.session_model.specs.Answers.{refused_as}

@@ -6,12 +6,12 @@ use Rattle.sql_tree.specs.Statement.{Statement, evaluate}
 use Rattle.sql_tree.specs.Tree.{Trees, no_tree, tree}
 use Rattle.sql_locals.specs.declared.locals.Local.{Local}
 use Rattle.sql_print.specs.StatementSpelling.{spelling}
-use Rattle.catalog_rules.specs.Checks.{session_scope}
-use Rattle.sql_meaning.specs.Scenes.{Scene, Ending, done, failed}
-use Rattle.sql_meaning.specs.Changing.{Did}
-use Rattle.sql_meaning.specs.Running.{effect, evaluation, context_after}
-use Rattle.sql_reach.specs.Closing.{closed}
-use Rattle.sql_reach.specs.Defining.{number_of_bytes}
+use Rattle.session_ctx.specs.catalog_rules.Checks.{session_scope}
+use Rattle.session_ctx.specs.sql_meaning.Scenes.{Scene, Ending, done, failed}
+use Rattle.session_ctx.specs.sql_meaning.Changing.{Did}
+use Rattle.session_ctx.specs.sql_meaning.Running.{effect, evaluation, context_after}
+use Rattle.proc_model.specs.sql_reach.Closing.{closed}
+use Rattle.proc_model.specs.sql_reach.Defining.{number_of_bytes}
 use Rattle.proc_model.specs.Talk.{Left, Refusal, Told}
 use Rattle.proc_model.specs.Procedures.{scope_of}
 use Rattle.proc_model.proofs.Leading.{talk_keeps}

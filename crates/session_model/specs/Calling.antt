@@ -6,11 +6,11 @@ use Rattle.sql_tree.specs.Statement.{Statement, evaluate, call_procedure}
 use Rattle.sql_tree.specs.Tree.{Trees, no_tree, tree}
 use Rattle.sql_locals.specs.declared.locals.Local.{Local}
 use Rattle.sql_print.specs.StatementSpelling.{spelling}
-use Rattle.catalog_rules.specs.Checks.{Scope, session_scope, statement_refusal}
+use Rattle.session_ctx.specs.catalog_rules.Checks.{Scope, session_scope, statement_refusal}
 use Rattle.answer_text.specs.declared.answer.Answer.{Answer}
-use Rattle.sql_meaning.specs.Changing.{Did}
-use Rattle.sql_meaning.specs.Running.{most_nested}
-use Rattle.sql_reach.specs.Closing.{closed}
+use Rattle.session_ctx.specs.sql_meaning.Changing.{Did}
+use Rattle.session_ctx.specs.sql_meaning.Running.{most_nested}
+use Rattle.proc_model.specs.sql_reach.Closing.{closed}
 use Rattle.proc_model.specs.Talk.{Left, Refusal, Effect, Told, Steps, brought}
 use Rattle.proc_model.specs.Procedures.{Came, plain_refusal, scope_of, called}
 use Rattle.session_model.specs.Answers.{refused, with_warning}

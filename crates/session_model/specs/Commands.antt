@@ -6,19 +6,19 @@ use Rattle.sql_print.specs.StatementSpelling.{spelling}
 use Rattle.sql_tree.specs.Statement.{Statement, set_all, evaluate}
 use Rattle.sql_tree.specs.Tree.{Tree, Trees, no_tree, tree}
 use Rattle.sql_tree.specs.declared.statements.Target.{Target}
-use Rattle.catalog_rules.specs.Names.{same_name, first_made}
-use Rattle.catalog_rules.specs.Bases.{Base, defined}
-use Rattle.catalog_rules.specs.Bodies.{format_name}
-use Rattle.catalog_rules.specs.Checks.{session_scope, statement_refusal}
-use Rattle.catalog_rules.specs.Creating.{ddl_refusal}
-use Rattle.log_entries.specs.declared.carried.Carried.{Carried}
-use Rattle.log_entries.specs.declared.entries.Entry.{Entry}
-use Rattle.log_entries.specs.declared.entries.Entry.TheVariants.{Definition}
+use Rattle.session_ctx.specs.catalog_rules.Names.{same_name, first_made}
+use Rattle.session_ctx.specs.catalog_rules.Bases.{Base, defined}
+use Rattle.session_ctx.specs.catalog_rules.Bodies.{format_name}
+use Rattle.session_ctx.specs.catalog_rules.Checks.{session_scope, statement_refusal}
+use Rattle.session_ctx.specs.catalog_rules.Creating.{ddl_refusal}
+use Rattle.transaction_sizes.specs.log_entries.declared.carried.Carried.{Carried}
+use Rattle.transaction_sizes.specs.log_entries.declared.entries.Entry.{Entry}
+use Rattle.transaction_sizes.specs.log_entries.declared.entries.Entry.TheVariants.{Definition}
 use Rattle.answer_text.specs.declared.answer.Answer.{Answer}
-use Rattle.sql_meaning.specs.Frames.{Context}
-use Rattle.sql_meaning.specs.Changing.{Did}
-use Rattle.sql_meaning.specs.Running.{most_nested}
-use Rattle.sql_reach.specs.Defining.{counters_after}
+use Rattle.session_ctx.specs.sql_meaning.Frames.{Context}
+use Rattle.session_ctx.specs.sql_meaning.Changing.{Did}
+use Rattle.session_ctx.specs.sql_meaning.Running.{most_nested}
+use Rattle.proc_model.specs.sql_reach.Defining.{counters_after}
 use Rattle.proc_model.specs.Procedures.{assignments_of}
 use Rattle.session_model.specs.Answers.{ok, ok_warned, refused}
 use Rattle.session_model.specs.Formats.{format_for, format_refusal}
@@ -27,7 +27,7 @@ use Rattle.session_model.specs.Sessions.{Save, Open, just_opened, Session, Share
 use Rattle.session_model.specs.Running.{Call, full, Turn, Given, is_other, writing_refusal, lock_refusal, closed, commit_open, counted_in, logged_by, statement_run, fitted_run, given_answer}
 use Rattle.session_ctx.specs.Variables.{setting, fitting, assigned}
 use Rattle.session_ctx.specs.declared.session.SessionVars.{SessionVars}
-use Rattle.log_entries.specs.Variables.{variable_set}
+use Rattle.transaction_sizes.specs.log_entries.Variables.{variable_set}
 
 -- a command that changes nothing of what is shared
 abbrev pub answered : {I : Type 0} → Answer → Shared → Session I → Turn I Answer

@@ -5,7 +5,7 @@ use Rattle.std.specs.Option.{option_map_or}
 use Rattle.std.specs.Str.{bytes_eq}
 use Rattle.val_types.specs.declared.value.Value.{Value}
 use Rattle.val_types.specs.declared.value.Value.TheVariants.{Null, Int, Text}
-use Rattle.sql_reach.specs.Reasons.{Reason}
+use Rattle.proc_model.specs.sql_reach.Reasons.{Reason}
 use Rattle.session_model.specs.declared.format.Format.{Format}
 use Rattle.session_model.specs.declared.format.Format.TheVariants.{Statement, Mixed, Row}
 

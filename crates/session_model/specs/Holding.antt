@@ -7,23 +7,23 @@ use Rattle.auto_inc.specs.declared.counters.Counter.{Counter}
 use Rattle.port_traits.specs.declared.identity.Identity.{Identity}
 use Rattle.port_traits.specs.declared.identity.Draw.{Draw}
 use Rattle.table_rules.specs.Stored.{all_applied}
-use Rattle.catalog_rules.specs.Bases.{Base, defined, empty_base}
-use Rattle.log_entries.specs.declared.entries.Entry.{Entry}
-use Rattle.log_entries.specs.declared.entries.Entry.TheVariants.{Transaction, Definition, LogStart}
-use Rattle.log_entries.specs.Entries.{after}
-use Rattle.log_model.specs.Log.{LogPlace, counted_all, written_to}
+use Rattle.session_ctx.specs.catalog_rules.Bases.{Base, defined, empty_base}
+use Rattle.transaction_sizes.specs.log_entries.declared.entries.Entry.{Entry}
+use Rattle.transaction_sizes.specs.log_entries.declared.entries.Entry.TheVariants.{Transaction, Definition, LogStart}
+use Rattle.transaction_sizes.specs.log_entries.Entries.{after}
+use Rattle.transaction_sizes.specs.log_model.Log.{LogPlace, counted_all, written_to}
 use Rattle.transaction_sizes.specs.Sizes.{are_too_large}
 use Rattle.proc_model.specs.Talk.{Left, Talk, brought}
 use Rattle.proc_model.specs.Procedures.{Came}
 use Rattle.session_ctx.specs.declared.session.SessionVars.{SessionVars}
-use Rattle.sql_reach.specs.Reasons.{Reason, reasons}
+use Rattle.proc_model.specs.sql_reach.Reasons.{Reason, reasons}
 use Rattle.session_model.specs.Formats.{first_format, is_unsafe, logs_rows}
 use Rattle.session_model.specs.Sessions.{Save, Open, Session, Shared}
 use Rattle.session_model.specs.declared.format.Format.{Format}
 use Rattle.answer_text.specs.declared.answer.End.{End}
 use Rattle.answer_text.specs.declared.answer.End.TheVariants as ends
-use Rattle.sql_meaning.specs.Frames.{Context}
-use Rattle.sql_reach.specs.Reach.{is_definition}
+use Rattle.session_ctx.specs.sql_meaning.Frames.{Context}
+use Rattle.proc_model.specs.sql_reach.Reach.{is_definition}
 use Rattle.sql_locals.specs.declared.locals.Local.{Local}
 use Rattle.sql_tree.specs.Statement.{Statement, call_procedure}
 use Rattle.sql_tree.specs.Tree.{Trees}

@@ -4,16 +4,16 @@ use Rattle.std.specs.Option.{option_map}
 use Rattle.port_traits.specs.declared.identity.Identity.{Identity}
 use Rattle.port_traits.specs.declared.identity.Draw.{Draw}
 use Rattle.sql_tree.specs.Statement.{Statement, set_all, call_procedure, begin, commit, rollback, savepoint, rollback_to, release_savepoint}
-use Rattle.log_entries.specs.declared.entries.Item.{Item}
-use Rattle.log_entries.specs.declared.entries.Entry.{Entry}
-use Rattle.log_entries.specs.declared.entries.Entry.TheVariants.{LogStart}
-use Rattle.log_model.specs.Log.{LogPlace, log}
+use Rattle.transaction_sizes.specs.log_entries.declared.entries.Item.{Item}
+use Rattle.transaction_sizes.specs.log_entries.declared.entries.Entry.{Entry}
+use Rattle.transaction_sizes.specs.log_entries.declared.entries.Entry.TheVariants.{LogStart}
+use Rattle.transaction_sizes.specs.log_model.Log.{LogPlace, log}
 use Rattle.answer_text.specs.declared.answer.Answer.{Answer}
-use Rattle.catalog_rules.specs.Bases.{Base, empty_base}
+use Rattle.session_ctx.specs.catalog_rules.Bases.{Base, empty_base}
 use Rattle.auto_inc.specs.declared.counters.Counter.{Counter}
 use Rattle.session_ctx.specs.Contexts.{new_context, at_command}
 use Rattle.session_ctx.specs.declared.session.SessionVars.{SessionVars}
-use Rattle.sql_reach.specs.Reach.{is_definition}
+use Rattle.proc_model.specs.sql_reach.Reach.{is_definition}
 use Rattle.text_answers.specs.Answers.{TextAnswer, a_statement, a_syntax_error, too_deep, text_answer}
 use Rattle.session_model.specs.Answers.{refused, refused_at}
 use Rattle.session_model.specs.Formats.{first_format}

@@ -10,27 +10,27 @@ use Rattle.port_traits.specs.declared.identity.Identity.{Identity}
 use Rattle.port_traits.specs.declared.identity.Draw.{Draw}
 use Rattle.sql_tree.specs.Statement.{Statement, evaluate}
 use Rattle.sql_tree.specs.Tree.{Trees}
-use Rattle.catalog_rules.specs.Names.{is_among}
-use Rattle.catalog_rules.specs.Objects.{Object}
-use Rattle.catalog_rules.specs.Bases.{definitions_in}
-use Rattle.log_entries.specs.declared.entries.Item.{Item}
-use Rattle.log_entries.specs.declared.entries.Entry.{Entry}
-use Rattle.log_entries.specs.declared.entries.Entry.TheVariants.{Transaction, Definition, LogStart}
-use Rattle.log_model.specs.Log.{LogPlace, behind}
+use Rattle.session_ctx.specs.catalog_rules.Names.{is_among}
+use Rattle.session_ctx.specs.catalog_rules.Objects.{Object}
+use Rattle.session_ctx.specs.catalog_rules.Bases.{definitions_in}
+use Rattle.transaction_sizes.specs.log_entries.declared.entries.Item.{Item}
+use Rattle.transaction_sizes.specs.log_entries.declared.entries.Entry.{Entry}
+use Rattle.transaction_sizes.specs.log_entries.declared.entries.Entry.TheVariants.{Transaction, Definition, LogStart}
+use Rattle.transaction_sizes.specs.log_model.Log.{LogPlace, behind}
 use Rattle.transaction_sizes.specs.Sizes.{are_too_large}
 use Rattle.answer_text.specs.declared.answer.Answer.{Answer}
 use Rattle.proc_model.specs.Talk.{Left, Refusal}
 use Rattle.proc_model.specs.Procedures.{plain_refusal}
 use Rattle.sql_locals.specs.declared.locals.Local.{Local}
-use Rattle.sql_meaning.specs.Scenes.{Scene, Ending, done, failed}
-use Rattle.sql_meaning.specs.Frames.{Context, Setting}
-use Rattle.sql_meaning.specs.Changing.{Did}
-use Rattle.sql_meaning.specs.Running.{most_nested, most_turns, effect, evaluation, context_after}
-use Rattle.sql_reach.specs.Carrying.{carried}
-use Rattle.sql_reach.specs.Reach.{writes}
-use Rattle.sql_reach.specs.Defining.{number_of_bytes}
+use Rattle.session_ctx.specs.sql_meaning.Scenes.{Scene, Ending, done, failed}
+use Rattle.session_ctx.specs.sql_meaning.Frames.{Context, Setting}
+use Rattle.session_ctx.specs.sql_meaning.Changing.{Did}
+use Rattle.session_ctx.specs.sql_meaning.Running.{most_nested, most_turns, effect, evaluation, context_after}
+use Rattle.proc_model.specs.sql_reach.Carrying.{carried}
+use Rattle.proc_model.specs.sql_reach.Reach.{writes}
+use Rattle.proc_model.specs.sql_reach.Defining.{number_of_bytes}
 use Rattle.session_model.specs.Answers.{ok_warned, showing, refused, refused_as}
-use Rattle.sql_reach.specs.Reasons.{reasons}
+use Rattle.proc_model.specs.sql_reach.Reasons.{reasons}
 use Rattle.session_model.specs.Formats.{logs_rows, warns}
 use Rattle.session_model.specs.declared.format.Format.{Format}
 use Rattle.session_model.specs.Sessions.{Open, Session, Shared, tables_with}

@@ -4,13 +4,13 @@ use Rattle.val_types.specs.declared.value.Value.{Value}
 use Rattle.val_types.specs.declared.value.Value.TheVariants.{Int}
 use Rattle.port_traits.specs.declared.identity.Identity.{Identity}
 use Rattle.port_traits.specs.declared.identity.Draw.{Draw}
-use Rattle.log_entries.specs.declared.entries.Item.{Item}
-use Rattle.log_entries.specs.declared.entries.Entry.{Entry}
-use Rattle.log_entries.specs.declared.entries.Entry.TheVariants.{Transaction, Definition, LogStart}
-use Rattle.log_model.specs.Log.{LogPlace}
+use Rattle.transaction_sizes.specs.log_entries.declared.entries.Item.{Item}
+use Rattle.transaction_sizes.specs.log_entries.declared.entries.Entry.{Entry}
+use Rattle.transaction_sizes.specs.log_entries.declared.entries.Entry.TheVariants.{Transaction, Definition, LogStart}
+use Rattle.transaction_sizes.specs.log_model.Log.{LogPlace}
 use Rattle.answer_text.specs.declared.answer.Answer.{Answer}
 use Rattle.answer_text.specs.declared.answer.End.TheVariants as ends
-use Rattle.catalog_rules.specs.Bases.{empty_base}
+use Rattle.session_ctx.specs.catalog_rules.Bases.{empty_base}
 use Rattle.session_model.specs.Sessions.{State}
 use Rattle.session_model.specs.Machine.{first_place, first_state, step, Step, kept}
 

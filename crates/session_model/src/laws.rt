@@ -2,7 +2,7 @@
 ghost use Rattle.session_model.specs.Holding.{CallsKeepSteps, DefinitionsLeaveAll, ErrorsLeaveAll, FormatsDecide, ReadersSeeCommitted, RunsBegin, RunsGoOn, RunsOpen, StepsLeaveAll};
 ghost use Rattle.session_model.specs.Machine.{StepsAreKept};
 
-use sql_meaning::statements_end_well;
+use session_ctx::sql_meaning::statements_end_well;
 
 /// A law: what a node keeps of a step on whole items is its step on what it keeps of them.
 pub fn steps_are_kept()

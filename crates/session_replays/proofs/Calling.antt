@@ -8,17 +8,17 @@ use Rattle.sql_tree.specs.Statement.{Statement, evaluate}
 use Rattle.sql_tree.specs.Tree.{Trees, no_tree, tree}
 use Rattle.sql_locals.specs.declared.locals.Local.{Local}
 use Rattle.sql_print.specs.StatementSpelling.{spelling}
-use Rattle.catalog_rules.specs.Checks.{session_scope}
-use Rattle.sql_meaning.specs.Scenes.{Scene, Ending, done, failed}
-use Rattle.sql_meaning.specs.Frames.{Setting}
-use Rattle.sql_meaning.specs.Changing.{Did, affected_rows}
-use Rattle.sql_meaning.specs.Running.{most_turns, effect, evaluation}
-use Rattle.sql_meaning.specs.Leading.{StatementsEndWell, EvaluationsEndWell}
-use Rattle.sql_reach.specs.Closing.{closed}
-use Rattle.sql_reach.specs.Defining.{number_of_bytes}
+use Rattle.closing_laws.specs.catalog_rules.Checks.{session_scope}
+use Rattle.closing_laws.specs.sql_meaning.Scenes.{Scene, Ending, done, failed}
+use Rattle.closing_laws.specs.sql_meaning.Frames.{Setting}
+use Rattle.closing_laws.specs.sql_meaning.Changing.{Did, affected_rows}
+use Rattle.closing_laws.specs.sql_meaning.Running.{most_turns, effect, evaluation}
+use Rattle.closing_laws.specs.sql_meaning.Leading.{StatementsEndWell, EvaluationsEndWell}
+use Rattle.closing_laws.specs.sql_reach.Closing.{closed}
+use Rattle.closing_laws.specs.sql_reach.Defining.{number_of_bytes}
 use Rattle.closing_laws.specs.Laws.{ClosedDoesTheSame}
-use Rattle.proc_model.specs.Talk.{Left, Refusal, Told}
-use Rattle.proc_model.specs.Procedures.{scope_of, called}
+use Rattle.session_model.specs.proc_model.Talk.{Left, Refusal, Told}
+use Rattle.session_model.specs.proc_model.Procedures.{scope_of, called}
 use Rattle.session_model.specs.Sessions.{Session, Shared}
 use Rattle.session_model.specs.Running.{Call, full, Turn, Given, items_of, scene_for, setting_of, statement_run, values_run, unless_misfit, fitted, fitted_run}
 use Rattle.session_model.specs.Calling.{Reached, reached_by, step_check, unless_checked, counted_by, with_counted, run_step, evaluate_step, assign_step, steps_of, left_with, arguments_run, called_by}

@@ -18,23 +18,23 @@ use Rattle.sql_tree.specs.Well.{IsWell, is_whole, is_well_step, has_result}
 use Rattle.sql_tree.specs.declared.statements.Target.{Target}
 use Rattle.sql_locals.specs.declared.locals.Local.{Local}
 use Rattle.sql_print.specs.StatementSpelling.{spelling}
-use Rattle.catalog_rules.specs.Bases.{Base, tables_after, defined}
-use Rattle.catalog_rules.specs.Checks.{session_scope, statement_refusal}
-use Rattle.catalog_rules.specs.Creating.{ddl_refusal, catalog_after, goes_with_table, is_function_named, is_procedure_named, is_trigger_named}
-use Rattle.catalog_rules.specs.Objects.{Object, function, procedure, reaction}
-use Rattle.log_entries.specs.declared.entries.Entry.{Entry}
-use Rattle.log_entries.specs.declared.entries.Entry.TheVariants.{Transaction, Definition, LogStart}
-use Rattle.log_entries.specs.Entries.{after, with_tables}
+use Rattle.closing_laws.specs.catalog_rules.Bases.{Base, tables_after, defined}
+use Rattle.closing_laws.specs.catalog_rules.Checks.{session_scope, statement_refusal}
+use Rattle.closing_laws.specs.catalog_rules.Creating.{ddl_refusal, catalog_after, goes_with_table, is_function_named, is_procedure_named, is_trigger_named}
+use Rattle.closing_laws.specs.catalog_rules.Objects.{Object, function, procedure, reaction}
+use Rattle.closing_laws.specs.log_entries.declared.entries.Entry.{Entry}
+use Rattle.closing_laws.specs.log_entries.declared.entries.Entry.TheVariants.{Transaction, Definition, LogStart}
+use Rattle.closing_laws.specs.log_entries.Entries.{after, with_tables}
 use Rattle.answer_text.specs.declared.answer.Answer.{Answer}
-use Rattle.text_answers.specs.Answers.{TextAnswer, a_statement, a_syntax_error, too_deep, text_answer, AnswersAreWell}
-use Rattle.sql_meaning.specs.Scenes.{Scene, Ending, done, failed}
-use Rattle.sql_meaning.specs.Frames.{Context}
-use Rattle.sql_meaning.specs.Changing.{Did}
-use Rattle.sql_meaning.specs.Running.{context_after}
-use Rattle.sql_reach.specs.Closing.{closed}
-use Rattle.proc_model.specs.Talk.{Left, Refusal, Told}
-use Rattle.proc_model.specs.Procedures.{scope_of, called}
-use Rattle.proc_model.proofs.Leading.{talk_keeps}
+use Rattle.session_model.specs.text_answers.Answers.{TextAnswer, a_statement, a_syntax_error, too_deep, text_answer, AnswersAreWell}
+use Rattle.closing_laws.specs.sql_meaning.Scenes.{Scene, Ending, done, failed}
+use Rattle.closing_laws.specs.sql_meaning.Frames.{Context}
+use Rattle.closing_laws.specs.sql_meaning.Changing.{Did}
+use Rattle.closing_laws.specs.sql_meaning.Running.{context_after}
+use Rattle.closing_laws.specs.sql_reach.Closing.{closed}
+use Rattle.session_model.specs.proc_model.Talk.{Left, Refusal, Told}
+use Rattle.session_model.specs.proc_model.Procedures.{scope_of, called}
+use Rattle.session_model.proofs.proc_model.Leading.{talk_keeps}
 use Rattle.session_model.specs.Answers.{refused}
 use Rattle.session_model.specs.Sessions.{Save, Open, Session, Shared}
 use Rattle.session_model.specs.Running.{Call, Turn, Given, full, is_other, keep, kept_entries, takes_too_much, made_behind, with_counters, with_context, undone, item_of, settle, ended, given_by, is_warned, scene_for, statement_run, values_run, fitted_run, commit_entries, commit_open, lock_refusal, writing_refusal}

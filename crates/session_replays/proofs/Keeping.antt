@@ -1,18 +1,18 @@
 -- What one statement of a session leaves: its item gives its changes on the base, behind those of the items before it.
 use Rattle.std.proofs.Common.{◌≡◌, ℕ, ◌⊎◌, inl, inr, Bool, true, false, List, [], ◌∷◌, ◌++◌, Option, Some, None, ℤ, refl, sym, ◌∙◌, ap, subst, cond}
 use Rattle.val_types.specs.declared.change.Change.{Change}
-use Rattle.proc_model.specs.Talk.{Left}
+use Rattle.session_model.specs.proc_model.Talk.{Left}
 use Rattle.sql_tree.specs.Statement.{Statement}
-use Rattle.catalog_rules.specs.Objects.{Object}
-use Rattle.log_entries.specs.declared.entries.Entry.{Entry}
-use Rattle.sql_meaning.specs.Scenes.{Scene, Ending, done, failed}
-use Rattle.sql_meaning.specs.Frames.{Context}
-use Rattle.sql_meaning.specs.Changing.{Did}
-use Rattle.sql_meaning.specs.Running.{effect, context_after}
-use Rattle.session_ctx.specs.declared.session.SessionVars.{SessionVars}
+use Rattle.closing_laws.specs.catalog_rules.Objects.{Object}
+use Rattle.closing_laws.specs.log_entries.declared.entries.Entry.{Entry}
+use Rattle.closing_laws.specs.sql_meaning.Scenes.{Scene, Ending, done, failed}
+use Rattle.closing_laws.specs.sql_meaning.Frames.{Context}
+use Rattle.closing_laws.specs.sql_meaning.Changing.{Did}
+use Rattle.closing_laws.specs.sql_meaning.Running.{effect, context_after}
+use Rattle.independence_laws.specs.session_ctx.declared.session.SessionVars.{SessionVars}
 use Rattle.session_model.specs.Sessions.{Open, Session, Shared, tables_with}
-use Rattle.sql_reach.specs.Carrying.{carried}
-use Rattle.sql_reach.specs.Defining.{number_of_bytes}
+use Rattle.closing_laws.specs.sql_reach.Carrying.{carried}
+use Rattle.closing_laws.specs.sql_reach.Defining.{number_of_bytes}
 use Rattle.session_model.specs.Running.{Known, Call, Turn, Given, is_other, items_of, keep, made_behind, with_counters, scene_for, takes_too_much, undone, settle, ended, given_by, is_warned, item_of, with_context, setting_of}
 use Rattle.session_model.specs.declared.format.Format.{Format}
 use Rattle.session_model.specs.Machine.{Whole, whole}

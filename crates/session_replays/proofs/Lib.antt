@@ -16,3 +16,5 @@ mod Spending
 mod Staying
 mod Stepping
 mod Turning
+-- the crates below that this one speaks of, passed on
+pub use Rattle.session_model.proofs.proc_model as proc_model

@@ -13,22 +13,22 @@ use Rattle.sql_tree.specs.Well.{IsWell, is_whole, is_well_step}
 use Rattle.sql_tree.specs.declared.statements.Target.{Target}
 use Rattle.sql_syntax.specs.Texts.{reads}
 use Rattle.sql_print.specs.StatementSpelling.{spelling}
-use Rattle.catalog_rules.specs.Bodies.{has_code}
-use Rattle.catalog_rules.specs.Checks.{session_scope, statement_refusal, statement_codes, node_codes, check_order}
-use Rattle.catalog_rules.specs.Nodes.{Node, no_sight, nodes_of_tree, nodes_of_trees, nodes_of_assignments}
-use Rattle.catalog_rules.specs.Objects.{Object}
-use Rattle.log_entries.specs.declared.entries.Entry.{Entry}
-use Rattle.log_entries.specs.declared.entries.Entry.TheVariants.{Transaction, Definition, LogStart}
+use Rattle.closing_laws.specs.catalog_rules.Bodies.{has_code}
+use Rattle.closing_laws.specs.catalog_rules.Checks.{session_scope, statement_refusal, statement_codes, node_codes, check_order}
+use Rattle.closing_laws.specs.catalog_rules.Nodes.{Node, no_sight, nodes_of_tree, nodes_of_trees, nodes_of_assignments}
+use Rattle.closing_laws.specs.catalog_rules.Objects.{Object}
+use Rattle.closing_laws.specs.log_entries.declared.entries.Entry.{Entry}
+use Rattle.closing_laws.specs.log_entries.declared.entries.Entry.TheVariants.{Transaction, Definition, LogStart}
 use Rattle.answer_text.specs.declared.answer.Answer.{Answer}
-use Rattle.text_answers.specs.Answers.{a_statement, text_answer, AnswersAreWell, IsAnswered}
-use Rattle.sql_meaning.specs.Scenes.{Scene, Ending, done, failed}
-use Rattle.sql_meaning.specs.Frames.{Context}
-use Rattle.sql_meaning.specs.Changing.{Did}
-use Rattle.sql_meaning.specs.Running.{context_after}
-use Rattle.sql_meaning.specs.Within.{values_assigned}
-use Rattle.proc_model.specs.Talk.{Left}
-use Rattle.proc_model.specs.Procedures.{assignments_of, is_plain}
-use Rattle.session_ctx.specs.declared.session.SessionVars.{SessionVars}
+use Rattle.session_model.specs.text_answers.Answers.{a_statement, text_answer, AnswersAreWell, IsAnswered}
+use Rattle.closing_laws.specs.sql_meaning.Scenes.{Scene, Ending, done, failed}
+use Rattle.closing_laws.specs.sql_meaning.Frames.{Context}
+use Rattle.closing_laws.specs.sql_meaning.Changing.{Did}
+use Rattle.closing_laws.specs.sql_meaning.Running.{context_after}
+use Rattle.closing_laws.specs.sql_meaning.Within.{values_assigned}
+use Rattle.session_model.specs.proc_model.Talk.{Left}
+use Rattle.session_model.specs.proc_model.Procedures.{assignments_of, is_plain}
+use Rattle.independence_laws.specs.session_ctx.declared.session.SessionVars.{SessionVars}
 use Rattle.session_model.specs.Answers.{refused}
 use Rattle.session_model.specs.declared.format.Format.{Format}
 use Rattle.session_model.specs.Sessions.{Open, Session, Shared}

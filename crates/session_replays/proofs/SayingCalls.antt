@@ -9,12 +9,12 @@ use Rattle.sql_tree.specs.Statement.{Statement, evaluate}
 use Rattle.sql_tree.specs.Tree.{Trees}
 use Rattle.sql_locals.specs.declared.locals.Local.{Local}
 use Rattle.sql_print.specs.StatementSpelling.{spelling}
-use Rattle.catalog_rules.specs.Checks.{session_scope, statement_refusal}
-use Rattle.sql_meaning.specs.Changing.{Did}
-use Rattle.sql_meaning.specs.Running.{most_turns}
-use Rattle.sql_reach.specs.Closing.{closed}
-use Rattle.proc_model.specs.Talk.{Left, Refusal, Told}
-use Rattle.proc_model.specs.Procedures.{plain_refusal, scope_of, called}
+use Rattle.closing_laws.specs.catalog_rules.Checks.{session_scope, statement_refusal}
+use Rattle.closing_laws.specs.sql_meaning.Changing.{Did}
+use Rattle.closing_laws.specs.sql_meaning.Running.{most_turns}
+use Rattle.closing_laws.specs.sql_reach.Closing.{closed}
+use Rattle.session_model.specs.proc_model.Talk.{Left, Refusal, Told}
+use Rattle.session_model.specs.proc_model.Procedures.{plain_refusal, scope_of, called}
 use Rattle.session_model.specs.Running.{Call, Turn, Given, items_of, lock_check, statement_run, values_run}
 use Rattle.session_model.specs.Calling.{Reached, reached_by, first_check, step_check, unless_checked, counted_by, with_counted, run_step, evaluate_step, steps_of, left_with, called_by}
 use Rattle.session_model.specs.Machine.{Whole, whole}

@@ -1,10 +1,10 @@
 -- What the text of an item says of its statement.
 use Rattle.std.specs.Prelude.{◌≡◌, ◌≤◌, ◌^◌, true, List, [], ◌∷◌, length, None}
-use Rattle.catalog_rules.specs.Checks.{session_scope, statement_refusal}
-use Rattle.log_entries.specs.declared.entries.Entry.{Entry}
-use Rattle.log_entries.specs.declared.entries.Entry.TheVariants.{Transaction, Definition, LogStart}
-use Rattle.text_answers.specs.Answers.{a_statement, text_answer}
-use Rattle.proc_model.specs.Procedures.{is_plain}
+use Rattle.closing_laws.specs.catalog_rules.Checks.{session_scope, statement_refusal}
+use Rattle.closing_laws.specs.log_entries.declared.entries.Entry.{Entry}
+use Rattle.closing_laws.specs.log_entries.declared.entries.Entry.TheVariants.{Transaction, Definition, LogStart}
+use Rattle.session_model.specs.text_answers.Answers.{a_statement, text_answer}
+use Rattle.session_model.specs.proc_model.Procedures.{is_plain}
 use Rattle.session_model.specs.Machine.{Whole}
 
 -- The text of an item is read as its tree, and a command may have it; the tree is a change, a SELECT or a DO, which may stand in a log;

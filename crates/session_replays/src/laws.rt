@@ -5,14 +5,14 @@ ghost use Rattle.session_replays.specs.Followed.{MixedIsUnwarned, RowsAreUnwarne
 ghost use Rattle.session_replays.specs.Replaying.{ReplaysBegin, ReplaysGoOn, ReplaysOpen};
 ghost use Rattle.session_replays.specs.Rerun.{RunsAgain};
 
+use closing_laws::sql_meaning::{parts_are_well, statements_end_well, turns_never_rise};
+use closing_laws::sql_text::prints_are_read;
 use closing_laws::{
     closed_does_the_same, closed_is_allowed, closed_is_read, fitted_values_are_short,
 };
 use independence_laws::statements_are_followed;
 use session_model::runs_hold;
-use sql_meaning::{parts_are_well, statements_end_well, turns_never_rise};
-use sql_text::prints_are_read;
-use text_answers::{answers_are_well, texts_are_answered};
+use session_model::text_answers::{answers_are_well, texts_are_answered};
 
 /// A law: the DO over some expressions, as which a SET is logged, ends as their evaluation does, on the same scene.
 pub fn sets_run_as_dos()

@@ -38,8 +38,11 @@
 mod laws;
 mod worked;
 
+// The crates below that this one speaks of, passed on: who stands above names them through it.
+pub use independence_laws;
 pub use laws::{
     bodies_stay_well, sets_run_as_dos, statements_make_the_base, transactions_replay,
     unwarned_items_follow,
 };
+pub use session_model;
 pub use worked::{call_run_again, script_run_again};

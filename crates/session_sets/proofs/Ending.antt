@@ -3,15 +3,15 @@ use Rattle.std.proofs.Common.{◌≡◌, ℕ, List, zip, Option, Ok, Err, ap, su
 use Rattle.val_types.specs.declared.value.Value.{Value}
 use Rattle.val_types.specs.declared.refusal.SqlRefusal.TheVariants.{Sql}
 use Rattle.answer_text.specs.declared.answer.Answer.{Answer}
-use Rattle.log_entries.specs.declared.entries.Item.{Item}
+use Rattle.node_answers.specs.log_entries.declared.entries.Item.{Item}
 use Rattle.sql_tree.specs.Tree.{Trees}
 use Rattle.sql_tree.specs.declared.statements.Target.{Target}
-use Rattle.session_steps.specs.prog_run.declared.meter.Meter.{Meter}
+use Rattle.node_answers.specs.prog_run.declared.meter.Meter.{Meter}
 use Rattle.session_steps.specs.proc_parts.Calls.{left_of}
-use Rattle.session_model.specs.Answers.{ok_warned, refused}
-use Rattle.session_model.specs.Sessions.{Session}
-use Rattle.session_model.specs.Running.{Call, Fuel, Given, fitted_run, full}
-use Rattle.session_model.specs.Commands.{all_assigned}
+use Rattle.node_answers.specs.session_model.Answers.{ok_warned, refused}
+use Rattle.node_answers.specs.session_model.Sessions.{Session}
+use Rattle.node_answers.specs.session_model.Running.{Call, Fuel, Given, fitted_run, full}
+use Rattle.node_answers.specs.session_model.Commands.{all_assigned}
 use Rattle.session_steps.specs.session_desk.Desk.{shared_of}
 use Rattle.session_steps.specs.Ran.{full_meter}
 use Rattle.session_steps.specs.Turned.{EndsWith, IsTurn}

@@ -1,9 +1,9 @@
 -- SET by its parts.
 use Rattle.std.proofs.Common.{rules, ◌≡◌, ℕ, List, [], ◌∷◌, Bool, false, map, zip, if◌then◌else◌, Option, Some, None, Result, Ok, Err, refl, sym, ap, subst, ◌∙◌}
 use Rattle.val_types.specs.declared.value.Value.{Value}
-use Rattle.log_entries.specs.declared.entries.Item.{Item}
+use Rattle.node_answers.specs.log_entries.declared.entries.Item.{Item}
 use Rattle.answer_text.specs.declared.answer.Answer.{Answer}
-use Rattle.catalog_rules.specs.Checks.{session_scope, statement_refusal}
+use Rattle.node_answers.specs.catalog_rules.Checks.{session_scope, statement_refusal}
 use Rattle.sql_print.specs.StatementSpelling.{spelling}
 use Rattle.sql_tree.specs.Statement.{Statement, evaluate, set_all}
 use Rattle.sql_tree.specs.StatementView.{view, view_assignments}
@@ -14,10 +14,10 @@ use Rattle.sql_tree.specs.declared.statements.Target.{Target}
 use Rattle.sql_tree.specs.declared.expressions.Expr.{Expr}
 use Rattle.sql_tree.specs.declared.statements.Stmt.{Stmt}
 use Rattle.sql_tree.specs.declared.statements.Stmt.{the_lemmas}
-use Rattle.session_model.specs.Answers.{ok_warned, refused}
-use Rattle.session_model.specs.Sessions.{Session, Shared}
-use Rattle.session_model.specs.Running.{Call, Given, Turn, fitted_run, full, lock_refusal}
-use Rattle.session_model.specs.Commands.{all_assigned, answered, code_answer, is_open, is_too_long, set_by, set_expressions, set_misfit, set_turn, unless_refused}
+use Rattle.node_answers.specs.session_model.Answers.{ok_warned, refused}
+use Rattle.node_answers.specs.session_model.Sessions.{Session, Shared}
+use Rattle.node_answers.specs.session_model.Running.{Call, Given, Turn, fitted_run, full, lock_refusal}
+use Rattle.node_answers.specs.session_model.Commands.{all_assigned, answered, code_answer, is_open, is_too_long, set_by, set_expressions, set_misfit, set_turn, unless_refused}
 use Rattle.session_sets.specs.Assigning.{misfit_of, set_from, set_parts, set_to, target_of, value_of}
 use Rattle.session_steps.specs.session_desk.declared.desk.Desk.{Desk}
 use Rattle.session_steps.specs.Turned.{IsTurn, Moves}

@@ -1,7 +1,7 @@
 -- The parts of an assignment, and SET by its parts.
 use Rattle.std.specs.Prelude.{ℕ, Bool, if◌then◌else◌, List, zip, Option, Result, Ok, Err}
 use Rattle.val_types.specs.declared.value.Value.{Value}
-use Rattle.log_entries.specs.declared.entries.Item.{Item}
+use Rattle.node_answers.specs.log_entries.declared.entries.Item.{Item}
 use Rattle.answer_text.specs.declared.answer.Answer.{Answer}
 use Rattle.sql_print.specs.StatementSpelling.{spelling}
 use Rattle.sql_tree.specs.Statement.{evaluate}
@@ -9,10 +9,10 @@ use Rattle.sql_tree.specs.Tree.{Trees}
 use Rattle.sql_tree.specs.declared.expressions.Expr.{Expr}
 use Rattle.sql_tree.specs.declared.statements.Assignment.{Assignment}
 use Rattle.sql_tree.specs.declared.statements.Target.{Target}
-use Rattle.session_model.specs.Answers.{ok_warned, refused}
-use Rattle.session_model.specs.Sessions.{Session, Shared}
-use Rattle.session_model.specs.Running.{Call, Given, Turn, fitted_run, full, lock_refusal}
-use Rattle.session_model.specs.Commands.{all_assigned, answered, code_answer, first_refused, is_open, is_too_long, unless_refused}
+use Rattle.node_answers.specs.session_model.Answers.{ok_warned, refused}
+use Rattle.node_answers.specs.session_model.Sessions.{Session, Shared}
+use Rattle.node_answers.specs.session_model.Running.{Call, Given, Turn, fitted_run, full, lock_refusal}
+use Rattle.node_answers.specs.session_model.Commands.{all_assigned, answered, code_answer, first_refused, is_open, is_too_long, unless_refused}
 
 abbrev pub target_of : Assignment → Target
 target_of a = a.target

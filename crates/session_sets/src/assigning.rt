@@ -1,10 +1,10 @@
 //! The assignments of SET.
 ghost use Rattle.std.specs.Prelude.{◌≡◌, map, zip, IfOk, OnOk, Some, None};
-ghost use Rattle.session_model.specs.Commands.{all_assigned, assign, assignment_refusal, first_refused, is_open, variable_refusal, with_setting};
+ghost use Rattle.node_answers.specs.session_model.Commands.{all_assigned, assign, assignment_refusal, first_refused, is_open, variable_refusal, with_setting};
 ghost use Rattle.session_sets.specs.Assigning.{misfit_of, target_of, value_of};
 
 use crate::formats::{format_for, format_refusal, is_format};
-use session_ctx::{set_variable, variable_fits};
+use node_answers::session_ctx::{set_variable, variable_fits};
 use session_steps::session_desk::Session;
 use sql_tree::{Assignment, Expr, Target};
 use std::alloc::Global;

@@ -1,11 +1,11 @@
 //! How a session's statements are logged: the variable binlog_format.
 ghost use Rattle.std.specs.Prelude.{◌≡◌};
-ghost use Rattle.catalog_rules.specs.Bodies.{format_name};
-ghost use Rattle.catalog_rules.specs.Names.{same_name};
-ghost use Rattle.session_model.specs.Formats.{format_for, format_named, format_refusal, is_word};
+ghost use Rattle.node_answers.specs.catalog_rules.Bodies.{format_name};
+ghost use Rattle.node_answers.specs.catalog_rules.Names.{same_name};
+ghost use Rattle.node_answers.specs.session_model.Formats.{format_for, format_named, format_refusal, is_word};
 
-use session_ctx::WRONG_VALUE;
-use session_model::Format;
+use node_answers::session_ctx::WRONG_VALUE;
+use node_answers::session_model::Format;
 use val_types::{Bytes, SqlError, Value};
 
 /// The format is no variable that may be set in an open transaction.

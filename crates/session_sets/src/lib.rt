@@ -26,7 +26,5 @@ mod formats;
 mod refusing;
 mod setting;
 
-// The crates below that this one speaks of, passed on: who stands above names them through it.
 pub use refusing::{LONGEST, TOO_LONG, lock_refusal};
-pub use session_steps::prog_run;
 pub use setting::set;

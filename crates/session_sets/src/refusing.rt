@@ -1,7 +1,7 @@
 //! What refuses a SET or a CALL before its expressions are evaluated, and a statement for the writer's lock.
 ghost use Rattle.std.specs.Prelude.{◌≡◌};
 ghost use Rattle.sql_tree.specs.StatementView.{view};
-ghost use Rattle.session_model.specs.Running.{lock_refusal};
+ghost use Rattle.node_answers.specs.session_model.Running.{lock_refusal};
 ghost use Rattle.session_steps.specs.session_desk.Desk.{shared_of};
 
 use answer_text::Answer;

@@ -10,23 +10,23 @@ use Rattle.table_rules.specs.Tables.{Table}
 use Rattle.table_rules.specs.Stored.{all_applied, all_inverse}
 use Rattle.table_rules.proofs.Equations.{all_applied_behind}
 use Rattle.table_rules.proofs.Storing.{turn_back}
-use Rattle.catalog_objects.specs.Keys.{objects_of}
-use Rattle.catalog_objects.specs.declared.object.Object.{Object}
+use Rattle.proc_parts.specs.catalog_objects.Keys.{objects_of}
+use Rattle.proc_parts.specs.catalog_objects.declared.object.Object.{Object}
 use Rattle.sql_locals.specs.declared.locals.Local.{Local}
 use Rattle.sql_tree.specs.Tree.{Trees}
 use Rattle.sql_tree.specs.Statement.{Statement}
-use Rattle.sql_meaning.specs.Scenes.{Ending, done, failed}
-use Rattle.sql_meaning.specs.Frames.{Context}
-use Rattle.sql_meaning.specs.Running.{effect, evaluation}
-use Rattle.sql_meaning.specs.Leading.{EndsWell, Leads, StaysAsItWas}
-use Rattle.sql_meaning.proofs.LedBodies.{statements_end, evaluations_end}
+use Rattle.proc_parts.specs.sql_meaning.Scenes.{Ending, done, failed}
+use Rattle.proc_parts.specs.sql_meaning.Frames.{Context}
+use Rattle.proc_parts.specs.sql_meaning.Running.{effect, evaluation}
+use Rattle.proc_parts.specs.sql_meaning.Leading.{EndsWell, Leads, StaysAsItWas}
+use Rattle.proc_parts.proofs.sql_meaning.LedBodies.{statements_end, evaluations_end}
 use Rattle.proc_parts.specs.prog_run.declared.meter.Meter.{Meter}
 use Rattle.proc_parts.specs.prog_run.declared.meter.Outcome.{Outcome}
 use Rattle.proc_parts.specs.prog_run.Contents.{Contents, IsTogether, as_committed, committed_tables, without_changes}
 use Rattle.proc_parts.specs.prog_run.Runs.{moment, scene_at, setting_at, effect_at, evaluation_at, Runs, Evaluated}
-use Rattle.log_model.specs.Log.{LogPlace}
+use Rattle.session_desk.specs.log_model.Log.{LogPlace}
 use Rattle.proc_parts.specs.Calls.{left_of}
-use Rattle.session_model.specs.Running.{is_other, scene_for, with_counters}
+use Rattle.session_desk.specs.session_model.Running.{is_other, scene_for, with_counters}
 use Rattle.session_desk.specs.Desk.{shared_by}
 use Rattle.session_desk.proofs.Bases.{rows_stand}
 use Rattle.session_steps.specs.Ran.{fuel_at, place_at, shared_behind, Comes, Gives}

@@ -6,22 +6,22 @@ use Rattle.val_types.specs.declared.refusal.SqlRefusal.{SqlRefusal}
 use Rattle.val_types.specs.declared.refusal.SqlRefusal.TheVariants.{Sql, NoMemory}
 use Rattle.port_traits.specs.declared.identity.Draw.{Draw}
 use Rattle.port_traits.specs.declared.identity.Identity.{Identity}
-use Rattle.log_entries.specs.declared.entries.Item.{Item}
+use Rattle.proc_parts.specs.log_entries.declared.entries.Item.{Item}
 use Rattle.sql_locals.specs.declared.locals.Local.{Local}
 use Rattle.sql_tree.specs.Tree.{Trees}
 use Rattle.sql_tree.specs.Statement.{Statement, evaluate}
-use Rattle.sql_reach.specs.Defining.{number_of_bytes}
-use Rattle.sql_meaning.specs.Scenes.{Scene, Ending, done, failed}
-use Rattle.sql_meaning.specs.Frames.{Context}
-use Rattle.sql_meaning.specs.Running.{context_after}
-use Rattle.sql_meaning.specs.Leading.{EndsWell, Leads}
-use Rattle.sql_meaning.proofs.LedBodies.{evaluations_end}
+use Rattle.proc_parts.specs.sql_reach.Defining.{number_of_bytes}
+use Rattle.proc_parts.specs.sql_meaning.Scenes.{Scene, Ending, done, failed}
+use Rattle.proc_parts.specs.sql_meaning.Frames.{Context}
+use Rattle.proc_parts.specs.sql_meaning.Running.{context_after}
+use Rattle.proc_parts.specs.sql_meaning.Leading.{EndsWell, Leads}
+use Rattle.proc_parts.proofs.sql_meaning.LedBodies.{evaluations_end}
 use Rattle.session_desk.specs.logged_items.declared.before.Before.{Before}
 use Rattle.session_desk.specs.logged_items.Items.{numbers_of}
-use Rattle.proc_model.specs.Talk.{Left}
-use Rattle.session_model.specs.Sessions.{Session, Shared}
-use Rattle.session_model.specs.Commands.{changes_of_own}
-use Rattle.session_model.specs.Running.{Fuel, Given, Turn, ended, expressions_run, fitted, fitted_run, fuel_of, is_other, scene_for, setting_of, undone, unless_misfit, values_run, with_context, with_counters}
+use Rattle.proc_parts.specs.proc_model.Talk.{Left}
+use Rattle.session_desk.specs.session_model.Sessions.{Session, Shared}
+use Rattle.session_desk.specs.session_model.Commands.{changes_of_own}
+use Rattle.session_desk.specs.session_model.Running.{Fuel, Given, Turn, ended, expressions_run, fitted, fitted_run, fuel_of, is_other, scene_for, setting_of, undone, unless_misfit, values_run, with_context, with_counters}
 use Rattle.session_desk.specs.declared.desk.Desk.{Desk}
 use Rattle.session_desk.specs.Desk.{cut_to, shared_of}
 use Rattle.session_steps.specs.Calls.{call_of}

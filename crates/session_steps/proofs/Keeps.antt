@@ -5,25 +5,25 @@ use Rattle.val_types.specs.declared.refusal.SqlRefusal.{SqlRefusal}
 use Rattle.val_types.specs.declared.refusal.SqlRefusal.TheVariants.{Sql, NoMemory}
 use Rattle.port_traits.specs.declared.identity.Draw.{Draw}
 use Rattle.port_traits.specs.declared.identity.Identity.{Identity}
-use Rattle.log_entries.specs.declared.entries.Item.{Item}
-use Rattle.sql_meaning.specs.Frames.{Context}
-use Rattle.sql_meaning.specs.Running.{context_after}
+use Rattle.proc_parts.specs.log_entries.declared.entries.Item.{Item}
+use Rattle.proc_parts.specs.sql_meaning.Frames.{Context}
+use Rattle.proc_parts.specs.sql_meaning.Running.{context_after}
 use Rattle.sql_locals.specs.declared.locals.Local.{Local}
 use Rattle.sql_tree.specs.Tree.{Trees}
-use Rattle.catalog_rules.specs.Objects.{Object}
-use Rattle.sql_reach.specs.Closing.{closed}
-use Rattle.sql_reach.specs.Reasons.{reasons}
+use Rattle.proc_parts.specs.catalog_rules.Objects.{Object}
+use Rattle.proc_parts.specs.sql_reach.Closing.{closed}
+use Rattle.proc_parts.specs.sql_reach.Reasons.{reasons}
 use Rattle.sql_tree.specs.Statement.{Statement, evaluate}
 use Rattle.val_types.specs.declared.value.Value.{Value}
 use Rattle.session_desk.specs.logged_items.declared.before.Before.{Before}
 use Rattle.session_desk.specs.logged_items.Items.{numbers_of}
 use Rattle.proc_parts.specs.prog_run.declared.meter.Outcome.{Outcome}
-use Rattle.proc_model.specs.Talk.{Left}
-use Rattle.session_model.specs.Commands.{changes_of_own}
-use Rattle.session_model.specs.Formats.{logs_rows, warns}
-use Rattle.session_model.specs.Sessions.{Session, Shared}
+use Rattle.proc_parts.specs.proc_model.Talk.{Left}
+use Rattle.session_desk.specs.session_model.Commands.{changes_of_own}
+use Rattle.session_desk.specs.session_model.Formats.{logs_rows, warns}
+use Rattle.session_desk.specs.session_model.Sessions.{Session, Shared}
 use Rattle.session_steps.specs.Ran.{Came, Gave, Gives, place_at, told_given}
-use Rattle.session_model.specs.Running.{expressions_run, Fuel, Given, Turn, statement_run, values_run, with_context}
+use Rattle.session_desk.specs.session_model.Running.{expressions_run, Fuel, Given, Turn, statement_run, values_run, with_context}
 use Rattle.session_steps.specs.Calls.{call_of}
 use Rattle.session_desk.specs.declared.desk.Desk.{Desk}
 use Rattle.session_desk.specs.Desk.{has_any, own_behind, shared_of}

@@ -6,30 +6,30 @@ use Rattle.val_types.specs.declared.refusal.SqlRefusal.{SqlRefusal}
 use Rattle.val_types.specs.declared.refusal.SqlRefusal.TheVariants.{Sql, NoMemory}
 use Rattle.port_traits.specs.declared.identity.Draw.{Draw}
 use Rattle.port_traits.specs.declared.identity.Identity.{Identity}
-use Rattle.log_entries.specs.declared.entries.Item.{Item}
+use Rattle.proc_parts.specs.log_entries.declared.entries.Item.{Item}
 use Rattle.sql_locals.specs.declared.locals.Local.{Local}
 use Rattle.sql_tree.specs.Tree.{Trees}
 use Rattle.sql_tree.specs.Statement.{Statement, evaluate}
-use Rattle.session_ctx.specs.declared.session.SessionVars.{SessionVars}
-use Rattle.catalog_rules.specs.Objects.{Object}
-use Rattle.sql_reach.specs.Carrying.{carried}
-use Rattle.sql_reach.specs.Defining.{number_of_bytes}
-use Rattle.sql_meaning.specs.Scenes.{Scene}
-use Rattle.sql_meaning.specs.Frames.{Context}
-use Rattle.sql_meaning.specs.Changing.{Did}
-use Rattle.sql_meaning.specs.Running.{context_after}
-use Rattle.sql_meaning.specs.Leading.{EndsWell, Leads}
-use Rattle.sql_meaning.proofs.LedBodies.{statements_end, evaluations_end}
+use Rattle.proc_parts.specs.session_ctx.declared.session.SessionVars.{SessionVars}
+use Rattle.proc_parts.specs.catalog_rules.Objects.{Object}
+use Rattle.proc_parts.specs.sql_reach.Carrying.{carried}
+use Rattle.proc_parts.specs.sql_reach.Defining.{number_of_bytes}
+use Rattle.proc_parts.specs.sql_meaning.Scenes.{Scene}
+use Rattle.proc_parts.specs.sql_meaning.Frames.{Context}
+use Rattle.proc_parts.specs.sql_meaning.Changing.{Did}
+use Rattle.proc_parts.specs.sql_meaning.Running.{context_after}
+use Rattle.proc_parts.specs.sql_meaning.Leading.{EndsWell, Leads}
+use Rattle.proc_parts.proofs.sql_meaning.LedBodies.{statements_end, evaluations_end}
 use Rattle.proc_parts.specs.prog_run.declared.meter.Outcome.{Outcome}
 use Rattle.proc_parts.specs.prog_run.Runs.{outcome_of}
 use Rattle.session_desk.specs.logged_items.Items.{numbers_of}
-use Rattle.sql_reach.specs.Reasons.{reasons}
-use Rattle.session_model.specs.Formats.{logs_rows, warns}
-use Rattle.session_model.specs.Sessions.{Open, Session, Shared}
-use Rattle.session_model.specs.declared.format.Format.{Format}
-use Rattle.proc_model.specs.Talk.{Left}
-use Rattle.session_model.specs.Running.{Fuel, Given, Turn, ended, fuel_of, is_other, is_warned, item_of, keep, made_behind, scene_for, setting_of, settle, statement_run, takes_too_much, undone, values_run, with_context, with_counters}
-use Rattle.session_model.specs.Commands.{changes_of_own}
+use Rattle.proc_parts.specs.sql_reach.Reasons.{reasons}
+use Rattle.session_desk.specs.session_model.Formats.{logs_rows, warns}
+use Rattle.session_desk.specs.session_model.Sessions.{Open, Session, Shared}
+use Rattle.session_desk.specs.session_model.declared.format.Format.{Format}
+use Rattle.proc_parts.specs.proc_model.Talk.{Left}
+use Rattle.session_desk.specs.session_model.Running.{Fuel, Given, Turn, ended, fuel_of, is_other, is_warned, item_of, keep, made_behind, scene_for, setting_of, settle, statement_run, takes_too_much, undone, values_run, with_context, with_counters}
+use Rattle.session_desk.specs.session_model.Commands.{changes_of_own}
 use Rattle.session_steps.specs.Calls.{call_of}
 use Rattle.session_desk.specs.Desk.{cut_to, own_behind, shared_of}
 use Rattle.session_steps.specs.Keeping.{changes_kept, item_kept, item_made, kept_if, refused_unless, statement_kept, with_last_id}

@@ -1,8 +1,8 @@
 -- The same turn, and a turn behind what logged nothing.
 use Rattle.std.proofs.Common.{◌≡◌, Result, IfOk, subst}
-use Rattle.log_entries.specs.declared.entries.Item.{Item}
-use Rattle.session_model.specs.Sessions.{Session}
-use Rattle.session_model.specs.Running.{Turn}
+use Rattle.proc_parts.specs.log_entries.declared.entries.Item.{Item}
+use Rattle.session_desk.specs.session_model.Sessions.{Session}
+use Rattle.session_desk.specs.session_model.Running.{Turn}
 use Rattle.session_desk.specs.declared.desk.Desk.{Desk}
 use Rattle.session_desk.proofs.Logging.{logs_from}
 use Rattle.session_steps.specs.Turned.{IsTurn, Moves}

@@ -2,9 +2,9 @@
 use Rattle.std.specs.Prelude.{ℕ}
 use Rattle.port_traits.specs.declared.identity.Identity.{Identity}
 use Rattle.port_traits.specs.declared.identity.Draw.{Draw}
-use Rattle.log_entries.specs.declared.entries.Item.{Item}
-use Rattle.session_model.specs.Running as running
-use Rattle.session_model.specs.Machine.{kept}
+use Rattle.proc_parts.specs.log_entries.declared.entries.Item.{Item}
+use Rattle.session_desk.specs.session_model.Running as running
+use Rattle.session_desk.specs.session_model.Machine.{kept}
 use Rattle.session_desk.specs.declared.call.Call.{Call}
 
 abbrev pub call_of : Identity → Draw → ℕ → running.Call Item

@@ -1,17 +1,17 @@
 -- What is kept of a statement that changed something.
 use Rattle.std.specs.Prelude.{ℕ, Bool, true, false, if◌then◌else◌, List, [], ◌∷◌, Option, Some, None, Result, Ok, Err, ℤ}
 use Rattle.val_types.specs.declared.change.Change.{Change}
-use Rattle.log_entries.specs.declared.entries.Item.{Item}
-use Rattle.sql_meaning.specs.Frames.{Context}
+use Rattle.proc_parts.specs.log_entries.declared.entries.Item.{Item}
+use Rattle.proc_parts.specs.sql_meaning.Frames.{Context}
 use Rattle.sql_tree.specs.Statement.{Statement}
-use Rattle.sql_reach.specs.Carrying.{carried}
-use Rattle.sql_reach.specs.Reasons.{reasons}
-use Rattle.catalog_rules.specs.Objects.{Object}
+use Rattle.proc_parts.specs.sql_reach.Carrying.{carried}
+use Rattle.proc_parts.specs.sql_reach.Reasons.{reasons}
+use Rattle.proc_parts.specs.catalog_rules.Objects.{Object}
 use Rattle.session_desk.specs.logged_items.declared.before.Before.{Before}
 use Rattle.session_desk.specs.logged_items.Items.{as_before, statement_item}
-use Rattle.session_model.specs.Formats.{logs_rows, warns}
-use Rattle.session_model.specs.Sessions.{Open, Session, Shared}
-use Rattle.session_model.specs.Running.{Call, Turn, all_committed, kept_entries, kept_open, logged_by, takes_too_much, transaction_of}
+use Rattle.session_desk.specs.session_model.Formats.{logs_rows, warns}
+use Rattle.session_desk.specs.session_model.Sessions.{Open, Session, Shared}
+use Rattle.session_desk.specs.session_model.Running.{Call, Turn, all_committed, kept_entries, kept_open, logged_by, takes_too_much, transaction_of}
 use Rattle.session_desk.specs.Desk.{cut_to, own_behind}
 
 -- changes outside a transaction are one by itself; in an open one the session keeps the lock

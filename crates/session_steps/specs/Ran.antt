@@ -7,17 +7,17 @@ use Rattle.port_traits.specs.declared.identity.Draw.{Draw}
 use Rattle.sql_tree.specs.Statement.{Statement, evaluate}
 use Rattle.sql_tree.specs.Tree.{Trees}
 use Rattle.sql_locals.specs.declared.locals.Local.{Local}
-use Rattle.sql_reach.specs.Defining.{number_of_bytes}
-use Rattle.sql_meaning.specs.Scenes.{Scene, Ending, done, failed}
-use Rattle.sql_meaning.specs.Frames.{Context}
-use Rattle.sql_meaning.specs.Changing.{Did}
-use Rattle.sql_meaning.specs.Running.{most_nested, most_turns, effect, evaluation, context_after}
+use Rattle.proc_parts.specs.sql_reach.Defining.{number_of_bytes}
+use Rattle.proc_parts.specs.sql_meaning.Scenes.{Scene, Ending, done, failed}
+use Rattle.proc_parts.specs.sql_meaning.Frames.{Context}
+use Rattle.proc_parts.specs.sql_meaning.Changing.{Did}
+use Rattle.proc_parts.specs.sql_meaning.Running.{most_nested, most_turns, effect, evaluation, context_after}
 use Rattle.proc_parts.specs.prog_run.declared.meter.Meter.{Meter}
 use Rattle.proc_parts.specs.prog_run.declared.meter.Outcome.{Outcome}
 use Rattle.proc_parts.specs.prog_run.Runs.{outcome_of}
-use Rattle.proc_model.specs.Talk.{Left}
-use Rattle.session_model.specs.Sessions.{Shared}
-use Rattle.session_model.specs.Running.{Fuel, Given, fuel_of, is_other, scene_for, setting_of, with_counters}
+use Rattle.proc_parts.specs.proc_model.Talk.{Left}
+use Rattle.session_desk.specs.session_model.Sessions.{Shared}
+use Rattle.session_desk.specs.session_model.Running.{Fuel, Given, fuel_of, is_other, scene_for, setting_of, with_counters}
 
 -- ---- where a statement begins and ends
 

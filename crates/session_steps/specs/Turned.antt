@@ -2,9 +2,9 @@
 use Rattle.std.specs.Prelude.{◌≡◌, ℕ, false, [], ◌++◌, Result, Ok, Err}
 use Rattle.val_types.specs.declared.refusal.SqlRefusal.{SqlRefusal}
 use Rattle.val_types.specs.declared.refusal.SqlRefusal.TheVariants.{Sql, NoMemory}
-use Rattle.log_entries.specs.declared.entries.Item.{Item}
-use Rattle.session_model.specs.Sessions.{Session, Shared}
-use Rattle.session_model.specs.Running.{Fuel, Given, Turn}
+use Rattle.proc_parts.specs.log_entries.declared.entries.Item.{Item}
+use Rattle.session_desk.specs.session_model.Sessions.{Session, Shared}
+use Rattle.session_desk.specs.session_model.Running.{Fuel, Given, Turn}
 use Rattle.session_desk.specs.declared.desk.Desk.{Desk}
 use Rattle.session_desk.specs.Desk.{shared_of}
 use Rattle.session_desk.specs.Logging.{Logs}

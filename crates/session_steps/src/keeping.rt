@@ -2,17 +2,17 @@
 ghost use Rattle.std.specs.Prelude.{◌≡◌, None, Some, pos, int_le, IsTrue, IfOk};
 ghost use Rattle.session_desk.specs.logged_items.Items.{numbers_of};
 ghost use Rattle.sql_print.specs.StatementSpelling.{spelling};
-ghost use Rattle.sql_reach.specs.Closing.{closed};
+ghost use Rattle.proc_parts.specs.sql_reach.Closing.{closed};
 ghost use Rattle.sql_tree.specs.StatementView.{view};
-ghost use Rattle.session_model.specs.Commands.{changes_of_own};
+ghost use Rattle.session_desk.specs.session_model.Commands.{changes_of_own};
 ghost use Rattle.session_steps.specs.Calls.{called};
 ghost use Rattle.session_desk.specs.Desk.{shared_of};
 ghost use Rattle.session_steps.specs.Keeping.{item_kept, settled, statement_kept};
 ghost use Rattle.session_steps.specs.Turned.{EndsAs, IsTurn};
 
-use log_entries::Item;
+use proc_parts::log_entries::Item;
 use proc_parts::name_const::close_stmt;
-use session_ctx::Ctx;
+use proc_parts::session_ctx::Ctx;
 use session_desk::logged_items::{Before, Items, item_of};
 use session_desk::{Call, Desk, Open, Session, how_logged};
 use sql_locals::Locals;

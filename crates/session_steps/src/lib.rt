@@ -25,8 +25,6 @@ mod stepping;
 
 // The crates below that this one speaks of, passed on: who stands above names them through it.
 pub use keeping::{Kept, Start, settle};
-pub use proc_parts;
-pub use proc_parts::prog_run;
 pub use running::full;
 pub use session_desk;
 pub use session_desk::logged_items;

@@ -2,16 +2,16 @@
 ghost use Rattle.std.specs.Prelude.{◌≡◌, true, false};
 ghost use Rattle.sql_tree.specs.StatementView.{view};
 ghost use Rattle.sql_tree.specs.View.{view_trees};
-ghost use Rattle.sql_reach.specs.Reach.{is_definition};
+ghost use Rattle.proc_parts.specs.sql_reach.Reach.{is_definition};
 ghost use Rattle.proc_parts.specs.prog_run.Runs.{Spends};
 ghost use Rattle.proc_parts.specs.Calls.{left_of};
-ghost use Rattle.session_model.specs.Running.{is_other};
+ghost use Rattle.session_desk.specs.session_model.Running.{is_other};
 ghost use Rattle.session_desk.specs.Desk.{shared_of};
 ghost use Rattle.session_steps.specs.Ran.{Comes, Gives, fuel_at, full_meter, place_at};
 
 use port_traits::Draw;
 use proc_parts::prog_run::{Meter, Outcome, eval_list, run_stmt};
-use session_ctx::Ctx;
+use proc_parts::session_ctx::Ctx;
 use session_desk::Desk;
 use sql_locals::Locals;
 use sql_tree::{Expr, Stmt};

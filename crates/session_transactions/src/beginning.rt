@@ -1,6 +1,6 @@
 //! BEGIN.
 ghost use Rattle.std.specs.Prelude.{◌≡◌, IfOk, OnErr};
-ghost use Rattle.session_model.specs.Commands.{begin_turn};
+ghost use Rattle.node_answers.specs.session_model.Commands.{begin_turn};
 ghost use Rattle.session_steps.specs.Calls.{called};
 ghost use Rattle.session_steps.specs.session_desk.Desk.{shared_of};
 ghost use Rattle.session_steps.specs.Turned.{IsTurn};

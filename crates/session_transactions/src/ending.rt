@@ -1,7 +1,7 @@
 //! COMMIT and ROLLBACK.
 ghost use Rattle.std.specs.Prelude.{◌≡◌, IfOk, OnErr, OnOk};
-ghost use Rattle.session_model.specs.Running.{commit_entries, commit_open, commit_shared, items_of};
-ghost use Rattle.session_model.specs.Commands.{commit_turn, rollback_turn};
+ghost use Rattle.node_answers.specs.session_model.Running.{commit_entries, commit_open, commit_shared, items_of};
+ghost use Rattle.node_answers.specs.session_model.Commands.{commit_turn, rollback_turn};
 ghost use Rattle.session_steps.specs.Calls.{called};
 ghost use Rattle.session_steps.specs.session_desk.Desk.{shared_of};
 ghost use Rattle.session_steps.specs.session_desk.Logging.{Logs};
@@ -9,7 +9,7 @@ ghost use Rattle.session_steps.specs.Turned.{IsTurn, Moves};
 
 use answer_text::Answer;
 use node_answers::ok;
-use session_ctx::Ctx;
+use node_answers::session_ctx::Ctx;
 use session_steps::session_desk::{Call, Desk, Open, Session};
 use std::alloc::Global;
 use val_types::NoMemory;

@@ -25,6 +25,9 @@ mod savepoints;
 pub use beginning::begin;
 pub use ending::{commit, commit_open, rollback};
 pub use node_answers;
+pub use node_answers::{
+    catalog, prog_run, program_creation, session_ctx, session_model, sql_parse, table_creation,
+};
 pub use savepoints::{release_savepoint, rollback_to, savepoint};
 pub use session_steps;
-pub use session_steps::session_desk;
+pub use session_steps::{logged_items, session_desk};

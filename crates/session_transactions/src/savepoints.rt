@@ -1,7 +1,7 @@
 //! SAVEPOINT, ROLLBACK TO and RELEASE SAVEPOINT.
 ghost use Rattle.std.specs.Prelude.{◌≡◌, IfOk, OnErr};
-ghost use Rattle.log_entries.specs.declared.entries.Item.{Item as LoggedItem};
-ghost use Rattle.session_model.specs.Commands.{back_turn, release_in, save_turn};
+ghost use Rattle.node_answers.specs.log_entries.declared.entries.Item.{Item as LoggedItem};
+ghost use Rattle.node_answers.specs.session_model.Commands.{back_turn, release_in, save_turn};
 ghost use Rattle.session_steps.specs.Calls.{called};
 ghost use Rattle.session_steps.specs.session_desk.Desk.{shared_of};
 ghost use Rattle.session_steps.specs.Turned.{IsTurn};

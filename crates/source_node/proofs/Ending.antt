@@ -7,25 +7,25 @@ use Rattle.val_types.specs.declared.refusal.SqlRefusal.TheVariants.{Sql}
 use Rattle.port_traits.specs.declared.identity.Draw.{Draw}
 use Rattle.port_traits.specs.declared.identity.Identity.{Identity}
 use Rattle.answer_text.specs.declared.answer.Answer.{Answer}
-use Rattle.log_entries.specs.declared.entries.Item.{Item}
+use Rattle.session_transactions.specs.log_entries.declared.entries.Item.{Item}
 use Rattle.sql_tree.specs.Statement.{Statement, evaluate}
 use Rattle.sql_tree.specs.Tree.{Trees, no_tree, tree}
 use Rattle.sql_tree.specs.View.{view_trees}
 use Rattle.sql_tree.specs.declared.expressions.Expr.{Expr}
-use Rattle.sql_meaning.specs.Changing.{Did}
-use Rattle.sql_meaning.specs.Running.{most_nested}
-use Rattle.session_sets.specs.prog_run.declared.meter.Meter.{Meter}
-use Rattle.session_sets.specs.prog_run.declared.meter.Outcome.{Outcome}
-use Rattle.session_sets.specs.prog_run.Runs.{Spends, outcome_of}
+use Rattle.session_transactions.specs.sql_meaning.Changing.{Did}
+use Rattle.session_transactions.specs.sql_meaning.Running.{most_nested}
+use Rattle.session_transactions.specs.prog_run.declared.meter.Meter.{Meter}
+use Rattle.session_transactions.specs.prog_run.declared.meter.Outcome.{Outcome}
+use Rattle.session_transactions.specs.prog_run.Runs.{Spends, outcome_of}
 use Rattle.session_transactions.specs.node_answers.Telling.{told_answer}
-use Rattle.proc_model.specs.Talk.{brought}
-use Rattle.proc_model.specs.Procedures as procedures
-use Rattle.session_sets.specs.proc_parts.Calls.{left_of}
-use Rattle.session_model.specs.Answers.{ok, ok_warned, refused, showing, with_warning}
-use Rattle.session_model.specs.Sessions.{Session, Shared}
-use Rattle.session_model.specs.Running.{Call, Fuel, Given, Turn, did_answer, expressions_run, full, given_answer, statement_run}
-use Rattle.session_model.specs.Commands.{given_turn}
-use Rattle.session_model.specs.Calling.{Reached, arguments_run, called_by, called_with, came_to, steps_of}
+use Rattle.session_transactions.specs.proc_model.Talk.{brought}
+use Rattle.session_transactions.specs.proc_model.Procedures as procedures
+use Rattle.session_transactions.specs.proc_parts.Calls.{left_of}
+use Rattle.session_transactions.specs.session_model.Answers.{ok, ok_warned, refused, showing, with_warning}
+use Rattle.session_transactions.specs.session_model.Sessions.{Session, Shared}
+use Rattle.session_transactions.specs.session_model.Running.{Call, Fuel, Given, Turn, did_answer, expressions_run, full, given_answer, statement_run}
+use Rattle.session_transactions.specs.session_model.Commands.{given_turn}
+use Rattle.session_transactions.specs.session_model.Calling.{Reached, arguments_run, called_by, called_with, came_to, steps_of}
 use Rattle.session_transactions.specs.session_steps.Calls.{call_of}
 use Rattle.session_transactions.specs.session_desk.Desk.{shared_of}
 use Rattle.session_transactions.specs.session_steps.Ran.{fuel_at, full_meter, told_given, told_of}

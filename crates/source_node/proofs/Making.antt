@@ -9,29 +9,29 @@ use Rattle.auto_inc.specs.declared.counters.Counter.{Counter}
 use Rattle.answer_text.specs.declared.answer.Answer.{Answer}
 use Rattle.table_rules.specs.Tables.{Table}
 use Rattle.table_rules.proofs.Equations.{applied_none}
-use Rattle.catalog_rules.specs.Bases.{Base, defined}
-use Rattle.catalog_rules.specs.Creating.{ddl_refusal, first_refusal, table_checks}
-use Rattle.catalog_objects.specs.Keys.{objects_of}
+use Rattle.session_transactions.specs.catalog_rules.Bases.{Base, defined}
+use Rattle.session_transactions.specs.catalog_rules.Creating.{ddl_refusal, first_refusal, table_checks}
+use Rattle.session_transactions.specs.catalog_objects.Keys.{objects_of}
 use Rattle.sql_tree.specs.Statement.{Statement, create_table}
 use Rattle.sql_tree.specs.declared.statements.CreateTable.{CreateTable}
-use Rattle.catalog_rules.specs.Objects.{Object}
-use Rattle.sql_meaning.specs.Frames.{Context}
-use Rattle.sql_reach.specs.Defining.{counters_after}
-use Rattle.log_entries.specs.declared.entries.Item.{Item}
-use Rattle.log_entries.specs.declared.entries.Entry.{Entry}
-use Rattle.log_entries.specs.declared.entries.Entry.TheVariants.{Definition}
-use Rattle.log_model.specs.Log.{LogPlace, behind}
-use Rattle.session_calls.specs.logged_items.Items.{item_by_text}
-use Rattle.session_calls.specs.logged_items.Logged.{Encodes, in_log}
-use Rattle.session_sets.specs.prog_run.declared.meter.Outcome.{Outcome}
-use Rattle.session_sets.specs.prog_run.Contents.{Contents, base_of, committed_tables, without_changes}
-use Rattle.session_sets.specs.prog_run.Runs.{Makes}
-use Rattle.proc_model.specs.Procedures.{plain_refusal}
-use Rattle.proc_model.specs.Talk.{Refusal}
-use Rattle.session_model.specs.Answers.{ok, refused, refused_as}
-use Rattle.session_model.specs.Sessions.{Session, Shared}
-use Rattle.session_model.specs.Running.{Turn, commit_entries, commit_open, commit_shared, counted_in, held_by, is_full, is_other, items_of, transaction_of, writing_refusal}
-use Rattle.session_model.specs.Commands.{define_turn, definition_turn, made_turn, unless_answered, with_answer}
+use Rattle.session_transactions.specs.catalog_rules.Objects.{Object}
+use Rattle.session_transactions.specs.sql_meaning.Frames.{Context}
+use Rattle.session_transactions.specs.sql_reach.Defining.{counters_after}
+use Rattle.session_transactions.specs.log_entries.declared.entries.Item.{Item}
+use Rattle.session_transactions.specs.log_entries.declared.entries.Entry.{Entry}
+use Rattle.session_transactions.specs.log_entries.declared.entries.Entry.TheVariants.{Definition}
+use Rattle.session_transactions.specs.log_model.Log.{LogPlace, behind}
+use Rattle.session_transactions.specs.logged_items.Items.{item_by_text}
+use Rattle.session_transactions.specs.logged_items.Logged.{Encodes, in_log}
+use Rattle.session_transactions.specs.prog_run.declared.meter.Outcome.{Outcome}
+use Rattle.session_transactions.specs.prog_run.Contents.{Contents, base_of, committed_tables, without_changes}
+use Rattle.session_transactions.specs.prog_run.Runs.{Makes}
+use Rattle.session_transactions.specs.proc_model.Procedures.{plain_refusal}
+use Rattle.session_transactions.specs.proc_model.Talk.{Refusal}
+use Rattle.session_transactions.specs.session_model.Answers.{ok, refused, refused_as}
+use Rattle.session_transactions.specs.session_model.Sessions.{Session, Shared}
+use Rattle.session_transactions.specs.session_model.Running.{Turn, commit_entries, commit_open, commit_shared, counted_in, held_by, is_full, is_other, items_of, transaction_of, writing_refusal}
+use Rattle.session_transactions.specs.session_model.Commands.{define_turn, definition_turn, made_turn, unless_answered, with_answer}
 use Rattle.session_transactions.specs.session_desk.declared.desk.Desk.{Desk}
 use Rattle.session_transactions.specs.session_steps.Calls.{call_of}
 use Rattle.session_transactions.specs.session_desk.Desk.{has_any, shared_by, shared_of}

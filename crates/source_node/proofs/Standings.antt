@@ -4,16 +4,16 @@ use Rattle.std.proofs.lemmas.List.{map-append}
 use Rattle.port_traits.specs.declared.identity.Draw.{Draw}
 use Rattle.port_traits.specs.declared.identity.Identity.{Identity}
 use Rattle.answer_text.specs.declared.answer.Answer.{Answer}
-use Rattle.catalog_rules.specs.Bases.{empty_base}
-use Rattle.log_entries.specs.declared.entries.Item.{Item}
-use Rattle.log_entries.specs.declared.entries.Entry.{Entry}
-use Rattle.log_model.specs.Log.{LogPlace, counted_all, head, log}
-use Rattle.log_model.proofs.Growing.{goes_on}
-use Rattle.entry_groups.specs.Entries.{CanLogAll}
-use Rattle.session_calls.specs.logged_items.Logged.{in_log}
-use Rattle.session_model.specs.Sessions.{Shared, State}
-use Rattle.session_model.specs.Holding.{Holds, with_nothing}
-use Rattle.session_model.specs.Machine.{Machine, Step, StepsAreKept, Whole, kept, kept_entry, kept_step, log_of, machine_after, nowhere, opened, step, whole}
+use Rattle.session_transactions.specs.catalog_rules.Bases.{empty_base}
+use Rattle.session_transactions.specs.log_entries.declared.entries.Item.{Item}
+use Rattle.session_transactions.specs.log_entries.declared.entries.Entry.{Entry}
+use Rattle.session_transactions.specs.log_model.Log.{LogPlace, counted_all, head, log}
+use Rattle.session_transactions.proofs.log_model.Growing.{goes_on}
+use Rattle.session_transactions.specs.entry_groups.Entries.{CanLogAll}
+use Rattle.session_transactions.specs.logged_items.Logged.{in_log}
+use Rattle.session_transactions.specs.session_model.Sessions.{Shared, State}
+use Rattle.session_transactions.specs.session_model.Holding.{Holds, with_nothing}
+use Rattle.session_transactions.specs.session_model.Machine.{Machine, Step, StepsAreKept, Whole, kept, kept_entry, kept_step, log_of, machine_after, nowhere, opened, step, whole}
 use Rattle.session_transactions.specs.session_desk.Desk.{shared_of}
 use Rattle.source_node.specs.Standing.{Kept, Stands, no_session, state_of}
 use Rattle.session_transactions.specs.session_desk.Logging.{Logs, logged}

@@ -3,9 +3,9 @@ ghost use Rattle.std.specs.Prelude.{◌≡◌, IfOk};
 ghost use Rattle.sql_tree.specs.Statement.{call_procedure, evaluate};
 ghost use Rattle.sql_tree.specs.StatementView.{view};
 ghost use Rattle.sql_tree.specs.View.{view_trees};
-ghost use Rattle.catalog_rules.specs.Checks.{session_scope, statement_refusal};
-ghost use Rattle.session_sets.specs.prog_run.Runs.{Spends};
-ghost use Rattle.session_model.specs.Calling.{arguments_run, call_turn, called_with};
+ghost use Rattle.session_transactions.specs.catalog_rules.Checks.{session_scope, statement_refusal};
+ghost use Rattle.session_transactions.specs.prog_run.Runs.{Spends};
+ghost use Rattle.session_transactions.specs.session_model.Calling.{arguments_run, call_turn, called_with};
 ghost use Rattle.session_transactions.specs.session_steps.Calls.{called};
 ghost use Rattle.session_transactions.specs.session_desk.Desk.{shared_of};
 ghost use Rattle.session_transactions.specs.session_steps.Ran.{fuel_at, full_meter};
@@ -13,9 +13,9 @@ ghost use Rattle.session_transactions.specs.session_steps.Turned.{EndsWith, IsTu
 
 use answer_text::Answer;
 use session_calls::call_steps;
-use session_sets::prog_run::Meter;
 use session_sets::{LONGEST, TOO_LONG, lock_refusal};
 use session_transactions::node_answers::{NodeFault, refused};
+use session_transactions::prog_run::Meter;
 use session_transactions::session_desk::{Call, Desk, Session};
 use session_transactions::session_steps::{Kept, evaluate_with_text, full};
 use sql_print::print;

@@ -1,12 +1,12 @@
 //! CREATE, DROP and TRUNCATE.
 ghost use Rattle.std.specs.Prelude.{◌≡◌, [], false, true, None, IfOk, OnOk};
 ghost use Rattle.sql_tree.specs.StatementView.{view};
-ghost use Rattle.catalog_rules.specs.Bases.{defined};
-ghost use Rattle.catalog_rules.specs.Creating.{ddl_refusal};
-ghost use Rattle.session_sets.specs.prog_run.Runs.{Makes};
-ghost use Rattle.sql_reach.specs.Reach.{is_definition};
-ghost use Rattle.session_model.specs.Commands.{define_turn, definition_turn, made_turn};
-ghost use Rattle.session_model.specs.Running.{writing_refusal};
+ghost use Rattle.session_transactions.specs.catalog_rules.Bases.{defined};
+ghost use Rattle.session_transactions.specs.catalog_rules.Creating.{ddl_refusal};
+ghost use Rattle.session_transactions.specs.prog_run.Runs.{Makes};
+ghost use Rattle.session_transactions.specs.sql_reach.Reach.{is_definition};
+ghost use Rattle.session_transactions.specs.session_model.Commands.{define_turn, definition_turn, made_turn};
+ghost use Rattle.session_transactions.specs.session_model.Running.{writing_refusal};
 ghost use Rattle.session_transactions.specs.session_steps.Calls.{called};
 ghost use Rattle.session_transactions.specs.session_desk.Desk.{shared_of};
 ghost use Rattle.session_transactions.specs.session_steps.Turned.{IsTurn, not_begun};
@@ -14,11 +14,11 @@ ghost use Rattle.session_transactions.specs.session_steps.Turned.{IsTurn, not_be
 use crate::writing::{definition_refusal, writing_refusal};
 use answer_text::Answer;
 use port_traits::Draw;
-use session_calls::logged_items::encode_definition;
-use session_ctx::Ctx;
-use session_sets::prog_run::{Outcome, run_stmt};
 use session_transactions::commit_open;
+use session_transactions::logged_items::encode_definition;
 use session_transactions::node_answers::{NodeFault, ok, refused};
+use session_transactions::prog_run::{Outcome, run_stmt};
+use session_transactions::session_ctx::Ctx;
 use session_transactions::session_desk::{Call, Desk, Session};
 use session_transactions::session_steps::full;
 use sql_tree::Stmt;

@@ -3,10 +3,10 @@ ghost use Rattle.std.specs.Prelude.{◌≡◌, false, true, IfNone, IfOk, IfSome
 ghost use Rattle.sql_tree.specs.Statement.{call_procedure, set_all};
 ghost use Rattle.sql_tree.specs.StatementView.{view, view_assignments};
 ghost use Rattle.sql_tree.specs.View.{view_trees};
-ghost use Rattle.sql_reach.specs.Reach.{is_definition};
-ghost use Rattle.session_model.specs.Machine.{statement_turn};
-ghost use Rattle.session_model.specs.Commands.{plain_turn};
-ghost use Rattle.catalog_rules.specs.Checks.{session_scope, statement_refusal};
+ghost use Rattle.session_transactions.specs.sql_reach.Reach.{is_definition};
+ghost use Rattle.session_transactions.specs.session_model.Machine.{statement_turn};
+ghost use Rattle.session_transactions.specs.session_model.Commands.{plain_turn};
+ghost use Rattle.session_transactions.specs.catalog_rules.Checks.{session_scope, statement_refusal};
 ghost use Rattle.source_node.specs.Other.{is_call, is_of_transaction, is_set, other_turn};
 ghost use Rattle.session_transactions.specs.session_desk.Desk.{shared_of};
 ghost use Rattle.session_transactions.specs.session_steps.Calls.{called};

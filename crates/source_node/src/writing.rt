@@ -2,21 +2,23 @@
 ghost use Rattle.std.specs.Prelude.{◌≡◌, false};
 ghost use Rattle.sql_tree.specs.Statement.{create_function, create_procedure, create_table, create_trigger};
 ghost use Rattle.sql_tree.specs.StatementView.{view, view_program, view_trigger};
-ghost use Rattle.catalog_objects.specs.Keys.{objects_of};
-ghost use Rattle.catalog_rules.specs.Checks.{session_scope, statement_refusal};
-ghost use Rattle.catalog_rules.specs.Creating.{ddl_refusal};
-ghost use Rattle.sql_reach.specs.Reach.{is_definition};
-ghost use Rattle.session_model.specs.Running.{writing_refusal};
+ghost use Rattle.session_transactions.specs.catalog_objects.Keys.{objects_of};
+ghost use Rattle.session_transactions.specs.catalog_rules.Checks.{session_scope, statement_refusal};
+ghost use Rattle.session_transactions.specs.catalog_rules.Creating.{ddl_refusal};
+ghost use Rattle.session_transactions.specs.sql_reach.Reach.{is_definition};
+ghost use Rattle.session_transactions.specs.session_model.Running.{writing_refusal};
 ghost use Rattle.session_transactions.specs.session_desk.Desk.{shared_of};
 
 use answer_text::Answer;
-use catalog::Catalog;
-use program_creation::{function_refusal, procedure_refusal, trigger_refusal};
+use session_transactions::catalog::Catalog;
+use session_transactions::program_creation::{
+    function_refusal, procedure_refusal, trigger_refusal,
+};
 use session_transactions::session_desk::{Desk, checked, refused_as};
+use session_transactions::table_creation::table_refusal;
 use sql_locals::Locals;
 use sql_tree::{CreateTable, Routine, Stmt, TriggerDef};
 use std::alloc::Global;
-use table_creation::table_refusal;
 use val_types::{SqlError, SqlRefusal};
 
 /// Whether a statement is a CREATE, a DROP or a TRUNCATE.

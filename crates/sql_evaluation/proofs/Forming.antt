@@ -12,8 +12,8 @@ use Rattle.sql_tree.specs.declared.expressions.Aggregate.{Aggregate}
 use Rattle.sql_tree.specs.Tree.{Tree, Aggregates}
 use Rattle.sql_tree.specs.View.{view_aggregate, view_aggregates, aggregate_before}
 use Rattle.value_rules.specs.Selecting.{first_value, aggregate_value}
-use Rattle.sql_meaning.specs.Scenes.{Scene, Ending, done, failed, then_do, pure, answered, ◌>>=◌}
-use Rattle.sql_meaning.specs.Values.{formed, functions_of}
+use Rattle.session_ctx.specs.sql_meaning.Scenes.{Scene, Ending, done, failed, then_do, pure, answered, ◌>>=◌}
+use Rattle.session_ctx.specs.sql_meaning.Values.{formed, functions_of}
 use Rattle.sql_stage.specs.Stage.{EndsAs}
 use Rattle.sql_evaluation.specs.declared.world.View.{View as Shown}
 use Rattle.sql_evaluation.specs.declared.world.Around.{Around}

@@ -6,3 +6,6 @@ pub mod Loops
 pub mod Branching
 pub mod Scanning
 pub mod Forming
+-- the crates below that this one speaks of, passed on
+pub use Rattle.sql_stage.proofs.dml_rows as dml_rows
+pub use Rattle.sql_stage.proofs as sql_stage

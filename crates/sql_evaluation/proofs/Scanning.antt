@@ -21,9 +21,9 @@ use Rattle.sql_tree.specs.declared.expressions.Arm.{Arm}
 use Rattle.sql_tree.specs.View.{view_aggregate, view_arm, view_tree, view_selected, view_origin, view_from, view_order, view_orders, view_part, view_query, aggregate_step, tree_step, selected_step, arm_step, origin_step, order_step, query_step}
 use Rattle.table_rules.specs.Tables.{Table}
 use Rattle.value_rules.specs.Selecting.{by_items, in_order, put_in_order, first_value}
-use Rattle.sql_meaning.specs.Scenes.{Scene, Ending, Action, done, failed, then_do, pure, each, kept_by, table_now, ◌>>=◌}
-use Rattle.sql_meaning.specs.Frames.{sees, limited}
-use Rattle.sql_meaning.specs.Values.{is_kept, order_values, shown_rows, sorted, directions, only_value}
+use Rattle.session_ctx.specs.sql_meaning.Scenes.{Scene, Ending, Action, done, failed, then_do, pure, each, kept_by, table_now, ◌>>=◌}
+use Rattle.session_ctx.specs.sql_meaning.Frames.{sees, limited}
+use Rattle.session_ctx.specs.sql_meaning.Values.{is_kept, order_values, shown_rows, sorted, directions, only_value}
 use Rattle.sql_stage.specs.Stage.{EndsAs}
 use Rattle.sql_evaluation.specs.declared.world.View.{View as Shown}
 use Rattle.sql_evaluation.specs.declared.world.Around.{Around}

@@ -3,7 +3,7 @@ use Rattle.std.proofs.Common.{◌≡◌, List, refl, sym, subst, Result}
 use Rattle.val_types.specs.declared.value.Value.{Value}
 use Rattle.val_types.specs.declared.refusal.SqlRefusal.{SqlRefusal}
 use Rattle.sql_tree.specs.Tree.{Tree}
-use Rattle.sql_meaning.specs.Scenes.{Scene, Action, done}
+use Rattle.session_ctx.specs.sql_meaning.Scenes.{Scene, Action, done}
 use Rattle.sql_stage.specs.declared.stage.Stage.{Stage}
 use Rattle.sql_stage.specs.Stage.{EndsAs, LeadsOn}
 use Rattle.sql_stage.proofs.Leading.{stage_stays, stage_on}

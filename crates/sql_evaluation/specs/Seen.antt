@@ -10,16 +10,16 @@ use Rattle.sql_tree.specs.Tree.{Tree, name, column, new_column, old_column, valu
 use Rattle.sql_tree.specs.declared.expressions.Expr.{Expr}
 use Rattle.sql_tree.specs.View.{view_tree}
 use Rattle.std.specs.declared.cmp.Ordering.{Ordering}
-use Rattle.sql_meaning.specs.Scenes.{Scene, Action, done, answered, pure, each, kept_by, ◌>>=◌}
+use Rattle.session_ctx.specs.sql_meaning.Scenes.{Scene, Action, done, answered, pure, each, kept_by, ◌>>=◌}
 use Rattle.val_types.specs.declared.ops.BinOp.{BinOp}
 use Rattle.value_rules.specs.Operators.{decided, binary_value, comparison, with_value, truth_of}
-use Rattle.sql_meaning.specs.Frames.{World, Frame, View, Running, Setting, named_value, qualified_value, column_if}
-use Rattle.sql_meaning.specs.Values.{value, values, unless_known, holds, found_among, rows_of_query, order_values, sorted, directions, argument_values, formed, functions_of, shown_rows, value_of_part, row_alone}
+use Rattle.session_ctx.specs.sql_meaning.Frames.{World, Frame, View, Running, Setting, named_value, qualified_value, column_if}
+use Rattle.session_ctx.specs.sql_meaning.Values.{value, values, unless_known, holds, found_among, rows_of_query, order_values, sorted, directions, argument_values, formed, functions_of, shown_rows, value_of_part, row_alone}
 use Rattle.value_rules.specs.Functions.{is_known_true}
 use Rattle.value_rules.specs.Selecting.{by_items, aggregate_value}
 use Rattle.std.specs.Ordering.{is_lt}
 use Rattle.val_types.specs.declared.ops.Agg.{Agg}
-use Rattle.sql_meaning.specs.Running.{level_of}
+use Rattle.session_ctx.specs.sql_meaning.Running.{level_of}
 use Rattle.sql_stage.specs.declared.stage.Stage.{Stage}
 use Rattle.sql_stage.specs.declared.running.Running.{Running as UnderWay}
 use Rattle.sql_stage.specs.UnderWay.{under_way}

@@ -49,6 +49,7 @@ pub use functions::{call_value, floor_rand_value};
 pub use lookup::copied;
 pub use operators::{binary_value, membership, unary_value};
 pub use queries::{exists_value, kept_rows, ordered_rows, rows_of_query, subquery_value};
+pub use session_ctx;
 pub use session_values::{
     capped, connection_id, last_insert_id, now, row_count, sys_date, system_variable,
     unix_timestamp, user, user_variable, uuid,

@@ -2,12 +2,12 @@
 #![tactic(auto, using(crate::proofs::Meanings::answers), unfolding(crate::specs::Seen::world_of))]
 
 ghost use Rattle.std.specs.Prelude.{◌≡◌};
-ghost use Rattle.catalog_rules.specs.Names.{same_name};
+ghost use Rattle.catalog_objects.specs.catalog_rules.Names.{same_name};
 ghost use Rattle.val_types.specs.declared.ops.Func0.{Func0};
-ghost use Rattle.log_entries.specs.Variables.{variable_value};
-ghost use Rattle.sql_meaning.specs.Scenes.{needed, next_uuid};
-ghost use Rattle.sql_meaning.specs.Frames.{capped};
-ghost use Rattle.sql_meaning.specs.Values.{session_value, system_value};
+ghost use Rattle.session_ctx.specs.log_entries.Variables.{variable_value};
+ghost use Rattle.session_ctx.specs.sql_meaning.Scenes.{needed, next_uuid};
+ghost use Rattle.session_ctx.specs.sql_meaning.Frames.{capped};
+ghost use Rattle.session_ctx.specs.sql_meaning.Values.{session_value, system_value};
 ghost use Rattle.sql_stage.specs.Stage.{EndsAs, LeadsOn, scene_of};
 ghost use Rattle.sql_evaluation.specs.Seen.{Anywhere, is_capped, world_of};
 

@@ -2,9 +2,9 @@
 use Rattle.std.proofs.Common.{◌≡◌, ℕ, zero, suc, ◌+◌, List, [], ◌∷◌, ◌++◌, Bool, true, false, cond, Option, Some, None, Result, Ok, Err, ℤ, refl, sym, ap, subst, arith}
 use Rattle.val_types.specs.declared.change.Change.{Change}
 use Rattle.auto_inc.specs.declared.counters.Counter.{Counter}
-use Rattle.log_entries.specs.table_rules.Tables.{Table}
-use Rattle.log_entries.specs.table_rules.Changes.{applied}
-use Rattle.log_entries.specs.table_rules.Stored.{table_named}
+use Rattle.table_rules.specs.Tables.{Table}
+use Rattle.table_rules.specs.Changes.{applied}
+use Rattle.table_rules.specs.Stored.{table_named}
 use Rattle.sql_meaning.specs.Scenes.{Scene, Ending, done, failed, Action, then_do, ◌>>=◌, pure, fail, answered, needed, require, each, kept_by, counted, carried_on, noted, make, table_now, counter_now, raise_counter, draw, next_uuid, turn_spent, spend_turn, undone_from, undone}
 use Rattle.sql_meaning.specs.Fuel.{HasMore, DoneAgain}
 

@@ -3,10 +3,10 @@ use Rattle.std.proofs.Common.{◌≡◌, ◌≤◌, ℕ, zero, suc, List, [], �
 use Rattle.std.proofs.Math.Nat.{le_refl, le_trans, le-suc}
 use Rattle.std.specs.Option.{option_and_then}
 use Rattle.val_types.specs.declared.change.Change.{Change}
-use Rattle.log_entries.specs.table_rules.Tables.{Table}
-use Rattle.log_entries.specs.table_rules.Changes.{applied}
-use Rattle.log_entries.specs.table_rules.Stored.{all_applied, table_named}
-use Rattle.log_entries.proofs.table_rules.Equations.{applied_none, applied_one, all_applied_behind}
+use Rattle.table_rules.specs.Tables.{Table}
+use Rattle.table_rules.specs.Changes.{applied}
+use Rattle.table_rules.specs.Stored.{all_applied, table_named}
+use Rattle.table_rules.proofs.Equations.{applied_none, applied_one, all_applied_behind}
 use Rattle.sql_meaning.specs.Scenes.{Scene, Ending, done, failed, Action, then_do, ◌>>=◌, pure, fail, answered, needed, require, each, kept_by, counted, carried_on, noted, make, table_now, counter_now, raise_counter, draw, next_uuid, turn_spent, spend_turn, undone_from, undone}
 use Rattle.sql_meaning.specs.Leading.{scene_after, Leads, StaysAsItWas, EndsWell}
 

@@ -11,8 +11,8 @@ use Rattle.val_types.specs.declared.definitions.TableDef.{TableDef}
 use Rattle.val_types.specs.Fitting.{fitting, greatest_of, is_null, row_fits}
 use Rattle.val_types.specs.Keys.{primary_key, same_values}
 use Rattle.auto_inc.specs.Generating.{Sequence, next_value, after_generated, after_explicit}
-use Rattle.log_entries.specs.table_rules.Tables.{Table}
-use Rattle.log_entries.specs.table_rules.Stored.{row_of_key, rows_beside, key_in_way, key_tests, row_in_way}
+use Rattle.table_rules.specs.Tables.{Table}
+use Rattle.table_rules.specs.Stored.{row_of_key, rows_beside, key_in_way, key_tests, row_in_way}
 use Rattle.sql_tree.specs.Tree.{Tree, Part, Orders}
 use Rattle.sql_tree.specs.Statement.{Supply, rows, rows_of}
 use Rattle.sql_tree.specs.declared.expressions.Count.{Count}

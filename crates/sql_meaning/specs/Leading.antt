@@ -2,7 +2,7 @@
 use Rattle.std.specs.Prelude.{◌≡◌, ℕ, List, ◌++◌, Some, None}
 use Rattle.val_types.specs.declared.value.Value.{Value}
 use Rattle.val_types.specs.declared.change.Change.{Change}
-use Rattle.log_entries.specs.table_rules.Stored.{all_applied}
+use Rattle.table_rules.specs.Stored.{all_applied}
 use Rattle.sql_tree.specs.Tree.{Trees, Query}
 use Rattle.sql_tree.specs.Statement.{Statement, select, evaluate}
 use Rattle.sql_locals.specs.declared.locals.Local.{Local}

@@ -8,9 +8,9 @@ use Rattle.val_types.specs.declared.value.Value.TheVariants.{Text}
 use Rattle.val_types.specs.declared.change.Change.{Change}
 use Rattle.auto_inc.specs.declared.counters.Counter.{Counter}
 use Rattle.auto_inc.specs.Counting.{value_for, changed_for, behind}
-use Rattle.log_entries.specs.table_rules.Tables.{Table}
-use Rattle.log_entries.specs.table_rules.Changes.{applied}
-use Rattle.log_entries.specs.table_rules.Stored.{table_named}
+use Rattle.table_rules.specs.Tables.{Table}
+use Rattle.table_rules.specs.Changes.{applied}
+use Rattle.table_rules.specs.Stored.{table_named}
 use Rattle.value_rules.specs.Identifiers.{uuid_text}
 use Rattle.value_rules.specs.Random.{seeds_after}
 

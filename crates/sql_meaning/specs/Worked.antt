@@ -4,7 +4,7 @@ use Rattle.val_types.specs.declared.value.Value.{Value}
 use Rattle.val_types.specs.declared.value.Value.TheVariants.{Null, Int}
 use Rattle.val_types.specs.declared.definitions.TableDef.{TableDef}
 use Rattle.auto_inc.specs.declared.counters.Counter.{Counter}
-use Rattle.log_entries.specs.table_rules.Tables.{Table}
+use Rattle.table_rules.specs.Tables.{Table}
 use Rattle.val_types.specs.declared.ops.BinOp.TheVariants as ops
 use Rattle.sql_tree.specs.Tree.{Tree, literal, name, binary, no_origin, part, query, items}
 use Rattle.sql_tree.specs.Statement.{Statement, Program, program, rows, insert_into, select, set_all, block, while_steps, return_value}

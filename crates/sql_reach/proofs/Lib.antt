@@ -1,3 +1,5 @@
 pub mod Closed
 pub mod Deep
 pub mod StaysWell
+-- the crates below that this one speaks of, passed on
+pub use Rattle.sql_meaning.proofs as sql_meaning

@@ -16,5 +16,8 @@
 mod laws;
 mod worked;
 
+// The crates below that this one speaks of, passed on: who stands above names them through it.
 pub use laws::closed_is_well;
+pub use sql_meaning;
+pub use sql_meaning::log_entries;
 pub use worked::{carried_parts, closed_statements, unsafe_statements, writing_statements};

@@ -2,3 +2,5 @@ pub mod Raised
 pub mod Leading
 pub mod Snapshots
 pub mod Stored
+-- the crates below that this one speaks of, passed on
+pub use Rattle.dml_rows.proofs as dml_rows

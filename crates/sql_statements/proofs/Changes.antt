@@ -10,9 +10,9 @@ use Rattle.sql_tree.specs.View.{view_orders, view_part}
 use Rattle.sql_tree.specs.StatementView.{view_sets}
 use Rattle.sql_tree.specs.declared.statements.UpdateStmt.{UpdateStmt}
 use Rattle.sql_tree.specs.declared.statements.DeleteStmt.{DeleteStmt}
-use Rattle.sql_meaning.specs.Scenes.{Scene, Ending, Action, done, failed, then_do, pure, each, table_now}
-use Rattle.sql_meaning.specs.Changing.{Did, affected_rows}
-use Rattle.sql_stage.specs.Stage.{EndsAs, EndsAsBy}
+use Rattle.changed_rows.specs.sql_meaning.Scenes.{Scene, Ending, Action, done, failed, then_do, pure, each, table_now}
+use Rattle.changed_rows.specs.sql_meaning.Changing.{Did, affected_rows}
+use Rattle.changed_rows.specs.sql_stage.Stage.{EndsAs, EndsAsBy}
 use Rattle.changed_rows.specs.sql_evaluation.declared.world.Around.{Around}
 use Rattle.changed_rows.specs.sql_evaluation.declared.world.View.{View as Shown}
 use Rattle.changed_rows.specs.Changed.{updated_in, deleted_in}

@@ -5,18 +5,18 @@ use Rattle.val_types.specs.declared.refusal.SqlRefusal.{SqlRefusal}
 use Rattle.val_types.specs.declared.refusal.SqlRefusal.TheVariants.{Sql, NoMemory}
 use Rattle.val_types.specs.declared.definitions.TableDef.{TableDef}
 use Rattle.table_rules.specs.Tables.{Table}
-use Rattle.catalog_rules.specs.Checks.{given_columns}
-use Rattle.catalog_rules.specs.Defined.{places_of}
-use Rattle.catalog_rules.specs.Objects.{columns_of}
+use Rattle.changed_rows.specs.catalog_rules.Checks.{given_columns}
+use Rattle.changed_rows.specs.catalog_rules.Defined.{places_of}
+use Rattle.changed_rows.specs.catalog_rules.Objects.{columns_of}
 use Rattle.sql_tree.specs.Tree.{Trees, Query}
 use Rattle.sql_tree.specs.Statement.{Supply, rows, rows_of}
 use Rattle.sql_tree.specs.View.{view_trees}
 use Rattle.sql_tree.specs.StatementView.{view_rows}
 use Rattle.sql_tree.specs.declared.expressions.Expr.{Expr}
 use Rattle.std.proofs.lemmas.List.{drop_all}
-use Rattle.sql_meaning.specs.Scenes.{Scene, Ending, Action, done, failed, then_do, pure, carried_on, table_now, ◌>>=◌}
-use Rattle.sql_meaning.specs.Changing.{Did, Inserting, Manner, did_insert, nothing_inserted}
-use Rattle.sql_stage.specs.Stage.{EndsAs, EndsAsBy}
+use Rattle.changed_rows.specs.sql_meaning.Scenes.{Scene, Ending, Action, done, failed, then_do, pure, carried_on, table_now, ◌>>=◌}
+use Rattle.changed_rows.specs.sql_meaning.Changing.{Did, Inserting, Manner, did_insert, nothing_inserted}
+use Rattle.changed_rows.specs.sql_stage.Stage.{EndsAs, EndsAsBy}
 use Rattle.changed_rows.specs.sql_evaluation.declared.world.Around.{Around}
 use Rattle.changed_rows.specs.sql_evaluation.declared.world.View.{View as Shown}
 use Rattle.changed_rows.specs.sql_evaluation.Seen.{values_in}

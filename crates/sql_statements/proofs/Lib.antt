@@ -7,4 +7,4 @@ pub mod Shown
 pub mod Viewed
 -- the crates below that this one speaks of, passed on
 pub use Rattle.changed_rows.proofs as changed_rows
-pub use Rattle.changed_rows.proofs.sql_evaluation as sql_evaluation
+pub use Rattle.changed_rows.proofs.sql_stage as sql_stage

@@ -10,10 +10,10 @@ use Rattle.sql_tree.specs.declared.statements.InsertStmt.{InsertStmt}
 use Rattle.sql_tree.specs.declared.statements.ReplaceStmt.{ReplaceStmt}
 use Rattle.sql_tree.specs.declared.statements.UpdateStmt.{UpdateStmt}
 use Rattle.sql_tree.specs.declared.statements.DeleteStmt.{DeleteStmt}
-use Rattle.sql_meaning.specs.Scenes.{Scene, done, failed}
-use Rattle.sql_meaning.specs.Changing.{Did, Manner, replacing, updating, affected_rows}
-use Rattle.sql_meaning.specs.Running.{manner_of, perform, rows_shown}
-use Rattle.sql_stage.specs.Stage.{EndsAsBy}
+use Rattle.changed_rows.specs.sql_meaning.Scenes.{Scene, done, failed}
+use Rattle.changed_rows.specs.sql_meaning.Changing.{Did, Manner, replacing, updating, affected_rows}
+use Rattle.changed_rows.specs.sql_meaning.Running.{manner_of, perform, rows_shown}
+use Rattle.changed_rows.specs.sql_stage.Stage.{EndsAsBy}
 use Rattle.changed_rows.specs.sql_evaluation.declared.world.Around.{Around}
 use Rattle.changed_rows.specs.sql_evaluation.declared.world.View.{View as Seen}
 use Rattle.changed_rows.specs.sql_evaluation.Seen.{values_in, frame_of, world_of}
@@ -54,7 +54,7 @@ pub inserts : (a : Around) (forced : Option ℤ) (s : InsertStmt) (manner : Mann
     → EndsAsBy did_of r last (perform (world_of a) (frame_of a []) forced (view_insert s) scene)
 unfolding insert_in
 inserts a forced s manner r scene last is h =
-    subst (λ (m : Manner). EndsAsBy did_of r last (Rattle.sql_meaning.specs.Changing.insert_into_table (world_of a) (frame_of a []) forced s.table s.columns (view_supply s.source) m scene)) is h
+    subst (λ (m : Manner). EndsAsBy did_of r last (Rattle.changed_rows.specs.sql_meaning.Changing.insert_into_table (world_of a) (frame_of a []) forced s.table s.columns (view_supply s.source) m scene)) is h
 
 pub replaces : (a : Around) (forced : Option ℤ) (s : ReplaceStmt) (r : Result Done SqlRefusal) (scene last : Scene)
     → EndsAsBy did_of r last (insert_in a forced s.table s.columns (view_supply s.source) replacing scene)

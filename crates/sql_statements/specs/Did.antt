@@ -1,5 +1,5 @@
 -- What the code's answers stand for.
-use Rattle.sql_meaning.specs.Changing.{Did}
+use Rattle.changed_rows.specs.sql_meaning.Changing.{Did}
 use Rattle.sql_statements.specs.declared.did.Did.{Did as Done}
 
 -- what a statement came to

@@ -1,8 +1,8 @@
 //! The columns that an INSERT or REPLACE names, as places.
 ghost use Rattle.std.specs.Prelude.{◌≡◌, IfOk};
-ghost use Rattle.catalog_rules.specs.Checks.{given_columns};
-ghost use Rattle.catalog_rules.specs.Defined.{places_of};
-ghost use Rattle.catalog_rules.specs.Objects.{columns_of};
+ghost use Rattle.changed_rows.specs.catalog_rules.Checks.{given_columns};
+ghost use Rattle.changed_rows.specs.catalog_rules.Defined.{places_of};
+ghost use Rattle.changed_rows.specs.catalog_rules.Objects.{columns_of};
 
 use changed_rows::place_of;
 use std::alloc::Global;

@@ -1,7 +1,7 @@
 //! What a statement came to.
 ghost use Rattle.std.specs.Prelude.{◌≡◌};
-ghost use Rattle.sql_meaning.specs.Changing.{affected_rows, did_insert};
-ghost use Rattle.sql_meaning.specs.Running.{rows_shown};
+ghost use Rattle.changed_rows.specs.sql_meaning.Changing.{affected_rows, did_insert};
+ghost use Rattle.changed_rows.specs.sql_meaning.Running.{rows_shown};
 ghost use Rattle.changed_rows.specs.Changed.{inserting_of};
 ghost use Rattle.sql_statements.specs.Did.{did_of};
 

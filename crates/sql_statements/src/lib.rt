@@ -41,6 +41,6 @@ mod updating;
 
 // The crates below that this one speaks of, passed on: who stands above names them through it.
 pub use changed_rows;
-pub use changed_rows::sql_evaluation;
+pub use changed_rows::{session_ctx, sql_stage};
 pub use did::Did;
 pub use performing::perform;

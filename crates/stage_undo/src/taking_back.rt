@@ -5,8 +5,8 @@ ghost use Rattle.sql_stage.specs.Stage.{LeadsOn};
 ghost use Rattle.sql_stage.specs.declared.stage.Stage.{Stage as Staged};
 ghost use Rattle.stage_undo.specs.Back.{StandsBack};
 
-use dml_rows::take_back_to;
 use sql_stage::Stage;
+use sql_stage::dml_rows::take_back_to;
 use val_types::SqlRefusal;
 
 /// Takes back the changes that were made since a mark.

@@ -3,7 +3,7 @@ use Rattle.std.proofs.Common.{◌≡◌, ℕ, List, [], ◌∷◌, ◌++◌, Opt
 use Rattle.std.specs.List.{cons_option}
 use Rattle.std.proofs.lemmas.List.{append-nil, append_assoc}
 use Rattle.sql_tree.specs.Statement.{Statement}
-use Rattle.catalog_rules.specs.Nodes.{Node, nodes_of, a_name, a_column, a_new_column, an_old_column, an_inserted_value, a_user_variable, a_system_variable, a_built_in, a_random_number, a_function_call, a_table_read, a_limit, a_statement, table_at}
+use Rattle.sql_reach.specs.catalog_rules.Nodes.{Node, nodes_of, a_name, a_column, a_new_column, an_old_column, an_inserted_value, a_user_variable, a_system_variable, a_built_in, a_random_number, a_function_call, a_table_read, a_limit, a_statement, table_at}
 use Rattle.sql_reach.specs.sql_meaning.Running.{tables_named}
 use Rattle.statement_names.specs.Naming.{tables}
 use Rattle.statement_names.specs.Visiting.{node_visited, nodes_visited, table_visited}

@@ -7,7 +7,7 @@ use Rattle.std.specs.Cmp.Lexicographic.{pointwise}
 use Rattle.std.specs.Ordering.{nat_cmp, is_eq, is_lt, ordering_reverse}
 use Rattle.std.proofs.lemmas.Cmp.{nat_list_cmp_total, same_from_slice_cmp}
 use Rattle.std.proofs.lemmas.Bool.Decides.{nat_tests}
-use Rattle.catalog_rules.specs.Names.{same_name}
+use Rattle.sql_reach.specs.catalog_rules.Names.{same_name}
 use Rattle.sql_reach.specs.Carrying.{put_by_order, put_name}
 use Rattle.statement_names.specs.Rising.{by_bytes, Above, Rises, is_before, is_name_at, place}
 

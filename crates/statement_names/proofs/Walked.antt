@@ -10,8 +10,8 @@ use Rattle.sql_tree.specs.Statement.{Statements, no_statement, statement, Branch
 use Rattle.sql_tree.specs.declared.expressions.Limit.{Limit}
 use Rattle.sql_tree.specs.declared.expressions.Count.{Count}
 use Rattle.sql_tree.specs.declared.statements.Target.{Target}
-use Rattle.catalog_rules.specs.Nodes.{Node, Sight, a_limit, no_sight, in_sight, sight_in, sight_of_update, limit_nodes, count_nodes, nodes_of_tree, nodes_of_trees, nodes_of_arms, nodes_of_part, nodes_of_query, nodes_of_selected, nodes_of_aggregates, nodes_of_origin, nodes_of_orders}
-use Rattle.catalog_rules.specs.Nodes.{nodes_of_sets, nodes_of_rows, nodes_of_supply, nodes_of_assignments, nodes_of_declared, nodes_of, nodes_of_steps, nodes_of_branches, nodes_of_otherwise}
+use Rattle.sql_reach.specs.catalog_rules.Nodes.{Node, Sight, a_limit, no_sight, in_sight, sight_in, sight_of_update, limit_nodes, count_nodes, nodes_of_tree, nodes_of_trees, nodes_of_arms, nodes_of_part, nodes_of_query, nodes_of_selected, nodes_of_aggregates, nodes_of_origin, nodes_of_orders}
+use Rattle.sql_reach.specs.catalog_rules.Nodes.{nodes_of_sets, nodes_of_rows, nodes_of_supply, nodes_of_assignments, nodes_of_declared, nodes_of, nodes_of_steps, nodes_of_branches, nodes_of_otherwise}
 use Rattle.statement_names.specs.Visiting.{Visits, node_visited, nodes_visited}
 use Rattle.statement_names.specs.Walking.{of_tree, of_trees, of_arms, of_part, of_query, of_selected, of_aggregates, of_origin, of_orders, of_sets, of_rows, of_supply, of_assignments, of_declared, of_statement, of_steps, of_branches, of_otherwise}
 

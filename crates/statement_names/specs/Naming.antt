@@ -1,6 +1,6 @@
 -- The visitors: the user variables of statements, put among names that rise, and their tables, one behind the other.
 use Rattle.std.specs.Prelude.{◌≡◌, ℕ, List, [], ◌∷◌, ◌++◌, filter_map}
-use Rattle.catalog_rules.specs.Nodes.{Node}
+use Rattle.sql_reach.specs.catalog_rules.Nodes.{Node}
 use Rattle.sql_reach.specs.Carrying.{in_byte_order, put_name, user_variable_at}
 use Rattle.statement_names.specs.Visiting.{Visits, nodes_visited}
 

@@ -4,7 +4,7 @@ use Rattle.std.specs.declared.cmp.Ordering.{Ordering}
 use Rattle.std.specs.declared.cmp.Ordering.TheVariants.{Less}
 use Rattle.std.specs.Ordering.{nat_cmp, is_lt}
 use Rattle.std.specs.Cmp.Lexicographic.{slice_cmp}
-use Rattle.catalog_rules.specs.Names.{same_name}
+use Rattle.sql_reach.specs.catalog_rules.Names.{same_name}
 
 abbrev pub by_bytes : List ℕ → List ℕ → Ordering
 by_bytes a b = slice_cmp nat_cmp a b

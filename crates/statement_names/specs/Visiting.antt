@@ -1,6 +1,6 @@
 -- What a visitor makes of the names that it meets: those of user variables and of tables.
 use Rattle.std.specs.Prelude.{ℕ, List, [], ◌∷◌, Option, Some, None}
-use Rattle.catalog_rules.specs.Nodes.{Node, a_user_variable, a_table_read, a_statement, table_changed}
+use Rattle.sql_reach.specs.catalog_rules.Nodes.{Node, a_user_variable, a_table_read, a_statement, table_changed}
 
 pub record Visits (N : Type 0) : Type 0 where
   pub variable : List ℕ → N → N

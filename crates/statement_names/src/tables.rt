@@ -1,6 +1,6 @@
 //! The tables of statements, in the order in which they stand there.
 ghost use Rattle.std.specs.Prelude.{◌≡◌, [], IfOk};
-ghost use Rattle.catalog_rules.specs.Nodes.{nodes_of};
+ghost use Rattle.sql_reach.specs.catalog_rules.Nodes.{nodes_of};
 ghost use Rattle.sql_reach.specs.sql_meaning.Running.{tables_named};
 ghost use Rattle.sql_tree.specs.StatementView.{view};
 ghost use Rattle.statement_names.specs.Naming.{tables};

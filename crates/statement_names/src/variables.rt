@@ -1,7 +1,7 @@
 //! The user variables of statements, in the order of their bytes.
 ghost use Rattle.std.specs.Prelude.{◌≡◌, [], slice_get, OnOk};
 ghost use Rattle.std.specs.Option.{option_copied};
-ghost use Rattle.catalog_rules.specs.Nodes.{nodes_of};
+ghost use Rattle.sql_reach.specs.catalog_rules.Nodes.{nodes_of};
 ghost use Rattle.sql_reach.specs.Carrying.{put_name};
 ghost use Rattle.sql_tree.specs.StatementView.{view};
 ghost use Rattle.statement_names.specs.Naming.{nodes_put, variables};

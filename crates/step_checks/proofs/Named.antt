@@ -7,11 +7,11 @@ use Rattle.std.proofs.lemmas.List.Folds.{list_any-append}
 use Rattle.val_types.specs.declared.refusal.SqlRefusal.TheVariants.{Sql}
 use Rattle.sql_tree.specs.Statement.{Statement}
 use Rattle.sql_locals.specs.declared.locals.Local.{Local}
-use Rattle.catalog_rules.specs.Names.{is_among, same_name}
-use Rattle.catalog_rules.specs.Nodes.{Node, a_name, a_column, a_new_column, an_old_column, an_inserted_value, a_user_variable, a_system_variable, a_built_in, a_random_number, a_function_call, a_table_read, a_limit, a_statement, nodes_of, table_at}
-use Rattle.sql_meaning.specs.Frames.{World}
-use Rattle.sql_meaning.specs.Running.{Body, tables_named, is_ill_limit, checked, body_checked, changes_running, scope_of}
-use Rattle.catalog_rules.specs.Checks.{statement_refusal}
+use Rattle.catalog_checks.specs.catalog_rules.Names.{is_among, same_name}
+use Rattle.catalog_checks.specs.catalog_rules.Nodes.{Node, a_name, a_column, a_new_column, an_old_column, an_inserted_value, a_user_variable, a_system_variable, a_built_in, a_random_number, a_function_call, a_table_read, a_limit, a_statement, nodes_of, table_at}
+use Rattle.sql_evaluation.specs.sql_meaning.Frames.{World}
+use Rattle.sql_evaluation.specs.sql_meaning.Running.{Body, tables_named, is_ill_limit, checked, body_checked, changes_running, scope_of}
+use Rattle.catalog_checks.specs.catalog_rules.Checks.{statement_refusal}
 use Rattle.sql_evaluation.specs.Seen.{Anywhere}
 use Rattle.node_walk.specs.declared.asking.Ask.TheVariants.{IllLimit, Table}
 use Rattle.node_walk.specs.Asking.{asks_node}

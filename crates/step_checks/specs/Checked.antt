@@ -1,5 +1,5 @@
 -- Where a body stands, in what is round its steps.
-use Rattle.sql_meaning.specs.Running.{Body}
+use Rattle.sql_evaluation.specs.sql_meaning.Running.{Body}
 use Rattle.sql_evaluation.specs.declared.world.Around.{Around}
 use Rattle.sql_evaluation.specs.Seen.{view_if}
 

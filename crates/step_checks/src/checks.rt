@@ -4,10 +4,10 @@ ghost use Rattle.std.specs.List.{list_any};
 ghost use Rattle.std.specs.Option.{option_copied, option_map_or};
 ghost use Rattle.sql_tree.specs.View.{view_tree};
 ghost use Rattle.sql_tree.specs.StatementView.{view};
-ghost use Rattle.catalog_rules.specs.Checks.{expression_refusal, statement_refusal};
-ghost use Rattle.catalog_rules.specs.Names.{is_among};
-ghost use Rattle.catalog_rules.specs.Nodes.{nodes_of, nodes_of_tree, no_sight, table_changed};
-ghost use Rattle.sql_meaning.specs.Running.{body_checked, changes_running, checked, definition_in, is_ill_limit, scope_of};
+ghost use Rattle.catalog_checks.specs.catalog_rules.Checks.{expression_refusal, statement_refusal};
+ghost use Rattle.catalog_checks.specs.catalog_rules.Names.{is_among};
+ghost use Rattle.catalog_checks.specs.catalog_rules.Nodes.{nodes_of, nodes_of_tree, no_sight, table_changed};
+ghost use Rattle.sql_evaluation.specs.sql_meaning.Running.{body_checked, changes_running, checked, definition_in, is_ill_limit, scope_of};
 ghost use Rattle.sql_evaluation.specs.Seen.{Anywhere, running_of, setting_of, view_if, world_of};
 ghost use Rattle.step_checks.specs.Checked.{body_in};
 

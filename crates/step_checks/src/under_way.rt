@@ -2,9 +2,9 @@
 ghost use Rattle.std.specs.Prelude.{◌≡◌};
 ghost use Rattle.sql_tree.specs.View.{view_tree, view_trees};
 ghost use Rattle.sql_tree.specs.StatementView.{view};
-ghost use Rattle.catalog_rules.specs.Names.{is_among};
-ghost use Rattle.catalog_rules.specs.Nodes.{nodes_of, nodes_of_tree, nodes_of_trees, no_sight};
-ghost use Rattle.sql_meaning.specs.Running.{tables_named};
+ghost use Rattle.catalog_checks.specs.catalog_rules.Names.{is_among};
+ghost use Rattle.catalog_checks.specs.catalog_rules.Nodes.{nodes_of, nodes_of_tree, nodes_of_trees, no_sight};
+ghost use Rattle.sql_evaluation.specs.sql_meaning.Running.{tables_named};
 ghost use Rattle.sql_evaluation.specs.Seen.{running_of};
 
 use catalog_checks::is_among;

@@ -16,9 +16,9 @@ use Rattle.event_codec.specs.LogName.{log_number}
 use Rattle.event_codec.specs.Event.{Body, Seen, rotate, int_var, rand, user_var, format_description, xid, table_map, rows}
 use Rattle.event_codec.specs.Bodies.{int_var_kind, is_schema, only, post_header_lengths, present_after, step_at, status_of, query_body, rotate_body, int_var_body, rand_body, user_var_body, format_description_body, xid_body, table_map_body, rows_body, var_value}
 use Rattle.event_codec.specs.Reading.{Reading, event, none, body_at, damaged, has_sound_header, headed, read_as, reading, short}
-use Rattle.log_model.specs.Events.{Place, Placed, events_from, past}
-use Rattle.log_model.specs.Groups.{is_xid, until_xid}
-use Rattle.log_model.proofs.Walking.{events_none, events_some}
+use Rattle.log_groups.specs.log_model.Events.{Place, Placed, events_from, past}
+use Rattle.log_groups.specs.log_model.Groups.{is_xid, until_xid}
+use Rattle.log_groups.proofs.log_model.Walking.{events_none, events_some}
 use Rattle.log_groups.specs.Views.{walked}
 use Rattle.stmt_apply.specs.Needing.{Counts, MayStand}
 

@@ -7,14 +7,14 @@ use Rattle.val_types.specs.declared.refusal.SqlRefusal.{SqlRefusal}
 use Rattle.val_types.specs.declared.refusal.SqlRefusal.TheVariants.{Sql, NoMemory}
 use Rattle.auto_inc.specs.declared.counters.Counter.{Counter}
 use Rattle.sql_tree.specs.Statement.{Statement}
-use Rattle.catalog_rules.specs.Bases.{Base, defined}
-use Rattle.catalog_rules.specs.Creating.{ddl_refusal}
-use Rattle.catalog_objects.specs.Keys.{objects_of}
-use Rattle.sql_reach.specs.Defining.{counters_after}
-use Rattle.sql_reach.specs.Reach.{is_definition}
-use Rattle.text_answers.specs.Answers.{TextAnswer, text_answer}
-use Rattle.applier_model.specs.Groups.{Applied, define_allowed, define_if}
-use Rattle.applier_model.specs.Texts.{statement_by, statement_in, most_text}
+use Rattle.log_groups.specs.catalog_rules.Bases.{Base, defined}
+use Rattle.log_groups.specs.catalog_rules.Creating.{ddl_refusal}
+use Rattle.row_apply.specs.catalog_objects.Keys.{objects_of}
+use Rattle.applier_laws.specs.sql_reach.Defining.{counters_after}
+use Rattle.applier_laws.specs.sql_reach.Reach.{is_definition}
+use Rattle.applier_laws.specs.text_answers.Answers.{TextAnswer, text_answer}
+use Rattle.applier_laws.specs.applier_model.Groups.{Applied, define_allowed, define_if}
+use Rattle.applier_laws.specs.applier_model.Texts.{statement_by, statement_in, most_text}
 use Rattle.row_apply.specs.prog_run.Contents.{Contents, base_of}
 use Rattle.row_apply.specs.prog_run.Runs.{Defines, Makes}
 use Rattle.row_apply.specs.prog_run.declared.meter.Outcome.{Outcome}

@@ -3,18 +3,18 @@ use Rattle.std.proofs.Common.{◌≡◌, ℕ, List, Some, Result, Ok, Err, ap, �
 use Rattle.auto_inc.specs.declared.counters.Counter.{Counter}
 use Rattle.port_traits.specs.declared.identity.Identity.{Identity}
 use Rattle.port_traits.specs.declared.identity.Draw.{Draw}
-use Rattle.catalog_rules.specs.Bases.{Base}
-use Rattle.log_entries.specs.declared.entries.Entry.{Entry}
-use Rattle.log_entries.specs.Entries.{entry_applied}
-use Rattle.log_model.specs.Groups.{Group}
-use Rattle.log_model.specs.Log.{LogPlace}
-use Rattle.entry_groups.specs.Entries.{group_of_entry}
-use Rattle.session_model.specs.Machine.{Whole, kept_entry}
-use Rattle.session_model.specs.Holding.{changes_of, define}
+use Rattle.log_groups.specs.catalog_rules.Bases.{Base}
+use Rattle.log_groups.specs.log_entries.declared.entries.Entry.{Entry}
+use Rattle.log_groups.specs.log_entries.Entries.{entry_applied}
+use Rattle.log_groups.specs.log_model.Groups.{Group}
+use Rattle.log_groups.specs.log_model.Log.{LogPlace}
+use Rattle.applier_laws.specs.entry_groups.Entries.{group_of_entry}
+use Rattle.node_answers.specs.session_model.Machine.{Whole, kept_entry}
+use Rattle.node_answers.specs.session_model.Holding.{changes_of, define}
 use Rattle.applier_laws.specs.Following.{CanFollow}
 use Rattle.applier_laws.specs.Laws.{EntryIsCarried}
-use Rattle.applier_model.specs.Groups.{Applied, group_carried}
-use Rattle.applier_model.specs.Stops.{Differs}
+use Rattle.applier_laws.specs.applier_model.Groups.{Applied, group_carried}
+use Rattle.applier_laws.specs.applier_model.Stops.{Differs}
 use Rattle.row_apply.specs.prog_run.Contents.{Contents, base_of}
 use Rattle.row_apply.specs.Ends.{Ends}
 use Rattle.row_apply.specs.declared.stop.Stop.{Stop}

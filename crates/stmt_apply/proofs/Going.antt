@@ -5,22 +5,22 @@ use Rattle.std.proofs.lemmas.List.{append_assoc, append-nil, map-append, reverse
 use Rattle.val_types.specs.declared.change.Change.{Change}
 use Rattle.event_codec.specs.declared.event.MapView.{MapView}
 use Rattle.event_codec.specs.Event.{Map, Query, Rows, map_of}
-use Rattle.log_entries.specs.declared.carried.Carried.{Carried}
-use Rattle.log_model.specs.Events.{Placed}
-use Rattle.log_model.specs.Groups.{find}
-use Rattle.log_model.specs.Images.{changes_of}
+use Rattle.log_groups.specs.log_entries.declared.carried.Carried.{Carried}
+use Rattle.log_groups.specs.log_model.Events.{Placed}
+use Rattle.log_groups.specs.log_model.Groups.{find}
+use Rattle.log_groups.specs.log_model.Images.{changes_of}
 use Rattle.log_groups.specs.Views.{walked}
 use Rattle.port_traits.specs.declared.identity.Identity.{Identity}
 use Rattle.port_traits.specs.declared.identity.Draw.{Draw}
-use Rattle.catalog_rules.specs.Objects.{Object as Tree}
-use Rattle.catalog_objects.specs.declared.object.Object.{Object}
-use Rattle.catalog_objects.specs.Keys.{objects_of}
-use Rattle.applier_model.specs.Stops.{Differs, stop_at}
-use Rattle.applier_model.specs.Rows.{Store, carry_change}
-use Rattle.row_events.specs.Sizes.{bounded}
-use Rattle.transaction_sizes.specs.Sizes.{changes_size}
-use Rattle.applier_model.specs.Texts.{Applier, Needs, Progress, carried_of, carry_text, no_needs, stops_at}
-use Rattle.applier_model.specs.Groups.{Applied, Going, and_then, applied_by, carry_changes, carry_rows, event_carried, first_place, going_from, is_too_large, item_ended, items_carried, rows_ended, store_of, text_ended, with_bytes, with_needs, with_store}
+use Rattle.log_groups.specs.catalog_rules.Objects.{Object as Tree}
+use Rattle.row_apply.specs.catalog_objects.declared.object.Object.{Object}
+use Rattle.row_apply.specs.catalog_objects.Keys.{objects_of}
+use Rattle.applier_laws.specs.applier_model.Stops.{Differs, stop_at}
+use Rattle.applier_laws.specs.applier_model.Rows.{Store, carry_change}
+use Rattle.applier_laws.specs.row_events.Sizes.{bounded}
+use Rattle.applier_laws.specs.transaction_sizes.Sizes.{changes_size}
+use Rattle.applier_laws.specs.applier_model.Texts.{Applier, Needs, Progress, carried_of, carry_text, no_needs, stops_at}
+use Rattle.applier_laws.specs.applier_model.Groups.{Applied, Going, and_then, applied_by, carry_changes, carry_rows, event_carried, first_place, going_from, is_too_large, item_ended, items_carried, rows_ended, store_of, text_ended, with_bytes, with_needs, with_store}
 use Rattle.row_apply.specs.prog_run.Contents.{Contents, base_of}
 use Rattle.row_apply.specs.Changes.{change_carried}
 use Rattle.row_apply.specs.Ends.{Ends, progress_in}

@@ -12,12 +12,12 @@ use Rattle.table_rules.specs.Stored.{all_applied, all_inverse}
 use Rattle.table_rules.proofs.Equations.{all_applied_behind, applied_none}
 use Rattle.table_rules.proofs.Storing.{turn_back}
 use Rattle.sql_tree.specs.Statement.{Statement}
-use Rattle.catalog_rules.specs.Bases.{definitions_in}
-use Rattle.catalog_objects.specs.declared.object.Object.{Object}
-use Rattle.catalog_objects.specs.Keys.{objects_of}
-use Rattle.sql_meaning.specs.Frames.{Context}
-use Rattle.sql_meaning.specs.Leading.{EndsWell, Leads}
-use Rattle.sql_meaning.proofs.LedBodies.{statements_end}
+use Rattle.log_groups.specs.catalog_rules.Bases.{definitions_in}
+use Rattle.row_apply.specs.catalog_objects.declared.object.Object.{Object}
+use Rattle.row_apply.specs.catalog_objects.Keys.{objects_of}
+use Rattle.applier_laws.specs.sql_meaning.Frames.{Context}
+use Rattle.applier_laws.specs.sql_meaning.Leading.{EndsWell, Leads}
+use Rattle.applier_laws.proofs.sql_meaning.LedBodies.{statements_end}
 use Rattle.row_apply.specs.prog_run.declared.meter.Meter.{Meter}
 use Rattle.row_apply.specs.prog_run.declared.meter.Outcome.{Outcome}
 use Rattle.row_apply.specs.prog_run.Contents.{Contents, IsTogether, committed_tables, counted_names, without_changes}

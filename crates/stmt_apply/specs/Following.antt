@@ -1,6 +1,6 @@
 -- What a group leaves that is read from an entry which can follow.
 use Rattle.std.specs.Prelude.{◌≡◌, Result, Ok, Err}
-use Rattle.catalog_rules.specs.Bases.{Base}
+use Rattle.log_groups.specs.catalog_rules.Bases.{Base}
 use Rattle.row_apply.specs.declared.stop.Stop.{Stop}
 use Rattle.row_apply.specs.declared.stop.Stop.TheVariants as stop
 

@@ -1,15 +1,15 @@
 //! A group of a log carried out.
 ghost use Rattle.std.specs.Prelude.{◌≡◌, ℕ, [], Some, OnErr};
-ghost use Rattle.catalog_rules.specs.Bases.{Base};
-ghost use Rattle.log_entries.specs.declared.entries.Entry.{Entry};
-ghost use Rattle.log_entries.specs.Entries.{entry_applied};
+ghost use Rattle.log_groups.specs.catalog_rules.Bases.{Base};
+ghost use Rattle.log_groups.specs.log_entries.declared.entries.Entry.{Entry};
+ghost use Rattle.log_groups.specs.log_entries.Entries.{entry_applied};
 ghost use Rattle.log_groups.specs.Views.{group_seen};
-ghost use Rattle.log_model.specs.Log.{LogPlace};
-ghost use Rattle.entry_groups.specs.Entries.{group_of_entry};
-ghost use Rattle.session_model.specs.Machine.{Whole, kept_entry};
-ghost use Rattle.session_model.specs.Holding.{changes_of, define};
+ghost use Rattle.log_groups.specs.log_model.Log.{LogPlace};
+ghost use Rattle.applier_laws.specs.entry_groups.Entries.{group_of_entry};
+ghost use Rattle.node_answers.specs.session_model.Machine.{Whole, kept_entry};
+ghost use Rattle.node_answers.specs.session_model.Holding.{changes_of, define};
 ghost use Rattle.applier_laws.specs.Following.{CanFollow};
-ghost use Rattle.applier_model.specs.Groups.{group_carried};
+ghost use Rattle.applier_laws.specs.applier_model.Groups.{group_carried};
 ghost use Rattle.row_apply.specs.prog_run.Contents.{base_of};
 ghost use Rattle.row_apply.specs.Ends.{Ends};
 ghost use Rattle.stmt_apply.specs.Applying.{applied_in};
@@ -25,7 +25,7 @@ use row_apply::prog_run::Work;
 use std::alloc::Global;
 
 /// A group, by its form.
-#[tactic(auto, unfolding(applier_model::specs::Groups::group_carried))]
+#[tactic(auto, unfolding(applier_laws::specs::applier_model::Groups::group_carried))]
 fn apply_form(
     alloc: Global,
     work: &mut Work,

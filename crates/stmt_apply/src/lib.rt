@@ -38,6 +38,7 @@ mod under_way;
 // The crates below that this one speaks of, passed on: who stands above names them through it.
 pub use group::apply_group;
 pub use node_answers;
+pub use node_answers::sql_parse;
 pub use row_apply;
 pub use row_apply::prog_run;
 pub use text::checked;

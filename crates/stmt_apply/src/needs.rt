@@ -1,16 +1,16 @@
 //! What stands in the log before a text for it.
 ghost use Rattle.std.specs.Prelude.{◌≡◌, ◌≤◌, IfOk, IfSome, OnErr, OnOk, Some};
-ghost use Rattle.log_entries.specs.Variables.{variable_set};
-ghost use Rattle.session_ctx.specs.Carrying.{context_carried};
+ghost use Rattle.log_groups.specs.log_entries.Variables.{variable_set};
+ghost use Rattle.applier_laws.specs.session_ctx.Carrying.{context_carried};
 ghost use Rattle.event_codec.specs.Event.{query_of, value_of};
-ghost use Rattle.applier_model.specs.Texts.{carried_of, increment_of, offset_of};
-ghost use Rattle.applier_model.specs.Groups.{with_number};
+ghost use Rattle.applier_laws.specs.applier_model.Texts.{carried_of, increment_of, offset_of};
+ghost use Rattle.applier_laws.specs.applier_model.Groups.{with_number};
 ghost use Rattle.stmt_apply.specs.Needing.{Counts, needs_of, no_text};
 
+use applier_laws::session_ctx::{Ctx, from_carried};
 use event_codec::{IntVarKind, QueryView, Step, UserVarView, VarValue};
-use log_entries::{Carried, Vars};
+use log_groups::log_entries::{Carried, Vars};
 use port_traits::{Draw, Identity};
-use session_ctx::{Ctx, from_carried};
 use std::alloc::Global;
 use std::marker::Model;
 use val_types::{List, NoMemory, Value};
@@ -23,8 +23,8 @@ pub(crate) struct Needs {
 }
 
 impl Model for Needs {
-    ghost use Rattle.log_entries.specs.declared.carried.Carried.{Carried as Parts};
-    ghost use Rattle.session_ctx.specs.Carrying.{IsCarriedInBounds};
+    ghost use Rattle.log_groups.specs.log_entries.declared.carried.Carried.{Carried as Parts};
+    ghost use Rattle.applier_laws.specs.session_ctx.Carrying.{IsCarriedInBounds};
 
     ghost Value = { Parts };
 

@@ -1,12 +1,12 @@
 //! A text of a transaction, run behind the changes so far.
 ghost use Rattle.std.specs.Prelude.{◌≡◌, false, Ok, OnOk};
 ghost use Rattle.sql_tree.specs.StatementView.{view};
-ghost use Rattle.catalog_objects.specs.Keys.{objects_of};
-ghost use Rattle.catalog_rules.specs.Checks.{session_scope, statement_refusal};
-ghost use Rattle.sql_reach.specs.Reach.{is_definition};
+ghost use Rattle.row_apply.specs.catalog_objects.Keys.{objects_of};
+ghost use Rattle.log_groups.specs.catalog_rules.Checks.{session_scope, statement_refusal};
+ghost use Rattle.applier_laws.specs.sql_reach.Reach.{is_definition};
 ghost use Rattle.event_codec.specs.Event.{query_of};
 ghost use Rattle.port_traits.specs.declared.identity.Identity.{Identity as Who};
-ghost use Rattle.applier_model.specs.Texts.{allowed, carried_of, carry_text, may_stand, run_in};
+ghost use Rattle.applier_laws.specs.applier_model.Texts.{allowed, carried_of, carry_text, may_stand, run_in};
 ghost use Rattle.row_apply.specs.Ends.{Stays, progress_in};
 ghost use Rattle.stmt_apply.specs.Applying.{Adds, applier_in, full_meter};
 ghost use Rattle.stmt_apply.specs.Ending.{EndsBy};
@@ -14,10 +14,10 @@ ghost use Rattle.stmt_apply.specs.Needing.{Counts, needs_of};
 
 use crate::needs::Needs;
 use crate::reading::statement_in;
+use applier_laws::session_ctx::Ctx;
 use event_codec::QueryView;
 use port_traits::{Draw, Identity};
 use row_apply::prog_run::{Meter, Work, run_stmt};
-use session_ctx::Ctx;
 use sql_locals::Locals;
 use sql_tree::Stmt;
 use std::alloc::Global;

@@ -1,11 +1,11 @@
 //! The events of a transaction, one after the other.
 ghost use Rattle.std.specs.Prelude.{◌≡◌, ◌≤◌, [], drop, length, reverse, IfOk, OnErr};
 ghost use Rattle.event_codec.specs.Event.{body_of, map_of, query_of, rows_of, size_of};
-ghost use Rattle.log_model.specs.Groups.{find};
+ghost use Rattle.log_groups.specs.log_model.Groups.{find};
 ghost use Rattle.log_groups.specs.Views.{part_of, parts};
-ghost use Rattle.applier_model.specs.Groups.{Going, carry_changes, carry_rows, event_carried, with_bytes};
-ghost use Rattle.row_events.specs.Sizes.{bounded};
-ghost use Rattle.transaction_sizes.specs.Sizes.{changes_size};
+ghost use Rattle.applier_laws.specs.applier_model.Groups.{Going, carry_changes, carry_rows, event_carried, with_bytes};
+ghost use Rattle.applier_laws.specs.row_events.Sizes.{bounded};
+ghost use Rattle.applier_laws.specs.transaction_sizes.Sizes.{changes_size};
 ghost use Rattle.row_apply.specs.Ends.{Ends, Stays, progress_in};
 ghost use Rattle.stmt_apply.specs.Applying.{applied_in, applier_in};
 ghost use Rattle.stmt_apply.specs.Needing.{Counts, MayStand};
@@ -13,14 +13,14 @@ ghost use Rattle.stmt_apply.specs.UnderWay.{ComesTo, Goes, Stands, items_from, t
 
 use crate::text::run_text;
 use crate::under_way::{UnderWay, find_map};
+use applier_laws::transaction_sizes::changes_size;
 use event_codec::{Event, MapView, QueryView, RowsView};
+use log_groups::row_image::rows_of;
 use log_groups::{Items, Part};
 use port_traits::{Draw, Identity};
 use row_apply::prog_run::Work;
 use row_apply::{Stop, carry_change, stop_at};
-use row_image::rows_of;
 use std::alloc::Global;
-use transaction_sizes::changes_size;
 use val_types::{Change, Duplicate, List, NoMemory, SqlRefusal};
 
 /// Changes from the last one on.

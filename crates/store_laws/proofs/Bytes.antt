@@ -5,7 +5,7 @@ use Rattle.byte_fields.specs.Field.{number_at}
 use Rattle.disk_model.proofs.Bytes.{bytes_take, bytes_drop}
 use Rattle.std.specs.Int.{w64, cast_signed}
 use Rattle.val_types.specs.declared.value.Value.TheVariants.{Null, Int, Text}
-use Rattle.log_model.specs.Images.{Read, and_then}
+use Rattle.store_model.specs.log_model.Images.{Read, and_then}
 use Rattle.store_model.specs.Reading.{read_as, to_the_end, number_of, piece_of, text_behind, so_many, all_behind, value_of_kind, value_in, row_in}
 
 -- what is read has P, and bytes stand behind it

@@ -26,11 +26,11 @@ use Rattle.table_rules.specs.Stored.{all_applied, DefinitionsStay}
 use Rattle.table_rules.proofs.Places.{name_is}
 use Rattle.table_rules.proofs.Taking.{same_is}
 use Rattle.sql_tree.specs.declared.statements.Column.{Column}
-use Rattle.catalog_rules.specs.Bases.{definitions_in}
-use Rattle.catalog_rules.specs.Objects.{Object, table, function, procedure, reaction}
-use Rattle.catalog_rules.specs.Defined.{written_table, written_columns, written_type}
-use Rattle.catalog_rules.specs.Creating.{Check, first_refusal, ddl_refusal, table_checks, is_ill_type}
-use Rattle.catalog_statements.specs.Stated.{IsMade, StatementIsThatOfMaking}
+use Rattle.catalog_laws.specs.catalog_rules.Bases.{definitions_in}
+use Rattle.catalog_laws.specs.catalog_rules.Objects.{Object, table, function, procedure, reaction}
+use Rattle.catalog_laws.specs.catalog_rules.Defined.{written_table, written_columns, written_type}
+use Rattle.catalog_laws.specs.catalog_rules.Creating.{Check, first_refusal, ddl_refusal, table_checks, is_ill_type}
+use Rattle.catalog_laws.specs.catalog_statements.Stated.{IsMade, StatementIsThatOfMaking}
 use Rattle.catalog_laws.specs.Making.{IsMadeWell}
 use Rattle.store_model.specs.Bodies.{IsValue, IsRow, IsChange}
 

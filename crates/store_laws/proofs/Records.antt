@@ -7,15 +7,15 @@ use Rattle.val_types.specs.declared.change.Change.{Change}
 use Rattle.table_rules.specs.Tables.{Table}
 use Rattle.table_rules.specs.Stored.{all_applied}
 use Rattle.sql_tree.specs.Statement.{Statement}
-use Rattle.sql_reach.specs.Reach.{is_definition}
-use Rattle.catalog_rules.specs.Bases.{Base, defined}
-use Rattle.text_answers.specs.Answers.{TextAnswer, a_statement, a_syntax_error, too_deep, text_answer}
-use Rattle.log_entries.specs.Entries.{with_tables}
+use Rattle.store_model.specs.sql_reach.Reach.{is_definition}
+use Rattle.catalog_laws.specs.catalog_rules.Bases.{Base, defined}
+use Rattle.catalog_laws.specs.text_answers.Answers.{TextAnswer, a_statement, a_syntax_error, too_deep, text_answer}
+use Rattle.store_model.specs.log_entries.Entries.{with_tables}
 use Rattle.disk_model.proofs.Bytes.{bytes_take, bytes_drop}
 use Rattle.gate_journal.specs.declared.record.NextRecord.{NextRecord}
 use Rattle.gate_journal.specs.declared.record.NextRecord.TheVariants as next
 use Rattle.gate_journal.specs.Records.{record_at, none_from, with_first, and_behind, records_from, records, Opened}
-use Rattle.log_model.specs.Images.{Read, and_then}
+use Rattle.store_model.specs.log_model.Images.{Read, and_then}
 use Rattle.catalog_laws.specs.Making.{AreMadeAgain, BasesStillMadeAgain}
 use Rattle.store_model.specs.declared.record.Kind.{Kind}
 use Rattle.store_model.specs.declared.record.Kind.TheVariants.{Source, Replica}

@@ -7,14 +7,14 @@ use Rattle.hex.specs.Hex.{IsBytes}
 use Rattle.table_rules.specs.Tables.{Table}
 use Rattle.sql_tree.specs.Statement.{Statement, create_table}
 use Rattle.sql_print.specs.StatementSpelling.{spelling}
-use Rattle.catalog_rules.specs.Bases.{Base, empty_base, defined}
-use Rattle.catalog_rules.specs.Defined.{definition_of}
-use Rattle.text_answers.specs.Answers.{TextAnswer, a_statement, a_syntax_error, too_deep, text_answer}
+use Rattle.catalog_laws.specs.catalog_rules.Bases.{Base, empty_base, defined}
+use Rattle.catalog_laws.specs.catalog_rules.Defined.{definition_of}
+use Rattle.catalog_laws.specs.text_answers.Answers.{TextAnswer, a_statement, a_syntax_error, too_deep, text_answer}
 use Rattle.byte_fields.specs.Field.{number_at}
 use Rattle.disk_model.specs.Story.{Image}
 use Rattle.disk_model.proofs.Bytes.{bytes_take, bytes_drop}
-use Rattle.log_model.specs.Images.{Read, and_then}
-use Rattle.log_model.specs.Log.{LogPlace}
+use Rattle.store_model.specs.log_model.Images.{Read, and_then}
+use Rattle.store_model.specs.log_model.Log.{LogPlace}
 use Rattle.catalog_laws.specs.Making.{AreMadeAgain, BasesStillMadeAgain}
 use Rattle.store_model.specs.declared.record.Kind.{Kind}
 use Rattle.store_model.specs.declared.record.Kind.TheVariants.{Source, Replica}

@@ -5,7 +5,7 @@ use Rattle.hex.specs.Hex.{IsBytes}
 use Rattle.val_types.specs.declared.change.Change.{Change}
 use Rattle.table_rules.specs.Tables.{Table}
 use Rattle.table_rules.specs.Changes.{AreKept}
-use Rattle.catalog_rules.specs.Bases.{Base, definitions_in}
+use Rattle.catalog_laws.specs.catalog_rules.Bases.{Base, definitions_in}
 use Rattle.disk_model.specs.Story.{Image}
 use Rattle.catalog_laws.specs.Making.{AreMadeAgain}
 use Rattle.store_model.specs.declared.record.Kind.{Kind}

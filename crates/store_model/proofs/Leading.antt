@@ -5,14 +5,14 @@ use Rattle.std.specs.Option.{option_map, option_and_then}
 use Rattle.std.proofs.lemmas.Bool.{cond-true, eq-eqb, le-leb, lt-ltb}
 use Rattle.std.proofs.lemmas.List.{length-append}
 use Rattle.val_types.specs.declared.change.Change.{Change}
-use Rattle.catalog_rules.specs.Bases.{Base, defined}
+use Rattle.sql_reach.specs.catalog_rules.Bases.{Base, defined}
 use Rattle.sql_tree.specs.Statement.{Statement}
 use Rattle.sql_reach.specs.Reach.{is_definition}
 use Rattle.text_answers.specs.Answers.{a_statement, text_answer}
-use Rattle.log_entries.specs.declared.entries.Item.{Item}
-use Rattle.log_entries.specs.declared.entries.Entry.{Entry}
-use Rattle.log_entries.specs.declared.entries.Entry.TheVariants.{Transaction, Definition, LogStart}
-use Rattle.log_model.specs.Log.{LogPlace, behind}
+use Rattle.transaction_sizes.specs.log_entries.declared.entries.Item.{Item}
+use Rattle.transaction_sizes.specs.log_entries.declared.entries.Entry.{Entry}
+use Rattle.transaction_sizes.specs.log_entries.declared.entries.Entry.TheVariants.{Transaction, Definition, LogStart}
+use Rattle.transaction_sizes.specs.log_model.Log.{LogPlace, behind}
 use Rattle.store_model.specs.declared.record.Head.{Head}
 use Rattle.store_model.specs.declared.record.Record.TheVariants as records
 use Rattle.store_model.specs.Held.{LogEnd, Held, last_end, with_last_end, most_committed, most_logs, latest_end, latest_old_end, is_next_commit, committed, begins_log, log_begun, next_applied, carried_out, changed, definition_in, defined_by, where_so, applied}

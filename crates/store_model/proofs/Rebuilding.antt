@@ -11,14 +11,14 @@ use Rattle.table_rules.specs.Tables.{Table}
 use Rattle.table_rules.specs.Stored.{rows_of}
 use Rattle.sql_tree.specs.Statement.{Statement}
 use Rattle.sql_print.specs.StatementSpelling.{spelling}
-use Rattle.catalog_rules.specs.Bases.{Base, empty_base, defined, creation_of, tables_after}
-use Rattle.catalog_rules.specs.Objects.{Object, table, function, procedure, reaction}
-use Rattle.catalog_rules.specs.Defined.{definition_of, written_table}
-use Rattle.catalog_rules.specs.Creating.{ddl_refusal, catalog_after}
+use Rattle.sql_reach.specs.catalog_rules.Bases.{Base, empty_base, defined, creation_of, tables_after}
+use Rattle.sql_reach.specs.catalog_rules.Objects.{Object, table, function, procedure, reaction}
+use Rattle.sql_reach.specs.catalog_rules.Defined.{definition_of, written_table}
+use Rattle.sql_reach.specs.catalog_rules.Creating.{ddl_refusal, catalog_after}
 use Rattle.text_answers.specs.Answers.{text_answer}
 use Rattle.byte_fields.specs.Field.{number_bytes}
-use Rattle.log_model.specs.Images.{Read, and_then}
-use Rattle.log_model.specs.Log.{LogPlace}
+use Rattle.transaction_sizes.specs.log_model.Images.{Read, and_then}
+use Rattle.transaction_sizes.specs.log_model.Log.{LogPlace}
 use Rattle.store_model.specs.declared.record.Kind.{Kind}
 use Rattle.store_model.specs.declared.record.Kind.TheVariants.{Source, Replica}
 use Rattle.store_model.specs.Reading.{read_as, to_the_end, number_of, row_in}

@@ -4,13 +4,13 @@ use Rattle.std.specs.Option.{option_map, option_and_then}
 use Rattle.val_types.specs.declared.change.Change.{Change}
 use Rattle.sql_reach.specs.Reach.{is_definition}
 use Rattle.sql_tree.specs.Statement.{Statement}
-use Rattle.catalog_rules.specs.Bases.{Base, defined}
+use Rattle.sql_reach.specs.catalog_rules.Bases.{Base, defined}
 use Rattle.text_answers.specs.Answers.{a_statement, text_answer}
-use Rattle.log_entries.specs.declared.entries.Item.{Item}
-use Rattle.log_entries.specs.declared.entries.Entry.{Entry}
-use Rattle.log_entries.specs.declared.entries.Entry.TheVariants.{Transaction, Definition, LogStart}
-use Rattle.log_entries.specs.Entries.{entry_applied}
-use Rattle.log_model.specs.Log.{LogPlace, behind, counted}
+use Rattle.transaction_sizes.specs.log_entries.declared.entries.Item.{Item}
+use Rattle.transaction_sizes.specs.log_entries.declared.entries.Entry.{Entry}
+use Rattle.transaction_sizes.specs.log_entries.declared.entries.Entry.TheVariants.{Transaction, Definition, LogStart}
+use Rattle.transaction_sizes.specs.log_entries.Entries.{entry_applied}
+use Rattle.transaction_sizes.specs.log_model.Log.{LogPlace, behind, counted}
 use Rattle.store_model.specs.declared.record.Head.{Head}
 use Rattle.store_model.specs.declared.record.Record.{Record}
 use Rattle.store_model.specs.declared.record.Record.TheVariants as records

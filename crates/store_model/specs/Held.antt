@@ -4,11 +4,11 @@ use Rattle.std.specs.Option.{option_map, option_and_then}
 use Rattle.val_types.specs.declared.change.Change.{Change}
 use Rattle.table_rules.specs.Stored.{all_applied}
 use Rattle.sql_tree.specs.Statement.{Statement}
-use Rattle.catalog_rules.specs.Bases.{Base, empty_base, defined}
+use Rattle.sql_reach.specs.catalog_rules.Bases.{Base, empty_base, defined}
 use Rattle.sql_reach.specs.Reach.{is_definition}
 use Rattle.text_answers.specs.Answers.{TextAnswer, a_statement, a_syntax_error, too_deep, text_answer}
-use Rattle.log_entries.specs.Entries.{with_tables}
-use Rattle.log_model.specs.Log.{LogPlace}
+use Rattle.transaction_sizes.specs.log_entries.Entries.{with_tables}
+use Rattle.transaction_sizes.specs.log_model.Log.{LogPlace}
 use Rattle.store_model.specs.declared.record.Kind.{Kind}
 use Rattle.store_model.specs.declared.record.Head.{Head}
 use Rattle.store_model.specs.declared.record.Record.{Record}

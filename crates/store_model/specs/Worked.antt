@@ -4,8 +4,8 @@ use Rattle.val_types.specs.declared.value.Value.{Value}
 use Rattle.val_types.specs.declared.value.Value.TheVariants.{Int}
 use Rattle.val_types.specs.declared.definitions.ColType.TheVariants as kinds
 use Rattle.val_types.specs.declared.definitions.TableDef.{TableDef}
-use Rattle.catalog_rules.specs.Bases.{Base}
-use Rattle.catalog_rules.specs.Objects.{table}
+use Rattle.sql_reach.specs.catalog_rules.Bases.{Base}
+use Rattle.sql_reach.specs.catalog_rules.Objects.{table}
 use Rattle.disk_model.specs.Story.{Image}
 use Rattle.store_model.specs.Held.{Held, first_read}
 

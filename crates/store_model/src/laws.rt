@@ -1,8 +1,8 @@
 //! What follows of the definitions: each function proves a law, and does nothing.
 ghost use Rattle.std.specs.Prelude.{List, Option};
 ghost use Rattle.val_types.specs.declared.change.Change.{Change};
-ghost use Rattle.catalog_rules.specs.Bases.{Base};
-ghost use Rattle.log_entries.specs.declared.entries.Item.{Item};
+ghost use Rattle.sql_reach.specs.catalog_rules.Bases.{Base};
+ghost use Rattle.transaction_sizes.specs.log_entries.declared.entries.Item.{Item};
 ghost use Rattle.store_model.specs.Laws.{
   BodiesAreRead,
   ChangesAreCounted,

@@ -1,6 +1,6 @@
 //! Stores by hand, byte by byte.
 ghost use Rattle.std.specs.Prelude.{◌≡◌, [], ◌∷◌, ◌++◌, replicate, length, Ok, Err};
-ghost use Rattle.catalog_rules.specs.Bases.{empty_base};
+ghost use Rattle.sql_reach.specs.catalog_rules.Bases.{empty_base};
 ghost use Rattle.store_model.specs.declared.record.Kind.TheVariants.{Source, Replica};
 ghost use Rattle.store_model.specs.Held.{nothing_held};
 ghost use Rattle.store_model.specs.Snapshots.{snapshot_body};

@@ -13,20 +13,20 @@ use Rattle.sql_tree.specs.declared.statements.Assignment.{Assignment}
 use Rattle.sql_tree.specs.declared.statements.Target.{Target}
 use Rattle.sql_locals.specs.declared.locals.Local.{Local}
 use Rattle.sql_locals.specs.Locals.{find_local, set_local}
-use Rattle.catalog_rules.specs.Names.{place_among}
-use Rattle.catalog_rules.specs.Nodes.{nodes_of}
-use Rattle.catalog_rules.specs.Objects.{columns_of}
-use Rattle.sql_meaning.specs.Scenes.{Scene, Ending, Action, done, failed, then_do, pure, fail, needed, ◌>>=◌}
-use Rattle.sql_meaning.specs.Frames.{World}
-use Rattle.sql_meaning.specs.Values.{value}
-use Rattle.sql_meaning.specs.Changing.{fitted, put_at}
-use Rattle.sql_meaning.specs.Running.{Body, Ended, also_running, assign_local, assign_new, assign_one, body_checked, frame_of, goes_on, with_new_row}
-use Rattle.sql_stage.specs.declared.running.Running.{Running as Chain}
-use Rattle.sql_stage.specs.Stage.{EndsAs, EndsAsBy}
-use Rattle.sql_statements.specs.sql_evaluation.declared.world.Around.{Around}
-use Rattle.sql_statements.specs.sql_evaluation.declared.world.View.{View as Shown}
-use Rattle.sql_statements.specs.sql_evaluation.Seen.{Anywhere, running_of, view_of, world_of}
-use Rattle.sql_statements.proofs.sql_evaluation.Branching.{rest_is, then_then}
+use Rattle.sql_statements.specs.catalog_rules.Names.{place_among}
+use Rattle.sql_statements.specs.catalog_rules.Nodes.{nodes_of}
+use Rattle.sql_statements.specs.catalog_rules.Objects.{columns_of}
+use Rattle.sql_statements.specs.sql_meaning.Scenes.{Scene, Ending, Action, done, failed, then_do, pure, fail, needed, ◌>>=◌}
+use Rattle.sql_statements.specs.sql_meaning.Frames.{World}
+use Rattle.sql_statements.specs.sql_meaning.Values.{value}
+use Rattle.sql_statements.specs.sql_meaning.Changing.{fitted, put_at}
+use Rattle.sql_statements.specs.sql_meaning.Running.{Body, Ended, also_running, assign_local, assign_new, assign_one, body_checked, frame_of, goes_on, with_new_row}
+use Rattle.sql_statements.specs.sql_stage.declared.running.Running.{Running as Chain}
+use Rattle.sql_statements.specs.sql_stage.Stage.{EndsAs, EndsAsBy}
+use Rattle.step_checks.specs.sql_evaluation.declared.world.Around.{Around}
+use Rattle.step_checks.specs.sql_evaluation.declared.world.View.{View as Shown}
+use Rattle.step_checks.specs.sql_evaluation.Seen.{Anywhere, running_of, view_of, world_of}
+use Rattle.step_checks.proofs.sql_evaluation.Branching.{rest_is, then_then}
 use Rattle.stored_programs.specs.declared.body.Body.{Body as Stands}
 use Rattle.stored_programs.specs.Bodies.{AnywhereBy, body_of, body_then, ended_at, put_in_column, view_in, world_with}
 use Rattle.stored_programs.specs.Steps.{all_assigned, assigned_values, step_in, values_to_set}

@@ -16,15 +16,15 @@ use Rattle.sql_tree.specs.declared.statements.Stmt.TheFolds.{fold_out-Routine, f
 use Rattle.sql_tree.specs.declared.statements.SqlType.{SqlType}
 use Rattle.sql_locals.specs.declared.locals.Local.{Local}
 use Rattle.sql_locals.specs.Types.{column_type}
-use Rattle.sql_meaning.specs.Scenes.{Scene, Ending, Action, done, failed, then_do, pure, each, needed, ◌>>=◌}
-use Rattle.sql_meaning.specs.Frames.{View}
-use Rattle.sql_meaning.specs.Changing.{fitted}
-use Rattle.sql_meaning.specs.Running.{Body, Ended, fitted_result, function_body, local_for, row_left, seen_as, step}
-use Rattle.sql_stage.specs.Stage.{EndsAs}
-use Rattle.sql_statements.specs.sql_evaluation.declared.world.Around.{Around}
-use Rattle.sql_statements.specs.sql_evaluation.declared.world.View.{View as Shown}
-use Rattle.sql_statements.specs.sql_evaluation.Seen.{Anywhere, world_of}
-use Rattle.sql_statements.proofs.sql_evaluation.Branching.{rest_is}
+use Rattle.sql_statements.specs.sql_meaning.Scenes.{Scene, Ending, Action, done, failed, then_do, pure, each, needed, ◌>>=◌}
+use Rattle.sql_statements.specs.sql_meaning.Frames.{View}
+use Rattle.sql_statements.specs.sql_meaning.Changing.{fitted}
+use Rattle.sql_statements.specs.sql_meaning.Running.{Body, Ended, fitted_result, function_body, local_for, row_left, seen_as, step}
+use Rattle.sql_statements.specs.sql_stage.Stage.{EndsAs}
+use Rattle.step_checks.specs.sql_evaluation.declared.world.Around.{Around}
+use Rattle.step_checks.specs.sql_evaluation.declared.world.View.{View as Shown}
+use Rattle.step_checks.specs.sql_evaluation.Seen.{Anywhere, world_of}
+use Rattle.step_checks.proofs.sql_evaluation.Branching.{rest_is}
 use Rattle.sql_statements.specs.changed_rows.Firing.{left_of}
 use Rattle.stored_programs.specs.Bodies.{ended_at, view_in}
 use Rattle.stored_programs.specs.Steps.{locals_for, row_of_view, step_in, triggered_in}
@@ -192,7 +192,7 @@ trigger_is : (a : Around) (d : TableDef) (new old : Option (List Value)) (t : Tr
     → triggered_in a d new old (view_trigger t) scene ≡ then_do (step_in a (sees_rows n m) (view (out-TriggerDef t).body) scene) (λ ended. pure (row_left ended))
 unfolding triggered_in step_in
 trigger_is a d new old t n m scene given before =
-    ap (λ (u : Trigger). then_do (step (world_of a) (sees_rows (seen_as d new) (seen_as d old)) (Rattle.catalog_rules.specs.Objects.trigger_body u) scene) (λ ended. pure (row_left ended))) (trigger_of_out t)
+    ap (λ (u : Trigger). then_do (step (world_of a) (sees_rows (seen_as d new) (seen_as d old)) (Rattle.sql_statements.specs.catalog_rules.Objects.trigger_body u) scene) (λ ended. pure (row_left ended))) (trigger_of_out t)
     ∙ (λ i. then_do (step (world_of a) (sees_rows ((sym given) i) ((sym before) i)) (view (out-TriggerDef t).body) scene) (λ ended. pure (row_left ended)))
 
 pub trigger_fails : (a : Around) (d : TableDef) (new old : Option (List Value)) (t : TriggerDef) (n m : Option View) (code : ℕ) (scene next : Scene) → n ≡ seen_as d new → m ≡ seen_as d old

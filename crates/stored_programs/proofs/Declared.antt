@@ -11,12 +11,12 @@ use Rattle.sql_tree.specs.StatementView.{view_declaration, view_declarations}
 use Rattle.sql_tree.specs.declared.statements.Declaration.{Declaration}
 use Rattle.sql_tree.specs.declared.statements.SqlType.{SqlType}
 use Rattle.sql_locals.specs.Types.{column_type}
-use Rattle.sql_meaning.specs.Scenes.{Scene, Ending, Action, done, failed, then_do, carried_on}
-use Rattle.sql_meaning.specs.Running.{Body, declare, declare_name}
-use Rattle.sql_stage.specs.Stage.{EndsAs, EndsAsBy}
-use Rattle.sql_statements.specs.sql_evaluation.declared.world.Around.{Around}
-use Rattle.sql_statements.specs.sql_evaluation.Seen.{world_of}
-use Rattle.sql_statements.proofs.sql_evaluation.Branching.{rest_is}
+use Rattle.sql_statements.specs.sql_meaning.Scenes.{Scene, Ending, Action, done, failed, then_do, carried_on}
+use Rattle.sql_statements.specs.sql_meaning.Running.{Body, declare, declare_name}
+use Rattle.sql_statements.specs.sql_stage.Stage.{EndsAs, EndsAsBy}
+use Rattle.step_checks.specs.sql_evaluation.declared.world.Around.{Around}
+use Rattle.step_checks.specs.sql_evaluation.Seen.{world_of}
+use Rattle.step_checks.proofs.sql_evaluation.Branching.{rest_is}
 use Rattle.stored_programs.specs.declared.body.Body.{Body as Stands}
 use Rattle.stored_programs.specs.Bodies.{AnywhereBy, body_of, body_then, view_in}
 use Rattle.stored_programs.specs.Steps.{all_declared_in, declared_in, preset_in_body}

@@ -12,17 +12,17 @@ use Rattle.sql_tree.specs.View.{view_tree}
 use Rattle.sql_tree.specs.StatementView.{view}
 use Rattle.sql_tree.specs.declared.expressions.Expr.{Expr}
 use Rattle.sql_tree.specs.declared.statements.Stmt.{Stmt}
-use Rattle.catalog_rules.specs.Checks.{expression_refusal}
-use Rattle.catalog_rules.specs.Nodes.{Node, no_sight, nodes_of, nodes_of_tree}
-use Rattle.sql_meaning.specs.Scenes.{Scene, Ending, Action, done, failed, then_do, answered, pure}
-use Rattle.sql_meaning.specs.Frames.{Running, World}
-use Rattle.sql_meaning.specs.Values.{value, holds}
-use Rattle.sql_meaning.specs.Running.{Body, also_running, checked, frame_of, scope_of, tables_named}
-use Rattle.sql_stage.specs.Stage.{EndsAs}
-use Rattle.sql_stage.specs.declared.running.Running.{Running as Chain, Statement, Expression, the_lemmas}
-use Rattle.sql_stage.specs.UnderWay.{under_way}
-use Rattle.sql_statements.specs.sql_evaluation.declared.world.Around.{Around}
-use Rattle.sql_statements.specs.sql_evaluation.Seen.{Anywhere, running_of, setting_of, world_of}
+use Rattle.sql_statements.specs.catalog_rules.Checks.{expression_refusal}
+use Rattle.sql_statements.specs.catalog_rules.Nodes.{Node, no_sight, nodes_of, nodes_of_tree}
+use Rattle.sql_statements.specs.sql_meaning.Scenes.{Scene, Ending, Action, done, failed, then_do, answered, pure}
+use Rattle.sql_statements.specs.sql_meaning.Frames.{Running, World}
+use Rattle.sql_statements.specs.sql_meaning.Values.{value, holds}
+use Rattle.sql_statements.specs.sql_meaning.Running.{Body, also_running, checked, frame_of, scope_of, tables_named}
+use Rattle.sql_statements.specs.sql_stage.Stage.{EndsAs}
+use Rattle.sql_statements.specs.sql_stage.declared.running.Running.{Running as Chain, Statement, Expression, the_lemmas}
+use Rattle.sql_statements.specs.sql_stage.UnderWay.{under_way}
+use Rattle.step_checks.specs.sql_evaluation.declared.world.Around.{Around}
+use Rattle.step_checks.specs.sql_evaluation.Seen.{Anywhere, running_of, setting_of, world_of}
 use Rattle.stored_programs.specs.Bodies.{world_with}
 use Rattle.stored_programs.specs.Steps.{value_in_body, holds_in_body, preset_in_body}
 use Rattle.stored_programs.proofs.Acting.{behind, refused, ends_so}

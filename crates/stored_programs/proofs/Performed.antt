@@ -4,17 +4,17 @@ use Rattle.val_types.specs.declared.value.Value.{Value}
 use Rattle.val_types.specs.declared.refusal.SqlRefusal.{SqlRefusal}
 use Rattle.val_types.specs.declared.refusal.SqlRefusal.TheVariants.{Sql, NoMemory}
 use Rattle.sql_tree.specs.Statement.{Statement}
-use Rattle.catalog_rules.specs.Nodes.{nodes_of}
-use Rattle.sql_meaning.specs.Scenes.{Scene, Ending, done, failed, then_do, pure, ◌>>=◌}
-use Rattle.sql_meaning.specs.Frames.{World}
-use Rattle.sql_meaning.specs.Changing.{Did}
-use Rattle.sql_meaning.specs.Running.{Body, also_running, body_checked, body_perform, frame_of, goes_on, perform}
-use Rattle.sql_stage.specs.declared.running.Running.{Running as Chain}
-use Rattle.sql_stage.specs.Stage.{EndsAsBy}
+use Rattle.sql_statements.specs.catalog_rules.Nodes.{nodes_of}
+use Rattle.sql_statements.specs.sql_meaning.Scenes.{Scene, Ending, done, failed, then_do, pure, ◌>>=◌}
+use Rattle.sql_statements.specs.sql_meaning.Frames.{World}
+use Rattle.sql_statements.specs.sql_meaning.Changing.{Did}
+use Rattle.sql_statements.specs.sql_meaning.Running.{Body, also_running, body_checked, body_perform, frame_of, goes_on, perform}
+use Rattle.sql_statements.specs.sql_stage.declared.running.Running.{Running as Chain}
+use Rattle.sql_statements.specs.sql_stage.Stage.{EndsAsBy}
 use Rattle.sql_statements.specs.declared.did.Did.{Did as Done}
 use Rattle.sql_statements.specs.Did.{did_of}
-use Rattle.sql_statements.specs.sql_evaluation.declared.world.Around.{Around}
-use Rattle.sql_statements.specs.sql_evaluation.Seen.{Anywhere, running_of, world_of}
+use Rattle.step_checks.specs.sql_evaluation.declared.world.Around.{Around}
+use Rattle.step_checks.specs.sql_evaluation.Seen.{Anywhere, running_of, world_of}
 use Rattle.stored_programs.specs.Bodies.{ended_at, world_with}
 use Rattle.stored_programs.proofs.Acting.{behind, refused}
 use Rattle.stored_programs.proofs.Evaluated.{also, world_also}

@@ -3,17 +3,17 @@ use Rattle.std.specs.Prelude.{◌≡◌, ℕ, List, [], ◌∷◌, Option, Some,
 use Rattle.std.specs.Option.{option_map}
 use Rattle.val_types.specs.declared.value.Value.{Value}
 use Rattle.val_types.specs.declared.refusal.SqlRefusal.{SqlRefusal}
-use Rattle.catalog_rules.specs.Names.{place_among}
-use Rattle.catalog_rules.specs.Objects.{columns_of}
-use Rattle.sql_meaning.specs.Scenes.{Scene, Action, ◌>>=◌, needed}
-use Rattle.sql_meaning.specs.Changing.{put_at}
-use Rattle.sql_meaning.specs.Frames.{World, View}
-use Rattle.sql_meaning.specs.Running.{Body, Ended}
-use Rattle.sql_stage.specs.Stage.{EndsAsBy}
-use Rattle.sql_stage.specs.declared.running.Running.{Running as UnderWay}
-use Rattle.sql_statements.specs.sql_evaluation.declared.world.Around.{Around}
-use Rattle.sql_statements.specs.sql_evaluation.declared.world.View.{View as Shown}
-use Rattle.sql_statements.specs.sql_evaluation.Seen.{view_of, world_of, running_of}
+use Rattle.sql_statements.specs.catalog_rules.Names.{place_among}
+use Rattle.sql_statements.specs.catalog_rules.Objects.{columns_of}
+use Rattle.sql_statements.specs.sql_meaning.Scenes.{Scene, Action, ◌>>=◌, needed}
+use Rattle.sql_statements.specs.sql_meaning.Changing.{put_at}
+use Rattle.sql_statements.specs.sql_meaning.Frames.{World, View}
+use Rattle.sql_statements.specs.sql_meaning.Running.{Body, Ended}
+use Rattle.sql_statements.specs.sql_stage.Stage.{EndsAsBy}
+use Rattle.sql_statements.specs.sql_stage.declared.running.Running.{Running as UnderWay}
+use Rattle.step_checks.specs.sql_evaluation.declared.world.Around.{Around}
+use Rattle.step_checks.specs.sql_evaluation.declared.world.View.{View as Shown}
+use Rattle.step_checks.specs.sql_evaluation.Seen.{view_of, world_of, running_of}
 use Rattle.stored_programs.specs.declared.body.Body.{Body as Stands}
 
 -- a row that a body sees

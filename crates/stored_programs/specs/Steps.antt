@@ -7,15 +7,15 @@ use Rattle.sql_tree.specs.Statement.{Declared, Statement, Statements, Branches, 
 use Rattle.sql_tree.specs.declared.statements.Parameter.{Parameter}
 use Rattle.sql_tree.specs.declared.statements.Target.{Target}
 use Rattle.sql_locals.specs.declared.locals.Local.{Local}
-use Rattle.catalog_rules.specs.Nodes.{nodes_of}
-use Rattle.catalog_rules.specs.Objects.{trigger_body}
-use Rattle.sql_meaning.specs.Scenes.{Action, ◌>>=◌, pure, each, carried_on}
+use Rattle.sql_statements.specs.catalog_rules.Nodes.{nodes_of}
+use Rattle.sql_statements.specs.catalog_rules.Objects.{trigger_body}
+use Rattle.sql_statements.specs.sql_meaning.Scenes.{Action, ◌>>=◌, pure, each, carried_on}
 use Rattle.std.specs.Option.{option_map}
-use Rattle.sql_meaning.specs.Frames.{View, World}
-use Rattle.sql_meaning.specs.Values.{value, holds}
-use Rattle.sql_meaning.specs.Running.{Body, Ended, also_running, frame_of, assign_one, body_checked, body_value, declare, local_for, preset_value, row_left, seen_as, step, steps, step_of_branches, steps_otherwise}
-use Rattle.sql_statements.specs.sql_evaluation.declared.world.Around.{Around}
-use Rattle.sql_statements.specs.sql_evaluation.Seen.{world_of}
+use Rattle.sql_statements.specs.sql_meaning.Frames.{View, World}
+use Rattle.sql_statements.specs.sql_meaning.Values.{value, holds}
+use Rattle.sql_statements.specs.sql_meaning.Running.{Body, Ended, also_running, frame_of, assign_one, body_checked, body_value, declare, local_for, preset_value, row_left, seen_as, step, steps, step_of_branches, steps_otherwise}
+use Rattle.step_checks.specs.sql_evaluation.declared.world.Around.{Around}
+use Rattle.step_checks.specs.sql_evaluation.Seen.{world_of}
 
 -- ---- expressions
 

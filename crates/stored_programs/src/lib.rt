@@ -43,4 +43,6 @@ mod turns;
 // The crates below that this one speaks of, passed on: who stands above names them through it.
 pub use calls::{call_function, fire_trigger};
 pub use sql_statements;
-pub use sql_statements::sql_evaluation;
+pub use sql_statements::session_ctx;
+pub use step_checks;
+pub use step_checks::sql_evaluation;

@@ -2,8 +2,8 @@
 use Rattle.std.proofs.Common.{◌≡◌, ℕ, suc, ◌+◌, Bool, true, false, cond, List, [], ◌∷◌, map, Option, Some, None, refl, ap, ◌∙◌, arith}
 use Rattle.std.specs.Option.{option_map}
 use Rattle.sql_tree.specs.declared.statements.Column.{Column}
-use Rattle.catalog_rules.specs.Names.{same_name, place_among}
-use Rattle.catalog_rules.specs.Defined.{auto_place}
+use Rattle.catalog_checks.specs.catalog_rules.Names.{same_name, place_among}
+use Rattle.catalog_checks.specs.catalog_rules.Defined.{auto_place}
 use Rattle.table_creation.specs.Placed.{place_from, auto_from}
 
 step : (b : Bool) (at : ℕ) (o p : Option ℕ) → p ≡ option_map (λ k. at + 1 + k) o → cond b (Some at) p ≡ option_map (λ k. at + k) (cond b (Some 0) (option_map suc o))

@@ -1,7 +1,7 @@
 -- Places of columns, counted on from a number.
 use Rattle.std.specs.Prelude.{ℕ, ◌+◌, if◌then◌else◌, List, [], ◌∷◌, Option, Some, None}
 use Rattle.sql_tree.specs.declared.statements.Column.{Column}
-use Rattle.catalog_rules.specs.Names.{same_name}
+use Rattle.catalog_checks.specs.catalog_rules.Names.{same_name}
 
 -- the place of a column of a name, where the first has this one
 abbrev pub place_from : ℕ → List Column → List ℕ → Option ℕ

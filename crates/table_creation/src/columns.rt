@@ -4,7 +4,7 @@ ghost use Rattle.std.specs.List.{list_any};
 ghost use Rattle.sql_locals.specs.Types.{column_type};
 ghost use Rattle.sql_tree.specs.declared.statements.Column.{Column};
 ghost use Rattle.val_types.specs.Fitting.{fitting};
-ghost use Rattle.catalog_rules.specs.Creating.{begins_key, counted_columns, has_ill_preset, is_ill_preset, is_ill_type, is_varchar, keys_of, row_width, width_of};
+ghost use Rattle.catalog_checks.specs.catalog_rules.Creating.{begins_key, counted_columns, has_ill_preset, is_ill_preset, is_ill_type, is_varchar, keys_of, row_width, width_of};
 
 use crate::keys::begins_key;
 use sql_tree::{Column, CreateTable, SqlType};

@@ -4,9 +4,9 @@ ghost use Rattle.std.specs.List.{list_any};
 ghost use Rattle.std.specs.Option.{option_map_or};
 ghost use Rattle.sql_locals.specs.Types.{column_type};
 ghost use Rattle.sql_tree.specs.declared.statements.Column.{Column};
-ghost use Rattle.catalog_rules.specs.Names.{place_among};
-ghost use Rattle.catalog_rules.specs.Defined.{auto_place, defined_column, defined_key, definition_of, names_of_columns, places_of};
-ghost use Rattle.catalog_rules.specs.Creating.{is_ill_type};
+ghost use Rattle.catalog_checks.specs.catalog_rules.Names.{place_among};
+ghost use Rattle.catalog_checks.specs.catalog_rules.Defined.{auto_place, defined_column, defined_key, definition_of, names_of_columns, places_of};
+ghost use Rattle.catalog_checks.specs.catalog_rules.Creating.{is_ill_type};
 ghost use Rattle.table_creation.specs.Placed.{auto_from, place_from};
 
 use sql_tree::{Column, CreateTable, SqlType, UniqueKey};

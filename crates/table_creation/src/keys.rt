@@ -4,9 +4,9 @@ ghost use Rattle.std.specs.List.{list_any};
 ghost use Rattle.std.specs.Option.{option_map_or};
 ghost use Rattle.sql_tree.specs.declared.statements.Column.{Column};
 ghost use Rattle.sql_tree.specs.declared.statements.UniqueKey.{UniqueKey};
-ghost use Rattle.catalog_rules.specs.Names.{has_twice, is_among, same_name};
-ghost use Rattle.catalog_rules.specs.Defined.{names_of_columns};
-ghost use Rattle.catalog_rules.specs.Creating.{begins_key, has_unknown, keys_of};
+ghost use Rattle.catalog_checks.specs.catalog_rules.Names.{has_twice, is_among, same_name};
+ghost use Rattle.catalog_checks.specs.catalog_rules.Defined.{names_of_columns};
+ghost use Rattle.catalog_checks.specs.catalog_rules.Creating.{begins_key, has_unknown, keys_of};
 
 use catalog_checks::has_twice;
 use sql_tree::{Column, CreateTable, UniqueKey};

@@ -16,6 +16,9 @@ mod defining;
 mod keys;
 mod refusing;
 
+// The crates below that this one speaks of, passed on: who stands above names them through it.
+pub use catalog_checks;
+pub use catalog_checks::catalog_objects;
 pub use columns::is_ill_type;
 pub use defining::definition_of;
 pub use refusing::{refused, table_refusal};

@@ -1,17 +1,17 @@
 //! What refuses a CREATE TABLE.
 ghost use Rattle.std.specs.Prelude.{◌≡◌, ◌||◌, if◌then◌else◌, is_some, length, nat_lt, not, Some};
 ghost use Rattle.std.specs.List.{list_any};
-ghost use Rattle.catalog_rules.specs.Names.{has_twice};
-ghost use Rattle.catalog_rules.specs.Objects.{table_in};
-ghost use Rattle.catalog_rules.specs.Defined.{names_of_columns};
-ghost use Rattle.catalog_objects.specs.Keys.{objects_of};
-ghost use Rattle.catalog_rules.specs.Creating.{begins_key, counted_columns, first_refusal, keys_of, is_past_table_limits, table_checks};
+ghost use Rattle.catalog_checks.specs.catalog_rules.Names.{has_twice};
+ghost use Rattle.catalog_checks.specs.catalog_rules.Objects.{table_in};
+ghost use Rattle.catalog_checks.specs.catalog_rules.Defined.{names_of_columns};
+ghost use Rattle.catalog_checks.specs.catalog_objects.Keys.{objects_of};
+ghost use Rattle.catalog_checks.specs.catalog_rules.Creating.{begins_key, counted_columns, first_refusal, keys_of, is_past_table_limits, table_checks};
 
 use crate::columns::{
     has_counted_behind, has_counted_text, has_ill_preset, has_ill_type, has_two_counted, is_wide,
 };
 use crate::keys::{has_columns_twice, has_keys_twice, key_twice, key_unknown, key_wide};
-use catalog_objects::Objects;
+use catalog_checks::catalog_objects::Objects;
 use sql_tree::CreateTable;
 use val_types::SqlError;
 

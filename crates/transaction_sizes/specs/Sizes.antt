@@ -7,7 +7,7 @@ use Rattle.val_types.specs.declared.change.Change.{Change}
 use Rattle.val_types.specs.declared.change.Change.TheVariants.{Insert, Update, Delete}
 use Rattle.val_types.specs.declared.value.Value.{Value}
 use Rattle.val_types.specs.declared.value.Value.TheVariants.{Null, Int, Text}
-use Rattle.log_entries.specs.declared.entries.Item.{Item}
+use Rattle.row_events.specs.log_entries.declared.entries.Item.{Item}
 use Rattle.row_events.specs.log_model.Items.{item_size}
 
 -- ---- changes

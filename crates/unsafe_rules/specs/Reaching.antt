@@ -1,9 +1,9 @@
 -- Which programs are reached, found one after the other.
 use Rattle.std.specs.Prelude.{◌≡◌, ◌+◌, ◌<◌, ◌≤◌, ℕ, zero, suc, cond, if◌then◌else◌, ◌++◌, flat_map, length, Bool, true, false, ◌||◌, nat_eq, List, [], ◌∷◌, slice_get, Option, Some, None}
 use Rattle.std.specs.List.{list_any}
-use Rattle.catalog_rules.specs.Objects.{Object, table, function, procedure, reaction, name_of}
-use Rattle.catalog_rules.specs.Nodes.{Node}
-use Rattle.sql_reach.specs.Reach.{calls_function, fires_trigger, body_nodes, is_reached_from, rounds}
+use Rattle.session_ctx.specs.catalog_rules.Objects.{Object, table, function, procedure, reaction, name_of}
+use Rattle.session_ctx.specs.catalog_rules.Nodes.{Node}
+use Rattle.statement_names.specs.sql_reach.Reach.{calls_function, fires_trigger, body_nodes, is_reached_from, rounds}
 use Rattle.node_walk.specs.declared.asking.Ask.{Ask}
 use Rattle.node_walk.specs.Asking.{asks_node}
 

@@ -1,11 +1,11 @@
 //! What an item carries of the context in which its statement runs.
 ghost use Rattle.std.specs.Prelude.{◌≡◌, flat_map, map, IfOk, OnOk};
 ghost use Rattle.std.specs.List.{list_any};
-ghost use Rattle.catalog_objects.specs.Keys.{objects_of, seen};
-ghost use Rattle.catalog_rules.specs.Nodes.{nodes_of};
-ghost use Rattle.log_entries.specs.Variables.{variable_value};
-ghost use Rattle.sql_reach.specs.Carrying.{asks_last_id, carried, draws, if_asked, variables_reached};
-ghost use Rattle.sql_reach.specs.Reach.{body_nodes, reached_nodes};
+ghost use Rattle.node_walk.specs.catalog_objects.Keys.{objects_of, seen};
+ghost use Rattle.session_ctx.specs.catalog_rules.Nodes.{nodes_of};
+ghost use Rattle.session_ctx.specs.log_entries.Variables.{variable_value};
+ghost use Rattle.statement_names.specs.sql_reach.Carrying.{asks_last_id, carried, draws, if_asked, variables_reached};
+ghost use Rattle.statement_names.specs.sql_reach.Reach.{body_nodes, reached_nodes};
 ghost use Rattle.sql_tree.specs.StatementView.{view};
 ghost use Rattle.unsafe_rules.specs.Places.{places_of};
 ghost use Rattle.unsafe_rules.specs.Reaching.{IsAll, IsFound, at_places, nothing_wanted};
@@ -13,10 +13,10 @@ ghost use Rattle.statement_names.specs.Naming.{nodes_put};
 
 use crate::found::{Found, is_found, more, nothing};
 use crate::reach::{next_of, reaches};
-use catalog_objects::{Object, Objects};
-use log_entries::{Carried, Vars};
+use node_walk::catalog_objects::{Object, Objects};
 use node_walk::{Ask, in_statement};
 use session_ctx::Ctx;
+use session_ctx::log_entries::{Carried, Vars};
 use sql_tree::Stmt;
 use statement_names::{Names, names_are_in_byte_order, put_variables};
 use std::alloc::Global;
@@ -113,7 +113,7 @@ fn seeds_reached(s: &Stmt, objects: &Objects, found: &Found<'_>, x: &Ctx) -> Opt
 }
 
 /// What is carried, where all programs that are reached were found.
-#[tactic(auto, unfolding(sql_reach::specs::Carrying::carried))]
+#[tactic(auto, unfolding(statement_names::specs::sql_reach::Carrying::carried))]
 fn carried_of_all(
     alloc: Global,
     s: &Stmt,

@@ -1,8 +1,8 @@
 //! Why a statement may do something else when a replica runs its text.
 ghost use Rattle.std.specs.Prelude.{◌≡◌};
-ghost use Rattle.catalog_objects.specs.Keys.{objects_of};
-ghost use Rattle.catalog_rules.specs.Nodes.{nodes_of};
-ghost use Rattle.sql_reach.specs.Reasons.{reasons};
+ghost use Rattle.node_walk.specs.catalog_objects.Keys.{objects_of};
+ghost use Rattle.session_ctx.specs.catalog_rules.Nodes.{nodes_of};
+ghost use Rattle.statement_names.specs.sql_reach.Reasons.{reasons};
 ghost use Rattle.sql_tree.specs.StatementView.{view};
 ghost use Rattle.unsafe_rules.specs.Places.{places_of};
 ghost use Rattle.unsafe_rules.specs.Reaching.{IsAll, IsFound, nothing_wanted};
@@ -11,7 +11,7 @@ ghost use Rattle.unsafe_rules.specs.Unsafe.{reasons_in};
 use crate::found::{Found, more, nothing};
 use crate::reach::{next_of, programs_reach, reaches};
 use crate::unsafety::Reasons;
-use catalog_objects::Objects;
+use node_walk::catalog_objects::Objects;
 use node_walk::{Ask, in_statement};
 use sql_tree::Stmt;
 

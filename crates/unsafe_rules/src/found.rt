@@ -1,13 +1,13 @@
 //! Programs that were found to be reached, and what is asked of them.
 ghost use Rattle.std.specs.Prelude.{◌≡◌, [], ◌∷◌, slice_get};
-ghost use Rattle.catalog_objects.specs.Keys.{objects_of, seen};
-ghost use Rattle.catalog_rules.specs.Nodes.{nodes_of};
+ghost use Rattle.node_walk.specs.catalog_objects.Keys.{objects_of, seen};
+ghost use Rattle.session_ctx.specs.catalog_rules.Nodes.{nodes_of};
 ghost use Rattle.sql_tree.specs.StatementView.{view, view_program, view_trigger};
-ghost use Rattle.catalog_rules.specs.Objects.{function, name_of, reaction};
+ghost use Rattle.session_ctx.specs.catalog_rules.Objects.{function, name_of, reaction};
 ghost use Rattle.unsafe_rules.specs.Places.{places_of};
 ghost use Rattle.unsafe_rules.specs.Reaching.{in_body, in_found, in_place, in_programs, is_at, is_reached};
 
-use catalog_objects::Object;
+use node_walk::catalog_objects::Object;
 use node_walk::{Ask, in_statement};
 use sql_tree::{Routine, Stmt, TriggerDef};
 use val_types::Bytes;

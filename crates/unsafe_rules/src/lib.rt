@@ -43,7 +43,10 @@ mod reaching;
 mod unsafety;
 mod writing;
 
+// The crates below that this one speaks of, passed on: who stands above names them through it.
 pub use carrying::carried;
 pub use explaining::reasons;
+pub use session_ctx;
+pub use statement_names;
 pub use unsafety::Reasons;
 pub use writing::writes;

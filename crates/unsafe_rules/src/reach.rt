@@ -1,17 +1,17 @@
 //! What holds of all that is reached, once all programs that are reached were found.
 ghost use Rattle.std.specs.Prelude.{◌≡◌, flat_map};
 ghost use Rattle.std.specs.List.{list_any};
-ghost use Rattle.catalog_objects.specs.Keys.{objects_of};
-ghost use Rattle.catalog_rules.specs.Nodes.{nodes_of};
+ghost use Rattle.node_walk.specs.catalog_objects.Keys.{objects_of};
+ghost use Rattle.session_ctx.specs.catalog_rules.Nodes.{nodes_of};
 ghost use Rattle.node_walk.specs.Asking.{asks_node};
-ghost use Rattle.sql_reach.specs.Reach.{body_nodes, reached_nodes, reached_programs};
+ghost use Rattle.statement_names.specs.sql_reach.Reach.{body_nodes, reached_nodes, reached_programs};
 ghost use Rattle.sql_tree.specs.StatementView.{view};
 ghost use Rattle.unsafe_rules.specs.Places.{places_of};
 ghost use Rattle.unsafe_rules.specs.Reaching.{IsAll, IsNext, in_programs};
 
 use crate::found::{Found, in_programs};
 use crate::reaching::next_reached;
-use catalog_objects::Objects;
+use node_walk::catalog_objects::Objects;
 use node_walk::{Ask, in_statement};
 use sql_tree::Stmt;
 

@@ -2,16 +2,16 @@
 ghost use Rattle.std.specs.Prelude.{◌≡◌, slice_get};
 ghost use Rattle.std.specs.Option.{option_copied};
 ghost use Rattle.std.specs.List.{list_any};
-ghost use Rattle.catalog_objects.specs.Keys.{objects_of, seen};
-ghost use Rattle.catalog_rules.specs.Nodes.{nodes_of};
-ghost use Rattle.sql_reach.specs.Reach.{is_writing_function, reached_programs};
+ghost use Rattle.node_walk.specs.catalog_objects.Keys.{objects_of, seen};
+ghost use Rattle.session_ctx.specs.catalog_rules.Nodes.{nodes_of};
+ghost use Rattle.statement_names.specs.sql_reach.Reach.{is_writing_function, reached_programs};
 ghost use Rattle.sql_tree.specs.StatementView.{view, view_program};
-ghost use Rattle.catalog_rules.specs.Objects.{body_of, function};
+ghost use Rattle.session_ctx.specs.catalog_rules.Objects.{body_of, function};
 ghost use Rattle.unsafe_rules.specs.Places.{places_of};
 ghost use Rattle.unsafe_rules.specs.Reaching.{IsFound, IsNext};
 
 use crate::found::{Found, is_found, is_reached, more, nothing};
-use catalog_objects::Object;
+use node_walk::catalog_objects::Object;
 use node_walk::{Ask, in_statement};
 use sql_tree::{Routine, Stmt};
 

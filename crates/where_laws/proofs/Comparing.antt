@@ -14,9 +14,9 @@ use Rattle.value_rules.specs.Operators.{truth_of, comparison, unary_value}
 use Rattle.sql_tree.specs.Tree.{Tree, literal, name, column, new_column, old_column, user_variable, system_variable, unary, binary, is_in, choice, subquery, exists, call, built_in, values_of, name_const, floor_rand}
 use Rattle.sql_locals.specs.Locals.{find_local}
 use Rattle.sql_locals.specs.declared.locals.Local.{Local}
-use Rattle.catalog_rules.specs.Names.{same_name, place_among}
-use Rattle.catalog_rules.specs.Objects.{columns_of}
-use Rattle.log_entries.specs.Variables.{variable_value}
+use Rattle.sql_meaning.specs.catalog_rules.Names.{same_name, place_among}
+use Rattle.sql_meaning.specs.catalog_rules.Objects.{columns_of}
+use Rattle.sql_meaning.specs.log_entries.Variables.{variable_value}
 use Rattle.sql_meaning.specs.Frames.{World, Frame, column_if, column_in_view, qualified_value}
 use Rattle.where_laws.specs.Sides.{Side, of_column, standing, side_value, stands, short, if_given, column_side, name_side, operated, side_of, Kind, nothing_else, a_number, a_text, kind_of_value, kind_of_type, kind_of, do_compare, is_condition}
 use Rattle.where_laws.proofs.Sides.{some_is, fits_at}

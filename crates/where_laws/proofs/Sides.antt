@@ -15,9 +15,9 @@ use Rattle.value_rules.specs.Operators.{unary_value}
 use Rattle.sql_tree.specs.Tree.{literal, name, column, new_column, old_column, user_variable, system_variable, unary, binary, is_in, choice, subquery, exists, call, built_in, values_of, name_const, floor_rand}
 use Rattle.sql_locals.specs.Locals.{find_local}
 use Rattle.sql_locals.specs.declared.locals.Local.{Local}
-use Rattle.catalog_rules.specs.Names.{same_name, place_among, first_made}
-use Rattle.catalog_rules.specs.Objects.{columns_of}
-use Rattle.log_entries.specs.Variables.{variable_value}
+use Rattle.sql_meaning.specs.catalog_rules.Names.{same_name, place_among, first_made}
+use Rattle.sql_meaning.specs.catalog_rules.Objects.{columns_of}
+use Rattle.sql_meaning.specs.log_entries.Variables.{variable_value}
 use Rattle.sql_meaning.specs.Scenes.{Scene, Ending, done, then_do, answered, needed}
 use Rattle.sql_meaning.specs.Frames.{World, Frame, View, sees, column_in, column_if, column_in_view, qualified_value, capped}
 use Rattle.sql_meaning.specs.Values.{value}

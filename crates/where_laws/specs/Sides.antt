@@ -13,9 +13,9 @@ use Rattle.value_rules.specs.Operators.{unary_value}
 use Rattle.value_rules.specs.Functions.{text_value}
 use Rattle.sql_tree.specs.Tree.{Tree, literal, name, column, new_column, old_column, user_variable, unary, values_of, name_const}
 use Rattle.sql_locals.specs.Locals.{find_local}
-use Rattle.catalog_rules.specs.Names.{same_name, place_among}
-use Rattle.catalog_rules.specs.Objects.{columns_of}
-use Rattle.log_entries.specs.Variables.{variable_value}
+use Rattle.sql_meaning.specs.catalog_rules.Names.{same_name, place_among}
+use Rattle.sql_meaning.specs.catalog_rules.Objects.{columns_of}
+use Rattle.sql_meaning.specs.log_entries.Variables.{variable_value}
 use Rattle.sql_meaning.specs.Scenes.{Scene, done}
 use Rattle.sql_meaning.specs.Frames.{World, Frame, sees, column_if, column_in_view, qualified_value}
 use Rattle.sql_meaning.specs.Values.{value}

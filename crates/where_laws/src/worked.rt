@@ -3,7 +3,7 @@ ghost use Rattle.std.specs.Prelude.{◌≡◌, [], ◌∷◌, codes, false, neg_
 ghost use Rattle.val_types.specs.declared.ops.BinOp.TheVariants as ops;
 ghost use Rattle.val_types.specs.declared.ops.UnOp.TheVariants as signs;
 ghost use Rattle.val_types.specs.declared.value.Value.TheVariants.{Int, Null, Text};
-ghost use Rattle.catalog_rules.specs.Worked.{id, v};
+ghost use Rattle.sql_meaning.specs.catalog_rules.Worked.{id, v};
 ghost use Rattle.sql_meaning.specs.Worked.{a_def, n, nothing, r, t_def};
 ghost use Rattle.sql_tree.specs.Tree.{binary, column, floor_rand, literal, name, name_const, new_column, part, unary, user_variable};
 ghost use Rattle.where_laws.specs.Facts.{above, at_most};

@@ -4,9 +4,9 @@ use Rattle.std.specs.Str.{bytes_eq}
 use Rattle.std.proofs.lemmas.List.{take_all}
 use Rattle.std.proofs.lemmas.Slice.Eq.{bytes_eq-Decides}
 use Rattle.std.proofs.Math.Seq.{drop-append_seam}
-use Rattle.log_model.specs.Events.{Place}
-use Rattle.log_model.specs.Groups.{Form, start, next_log, ddl, txn, Group, Next, group, not_whole, damaged_at, foreign_at, group_at}
-use Rattle.log_model.specs.Log.{magic}
+use Rattle.whole_groups.specs.log_model.Events.{Place}
+use Rattle.whole_groups.specs.log_model.Groups.{Form, start, next_log, ddl, txn, Group, Next, group, not_whole, damaged_at, foreign_at, group_at}
+use Rattle.whole_groups.specs.log_model.Log.{magic}
 use Rattle.whole_groups.proofs.Lying.{group_lies, nothing_there}
 use Rattle.whole_groups.proofs.Staying.{group_stays, stops_stay}
 use Rattle.whole_logs.specs.Walk.{Ending, ended, damaged, foreign, Piece, Grouped, nothing_but, with_piece, size_of, piece_of, behind, closed_at, by_form, by_next, groups_from, grouped}

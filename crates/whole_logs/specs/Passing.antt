@@ -1,8 +1,8 @@
 -- What is known of a whole log behind bytes of it that were read, group by group.
 use Rattle.std.specs.Prelude.{◌≡◌, ◌≤◌, ◌<◌, ℕ, ◌+◌, Bool, true, false, List, [], ◌∷◌, ◌++◌, length}
-use Rattle.log_model.specs.Events.{Place}
-use Rattle.log_model.specs.Groups.{Form, start, next_log, ddl, txn, Group, group, not_whole, damaged_at, foreign_at, group_at}
-use Rattle.log_model.specs.Log.{magic}
+use Rattle.whole_groups.specs.log_model.Events.{Place}
+use Rattle.whole_groups.specs.log_model.Groups.{Form, start, next_log, ddl, txn, Group, group, not_whole, damaged_at, foreign_at, group_at}
+use Rattle.whole_groups.specs.log_model.Log.{magic}
 use Rattle.whole_logs.specs.Walk.{Ending, ended, damaged, foreign, Piece, Grouped, nothing_but, with_piece, piece_of, behind, closed_at, by_form, groups_from, grouped}
 
 -- ---- a walk with enough turns

@@ -1,8 +1,8 @@
 -- The lines that show a log: one an event of each of its groups.
 use Rattle.std.specs.Prelude.{ℕ, if◌then◌else◌, List, [], ◌∷◌, ◌++◌, flat_map, Option, None}
 use Rattle.event_codec.specs.Event.{Body, table_map, rows, Map}
-use Rattle.log_model.specs.Events.{Placed, events_from}
-use Rattle.log_model.specs.Groups.{find}
+use Rattle.whole_groups.specs.log_model.Events.{Placed, events_from}
+use Rattle.whole_groups.specs.log_model.Groups.{find}
 use Rattle.log_print.specs.Lines.{line_of}
 use Rattle.whole_logs.specs.Walk.{Piece, grouped}
 

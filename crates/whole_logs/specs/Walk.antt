@@ -1,9 +1,9 @@
 -- A log by its groups, one after the other, and why no other follows.
 use Rattle.std.specs.Prelude.{ℕ, zero, suc, ◌-◌, if◌then◌else◌, List, [], ◌∷◌, length, take, drop}
 use Rattle.std.specs.Str.{bytes_eq}
-use Rattle.log_model.specs.Events.{Place}
-use Rattle.log_model.specs.Groups.{Form, start, next_log, ddl, txn, Group, Next, group, not_whole, damaged_at, foreign_at, group_at}
-use Rattle.log_model.specs.Log.{magic}
+use Rattle.whole_groups.specs.log_model.Events.{Place}
+use Rattle.whole_groups.specs.log_model.Groups.{Form, start, next_log, ddl, txn, Group, Next, group, not_whole, damaged_at, foreign_at, group_at}
+use Rattle.whole_groups.specs.log_model.Log.{magic}
 
 -- Why no group follows: the log ends; what stands at a place is damaged, a front of a group at the log's end among it; or an event is
 -- of a type that is not known.

@@ -1,8 +1,8 @@
 -- Small logs, of which worked examples are made.
 use Rattle.std.specs.Prelude.{ℕ, List, [], ◌∷◌, ◌++◌, flat_map, replicate}
-use Rattle.log_model.specs.Log.{head, rotation}
-use Rattle.log_model.specs.Worked.{first_log}
-use Rattle.log_model.specs.Written.{bytes_of}
+use Rattle.whole_groups.specs.log_model.Log.{head, rotation}
+use Rattle.whole_groups.specs.log_model.Worked.{first_log}
+use Rattle.whole_groups.specs.log_model.Written.{bytes_of}
 
 -- lines, each with its end
 abbrev pub lines_shown : List (List ℕ) → List ℕ

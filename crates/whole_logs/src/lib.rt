@@ -25,8 +25,10 @@
 mod laws;
 mod worked;
 
+// The crates below that this one speaks of, passed on: who stands above names them through it.
 pub use laws::{
     end_is_seen, group_is_first, group_is_passed, magic_is_passed, nothing_behind_names,
     others_are_damaged, stop_is_seen, turns_are_enough,
 };
+pub use log_print;
 pub use worked::{first_log_by_hand, magic_by_hand, stops_by_hand};

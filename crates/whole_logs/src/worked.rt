@@ -1,7 +1,7 @@
 //! Logs by hand, which the checker computes from the definitions.
 ghost use Rattle.std.specs.Prelude.{◌≡◌, ◌∷◌, ◌++◌, [], codes, length, take};
-ghost use Rattle.log_model.specs.Log.{magic};
-ghost use Rattle.log_model.specs.Worked.{first_log};
+ghost use Rattle.whole_groups.specs.log_model.Log.{magic};
+ghost use Rattle.whole_groups.specs.log_model.Worked.{first_log};
 ghost use Rattle.whole_logs.specs.Printed.{log_lines};
 ghost use Rattle.whole_logs.specs.Walk.{damaged, ended, foreign, grouped, nothing_but};
 ghost use Rattle.whole_logs.specs.Worked.{lines_shown, rotated, with_unknown};

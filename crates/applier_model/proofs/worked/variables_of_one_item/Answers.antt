@@ -5,14 +5,14 @@ use Rattle.sql_syntax.specs.Expressions.{nested}
 use Rattle.sql_syntax.specs.Programs.{inner, created_within}
 use Rattle.text_answers.specs.Answers.{tokens_from, text_answer}
 use Rattle.table_rules.specs.Stored.{all_applied}
-use Rattle.catalog_rules.specs.Checks.{statement_refusal}
-use Rattle.catalog_rules.specs.Creating.{ddl_refusal}
-use Rattle.sql_meaning.specs.Running.{effect, evaluation, level_of}
+use Rattle.session_ctx.specs.catalog_rules.Checks.{statement_refusal}
+use Rattle.session_ctx.specs.catalog_rules.Creating.{ddl_refusal}
+use Rattle.session_ctx.specs.sql_meaning.Running.{effect, evaluation, level_of}
 use Rattle.sql_reach.specs.Carrying.{carried}
 use Rattle.sql_reach.specs.Reach.{writes}
 use Rattle.byte_fields.specs.Unroll.{all_from}
 use Rattle.byte_fields.specs.Field.{number_at}
-use Rattle.log_model.specs.Images.{row_at, changes_at}
+use Rattle.transaction_sizes.specs.log_model.Images.{row_at, changes_at}
 use Rattle.applier_model.specs.Groups.{group_carried}
 use Rattle.applier_model.proofs.worked.variables_of_one_item.Goals as goal
 

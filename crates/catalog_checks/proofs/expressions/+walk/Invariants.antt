@@ -1,6 +1,6 @@
 use Rattle.std.proofs.Common.{◌≡◌, ◌≤◌, min, drop}
 use Rattle.sql_tree.specs.View.{view_trees, view_arms, view_aggregates, view_orders}
-use Rattle.catalog_rules.specs.Ranks.{trees_rank, arms_rank, aggregates_rank, orders_rank}
+use Rattle.catalog_objects.specs.catalog_rules.Ranks.{trees_rank, arms_rank, aggregates_rank, orders_rank}
 use Rattle.catalog_checks.specs.Asking.{asked_of, sight_of}
 use Rattle.catalog_checks.proofs.expressions.+walk.Given as goal
 

@@ -1,9 +1,9 @@
 use Rattle.std.proofs.Common.{◌≡◌, ◌∙◌, min, length, not, rules}
 use Rattle.sql_tree.specs.StatementView.{view_supply}
-use Rattle.catalog_rules.specs.Names.{has_twice}
-use Rattle.catalog_rules.specs.Objects.{columns_of}
-use Rattle.catalog_rules.specs.Checks.{has_width}
-use Rattle.catalog_rules.specs.Ranks.{rank_unless}
+use Rattle.catalog_objects.specs.catalog_rules.Names.{has_twice}
+use Rattle.catalog_objects.specs.catalog_rules.Objects.{columns_of}
+use Rattle.catalog_objects.specs.catalog_rules.Checks.{has_width}
+use Rattle.catalog_objects.specs.catalog_rules.Ranks.{rank_unless}
 use Rattle.catalog_checks.specs.Asking.{asked_of}
 use Rattle.catalog_checks.proofs.Counting.{all_given_is}
 use Rattle.catalog_checks.proofs.inserting.all_given.Goals as goal

@@ -2,7 +2,7 @@ use Rattle.std.proofs.Common.{◌≡◌, drop, not}
 use Rattle.std.specs.Prelude.{◌==◌}
 use Rattle.std.specs.List.{list_any}
 use Rattle.sql_tree.specs.StatementView.{view_rows}
-use Rattle.catalog_rules.specs.Nodes.{count_of_trees}
+use Rattle.catalog_objects.specs.catalog_rules.Nodes.{count_of_trees}
 use Rattle.catalog_checks.proofs.inserting.has_other_width.Given as goal
 
 abbrev pub invariant-loop-row : goal.invariant-loop-row

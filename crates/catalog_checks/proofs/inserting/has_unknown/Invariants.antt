@@ -1,6 +1,6 @@
 use Rattle.std.proofs.Common.{◌≡◌, drop, not}
 use Rattle.std.specs.List.{list_any}
-use Rattle.catalog_rules.specs.Checks.{has_column}
+use Rattle.catalog_objects.specs.catalog_rules.Checks.{has_column}
 use Rattle.catalog_checks.proofs.inserting.has_unknown.Given as goal
 
 abbrev pub invariant-loop-name : goal.invariant-loop-name

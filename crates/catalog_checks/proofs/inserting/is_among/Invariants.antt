@@ -1,5 +1,5 @@
 use Rattle.std.proofs.Common.{◌≡◌, drop}
-use Rattle.catalog_rules.specs.Names.{is_among}
+use Rattle.catalog_objects.specs.catalog_rules.Names.{is_among}
 use Rattle.catalog_checks.proofs.inserting.is_among.Given as goal
 
 abbrev pub invariant-loop-own : goal.invariant-loop-own

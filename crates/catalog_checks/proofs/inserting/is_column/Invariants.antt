@@ -1,6 +1,6 @@
 use Rattle.std.proofs.Common.{◌≡◌, map, drop}
 use Rattle.val_types.specs.declared.definitions.ColumnDef.{ColumnDef}
-use Rattle.catalog_rules.specs.Names.{is_among}
+use Rattle.catalog_objects.specs.catalog_rules.Names.{is_among}
 use Rattle.catalog_checks.proofs.inserting.is_column.Given as goal
 
 abbrev pub invariant-loop-column : goal.invariant-loop-column

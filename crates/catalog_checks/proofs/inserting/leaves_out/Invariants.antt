@@ -1,6 +1,6 @@
 use Rattle.std.proofs.Common.{◌≡◌, drop}
 use Rattle.std.specs.List.{list_any, enumerate_from}
-use Rattle.catalog_rules.specs.Checks.{is_left_out}
+use Rattle.catalog_objects.specs.catalog_rules.Checks.{is_left_out}
 use Rattle.catalog_checks.proofs.inserting.leaves_out.Given as goal
 
 abbrev pub invariant-loop-i : goal.invariant-loop-i

@@ -2,9 +2,9 @@ use Rattle.std.proofs.Common.{◌≡◌, ap, ◌∙◌, sym, rules}
 use Rattle.std.specs.Option.{option_copied}
 use Rattle.sql_tree.specs.View.{view_tree}
 use Rattle.catalog_objects.specs.Keys.{objects_of}
-use Rattle.catalog_rules.specs.Ranks.{code_of, tree_rank}
-use Rattle.catalog_rules.proofs.Refusing.{asking, expression_law}
-use Rattle.catalog_rules.specs.Nodes.{no_sight}
+use Rattle.catalog_objects.specs.catalog_rules.Ranks.{code_of, tree_rank}
+use Rattle.catalog_objects.proofs.catalog_rules.Refusing.{asking, expression_law}
+use Rattle.catalog_objects.specs.catalog_rules.Nodes.{no_sight}
 use Rattle.catalog_checks.specs.declared.sight.Sight.{the_lemmas}
 use Rattle.catalog_checks.specs.Asking.{scope_with}
 use Rattle.catalog_checks.proofs.refusing.expression_refusal.Goals as goal

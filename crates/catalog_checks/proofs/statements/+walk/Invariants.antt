@@ -1,6 +1,6 @@
 use Rattle.std.proofs.Common.{◌≡◌, ◌≤◌, ◌+◌, ◌*◌, min, drop}
 use Rattle.sql_tree.specs.StatementView.{view_statements, view_branches}
-use Rattle.catalog_rules.specs.Ranks.{steps_rank, branches_rank}
+use Rattle.catalog_objects.specs.catalog_rules.Ranks.{steps_rank, branches_rank}
 use Rattle.catalog_checks.specs.Asking.{asked_of}
 use Rattle.catalog_checks.proofs.statements.+walk.Given as goal
 

@@ -1,6 +1,6 @@
 use Rattle.std.proofs.Common.{◌≡◌, ◌∙◌, ap, min, rules}
 use Rattle.sql_tree.specs.View.{view_part, view_orders}
-use Rattle.catalog_rules.specs.Ranks.{changing, has_table, rank_unless, count_if_rank}
+use Rattle.catalog_objects.specs.catalog_rules.Ranks.{changing, has_table, rank_unless, count_if_rank}
 use Rattle.catalog_checks.specs.Asking.{asked_of, condition_rank}
 use Rattle.catalog_checks.proofs.statements.changed.Goals as goal
 

@@ -1,6 +1,6 @@
 use Rattle.std.proofs.Common.{◌≡◌, ◌≤◌, min, drop}
 use Rattle.sql_tree.specs.StatementView.{view_declarations}
-use Rattle.catalog_rules.specs.Ranks.{declared_rank}
+use Rattle.catalog_objects.specs.catalog_rules.Ranks.{declared_rank}
 use Rattle.catalog_checks.specs.Asking.{asked_of}
 use Rattle.catalog_checks.proofs.statements.declared.Given as goal
 

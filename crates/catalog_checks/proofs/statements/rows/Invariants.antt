@@ -1,6 +1,6 @@
 use Rattle.std.proofs.Common.{◌≡◌, ◌≤◌, min, drop}
 use Rattle.sql_tree.specs.StatementView.{view_rows}
-use Rattle.catalog_rules.specs.Ranks.{rows_rank}
+use Rattle.catalog_objects.specs.catalog_rules.Ranks.{rows_rank}
 use Rattle.catalog_checks.specs.Asking.{asked_of}
 use Rattle.catalog_checks.proofs.statements.rows.Given as goal
 

@@ -1,6 +1,6 @@
 use Rattle.std.proofs.Common.{◌≡◌, ◌≤◌, min, drop}
 use Rattle.sql_tree.specs.StatementView.{view_sets}
-use Rattle.catalog_rules.specs.Ranks.{sets_rank}
+use Rattle.catalog_objects.specs.catalog_rules.Ranks.{sets_rank}
 use Rattle.catalog_checks.specs.Asking.{asked_of, sight_of}
 use Rattle.catalog_checks.proofs.statements.sets.Given as goal
 

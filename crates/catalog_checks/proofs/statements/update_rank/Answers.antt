@@ -1,8 +1,8 @@
 use Rattle.std.proofs.Common.{◌≡◌, ◌∙◌, ap, min, rules}
 use Rattle.sql_tree.specs.View.{view_part, view_orders}
 use Rattle.sql_tree.specs.StatementView.{view_sets}
-use Rattle.catalog_rules.specs.Nodes.{in_sight, no_sight}
-use Rattle.catalog_rules.specs.Ranks.{Asked, changing, sets_rank, changed_rank}
+use Rattle.catalog_objects.specs.catalog_rules.Nodes.{in_sight, no_sight}
+use Rattle.catalog_objects.specs.catalog_rules.Ranks.{Asked, changing, sets_rank, changed_rank}
 use Rattle.catalog_checks.specs.Asking.{asked_of}
 use Rattle.catalog_checks.proofs.statements.update_rank.Goals as goal
 

@@ -1,6 +1,6 @@
 use Rattle.std.proofs.Common.{◌≡◌, map, take}
 use Rattle.val_types.specs.declared.definitions.ColumnDef.{ColumnDef}
-use Rattle.catalog_rules.specs.Defined.{names_at}
+use Rattle.catalog_objects.specs.catalog_rules.Defined.{names_at}
 use Rattle.catalog_statements.proofs.tables.names_at.Given as goal
 
 abbrev pub invariant-loop-place : goal.invariant-loop-place

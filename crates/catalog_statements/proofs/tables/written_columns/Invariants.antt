@@ -1,5 +1,5 @@
 use Rattle.std.proofs.Common.{◌≡◌, ◌++◌, drop}
-use Rattle.catalog_rules.specs.Defined.{written_columns}
+use Rattle.catalog_objects.specs.catalog_rules.Defined.{written_columns}
 use Rattle.catalog_statements.proofs.tables.written_columns.Given as goal
 
 abbrev pub invariant-loop-place : goal.invariant-loop-place

@@ -1,6 +1,6 @@
 use Rattle.std.proofs.Common.{◌≡◌, map, take}
 use Rattle.val_types.specs.declared.definitions.ColumnDef.{ColumnDef}
-use Rattle.catalog_rules.specs.Defined.{written_key}
+use Rattle.catalog_objects.specs.catalog_rules.Defined.{written_key}
 use Rattle.catalog_statements.proofs.tables.written_keys.Given as goal
 
 abbrev pub invariant-loop-key : goal.invariant-loop-key

@@ -1,6 +1,6 @@
 use Rattle.std.proofs.Common.{◌≡◌, drop}
 use Rattle.std.specs.List.{list_any, enumerate_from}
-use Rattle.sql_meaning.specs.Changing.{has_missing, is_missing}
+use Rattle.sql_evaluation.specs.sql_meaning.Changing.{has_missing, is_missing}
 use Rattle.changed_rows.proofs.columns.has_missing.Given as goal
 
 abbrev pub invariant-loop-place : goal.invariant-loop-place

@@ -2,7 +2,7 @@ use Rattle.std.proofs.Common.{◌∙◌, sym, ap, cond, Some, None, length}
 use Rattle.std.specs.Option.{option_or}
 use Rattle.sql_tree.specs.StatementView.{view}
 use Rattle.sql_print.specs.StatementSpelling.{spelling}
-use Rattle.sql_reach.specs.Closing.{closed}
+use Rattle.closed_length.specs.sql_reach.Closing.{closed}
 use Rattle.proc_model.specs.Closing.{closing_refusal, limit_refusal, literal_refusal}
 use Rattle.closing_checks.proofs.Limits.{too_long, short_enough}
 use Rattle.closing_checks.proofs.closing.check_closing.Goals as goal

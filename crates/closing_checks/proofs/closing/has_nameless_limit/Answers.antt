@@ -1,6 +1,6 @@
 use Rattle.std.proofs.Common.{◌∙◌}
 use Rattle.sql_tree.specs.StatementView.{view}
-use Rattle.catalog_rules.specs.Nodes.{nodes_of}
+use Rattle.closed_length.specs.catalog_rules.Nodes.{nodes_of}
 use Rattle.closing_checks.proofs.Limits.{any_nameless}
 use Rattle.closing_checks.proofs.closing.has_nameless_limit.Goals as goal
 

@@ -1,5 +1,5 @@
 use Rattle.std.proofs.Common.{refl}
-use Rattle.sql_reach.specs.Reasons.{reasons}
+use Rattle.reach_laws.specs.sql_reach.Reasons.{reasons}
 use Rattle.independence_laws.specs.Followed.{is_followed, is_unsafe_by_rand_alone}
 use Rattle.independence_laws.proofs.worked.followed_statements.Goals as goal
 

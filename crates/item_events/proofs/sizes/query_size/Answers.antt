@@ -1,5 +1,5 @@
 use Rattle.std.proofs.Common.{arith}
-use Rattle.log_model.specs.Items.{query_of}
+use Rattle.row_events.specs.log_model.Items.{query_of}
 use Rattle.item_events.proofs.Measuring.{size_of_query}
 use Rattle.item_events.proofs.sizes.query_size.Goals as goal
 

@@ -1,7 +1,7 @@
 use Rattle.std.proofs.Common.{List, [], ◌∷◌, ◌++◌, refl}
 use Rattle.event_codec.specs.Event.{Body, query}
-use Rattle.log_model.specs.Items.{query_of, text_of}
-use Rattle.log_model.specs.Spelling.{bodies_of}
+use Rattle.row_events.specs.log_model.Items.{query_of, text_of}
+use Rattle.row_events.specs.log_model.Spelling.{bodies_of}
 use Rattle.item_events.specs.Parts.{numbers, variables}
 use Rattle.item_events.proofs.Texting.{begin, part_can, part_goes, last_can, last, text_parts}
 use Rattle.item_events.proofs.text.put_text.Goals as goal

@@ -1,5 +1,5 @@
 use Rattle.std.proofs.Common.{drop}
-use Rattle.log_model.specs.Items.{at_time}
+use Rattle.row_events.specs.log_model.Items.{at_time}
 use Rattle.row_events.specs.Writing.{GoesOn}
 use Rattle.item_events.specs.Parts.{variables}
 use Rattle.item_events.proofs.text.put_vars.Given as goal

@@ -1,6 +1,6 @@
 use Rattle.std.proofs.Common.{sym, arith}
 use Rattle.event_codec.specs.Reading.{none, short, damaged, foreign}
-use Rattle.log_model.specs.Events.{Place}
+use Rattle.row_image.specs.log_model.Events.{Place}
 use Rattle.log_groups.specs.Views.{place_of}
 use Rattle.log_groups.proofs.Looks.{look_short, look_stops, read_there}
 use Rattle.log_groups.proofs.growing.look_at.Goals as goal

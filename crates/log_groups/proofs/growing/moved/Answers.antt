@@ -1,7 +1,7 @@
 use Rattle.std.proofs.Common.{◌∙◌, ap, sym}
 use Rattle.event_codec.specs.Event.{body_of, seen}
 use Rattle.event_codec.specs.Reading.{event}
-use Rattle.log_model.specs.Groups.{Stage, move}
+use Rattle.row_image.specs.log_model.Groups.{Stage, move}
 use Rattle.log_groups.specs.Views.{place_of}
 use Rattle.log_groups.proofs.Looks.{look_goes, look_closes, look_refuses, stage_here, stands_here, counts, ends_low, read_there, event_fits}
 use Rattle.log_groups.proofs.growing.moved.Goals as goal

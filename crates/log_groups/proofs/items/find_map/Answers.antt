@@ -1,5 +1,5 @@
 use Rattle.std.proofs.Common.{◌≡◌, ◌-◌, ◌+◌, ℕ, sym, ◌∙◌, ap, arith, take}
-use Rattle.log_model.specs.Groups.{find}
+use Rattle.row_image.specs.log_model.Groups.{find}
 use Rattle.log_groups.specs.Views.{parts, maps_in}
 use Rattle.log_groups.proofs.Walking.{find_on}
 use Rattle.log_groups.proofs.items.find_map.Goals as goal

@@ -1,6 +1,6 @@
 use Rattle.std.proofs.Common.{◌≡◌}
 use Rattle.event_codec.specs.Event.{seen, query_of}
-use Rattle.log_model.specs.Events.{past}
+use Rattle.row_image.specs.log_model.Events.{past}
 use Rattle.log_groups.specs.Views.{place_of, query_at}
 use Rattle.log_groups.proofs.Walking.{goes_on, closes, refuses, ends}
 use Rattle.log_groups.proofs.reading.transaction.Goals as goal

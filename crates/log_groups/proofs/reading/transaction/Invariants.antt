@@ -1,6 +1,6 @@
 use Rattle.std.proofs.Common.{◌≡◌, length}
-use Rattle.log_model.specs.Events.{events_from, stop_from}
-use Rattle.log_model.specs.Groups.{scan, first}
+use Rattle.row_image.specs.log_model.Events.{events_from, stop_from}
+use Rattle.row_image.specs.log_model.Groups.{scan, first}
 use Rattle.log_groups.specs.Views.{stage_of, place_of, StandsAt}
 use Rattle.log_groups.proofs.reading.transaction.Given as goal
 

@@ -1,8 +1,8 @@
 use Rattle.std.proofs.Common.{◌≤◌, ◌+◌, sym, arith, subst, length}
 use Rattle.log_groups.specs.Growing.{IsSettled}
 use Rattle.log_groups.specs.Views.{group_seen}
-use Rattle.log_model.specs.Groups.{Next}
-use Rattle.whole_groups.proofs.Lying.{group_lies}
+use Rattle.log_groups.specs.log_model.Groups.{Next}
+use Rattle.log_groups.proofs.whole_groups.Lying.{group_lies}
 use Rattle.log_reader.proofs.groups.whole_or_stopped.Goals as goal
 
 pub returns-in-Group : goal.returns-in-Group

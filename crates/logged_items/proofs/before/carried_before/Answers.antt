@@ -1,7 +1,7 @@
 use Rattle.std.proofs.Common.{ap, ◌∙◌}
 use Rattle.std.specs.Option.{option_map}
-use Rattle.log_entries.specs.declared.carried.Carried.{Carried}
-use Rattle.catalog_objects.specs.Keys.{objects_of}
+use Rattle.entry_groups.specs.log_entries.declared.carried.Carried.{Carried}
+use Rattle.catalog_checks.specs.catalog_objects.Keys.{objects_of}
 use Rattle.sql_tree.specs.StatementView.{view}
 use Rattle.logged_items.proofs.Parts.{carried_as_before}
 use Rattle.logged_items.proofs.before.carried_before.Goals as goal

@@ -1,5 +1,5 @@
 use Rattle.std.proofs.Common.{map, drop}
-use Rattle.log_model.specs.Items.{AreTypes, kind_of}
+use Rattle.entry_groups.specs.log_model.Items.{AreTypes, kind_of}
 use Rattle.logged_items.proofs.carrying.are_types.Given as goal
 
 abbrev pub invariant-loop-column : goal.invariant-loop-column

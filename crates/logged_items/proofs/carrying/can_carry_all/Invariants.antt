@@ -1,5 +1,5 @@
 use Rattle.std.proofs.Common.{drop}
-use Rattle.log_model.specs.Items.{CanCarryAll}
+use Rattle.entry_groups.specs.log_model.Items.{CanCarryAll}
 use Rattle.logged_items.proofs.carrying.can_carry_all.Given as goal
 
 -- those that are left are wanting

@@ -1,5 +1,5 @@
 use Rattle.std.proofs.Common.{◌≡◌, drop}
-use Rattle.log_model.specs.Items.{columns_in}
+use Rattle.entry_groups.specs.log_model.Items.{columns_in}
 use Rattle.logged_items.proofs.carrying.columns_of.Given as goal
 
 abbrev pub invariant-loop-definition : goal.invariant-loop-definition

@@ -1,6 +1,6 @@
 use Rattle.std.proofs.Common.{rules, ◌≡◌, ◌≤◌, true, length}
 use Rattle.std.proofs.lemmas.Bool.{OnTrue_at, OnTrue_from}
-use Rattle.log_model.specs.Items.{CanCarryAll}
+use Rattle.entry_groups.specs.log_model.Items.{CanCarryAll}
 use Rattle.row_laws.specs.Laws.{AreNamed}
 use Rattle.logged_items.proofs.carrying.has_rows.Goals as goal
 

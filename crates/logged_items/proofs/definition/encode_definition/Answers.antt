@@ -1,7 +1,7 @@
 use Rattle.std.proofs.Common.{rules, ◌≡◌, ◌<◌, ◌^◌, ◌∷◌, [], false, codes, arith}
 use Rattle.std.specs.Str.{bytes_eq}
 use Rattle.event_codec.specs.Event.{query}
-use Rattle.log_model.specs.Written.{CanWriteAll}
+use Rattle.entry_groups.specs.log_model.Written.{CanWriteAll}
 use Rattle.logged_items.proofs.Encoding.{definition_can, definition_encodes}
 use Rattle.logged_items.proofs.definition.encode_definition.Goals as goal
 

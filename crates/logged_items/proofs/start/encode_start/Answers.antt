@@ -1,6 +1,6 @@
 use Rattle.std.proofs.Common.{◌≡◌, ◌++◌, ap, ◌∙◌, length}
-use Rattle.log_model.specs.Log.{description, head}
-use Rattle.log_model.specs.Written.{bytes_of}
+use Rattle.entry_groups.specs.log_model.Log.{description, head}
+use Rattle.entry_groups.specs.log_model.Written.{bytes_of}
 use Rattle.logged_items.proofs.Encoding.{start_can}
 use Rattle.logged_items.proofs.start.encode_start.Goals as goal
 

@@ -1,6 +1,6 @@
 use Rattle.std.proofs.Common.{◌≡◌, ◌++◌, drop}
-use Rattle.catalog_objects.specs.Keys.{objects_of}
-use Rattle.catalog_rules.specs.Bases.{definitions_in}
+use Rattle.catalog_checks.specs.catalog_objects.Keys.{objects_of}
+use Rattle.catalog_checks.specs.catalog_rules.Bases.{definitions_in}
 use Rattle.logged_items.specs.Items.{among}
 use Rattle.logged_items.proofs.tables.definitions_among.Given as goal
 

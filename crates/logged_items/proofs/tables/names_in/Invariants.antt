@@ -1,6 +1,6 @@
 use Rattle.std.specs.Prelude.{◌||◌}
 use Rattle.std.proofs.Common.{◌≡◌, ℕ, List, map, drop}
-use Rattle.catalog_rules.specs.Names.{is_among}
+use Rattle.catalog_checks.specs.catalog_rules.Names.{is_among}
 use Rattle.val_types.specs.Changes.{table_of}
 use Rattle.logged_items.proofs.tables.names_in.Given as goal
 

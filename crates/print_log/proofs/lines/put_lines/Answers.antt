@@ -1,6 +1,6 @@
 use Rattle.std.proofs.Common.{◌≡◌, ◌+◌, refl, map}
 use Rattle.event_codec.specs.Event.{map_of, seen}
-use Rattle.log_model.specs.Events.{Place, past}
+use Rattle.log_reader.specs.log_model.Events.{Place, past}
 use Rattle.print_log.proofs.Shown.{line_more, lines_over}
 use Rattle.print_log.proofs.lines.put_lines.Goals as goal
 

@@ -1,6 +1,6 @@
 use Rattle.std.proofs.Common.{refl}
 use Rattle.std.specs.Fmt.{digits}
-use Rattle.catalog_rules.specs.Checks.{statement_refusal}
+use Rattle.sql_reach.specs.catalog_rules.Checks.{statement_refusal}
 use Rattle.sql_reach.specs.Closing.{closed}
 use Rattle.proc_model.specs.Closing.{closing_refusal}
 use Rattle.proc_model.specs.Procedures.{call_at, called}

@@ -1,6 +1,6 @@
 use Rattle.std.proofs.Common.{drop}
 use Rattle.sql_tree.specs.StatementView.{view_assignments}
-use Rattle.proc_model.specs.Procedures.{assign_one, assignments_of, carried_on}
+use Rattle.name_const.specs.proc_model.Procedures.{assign_one, assignments_of, carried_on}
 use Rattle.proc_parts.specs.Calls.{Moves}
 use Rattle.proc_parts.proofs.Assigned.{OntoAlways}
 use Rattle.proc_parts.proofs.assigning.assign_all.Given as goal

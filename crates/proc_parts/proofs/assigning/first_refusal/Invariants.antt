@@ -1,7 +1,7 @@
 use Rattle.std.proofs.Common.{◌≡◌, drop}
 use Rattle.sql_tree.specs.StatementView.{view_assignments}
-use Rattle.catalog_rules.specs.Names.{first_made}
-use Rattle.proc_model.specs.Procedures.{assignment_refusal, assignments_of}
+use Rattle.name_const.specs.catalog_rules.Names.{first_made}
+use Rattle.name_const.specs.proc_model.Procedures.{assignment_refusal, assignments_of}
 use Rattle.proc_parts.proofs.assigning.first_refusal.Given as goal
 
 abbrev pub invariant-loop-assignment : goal.invariant-loop-assignment

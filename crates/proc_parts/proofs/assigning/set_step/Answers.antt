@@ -1,8 +1,8 @@
 use Rattle.std.proofs.Common.{◌≡◌, Some, None, ap, ◌∙◌}
 use Rattle.std.proofs.lemmas.Result.{err_from_is_err_and}
 use Rattle.sql_tree.specs.StatementView.{view, view_assignments}
-use Rattle.catalog_rules.specs.Names.{first_made}
-use Rattle.proc_model.specs.Procedures.{assignment_refusal, assignments_of}
+use Rattle.name_const.specs.catalog_rules.Names.{first_made}
+use Rattle.name_const.specs.proc_model.Procedures.{assignment_refusal, assignments_of}
 use Rattle.proc_parts.specs.Calls.{always, held_of}
 use Rattle.proc_parts.proofs.Assigned.{set_done, set_refused, set_unvalued}
 use Rattle.proc_parts.proofs.assigning.set_step.Goals as goal

@@ -1,5 +1,5 @@
 use Rattle.std.proofs.Common.{◌≡◌, drop}
-use Rattle.proc_model.specs.Procedures.{add_local, all_tried}
+use Rattle.name_const.specs.proc_model.Procedures.{add_local, all_tried}
 use Rattle.proc_parts.proofs.declaring.add_locals.Given as goal
 
 abbrev pub invariant-loop-name : goal.invariant-loop-name

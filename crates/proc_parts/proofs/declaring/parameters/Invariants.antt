@@ -1,6 +1,6 @@
 use Rattle.std.proofs.Common.{◌≡◌, drop}
 use Rattle.std.specs.Prelude.{zip}
-use Rattle.proc_model.specs.Procedures.{add_parameter, all_tried}
+use Rattle.name_const.specs.proc_model.Procedures.{add_parameter, all_tried}
 use Rattle.proc_parts.proofs.declaring.parameters.Given as goal
 
 abbrev pub invariant-loop-parameter : goal.invariant-loop-parameter

@@ -1,6 +1,6 @@
 use Rattle.std.proofs.Common.{◌≡◌, drop}
 use Rattle.sql_tree.specs.StatementView.{view_assignments}
-use Rattle.sql_meaning.specs.Within.{values_assigned}
+use Rattle.name_const.specs.sql_meaning.Within.{values_assigned}
 use Rattle.proc_parts.proofs.Asked.{trees_before}
 use Rattle.proc_parts.proofs.doing.do_assigned.Given as goal
 

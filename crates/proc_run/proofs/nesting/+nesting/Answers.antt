@@ -2,7 +2,7 @@ use Rattle.std.proofs.Common.{◌≡◌, ◌==◌, true, false, sym, ap, ◌∙�
 use Rattle.std.proofs.lemmas.Bool.Decides.{nat_tests}
 use Rattle.std.proofs.lemmas.Result.{err_from_is_err_and}
 use Rattle.sql_tree.specs.StatementView.{view_program}
-use Rattle.sql_meaning.specs.Frames.{Running}
+use Rattle.proc_parts.specs.sql_meaning.Frames.{Running}
 use Rattle.proc_parts.specs.Calls.{always, held_of, plainly}
 use Rattle.proc_run.proofs.Nested.{body_ends, body_unfit, call_absent, call_ends, call_miscounted, call_running, call_too_deep, counted_is}
 use Rattle.proc_run.proofs.nesting.+nesting.Goals as goal

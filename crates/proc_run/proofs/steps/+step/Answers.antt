@@ -6,7 +6,7 @@ use Rattle.sql_tree.specs.declared.statements.Branch.{Branch}
 use Rattle.sql_tree.specs.declared.statements.Stmt.{Stmt, If}
 use Rattle.sql_tree.specs.StatementView.{view, view_branches, view_declarations, view_otherwise, view_statements}
 use Rattle.sql_tree.specs.View.{view_tree}
-use Rattle.sql_meaning.specs.Within.{do_one}
+use Rattle.proc_parts.specs.sql_meaning.Within.{do_one}
 use Rattle.proc_parts.specs.Calls.{always, held_of}
 use Rattle.proc_parts.proofs.Behind.{moves_nowhere, moves_on}
 use Rattle.proc_run.proofs.Stepping.{block_done, block_fails, block_undeclared, branches_end, branches_fail, branches_here, branches_skip, else_absent, if_start, if_view, steps_end, steps_fail, steps_more, turns_fail, turns_more, turns_past, turns_start, turns_unspent, turns_untested}

@@ -2,7 +2,7 @@ use Rattle.std.proofs.Common.{◌+◌, ◌*◌, drop}
 use Rattle.sql_tree.specs.Statement.{while_steps}
 use Rattle.sql_tree.specs.StatementView.{view, view_branches, view_otherwise, view_statements}
 use Rattle.sql_tree.specs.View.{view_tree}
-use Rattle.sql_meaning.specs.Within.{do_one}
+use Rattle.proc_parts.specs.sql_meaning.Within.{do_one}
 use Rattle.proc_parts.specs.Calls.{Moves, held_of}
 use Rattle.proc_parts.specs.Parts.{step_at}
 use Rattle.proc_run.specs.Steps.{branches_at, steps_at}

@@ -1,7 +1,7 @@
 use Rattle.std.proofs.Common.{refl}
 use Rattle.sql_tree.specs.Statement.{create_table}
-use Rattle.catalog_rules.specs.Defined.{definition_of}
-use Rattle.catalog_objects.specs.Keys.{objects_of}
+use Rattle.statement_names.specs.catalog_rules.Defined.{definition_of}
+use Rattle.catalog.specs.catalog_objects.Keys.{objects_of}
 use Rattle.prog_run.specs.Runs.{contents_of}
 use Rattle.prog_run.proofs.Defined.{refused_by, refused_with, contents_stay, stays_free, is_there, makes_by, made_on, kept_on}
 use Rattle.prog_run.proofs.defining.create.Goals as goal

@@ -1,5 +1,5 @@
 use Rattle.std.proofs.Common.{◌≡◌, ◌<◌, ◌^◌, drop}
-use Rattle.sql_reach.specs.Defining.{number_of_bytes}
+use Rattle.statement_names.specs.sql_reach.Defining.{number_of_bytes}
 use Rattle.prog_run.proofs.number.number_of_bytes.Given as goal
 
 -- the bytes behind go on from the number so far, which has no more digits than bytes were read

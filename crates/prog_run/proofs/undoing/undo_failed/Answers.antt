@@ -1,6 +1,6 @@
 use Rattle.std.proofs.Common.{[]}
 use Rattle.sql_tree.specs.StatementView.{view}
-use Rattle.sql_meaning.specs.Running.{perform}
+use Rattle.statement_names.specs.sql_meaning.Running.{perform}
 use Rattle.stored_programs.specs.sql_evaluation.Seen.{frame_of, world_of}
 use Rattle.stored_programs.specs.sql_statements.Did.{did_of}
 use Rattle.prog_run.proofs.Undone.{undone_ends}

@@ -1,7 +1,7 @@
 use Rattle.std.proofs.Common.{◌≡◌, map, drop}
 use Rattle.std.specs.List.{list_any}
 use Rattle.sql_tree.specs.declared.statements.Parameter.{Parameter}
-use Rattle.catalog_rules.specs.Creating.{is_ill_type}
+use Rattle.table_creation.specs.catalog_rules.Creating.{is_ill_type}
 use Rattle.program_creation.proofs.ranks.has_ill_type.Given as goal
 
 abbrev pub invariant-loop-parameter : goal.invariant-loop-parameter

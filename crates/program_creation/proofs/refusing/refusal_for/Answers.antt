@@ -1,10 +1,10 @@
 use Rattle.std.proofs.Common.{◌≡◌, ◌∙◌, sym, Some, rules, Bool}
 use Rattle.std.specs.Prelude.{if◌then◌else◌, is_none, is_some, nat_le}
 use Rattle.sql_tree.specs.StatementView.{view}
-use Rattle.catalog_rules.specs.Bodies.{of_trigger}
-use Rattle.catalog_rules.specs.Creating.{runs_before_storing}
-use Rattle.catalog_rules.specs.Objects.{count_of_programs, table_in, trigger_in, trigger_for}
-use Rattle.catalog_objects.specs.Keys.{objects_of}
+use Rattle.table_creation.specs.catalog_rules.Bodies.{of_trigger}
+use Rattle.table_creation.specs.catalog_rules.Creating.{runs_before_storing}
+use Rattle.table_creation.specs.catalog_rules.Objects.{count_of_programs, table_in, trigger_in, trigger_for}
+use Rattle.table_creation.specs.catalog_objects.Keys.{objects_of}
 use Rattle.program_creation.specs.Refusing.{trigger_code}
 use Rattle.program_creation.proofs.RefusedFirst.{trigger_refused}
 use Rattle.program_creation.proofs.refusing.refusal_for.Goals as goal

@@ -1,7 +1,7 @@
 use Rattle.std.proofs.Common.{◌≡◌, drop}
 use Rattle.sql_tree.specs.StatementView.{view_declarations}
-use Rattle.catalog_rules.specs.Names.{is_among}
-use Rattle.catalog_rules.specs.Bodies.{declared_names}
+use Rattle.table_creation.specs.catalog_rules.Names.{is_among}
+use Rattle.table_creation.specs.catalog_rules.Bodies.{declared_names}
 use Rattle.program_creation.proofs.scope.is_declared.Given as goal
 
 abbrev pub invariant-loop-declaration : goal.invariant-loop-declaration

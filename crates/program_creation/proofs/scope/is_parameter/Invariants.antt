@@ -1,6 +1,6 @@
 use Rattle.std.proofs.Common.{◌≡◌, map, drop}
 use Rattle.sql_tree.specs.declared.statements.Parameter.{Parameter}
-use Rattle.catalog_rules.specs.Names.{is_among}
+use Rattle.table_creation.specs.catalog_rules.Names.{is_among}
 use Rattle.program_creation.proofs.scope.is_parameter.Given as goal
 
 abbrev pub invariant-loop-parameter : goal.invariant-loop-parameter

@@ -1,6 +1,6 @@
 use Rattle.std.proofs.Common.{◌≡◌, List, ℕ, sym, ap, ◌∙◌}
 use Rattle.log_groups.specs.Views.{group_seen}
-use Rattle.log_model.specs.Groups.{group, group_at}
+use Rattle.log_groups.specs.log_model.Groups.{group, group_at}
 use Rattle.relay_log.specs.Reaching.{ahead_of, Fetched, place_seen}
 use Rattle.relay_log.proofs.Keeping.{ahead_on}
 use Rattle.relay_log.proofs.walking.walk.Goals as goal

@@ -1,5 +1,5 @@
 use Rattle.std.proofs.Common.{◌≡◌, drop}
-use Rattle.log_model.specs.Images.{types_of as types_in}
+use Rattle.applier_model.specs.log_model.Images.{types_of as types_in}
 use Rattle.applier_model.specs.Rows.{are_same_types}
 use Rattle.row_apply.proofs.Alike.{kinds_of}
 use Rattle.row_apply.proofs.columns.are_same_types.Given as goal

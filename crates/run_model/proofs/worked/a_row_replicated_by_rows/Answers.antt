@@ -4,13 +4,13 @@ use Rattle.sql_grammar.specs.Reader.{steps}
 use Rattle.sql_syntax.specs.Tokens.{kind}
 use Rattle.sql_syntax.specs.Expressions.{nested}
 use Rattle.sql_syntax.specs.Programs.{inner, created_within}
-use Rattle.text_answers.specs.Answers.{tokens_from, text_answer}
+use Rattle.session_replays.specs.text_answers.Answers.{tokens_from, text_answer}
 use Rattle.table_rules.specs.Stored.{all_applied}
-use Rattle.catalog_rules.specs.Checks.{statement_refusal}
-use Rattle.catalog_rules.specs.Creating.{ddl_refusal}
-use Rattle.sql_meaning.specs.Running.{effect, evaluation, level_of}
-use Rattle.sql_reach.specs.Carrying.{carried}
-use Rattle.sql_reach.specs.Reach.{writes}
+use Rattle.entry_groups.specs.catalog_rules.Checks.{statement_refusal}
+use Rattle.entry_groups.specs.catalog_rules.Creating.{ddl_refusal}
+use Rattle.session_replays.specs.sql_meaning.Running.{effect, evaluation, level_of}
+use Rattle.session_replays.specs.sql_reach.Carrying.{carried}
+use Rattle.session_replays.specs.sql_reach.Reach.{writes}
 use Rattle.byte_fields.specs.Unroll.{all_from}
 use Rattle.byte_fields.specs.Field.{number_at, number_bytes}
 use Rattle.byte_fields.specs.LengthEncoded.{lenenc_at, lenenc_bytes}
@@ -19,11 +19,11 @@ use Rattle.event_codec.specs.Columns.{columns_at}
 use Rattle.event_codec.specs.Parts.{text}
 use Rattle.event_codec.specs.Reading.{reading}
 use Rattle.event_codec.specs.Writing.{size, event_bytes, header_bytes, query_bytes, names_bytes, table_map_bytes, rows_bytes, format_description_bytes, layout_bytes}
-use Rattle.log_model.specs.Events.{walk}
-use Rattle.log_model.specs.Groups.{group_at}
-use Rattle.log_model.specs.Images.{row_at, changes_at, row_bytes}
-use Rattle.session_model.specs.Machine.{step}
-use Rattle.applier_model.specs.Groups.{group_carried}
+use Rattle.entry_groups.specs.log_model.Events.{walk}
+use Rattle.entry_groups.specs.log_model.Groups.{group_at}
+use Rattle.entry_groups.specs.log_model.Images.{row_at, changes_at, row_bytes}
+use Rattle.session_replays.specs.session_model.Machine.{step}
+use Rattle.replica_model.specs.applier_model.Groups.{group_carried}
 use Rattle.replica_model.specs.Replica.{want}
 use Rattle.replica_model.specs.Applying.{apply}
 use Rattle.replica_model.specs.Selecting.{select_answer}

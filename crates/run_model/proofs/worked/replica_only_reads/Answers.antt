@@ -4,14 +4,14 @@ use Rattle.sql_grammar.specs.Reader.{steps}
 use Rattle.sql_syntax.specs.Tokens.{kind}
 use Rattle.sql_syntax.specs.Expressions.{nested}
 use Rattle.sql_syntax.specs.Programs.{inner, created_within}
-use Rattle.text_answers.specs.Answers.{tokens_from, text_answer}
+use Rattle.session_replays.specs.text_answers.Answers.{tokens_from, text_answer}
 use Rattle.table_rules.specs.Stored.{all_applied}
-use Rattle.catalog_rules.specs.Checks.{statement_refusal}
-use Rattle.catalog_rules.specs.Creating.{ddl_refusal}
-use Rattle.sql_meaning.specs.Running.{effect, evaluation, level_of}
-use Rattle.sql_reach.specs.Carrying.{carried}
-use Rattle.sql_reach.specs.Reach.{writes}
-use Rattle.session_model.specs.Machine.{step}
+use Rattle.entry_groups.specs.catalog_rules.Checks.{statement_refusal}
+use Rattle.entry_groups.specs.catalog_rules.Creating.{ddl_refusal}
+use Rattle.session_replays.specs.sql_meaning.Running.{effect, evaluation, level_of}
+use Rattle.session_replays.specs.sql_reach.Carrying.{carried}
+use Rattle.session_replays.specs.sql_reach.Reach.{writes}
+use Rattle.session_replays.specs.session_model.Machine.{step}
 use Rattle.replica_model.specs.Selecting.{select_answer}
 use Rattle.run_model.proofs.worked.replica_only_reads.Goals as goal
 

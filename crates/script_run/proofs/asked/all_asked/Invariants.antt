@@ -1,7 +1,7 @@
 use Rattle.std.proofs.Common.{◌≡◌, ◌≤◌, length, map, drop, IsTrue}
 use Rattle.std.specs.List.{list_all}
 use Rattle.script_read.specs.Commands.{command_seen}
-use Rattle.run_model.specs.Asked.{all_asked}
+use Rattle.run_laws.specs.run_model.Asked.{all_asked}
 use Rattle.script_run.specs.Asking.{asked_seen, is_fit}
 use Rattle.script_run.proofs.Asking.{with_all}
 use Rattle.script_run.proofs.asked.all_asked.Given as goal

@@ -1,6 +1,6 @@
 use Rattle.std.proofs.Common.{ap, ◌∙◌}
-use Rattle.catalog_objects.specs.Keys.{objects_of}
-use Rattle.session_steps.specs.proc_parts.Calls.{left_of}
+use Rattle.proc_run.specs.catalog_objects.Keys.{objects_of}
+use Rattle.proc_run.specs.proc_parts.Calls.{left_of}
 use Rattle.session_steps.specs.Calls.{called}
 use Rattle.session_calls.proofs.Bringing.{call_so}
 use Rattle.session_calls.proofs.calling.call_steps.Goals as goal

@@ -6,11 +6,11 @@ use Rattle.sql_syntax.specs.Expressions.{nested}
 use Rattle.sql_syntax.specs.Programs.{inner, created_within}
 use Rattle.text_answers.specs.Answers.{tokens_from, text_answer}
 use Rattle.table_rules.specs.Stored.{all_applied}
-use Rattle.catalog_rules.specs.Checks.{statement_refusal}
-use Rattle.catalog_rules.specs.Creating.{ddl_refusal}
-use Rattle.sql_meaning.specs.Running.{effect, evaluation, level_of}
-use Rattle.sql_reach.specs.Carrying.{carried}
-use Rattle.sql_reach.specs.Reach.{writes}
+use Rattle.session_ctx.specs.catalog_rules.Checks.{statement_refusal}
+use Rattle.session_ctx.specs.catalog_rules.Creating.{ddl_refusal}
+use Rattle.session_ctx.specs.sql_meaning.Running.{effect, evaluation, level_of}
+use Rattle.proc_model.specs.sql_reach.Carrying.{carried}
+use Rattle.proc_model.specs.sql_reach.Reach.{writes}
 use Rattle.session_model.specs.Machine.{step}
 use Rattle.session_model.proofs.worked.formats_set.Goals as goal
 

@@ -6,19 +6,19 @@ use Rattle.sql_syntax.specs.Expressions.{nested}
 use Rattle.sql_syntax.specs.Programs.{inner, created_within}
 use Rattle.text_answers.specs.Answers.{tokens_from, text_answer}
 use Rattle.table_rules.specs.Stored.{all_applied}
-use Rattle.catalog_rules.specs.Checks.{statement_refusal}
-use Rattle.catalog_rules.specs.Creating.{ddl_refusal}
-use Rattle.sql_meaning.specs.Running.{effect, evaluation, level_of}
-use Rattle.sql_reach.specs.Closing.{closed}
+use Rattle.session_ctx.specs.catalog_rules.Checks.{statement_refusal}
+use Rattle.session_ctx.specs.catalog_rules.Creating.{ddl_refusal}
+use Rattle.session_ctx.specs.sql_meaning.Running.{effect, evaluation, level_of}
+use Rattle.proc_model.specs.sql_reach.Closing.{closed}
 use Rattle.proc_model.specs.Closing.{closing_refusal}
 use Rattle.proc_model.specs.Procedures.{call_at, called}
-use Rattle.sql_reach.specs.Carrying.{carried}
-use Rattle.sql_reach.specs.Reach.{writes}
-use Rattle.sql_reach.specs.Reasons.{reasons}
+use Rattle.proc_model.specs.sql_reach.Carrying.{carried}
+use Rattle.proc_model.specs.sql_reach.Reach.{writes}
+use Rattle.proc_model.specs.sql_reach.Reasons.{reasons}
 use Rattle.byte_fields.specs.Field.{number_bytes}
 use Rattle.byte_fields.specs.LengthEncoded.{lenenc_bytes}
 use Rattle.event_codec.specs.Writing.{query_bytes, names_bytes, table_map_bytes, rows_bytes, size}
-use Rattle.log_model.specs.Images.{row_bytes}
+use Rattle.transaction_sizes.specs.log_model.Images.{row_bytes}
 use Rattle.session_model.specs.Machine.{step}
 use Rattle.session_model.proofs.worked.locals_closed_in.Goals as goal
 

@@ -1,5 +1,5 @@
 use Rattle.std.proofs.Common.{◌≡◌, zip, length}
-use Rattle.session_model.specs.Commands.{all_assigned}
+use Rattle.node_answers.specs.session_model.Commands.{all_assigned}
 use Rattle.session_sets.proofs.assigning.assign_all.Given as goal
 
 abbrev pub invariant-loop-targets : goal.invariant-loop-targets

@@ -1,5 +1,5 @@
 use Rattle.std.proofs.Common.{◌≡◌, zip, length}
-use Rattle.session_model.specs.Commands.{first_refused}
+use Rattle.node_answers.specs.session_model.Commands.{first_refused}
 use Rattle.session_sets.proofs.assigning.first_refused.Given as goal
 
 abbrev pub invariant-loop-targets : goal.invariant-loop-targets

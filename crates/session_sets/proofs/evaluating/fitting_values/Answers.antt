@@ -1,10 +1,10 @@
 use Rattle.std.proofs.Common.{Ok, Err, ap, ◌∙◌}
-use Rattle.log_entries.specs.declared.entries.Item.{Item}
+use Rattle.node_answers.specs.log_entries.declared.entries.Item.{Item}
 use Rattle.session_steps.specs.proc_parts.Calls.{left_of}
 use Rattle.sql_tree.specs.StatementView.{view}
 use Rattle.sql_tree.specs.View.{view_trees}
-use Rattle.session_model.specs.Commands.{is_open}
-use Rattle.session_model.specs.Sessions.{Session}
+use Rattle.node_answers.specs.session_model.Commands.{is_open}
+use Rattle.node_answers.specs.session_model.Sessions.{Session}
 use Rattle.session_sets.specs.Assigning.{misfit_of}
 use Rattle.session_steps.specs.Ran.{fuel_at}
 use Rattle.session_steps.proofs.Fitting.{failed_so, settled_so}

@@ -1,7 +1,7 @@
 use Rattle.std.proofs.Common.{ap}
 use Rattle.sql_tree.specs.StatementView.{view_assignments}
 use Rattle.sql_tree.specs.View.{view_trees}
-use Rattle.session_model.specs.Commands.{set_turn}
+use Rattle.node_answers.specs.session_model.Commands.{set_turn}
 use Rattle.session_sets.specs.Assigning.{set_parts}
 use Rattle.session_steps.specs.Calls.{called}
 use Rattle.session_steps.specs.session_desk.Desk.{shared_of}

@@ -1,8 +1,8 @@
 use Rattle.std.proofs.Common.{rules, ◌≡◌, ◌≤◌, length, ap, ◌∙◌, arith}
-use Rattle.catalog_objects.specs.Keys.{objects_of}
+use Rattle.proc_parts.specs.catalog_objects.Keys.{objects_of}
 use Rattle.sql_tree.specs.StatementView.{view}
-use Rattle.sql_reach.specs.Reasons.{reasons}
-use Rattle.session_model.specs.Formats.{logs_rows, warns}
+use Rattle.proc_parts.specs.sql_reach.Reasons.{reasons}
+use Rattle.session_desk.specs.session_model.Formats.{logs_rows, warns}
 use Rattle.session_desk.specs.Desk.{own_behind, shared_of}
 use Rattle.session_steps.specs.Keeping.{item_made}
 use Rattle.session_steps.proofs.Keeps.{kept_changes, lost_changes}

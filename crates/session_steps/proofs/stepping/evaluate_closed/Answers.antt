@@ -1,7 +1,7 @@
 use Rattle.std.proofs.Common.{Ok, Err}
 use Rattle.proc_parts.specs.Calls.{left_of}
 use Rattle.sql_print.specs.StatementSpelling.{spelling}
-use Rattle.sql_reach.specs.Closing.{closed}
+use Rattle.proc_parts.specs.sql_reach.Closing.{closed}
 use Rattle.sql_tree.specs.StatementView.{view}
 use Rattle.sql_tree.specs.View.{view_trees}
 use Rattle.session_steps.specs.Ran.{fuel_at}

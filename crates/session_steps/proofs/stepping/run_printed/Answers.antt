@@ -1,11 +1,11 @@
 use Rattle.std.proofs.Common.{Ok, Err, subst}
-use Rattle.log_entries.specs.declared.entries.Item.{Item}
+use Rattle.proc_parts.specs.log_entries.declared.entries.Item.{Item}
 use Rattle.proc_parts.specs.prog_run.declared.meter.Outcome.{Outcome}
 use Rattle.proc_parts.specs.Calls.{left_of}
 use Rattle.sql_print.specs.StatementSpelling.{spelling}
 use Rattle.sql_tree.specs.StatementView.{view}
-use Rattle.session_model.specs.Sessions.{Session}
-use Rattle.session_model.specs.Running.{statement_run}
+use Rattle.session_desk.specs.session_model.Sessions.{Session}
+use Rattle.session_desk.specs.session_model.Running.{statement_run}
 use Rattle.session_steps.specs.Calls.{called}
 use Rattle.session_desk.specs.Desk.{shared_of}
 use Rattle.session_steps.specs.Ran.{fuel_at, told_given}

@@ -1,6 +1,6 @@
 use Rattle.std.proofs.Common.{◌≡◌, ◌+◌, drop, map}
 use Rattle.std.specs.Option.{option_map}
-use Rattle.catalog_rules.specs.Names.{place_among}
+use Rattle.catalog_objects.specs.catalog_rules.Names.{place_among}
 use Rattle.sql_evaluation.proofs.lookup.place_of.Given as goal
 
 abbrev pub invariant-loop-place : goal.invariant-loop-place

@@ -4,7 +4,7 @@ use Rattle.val_types.specs.declared.value.Value.{Value}
 use Rattle.table_rules.specs.Tables.{Table}
 use Rattle.sql_tree.specs.declared.expressions.FromClause.{out-FromClause}
 use Rattle.sql_tree.specs.View.{view_selected}
-use Rattle.sql_meaning.specs.Scenes.{done, table_now}
+use Rattle.session_ctx.specs.sql_meaning.Scenes.{done, table_now}
 use Rattle.sql_stage.specs.Stage.{EndsAs, scene_of}
 use Rattle.sql_evaluation.specs.Seen.{shown_in}
 use Rattle.sql_evaluation.proofs.Scanning.{from_done, from_not_kept_at, from_not_ordered_at}

@@ -1,7 +1,7 @@
 use Rattle.std.proofs.Common.{◌≡◌, ◌++◌, drop, map}
 use Rattle.val_types.specs.declared.definitions.ColumnDef.{ColumnDef}
-use Rattle.catalog_rules.specs.Defined.{places_of}
-use Rattle.catalog_rules.specs.Objects.{columns_of}
+use Rattle.changed_rows.specs.catalog_rules.Defined.{places_of}
+use Rattle.changed_rows.specs.catalog_rules.Objects.{columns_of}
 use Rattle.sql_statements.proofs.columns.all_places.Given as goal
 
 abbrev pub invariant-loop-column : goal.invariant-loop-column

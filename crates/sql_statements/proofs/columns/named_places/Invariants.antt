@@ -1,6 +1,6 @@
 use Rattle.std.proofs.Common.{◌≡◌, ◌++◌, drop}
-use Rattle.catalog_rules.specs.Defined.{places_of}
-use Rattle.catalog_rules.specs.Objects.{columns_of}
+use Rattle.changed_rows.specs.catalog_rules.Defined.{places_of}
+use Rattle.changed_rows.specs.catalog_rules.Objects.{columns_of}
 use Rattle.sql_statements.proofs.columns.named_places.Given as goal
 
 abbrev pub invariant-loop-name : goal.invariant-loop-name

@@ -3,11 +3,11 @@ use Rattle.std.proofs.lemmas.Result.{err_from_is_err_and}
 use Rattle.val_types.specs.declared.definitions.TableDef.{TableDef}
 use Rattle.table_rules.specs.Stored.{rows_of}
 use Rattle.table_rules.specs.Tables.{Table}
-use Rattle.catalog_rules.specs.Checks.{given_columns}
-use Rattle.catalog_rules.specs.Defined.{places_of}
-use Rattle.catalog_rules.specs.Objects.{columns_of}
+use Rattle.changed_rows.specs.catalog_rules.Checks.{given_columns}
+use Rattle.changed_rows.specs.catalog_rules.Defined.{places_of}
+use Rattle.changed_rows.specs.catalog_rules.Objects.{columns_of}
 use Rattle.sql_tree.specs.StatementView.{view_supply}
-use Rattle.sql_stage.specs.Stage.{scene_of}
+use Rattle.changed_rows.specs.sql_stage.Stage.{scene_of}
 use Rattle.changed_rows.specs.Changed.{inserting_of, manner_of}
 use Rattle.sql_statements.proofs.Inserts.{insert_done, insert_not_all}
 use Rattle.sql_statements.proofs.inserting.insert.Goals as goal

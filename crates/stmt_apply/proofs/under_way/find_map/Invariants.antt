@@ -1,6 +1,6 @@
 use Rattle.std.proofs.Common.{◌≡◌, drop, map}
 use Rattle.event_codec.specs.Event.{map_of}
-use Rattle.log_model.specs.Groups.{find}
+use Rattle.log_groups.specs.log_model.Groups.{find}
 use Rattle.stmt_apply.proofs.under_way.find_map.Given as goal
 
 abbrev pub invariant-loop-map : goal.invariant-loop-map

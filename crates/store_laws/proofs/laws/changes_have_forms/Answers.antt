@@ -3,7 +3,7 @@ use Rattle.std.specs.List.{AllByRecursion}
 use Rattle.std.specs.Option.{option_map}
 use Rattle.table_rules.specs.Tables.{Table}
 use Rattle.table_rules.specs.Stored.{all_applied}
-use Rattle.log_entries.specs.Entries.{with_tables}
+use Rattle.store_model.specs.log_entries.Entries.{with_tables}
 use Rattle.store_model.specs.Bodies.{IsChange}
 use Rattle.store_laws.proofs.Forms.{IsSmall, small_tables, changes_have}
 use Rattle.store_laws.proofs.laws.changes_have_forms.Goals as goal

@@ -4,7 +4,7 @@ use Rattle.sql_syntax.specs.Tokens.{kind}
 use Rattle.sql_syntax.specs.Expressions.{nested}
 use Rattle.sql_syntax.specs.Programs.{inner, created_within}
 use Rattle.text_answers.specs.Answers.{tokens_from, text_answer}
-use Rattle.catalog_rules.specs.Creating.{ddl_refusal}
+use Rattle.sql_reach.specs.catalog_rules.Creating.{ddl_refusal}
 use Rattle.table_rules.specs.Stored.{all_applied}
 use Rattle.byte_fields.specs.Field.{number_at}
 use Rattle.store_model.specs.Reading.{row_in, change_in}

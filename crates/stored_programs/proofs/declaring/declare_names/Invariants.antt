@@ -1,6 +1,6 @@
 use Rattle.std.proofs.Common.{drop}
-use Rattle.sql_meaning.specs.Scenes.{carried_on}
-use Rattle.sql_meaning.specs.Running.{declare_name}
+use Rattle.sql_statements.specs.sql_meaning.Scenes.{carried_on}
+use Rattle.sql_statements.specs.sql_meaning.Running.{declare_name}
 use Rattle.stored_programs.specs.Bodies.{body_of}
 use Rattle.stored_programs.proofs.Acting.{Same}
 use Rattle.stored_programs.proofs.Declared.{names_left}

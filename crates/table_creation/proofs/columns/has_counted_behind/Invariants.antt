@@ -2,7 +2,7 @@ use Rattle.std.proofs.Common.{◌≡◌, drop, not}
 use Rattle.std.specs.Prelude.{filter}
 use Rattle.std.specs.List.{list_any}
 use Rattle.sql_tree.specs.declared.statements.Column.{Column}
-use Rattle.catalog_rules.specs.Creating.{begins_key, keys_of}
+use Rattle.catalog_checks.specs.catalog_rules.Creating.{begins_key, keys_of}
 use Rattle.table_creation.proofs.columns.has_counted_behind.Given as goal
 
 abbrev pub invariant-loop-column : goal.invariant-loop-column

@@ -2,7 +2,7 @@ use Rattle.std.proofs.Common.{◌≡◌, ◌≤◌, ◌+◌, ◌*◌, map, drop,
 use Rattle.std.specs.Prelude.{sum}
 use Rattle.std.specs.List.{list_any}
 use Rattle.sql_tree.specs.declared.statements.Column.{Column}
-use Rattle.catalog_rules.specs.Creating.{is_ill_type, width_of}
+use Rattle.catalog_checks.specs.catalog_rules.Creating.{is_ill_type, width_of}
 use Rattle.table_creation.proofs.columns.values_width.Given as goal
 
 abbrev pub invariant-loop-column : goal.invariant-loop-column

@@ -1,8 +1,8 @@
 use Rattle.std.proofs.Common.{◌≡◌, map, drop, take, false}
 use Rattle.std.specs.List.{list_any}
 use Rattle.sql_tree.specs.declared.statements.Column.{Column}
-use Rattle.catalog_rules.specs.Defined.{defined_column}
-use Rattle.catalog_rules.specs.Creating.{is_ill_type}
+use Rattle.catalog_checks.specs.catalog_rules.Defined.{defined_column}
+use Rattle.catalog_checks.specs.catalog_rules.Creating.{is_ill_type}
 use Rattle.table_creation.proofs.defining.columns_of.Given as goal
 
 abbrev pub invariant-loop-column : goal.invariant-loop-column

@@ -1,6 +1,6 @@
 use Rattle.std.proofs.Common.{◌≡◌, map, take}
 use Rattle.sql_tree.specs.declared.statements.Column.{Column}
-use Rattle.catalog_rules.specs.Defined.{defined_key}
+use Rattle.catalog_checks.specs.catalog_rules.Defined.{defined_key}
 use Rattle.table_creation.proofs.defining.keys_of.Given as goal
 
 abbrev pub invariant-loop-key : goal.invariant-loop-key

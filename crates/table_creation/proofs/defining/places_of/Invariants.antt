@@ -1,6 +1,6 @@
 use Rattle.std.proofs.Common.{◌≡◌, ◌++◌, map, drop}
 use Rattle.sql_tree.specs.declared.statements.Column.{Column}
-use Rattle.catalog_rules.specs.Defined.{places_of}
+use Rattle.catalog_checks.specs.catalog_rules.Defined.{places_of}
 use Rattle.table_creation.proofs.defining.places_of.Given as goal
 
 abbrev pub invariant-loop-name : goal.invariant-loop-name

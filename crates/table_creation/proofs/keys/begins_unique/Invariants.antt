@@ -1,6 +1,6 @@
 use Rattle.std.proofs.Common.{◌≡◌, map, drop}
 use Rattle.sql_tree.specs.declared.statements.UniqueKey.{UniqueKey}
-use Rattle.catalog_rules.specs.Creating.{begins_key}
+use Rattle.catalog_checks.specs.catalog_rules.Creating.{begins_key}
 use Rattle.table_creation.proofs.keys.begins_unique.Given as goal
 
 abbrev pub invariant-loop-key : goal.invariant-loop-key

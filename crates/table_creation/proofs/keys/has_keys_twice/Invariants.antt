@@ -1,6 +1,6 @@
 use Rattle.std.proofs.Common.{◌≡◌, map, drop}
 use Rattle.sql_tree.specs.declared.statements.UniqueKey.{UniqueKey}
-use Rattle.catalog_rules.specs.Names.{has_twice}
+use Rattle.catalog_checks.specs.catalog_rules.Names.{has_twice}
 use Rattle.table_creation.proofs.keys.has_keys_twice.Given as goal
 
 abbrev pub invariant-loop-i : goal.invariant-loop-i

@@ -1,6 +1,6 @@
 use Rattle.std.proofs.Common.{◌≡◌, map, drop}
 use Rattle.sql_tree.specs.declared.statements.Column.{Column}
-use Rattle.catalog_rules.specs.Creating.{has_unknown}
+use Rattle.catalog_checks.specs.catalog_rules.Creating.{has_unknown}
 use Rattle.table_creation.proofs.keys.has_unknown.Given as goal
 
 abbrev pub invariant-loop-name : goal.invariant-loop-name

@@ -1,6 +1,6 @@
 use Rattle.std.proofs.Common.{◌≡◌, map, drop}
 use Rattle.sql_tree.specs.declared.statements.Column.{Column}
-use Rattle.catalog_rules.specs.Names.{is_among}
+use Rattle.catalog_checks.specs.catalog_rules.Names.{is_among}
 use Rattle.table_creation.proofs.keys.is_column.Given as goal
 
 abbrev pub invariant-loop-column : goal.invariant-loop-column

@@ -1,7 +1,7 @@
 use Rattle.std.proofs.Common.{◌≡◌, map, drop}
 use Rattle.std.specs.List.{list_any}
 use Rattle.sql_tree.specs.declared.statements.UniqueKey.{UniqueKey}
-use Rattle.catalog_rules.specs.Names.{has_twice}
+use Rattle.catalog_checks.specs.catalog_rules.Names.{has_twice}
 use Rattle.table_creation.proofs.keys.uniques_twice.Given as goal
 
 abbrev pub invariant-loop-key : goal.invariant-loop-key

@@ -2,7 +2,7 @@ use Rattle.std.proofs.Common.{◌≡◌, map, drop}
 use Rattle.std.specs.List.{list_any}
 use Rattle.sql_tree.specs.declared.statements.Column.{Column}
 use Rattle.sql_tree.specs.declared.statements.UniqueKey.{UniqueKey}
-use Rattle.catalog_rules.specs.Creating.{has_unknown}
+use Rattle.catalog_checks.specs.catalog_rules.Creating.{has_unknown}
 use Rattle.table_creation.proofs.keys.uniques_unknown.Given as goal
 
 abbrev pub invariant-loop-key : goal.invariant-loop-key

@@ -4,8 +4,8 @@ use Rattle.std.specs.List.{list_any}
 use Rattle.sql_tree.specs.declared.statements.Column.{Column}
 use Rattle.sql_tree.specs.declared.statements.UniqueKey.{UniqueKey}
 use Rattle.std.proofs.Common.{map, ◌&&◌}
-use Rattle.catalog_rules.specs.Names.{has_twice}
-use Rattle.catalog_rules.specs.Creating.{has_ill_preset, is_varchar}
+use Rattle.catalog_checks.specs.catalog_rules.Names.{has_twice}
+use Rattle.catalog_checks.specs.catalog_rules.Creating.{has_ill_preset, is_varchar}
 use Rattle.table_creation.proofs.Chained.{chained}
 use Rattle.table_creation.proofs.refusing.table_refusal.Goals as goal
 

@@ -1,7 +1,7 @@
 use Rattle.std.proofs.Common.{◌≡◌, ◌+◌, ◌∷◌, drop, suc, sym, ap, ◌∙◌, arith}
 use Rattle.std.proofs.lemmas.List.{drop_more}
-use Rattle.catalog_objects.specs.declared.object.Object.{Object}
-use Rattle.catalog_objects.specs.Keys.{objects_of, seen}
+use Rattle.node_walk.specs.catalog_objects.declared.object.Object.{Object}
+use Rattle.node_walk.specs.catalog_objects.Keys.{objects_of, seen}
 use Rattle.unsafe_rules.specs.Places.{places_of}
 use Rattle.unsafe_rules.proofs.Valued.{next_found, next_passed}
 use Rattle.unsafe_rules.proofs.carrying.put_programs.Goals as goal

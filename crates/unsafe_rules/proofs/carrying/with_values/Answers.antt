@@ -1,6 +1,6 @@
 use Rattle.std.proofs.Common.{◌≡◌, ◌+◌, ℕ, suc, List, slice_get, Some, sym, ap, subst, ◌∙◌, arith}
 use Rattle.std.proofs.lemmas.Option.{slice_get-get_or}
-use Rattle.log_entries.specs.Variables.{variable_value}
+use Rattle.session_ctx.specs.log_entries.Variables.{variable_value}
 use Rattle.statement_names.specs.Rising.{Rises}
 use Rattle.unsafe_rules.proofs.Valued.{set_more}
 use Rattle.unsafe_rules.proofs.carrying.with_values.Goals as goal

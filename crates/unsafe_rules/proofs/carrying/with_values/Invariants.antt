@@ -1,5 +1,5 @@
 use Rattle.std.proofs.Common.{◌≡◌, map, take}
-use Rattle.log_entries.specs.Variables.{variable_value}
+use Rattle.session_ctx.specs.log_entries.Variables.{variable_value}
 use Rattle.unsafe_rules.proofs.carrying.with_values.Given as goal
 
 abbrev pub invariant-loop-name : goal.invariant-loop-name

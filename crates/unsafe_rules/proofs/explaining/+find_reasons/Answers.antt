@@ -1,7 +1,7 @@
 use Rattle.std.proofs.Common.{◌+◌, ◌<◌, ◌≤◌, length, refl, arith}
 use Rattle.std.proofs.lemmas.List.{length-map}
-use Rattle.catalog_rules.specs.Nodes.{nodes_of}
-use Rattle.catalog_objects.specs.Keys.{objects_of, seen}
+use Rattle.session_ctx.specs.catalog_rules.Nodes.{nodes_of}
+use Rattle.node_walk.specs.catalog_objects.Keys.{objects_of, seen}
 use Rattle.sql_tree.specs.StatementView.{view}
 use Rattle.unsafe_rules.specs.Places.{places_of}
 use Rattle.unsafe_rules.specs.Reaching.{others, nothing_wanted}

@@ -1,6 +1,6 @@
 use Rattle.std.proofs.Common.{sym, ◌∙◌}
-use Rattle.catalog_objects.specs.Keys.{objects_of}
-use Rattle.catalog_rules.specs.Nodes.{nodes_of}
+use Rattle.node_walk.specs.catalog_objects.Keys.{objects_of}
+use Rattle.session_ctx.specs.catalog_rules.Nodes.{nodes_of}
 use Rattle.sql_tree.specs.StatementView.{view}
 use Rattle.unsafe_rules.specs.Reaching.{nothing_wanted}
 use Rattle.unsafe_rules.proofs.Causing.{nothing_reached}

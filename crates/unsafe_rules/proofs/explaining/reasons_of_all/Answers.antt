@@ -1,7 +1,7 @@
 use Rattle.std.proofs.Common.{◌∙◌, flat_map}
-use Rattle.sql_reach.specs.Reach.{body_nodes, reached_nodes, reached_programs}
-use Rattle.catalog_rules.specs.Nodes.{nodes_of}
-use Rattle.catalog_objects.specs.Keys.{objects_of}
+use Rattle.statement_names.specs.sql_reach.Reach.{body_nodes, reached_nodes, reached_programs}
+use Rattle.session_ctx.specs.catalog_rules.Nodes.{nodes_of}
+use Rattle.node_walk.specs.catalog_objects.Keys.{objects_of}
 use Rattle.sql_tree.specs.StatementView.{view}
 use Rattle.unsafe_rules.proofs.Reasoned.{functions_asked, server_ids_asked, limits_asked, counted_selects_asked, counted_inserts_asked, two_keys_asked, ignored_asked, replaced_asked, updated_asked, reasons_are}
 use Rattle.unsafe_rules.proofs.explaining.reasons_of_all.Goals as goal

@@ -1,9 +1,9 @@
 use Rattle.std.proofs.Common.{◌+◌, ◌<◌, ◌≤◌, length, sym, ap, ◌∙◌, arith}
 use Rattle.std.proofs.lemmas.List.{length-map}
-use Rattle.catalog_rules.specs.Nodes.{nodes_of}
-use Rattle.catalog_objects.specs.Keys.{objects_of, seen}
+use Rattle.session_ctx.specs.catalog_rules.Nodes.{nodes_of}
+use Rattle.node_walk.specs.catalog_objects.Keys.{objects_of, seen}
 use Rattle.sql_tree.specs.StatementView.{view}
-use Rattle.sql_reach.specs.Reach.{is_writing_function}
+use Rattle.statement_names.specs.sql_reach.Reach.{is_writing_function}
 use Rattle.unsafe_rules.specs.Places.{places_of}
 use Rattle.unsafe_rules.specs.Reaching.{others}
 use Rattle.unsafe_rules.proofs.Counting.{one_less}

@@ -1,5 +1,5 @@
-use Rattle.catalog_objects.specs.Keys.{objects_of}
-use Rattle.catalog_rules.specs.Nodes.{nodes_of}
+use Rattle.node_walk.specs.catalog_objects.Keys.{objects_of}
+use Rattle.session_ctx.specs.catalog_rules.Nodes.{nodes_of}
 use Rattle.sql_tree.specs.StatementView.{view}
 use Rattle.unsafe_rules.specs.Places.{places_of}
 use Rattle.unsafe_rules.specs.Reaching.{NoneBelow}

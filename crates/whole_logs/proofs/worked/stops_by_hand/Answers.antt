@@ -5,9 +5,9 @@ use Rattle.event_codec.specs.Bodies.{step_at, query_body, xid_body, rotate_body,
 use Rattle.event_codec.specs.Parts.{text}
 use Rattle.event_codec.specs.Reading.{reading}
 use Rattle.event_codec.specs.Writing.{event_bytes, header_bytes, size, query_bytes, rotate_bytes, format_description_bytes, layout_bytes}
-use Rattle.log_model.specs.Events.{walk}
-use Rattle.log_model.specs.Groups.{group_at}
-use Rattle.log_model.specs.Worked.{first_log}
+use Rattle.whole_groups.specs.log_model.Events.{walk}
+use Rattle.whole_groups.specs.log_model.Groups.{group_at}
+use Rattle.whole_groups.specs.log_model.Worked.{first_log}
 use Rattle.whole_logs.specs.Walk.{grouped}
 use Rattle.whole_logs.specs.Worked.{rotated, with_unknown}
 use Rattle.event_codec.specs.LogName.{log_number, log_name}

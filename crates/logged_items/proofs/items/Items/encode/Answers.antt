@@ -1,8 +1,8 @@
 use Rattle.std.proofs.Common.{rules, ◌≡◌, ◌+◌, ◌<◌, ◌≤◌, ◌^◌, List, length, IfOk, sym, subst, arith}
-use Rattle.log_entries.specs.declared.entries.Item.{Item}
-use Rattle.log_entries.specs.declared.entries.Entry.TheVariants.{Transaction}
-use Rattle.log_model.specs.Log.{transaction}
-use Rattle.log_model.specs.Written.{CanWriteAll}
+use Rattle.entry_groups.specs.log_entries.declared.entries.Item.{Item}
+use Rattle.entry_groups.specs.log_entries.declared.entries.Entry.TheVariants.{Transaction}
+use Rattle.entry_groups.specs.log_model.Log.{transaction}
+use Rattle.entry_groups.specs.log_model.Written.{CanWriteAll}
 use Rattle.logged_items.specs.Logged.{Encodes}
 use Rattle.logged_items.proofs.Encoding.{all_carried, encode_can, encodes_if}
 use Rattle.logged_items.proofs.items.Items.encode.Goals as goal

@@ -1,5 +1,5 @@
 use Rattle.std.proofs.Common.{rules, ◌≡◌, ℕ, ◌+◌, length, subst}
-use Rattle.log_entries.specs.declared.entries.Entry.TheVariants.{Transaction}
+use Rattle.session_model.specs.log_entries.declared.entries.Entry.TheVariants.{Transaction}
 use Rattle.logged_items.specs.Logged.{Encodes, in_log}
 use Rattle.session_desk.proofs.Bases.{committed_now}
 use Rattle.session_desk.proofs.Logging.{one_entry, transaction_place}
