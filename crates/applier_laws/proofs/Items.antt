@@ -14,7 +14,7 @@ use Rattle.entry_groups.specs.log_model.Images.{changes_of}
 use Rattle.entry_groups.specs.log_model.Items.{tables_of, maps_from, pieces_of, all_rows, changes_item, spelled, text_of, at_time, item_size, IsCarried, changes_by, CanCarryAll}
 use Rattle.entry_groups.specs.log_model.Spelling.{rows_item, maps_before, bodies_of, FitsOne, EndWell, IsItem}
 use Rattle.entry_groups.specs.log_model.Written.{Stamped, placed, total}
-use Rattle.entry_groups.proofs.log_model.Carrying.{carried, item_spelled}
+use Rattle.entry_groups.proofs.of_log_model.Carrying.{carried, item_spelled}
 use Rattle.applier_model.specs.transaction_sizes.Sizes.{changes_size, most_bytes}
 use Rattle.applier_model.specs.Texts.{Progress, Applier}
 use Rattle.applier_model.specs.Groups.{and_then, rows_ended, first_place, carry_rows, items_carried}

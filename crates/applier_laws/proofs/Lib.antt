@@ -11,5 +11,5 @@ pub mod Bases
 pub mod Following
 pub mod Entries
 -- the crates below that this one speaks of, passed on
-pub use Rattle.session_replays.proofs.proc_model as proc_model
-pub use Rattle.statement_names.proofs.sql_meaning as sql_meaning
+pub use Rattle.session_replays.proofs.of_proc_model as of_proc_model
+pub use Rattle.statement_names.proofs.of_sql_meaning as of_sql_meaning

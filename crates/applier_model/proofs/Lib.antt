@@ -1,2 +1,2 @@
 -- the crates below that this one speaks of, passed on
-pub use Rattle.transaction_sizes.proofs.row_image as row_image
+pub use Rattle.transaction_sizes.proofs.of_row_image as of_row_image

@@ -7,7 +7,7 @@ use Rattle.transaction_sizes.specs.log_model.Items.{item_events, IsCarried, AreC
 use Rattle.transaction_sizes.specs.log_model.Log.{transaction}
 use Rattle.transaction_sizes.specs.log_model.Written.{Stamped, bytes_of, CanWriteAll}
 use Rattle.transaction_sizes.specs.row_events.Writing.{Wrote, GoesOn}
-use Rattle.transaction_sizes.proofs.row_events.GoingOn.{starts, goes, ends, next}
+use Rattle.transaction_sizes.proofs.of_row_events.GoingOn.{starts, goes, ends, next}
 use Rattle.binlog_cache.specs.declared.kept.Kept.{Kept}
 use Rattle.binlog_cache.specs.Sums.{items_of, begin_event, xid_event}
 

@@ -14,7 +14,7 @@ use Rattle.catalog_statements.specs.catalog_objects.declared.object.Object.{Obje
 use Rattle.catalog_statements.specs.catalog_objects.declared.object.Object.TheVariants as kinds
 use Rattle.catalog_statements.specs.catalog_objects.Keys.{seen, objects_of}
 use Rattle.catalog_statements.specs.catalog_objects.Lookups.{object_of, is_free}
-use Rattle.catalog_statements.proofs.catalog_objects.Found.{same_tied}
+use Rattle.catalog_statements.proofs.of_catalog_objects.Found.{same_tied}
 use Rattle.program_creation.proofs.RefusedFirst.{ddl_is}
 
 -- ---- names that are free

@@ -12,8 +12,8 @@ use Rattle.catalog_statements.specs.catalog_objects.declared.object.Object.{Obje
 use Rattle.catalog_statements.specs.catalog_objects.declared.object.Object.TheVariants as kinds
 use Rattle.catalog_statements.specs.catalog_objects.Keys.{objects_of}
 use Rattle.catalog_statements.specs.catalog_objects.Lookups.{object_of, is_free, is_event_free}
-use Rattle.catalog_statements.proofs.catalog_objects.Found.{same_tied, waiting_found}
-use Rattle.catalog_statements.proofs.catalog_objects.Parts.{program_named, trigger_named, trigger_seen}
+use Rattle.catalog_statements.proofs.of_catalog_objects.Found.{same_tied, waiting_found}
+use Rattle.catalog_statements.proofs.of_catalog_objects.Parts.{program_named, trigger_named, trigger_seen}
 use Rattle.program_creation.proofs.RefusedFirst.{ddl_is}
 use Rattle.catalog.proofs.Added.{free_step, passed, behind, no_some, neither}
 

@@ -4,4 +4,4 @@ pub mod Orders
 pub mod Parts
 pub mod Rising
 -- the crates below that this one speaks of, passed on
-pub use Rattle.catalog_rules.proofs as catalog_rules
+pub use Rattle.catalog_rules.proofs as of_catalog_rules

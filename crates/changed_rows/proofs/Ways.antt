@@ -11,7 +11,7 @@ use Rattle.table_rules.specs.Stores.{place_of}
 use Rattle.sql_evaluation.specs.sql_meaning.Scenes.{done, needed, then_do, pure}
 use Rattle.sql_evaluation.specs.sql_stage.declared.stage.Stage.{Stage}
 use Rattle.sql_evaluation.specs.sql_stage.Stage.{scene_of}
-use Rattle.sql_evaluation.proofs.sql_stage.Snapshots.{definition_there}
+use Rattle.sql_evaluation.proofs.of_sql_stage.Snapshots.{definition_there}
 use Rattle.changed_rows.specs.Changed.{StandsAt}
 use Rattle.changed_rows.specs.Inserted.{InWay, found_by, way_of}
 use Rattle.changed_rows.proofs.Places.{stands_place, stands_there}

@@ -78,7 +78,7 @@ fn generated_next(
 }
 
 /// A value generated at a place: 1467 past the column's type.
-#[tactic(auto, using(sql_evaluation::proofs::sql_stage::Leading::leading, crate::proofs::Numbering::generating))]
+#[tactic(auto, using(sql_evaluation::proofs::of_sql_stage::Leading::leading, crate::proofs::Numbering::generating))]
 fn generate_at(
     around: &Around<'_>,
     forced: Option<i64>,
@@ -109,7 +109,7 @@ fn generate_at(
 }
 
 /// A value that was given: it moves the counter and the sequence.
-#[tactic(auto, using(sql_evaluation::proofs::sql_stage::Leading::leading, crate::proofs::Numbering::generating))]
+#[tactic(auto, using(sql_evaluation::proofs::of_sql_stage::Leading::leading, crate::proofs::Numbering::generating))]
 fn given_value(
     stage: &mut Stage,
     definition: &TableDef,
@@ -140,7 +140,7 @@ fn given_value(
 }
 
 /// The AUTO_INCREMENT value of a row, generated where it asks for one.
-#[tactic(auto, using(sql_evaluation::proofs::sql_stage::Leading::leading, crate::proofs::Numbering::generating))]
+#[tactic(auto, using(sql_evaluation::proofs::of_sql_stage::Leading::leading, crate::proofs::Numbering::generating))]
 pub(crate) fn count_row(
     around: &Around<'_>,
     forced: Option<i64>,

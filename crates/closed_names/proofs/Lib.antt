@@ -1,2 +1,2 @@
 -- the crates below that this one speaks of, passed on
-pub use Rattle.closed_length.proofs.sql_meaning as sql_meaning
+pub use Rattle.closed_length.proofs.of_sql_meaning as of_sql_meaning

@@ -1,4 +1,4 @@
 mod Copying
 pub mod Following
 -- the crates below that this one speaks of, passed on
-pub use Rattle.catalog_rules.proofs as catalog_rules
+pub use Rattle.catalog_rules.proofs as of_catalog_rules

@@ -1,5 +1,5 @@
 pub mod Walking
 pub mod Looks
 -- the crates below that this one speaks of, passed on
-pub use Rattle.row_image.proofs.log_model as log_model
-pub use Rattle.whole_groups.proofs as whole_groups
+pub use Rattle.row_image.proofs.of_log_model as of_log_model
+pub use Rattle.whole_groups.proofs as of_whole_groups

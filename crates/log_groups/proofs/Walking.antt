@@ -6,7 +6,7 @@ use Rattle.event_codec.specs.Reading.{event, none, Stop, reading, Within}
 use Rattle.event_codec.proofs.Lying.{lies_within}
 use Rattle.row_image.specs.log_model.Events.{Place, Placed, past, events_from, stop_from}
 use Rattle.row_image.specs.log_model.Groups.{until_xid, is_xid, find, Stage, go, close, refuse, move, Scan, scan, scanned, txn, Next, group, damaged_at, stop_next, txn_of, begun_by, group_at, statement_of}
-use Rattle.row_image.proofs.log_model.Walking.{events_some, stop_some, events_none, stop_none}
+use Rattle.row_image.proofs.of_log_model.Walking.{events_some, stop_some, events_none, stop_none}
 use Rattle.log_groups.specs.declared.stage.Move as moves
 use Rattle.log_groups.specs.declared.stage.Move.TheVariants as move_is
 use Rattle.log_groups.specs.declared.stage.Stage.TheVariants as stage_is

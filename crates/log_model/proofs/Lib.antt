@@ -11,4 +11,4 @@ pub mod Carrying
 pub mod OneGroup
 pub mod Growing
 -- the crates below that this one speaks of, passed on
-pub use Rattle.log_entries.proofs as log_entries
+pub use Rattle.log_entries.proofs as of_log_entries

@@ -15,7 +15,7 @@ use Rattle.entry_groups.specs.log_model.Log.{begin_query, description, transacti
 use Rattle.entry_groups.specs.log_model.Spelling.{bodies_of}
 use Rattle.entry_groups.specs.log_model.Written.{Stamped, bytes_of, total, CanWriteAll}
 use Rattle.row_laws.specs.row_events.Sizes.{bounded}
-use Rattle.row_laws.proofs.row_events.GoingOn.{total_append}
+use Rattle.row_laws.proofs.of_row_events.GoingOn.{total_append}
 use Rattle.row_laws.proofs.Writable.{writable}
 use Rattle.binlog_cache.specs.transaction_sizes.Sizes.{all_sizes, most_bytes}
 use Rattle.entry_groups.specs.Ids.{AllSayIds, SaysIds}

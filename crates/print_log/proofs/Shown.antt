@@ -11,12 +11,12 @@ use Rattle.event_codec.specs.declared.reading.Read.TheVariants as read
 use Rattle.event_codec.specs.Reading.{event, none, Stop, short, reading, reading_of}
 use Rattle.event_codec.specs.Reading as stops
 use Rattle.log_reader.specs.log_model.Events.{Place, Placed, past, events_from}
-use Rattle.log_reader.proofs.log_model.Walking.{events_some, events_none}
+use Rattle.log_reader.proofs.of_log_model.Walking.{events_some, events_none}
 use Rattle.log_reader.specs.log_print.Lines.{line_of}
 use Rattle.log_reader.specs.run_streams.Stops.{StopsReading, StopsWriting}
 use Rattle.log_reader.specs.run_streams.Wrote.{Wrote, WroteFront}
-use Rattle.log_reader.proofs.run_streams.Writing.{wrote_nothing, wrote_more, broken_behind, front_of_more, whole_front}
-use Rattle.log_reader.proofs.whole_groups.Lying.{group_lies}
+use Rattle.log_reader.proofs.of_run_streams.Writing.{wrote_nothing, wrote_more, broken_behind, front_of_more, whole_front}
+use Rattle.log_reader.proofs.of_whole_groups.Lying.{group_lies}
 use Rattle.log_reader.specs.whole_logs.Walk.{Ending, ended, damaged, foreign, Piece, Grouped, grouped}
 use Rattle.log_reader.specs.whole_logs.Printed.{map_for, maps_behind, lines_from, piece_lines, log_lines}
 use Rattle.log_reader.specs.declared.reader.Found.{Found}

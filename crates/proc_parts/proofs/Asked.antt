@@ -7,7 +7,7 @@ use Rattle.sql_tree.specs.Statement.{Statement, evaluate}
 use Rattle.sql_tree.specs.StatementView.{view_assignments}
 use Rattle.sql_tree.specs.declared.expressions.Expr.{Expr}
 use Rattle.sql_tree.specs.declared.statements.Assignment.{Assignment}
-use Rattle.prog_run.proofs.sql_evaluation.Branching.{rest_is}
+use Rattle.prog_run.proofs.of_sql_evaluation.Branching.{rest_is}
 use Rattle.name_const.specs.sql_meaning.Within.{do_one, values_assigned}
 use Rattle.proc_parts.specs.Calls.{is_do}
 

@@ -9,7 +9,7 @@ use Rattle.sql_tree.specs.StatementView.{view_assignments}
 use Rattle.sql_tree.specs.declared.statements.Assignment.{Assignment}
 use Rattle.sql_tree.specs.declared.statements.Target.{Target}
 use Rattle.name_const.specs.catalog_rules.Names.{first_made}
-use Rattle.prog_run.proofs.sql_evaluation.Branching.{rest_is}
+use Rattle.prog_run.proofs.of_sql_evaluation.Branching.{rest_is}
 use Rattle.val_types.specs.Fitting.{fitting}
 use Rattle.sql_tree.specs.Statement.{Statement, evaluate, set_all}
 use Rattle.sql_locals.specs.Locals.{set_local}

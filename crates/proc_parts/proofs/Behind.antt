@@ -10,7 +10,7 @@ use Rattle.sql_locals.specs.declared.locals.Local.{Local}
 use Rattle.prog_run.specs.declared.meter.Meter.{Meter}
 use Rattle.name_const.specs.proc_model.Talk.{Effect, Talk, Rules, Led}
 use Rattle.name_const.specs.proc_model.Procedures.{Held, Ending, done, failed, Action, ◌>>=◌, unless_failed, answered, let_through, run_closed, evaluate_with, left_at}
-use Rattle.name_const.proofs.proc_model.Leading.{led_then}
+use Rattle.name_const.proofs.of_proc_model.Leading.{led_then}
 use Rattle.proc_parts.specs.declared.runner.RunRefusal.{RunRefusal}
 use Rattle.proc_parts.specs.declared.runner.RunRefusal.TheVariants.{Sql, Device, NoMemory}
 use Rattle.proc_parts.specs.Calls.{EndsBy, Moves, Passes, Tries, Tells, refusal_of, widened}

@@ -7,7 +7,7 @@ use Rattle.sql_tree.specs.Statement.{Declared}
 use Rattle.sql_tree.specs.StatementView.{view_declaration, view_declarations}
 use Rattle.sql_tree.specs.declared.statements.Declaration.{Declaration}
 use Rattle.sql_locals.specs.declared.locals.Local.{Local}
-use Rattle.prog_run.proofs.sql_evaluation.Branching.{rest_is}
+use Rattle.prog_run.proofs.of_sql_evaluation.Branching.{rest_is}
 use Rattle.name_const.specs.proc_model.Talk.{Rules, Led, Talk}
 use Rattle.name_const.specs.proc_model.Procedures.{Held, Ending, done, ◌>>=◌, answered, all_tried, add_local, preset_value, declare, carried_on}
 use Rattle.proc_parts.specs.declared.runner.RunRefusal.{RunRefusal}

@@ -9,6 +9,6 @@ pub mod Evaluated
 pub mod Locals
 pub mod Plain
 -- the crates below that this one speaks of, passed on
-pub use Rattle.name_const.proofs.proc_model as proc_model
-pub use Rattle.prog_run.proofs.sql_evaluation as sql_evaluation
-pub use Rattle.name_const.proofs.sql_meaning as sql_meaning
+pub use Rattle.name_const.proofs.of_proc_model as of_proc_model
+pub use Rattle.prog_run.proofs.of_sql_evaluation as of_sql_evaluation
+pub use Rattle.name_const.proofs.of_sql_meaning as of_sql_meaning

@@ -11,7 +11,7 @@ use Rattle.sql_tree.specs.declared.statements.SqlType.{SqlType}
 use Rattle.sql_tree.specs.declared.statements.Parameter.{Parameter}
 use Rattle.sql_locals.specs.Types.{column_type}
 use Rattle.sql_locals.specs.declared.locals.Local.{Local}
-use Rattle.prog_run.proofs.sql_evaluation.Branching.{rest_is}
+use Rattle.prog_run.proofs.of_sql_evaluation.Branching.{rest_is}
 use Rattle.name_const.specs.proc_model.Procedures.{add_local, add_parameter, all_tried}
 use Rattle.proc_parts.specs.Calls.{Tries, always}
 

@@ -9,7 +9,7 @@ use Rattle.proc_parts.specs.sql_stage.declared.running.Running.{Nothing, the_lem
 use Rattle.proc_parts.specs.sql_stage.UnderWay.{under_way}
 use Rattle.proc_parts.specs.proc_model.Talk.{Left, Rules, Led, ends}
 use Rattle.proc_parts.specs.proc_model.Procedures.{Came, Ending, Held, IsCall, begins, call_at, called, came, done, failed}
-use Rattle.proc_parts.proofs.proc_model.Leading.{led_then}
+use Rattle.proc_parts.proofs.of_proc_model.Leading.{led_then}
 use Rattle.proc_run.specs.declared.calls.CallRefusal.{CallRefusal}
 use Rattle.proc_run.specs.declared.calls.CallRefusal.TheVariants as stops
 use Rattle.proc_parts.specs.declared.runner.RunRefusal.{RunRefusal}

@@ -11,7 +11,7 @@ use Rattle.sql_tree.specs.declared.statements.Stmt.{Stmt, If, the_lemmas}
 use Rattle.sql_tree.specs.declared.statements.Stmt.TheFolds.{fold_out-Branch}
 use Rattle.sql_locals.specs.declared.locals.Local.{Local}
 use Rattle.proc_parts.specs.sql_meaning.Within.{do_one}
-use Rattle.proc_parts.proofs.sql_evaluation.Branching.{rest_is}
+use Rattle.proc_parts.proofs.of_sql_evaluation.Branching.{rest_is}
 use Rattle.proc_parts.specs.proc_model.Talk.{Rules, Led, Talk, ends}
 use Rattle.proc_parts.specs.proc_model.Procedures.{Held, Ending, done, failed, Action, ◌>>=◌, pure, fail, turn_spent, spend_turn, steps}
 use Rattle.proc_parts.specs.declared.runner.RunRefusal.{RunRefusal}

@@ -10,5 +10,5 @@ pub mod Moments
 pub mod UnderWay
 pub mod Undone
 -- the crates below that this one speaks of, passed on
-pub use Rattle.stage_undo.proofs.dml_rows as dml_rows
-pub use Rattle.stored_programs.proofs.sql_evaluation as sql_evaluation
+pub use Rattle.stage_undo.proofs.of_dml_rows as of_dml_rows
+pub use Rattle.stored_programs.proofs.of_sql_evaluation as of_sql_evaluation

@@ -8,7 +8,7 @@ use Rattle.table_rules.proofs.Leading.{noted_taken_back}
 use Rattle.statement_names.specs.sql_meaning.Scenes.{Scene, done, failed, Action, undone, undone_from, put_back}
 use Rattle.stage_undo.specs.sql_stage.declared.stage.Stage.{Stage}
 use Rattle.stage_undo.specs.sql_stage.Stage.{scene_of, LeadsOn, EndsAs, EndsAsBy}
-use Rattle.stage_undo.proofs.sql_stage.Leading.{rows_led}
+use Rattle.stage_undo.proofs.of_sql_stage.Leading.{rows_led}
 use Rattle.stage_undo.specs.Back.{StandsBack, IsBack}
 
 -- the changes since can be taken back

@@ -24,7 +24,7 @@ use stored_programs::sql_statements::Did;
 use val_types::{List, SqlRefusal, Value};
 
 /// What a statement does to a stage.
-#[tactic(auto, using(crate::proofs::Effects::effect_ends, crate::proofs::Undone::stays_back, stage_undo::proofs::sql_stage::Leading::stage_stays))]
+#[tactic(auto, using(crate::proofs::Effects::effect_ends, crate::proofs::Undone::stays_back, stage_undo::proofs::of_sql_stage::Leading::stage_stays))]
 fn effect(
     alloc: Global,
     catalog: &Objects,
@@ -75,7 +75,7 @@ fn evaluation(
 }
 
 /// A statement run on a stage, with its context.
-#[tactic(auto, using(crate::proofs::LastId::last_id_counts, stage_undo::proofs::sql_stage::Leading::stage_stays))]
+#[tactic(auto, using(crate::proofs::LastId::last_id_counts, stage_undo::proofs::of_sql_stage::Leading::stage_stays))]
 pub(crate) fn run_on(
     alloc: Global,
     catalog: &Objects,

@@ -75,7 +75,7 @@ fn program_code(objects: &Objects, kind: Kind, routine: &Routine) -> Option<SqlE
 }
 
 /// Whether there is a function of its name.
-#[tactic(auto, using(table_creation::proofs::catalog_objects::Parts::program_named))]
+#[tactic(auto, using(table_creation::proofs::of_catalog_objects::Parts::program_named))]
 fn is_function(objects: &Objects, routine: &Routine) -> bool
     ensures { result ≡ is_some (function_in (objects_of objects.now) (name_of (view_program routine.now))) }
 {
@@ -83,7 +83,7 @@ fn is_function(objects: &Objects, routine: &Routine) -> bool
 }
 
 /// Whether there is a procedure of its name.
-#[tactic(auto, using(table_creation::proofs::catalog_objects::Parts::program_named))]
+#[tactic(auto, using(table_creation::proofs::of_catalog_objects::Parts::program_named))]
 fn is_procedure(objects: &Objects, routine: &Routine) -> bool
     ensures { result ≡ is_some (procedure_in (objects_of objects.now) (name_of (view_program routine.now))) }
 {

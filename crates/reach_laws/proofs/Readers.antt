@@ -17,7 +17,7 @@ use Rattle.sql_reach.specs.sql_meaning.Frames.{Setting, only_locals}
 use Rattle.sql_reach.specs.sql_meaning.Values.{values}
 use Rattle.sql_reach.specs.sql_meaning.Running.{perform, level_of, world_of, forced_for, tables_named, effect, evaluation}
 use Rattle.sql_reach.specs.sql_meaning.Leading.{scene_after, StaysAsItWas}
-use Rattle.sql_reach.proofs.sql_meaning.Steps.{IsMoved, staying, bind_moved, pure_moved, fail_moved, table_moved, raise_moved, draw_moved, uuid_moved, spend_moved}
+use Rattle.sql_reach.proofs.of_sql_meaning.Steps.{IsMoved, staying, bind_moved, pure_moved, fail_moved, table_moved, raise_moved, draw_moved, uuid_moved, spend_moved}
 use Rattle.sql_reach.specs.Reach.{is_change, is_definition, holds_change, is_writing_function, causes_event, body_nodes, reached_programs, reached_nodes, writes}
 use Rattle.reach_laws.specs.Members.{In}
 use Rattle.reach_laws.specs.Agreeing.{SameOfSession, SameFunction, SameAt}

@@ -15,7 +15,7 @@ use Rattle.replica_node.specs.declared.told.Stopped.TheVariants as stopped
 use Rattle.replica_node.specs.Kept.{Kept, replica_of}
 use Rattle.replica_node.specs.Steps.{IsTold, stop_of}
 use Rattle.log_reader.specs.whole_logs.Passing.{names_next}
-use Rattle.log_reader.proofs.whole_groups.Lying.{group_lies}
+use Rattle.log_reader.proofs.of_whole_groups.Lying.{group_lies}
 use Rattle.replay_log.specs.declared.replaying.Replaying as code_replaying
 use Rattle.replay_log.specs.Keeping.{IsWhole, IsBegun, Keeps, Follows}
 use Rattle.replay_log.specs.Replaying.{Stands, IsReady, IsNext, WentOn}

@@ -19,8 +19,8 @@ use Rattle.replica_node.specs.replica_model.Replica.{Replica, behind_form, behin
 use Rattle.replica_node.specs.replica_model.Applying.{Going, apply, by_form, by_next, carry, carried_out, differs, go_on, moved_behind, next_at}
 use Rattle.replica_node.specs.replica_model.Replaying.{Replay, carried, by_form as replay_form}
 use Rattle.log_reader.specs.whole_logs.Passing.{names_next}
-use Rattle.log_reader.proofs.whole_groups.Lying.{group_lies, nothing_there}
-use Rattle.log_reader.proofs.whole_groups.Staying.{group_stays}
+use Rattle.log_reader.proofs.of_whole_groups.Lying.{group_lies, nothing_there}
+use Rattle.log_reader.proofs.of_whole_groups.Staying.{group_stays}
 use Rattle.replay_log.specs.Keeping.{IsWhole, IsBegun, Keeps, Follows}
 
 -- ---- the beginning of a log stands at its first place alone

@@ -3,7 +3,7 @@ use Rattle.std.proofs.Common.{◌≡◌, ℕ, ◌<◌, List, [], ◌∷◌, map,
 use Rattle.val_types.specs.declared.definitions.ColType.{ColType}
 use Rattle.val_types.specs.declared.definitions.ColumnDef.{ColumnDef}
 use Rattle.applier_model.specs.log_model.Images.{types_of as types_in}
-use Rattle.applier_model.proofs.row_image.Columns.{types_step}
+use Rattle.applier_model.proofs.of_row_image.Columns.{types_step}
 use Rattle.applier_model.specs.Rows.{are_same_types}
 
 abbrev pub kinds_of : List ColumnDef → List ColType

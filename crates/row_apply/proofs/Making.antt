@@ -13,7 +13,7 @@ use Rattle.table_rules.specs.Changes.{applied, AreKept}
 use Rattle.table_rules.specs.Stored.{table_named, row_at, fits_table, insertion, replacement, deletion, carried_out, key_taken, Obstacle}
 use Rattle.table_rules.proofs.Equations.{deletion_by_row}
 use Rattle.prog_run.specs.dml_rows.Noted.{changes_of}
-use Rattle.prog_run.proofs.dml_rows.Noting.{carried, inserted, replaced}
+use Rattle.prog_run.proofs.of_dml_rows.Noting.{carried, inserted, replaced}
 use Rattle.event_codec.specs.Event.{Map}
 use Rattle.applier_model.specs.Stops.{Differs}
 use Rattle.applier_model.specs.Rows.{Refusal, Store, change_if, change_refusal, counters_moved, matches, storing_refusal, table_refusal}

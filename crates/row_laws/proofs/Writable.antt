@@ -25,8 +25,8 @@ use Rattle.row_events.specs.log_model.Images.{bit, byte_of, bitmap, bits_bytes, 
 use Rattle.row_events.specs.log_model.Items.{same_name, distinct, tables_of, id_from, kind_of, is_nullable, type_code, type_metadata, map_of, maps_from, columns_in, types_in, Piece, bytes_in, piece_of, joins, with_change, pieces_from, pieces_of, rows_of, all_rows, at_time, changes_item, CanCarry, CanCarryAll}
 use Rattle.row_events.specs.log_model.Spelling.{bodies_of}
 use Rattle.row_events.specs.log_model.Written.{Stamped, total, CanWriteAll}
-use Rattle.row_events.proofs.log_model.Bits.{length-bitmap}
-use Rattle.row_events.proofs.row_image.Packing.{as_many_values}
+use Rattle.row_events.proofs.of_log_model.Bits.{length-bitmap}
+use Rattle.row_events.proofs.of_row_image.Packing.{as_many_values}
 use Rattle.row_events.specs.Runs.{rows_events}
 use Rattle.row_events.proofs.GoingOn.{total_append}
 use Rattle.row_events.proofs.Cutting.{item_split}

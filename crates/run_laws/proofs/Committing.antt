@@ -26,7 +26,7 @@ use Rattle.applier_laws.specs.sql_reach.Reach.{is_definition}
 use Rattle.sql_print.specs.StatementSpelling.{spelling}
 use Rattle.applier_laws.specs.proc_model.Talk.{Left, Refusal, Told}
 use Rattle.applier_laws.specs.proc_model.Procedures.{scope_of, called}
-use Rattle.applier_laws.proofs.proc_model.Leading.{talk_keeps}
+use Rattle.applier_laws.proofs.of_proc_model.Leading.{talk_keeps}
 use Rattle.applier_laws.specs.text_answers.Answers.{TextAnswer, a_statement, a_syntax_error, too_deep, text_answer}
 use Rattle.applier_laws.specs.session_model.Answers.{ok, refused}
 use Rattle.applier_laws.specs.session_model.Sessions.{Save, Open, Session, Shared, State}

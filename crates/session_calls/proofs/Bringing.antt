@@ -14,7 +14,7 @@ use Rattle.proc_run.specs.catalog_rules.Checks.{session_scope}
 use Rattle.proc_run.specs.catalog_rules.Objects.{Object}
 use Rattle.proc_run.specs.proc_model.Talk.{Effect, Left, Led, Refusal, Talk, Told, brought}
 use Rattle.proc_run.specs.proc_model.Procedures.{Came, called, scope_of}
-use Rattle.proc_run.proofs.proc_model.Leading.{led_stands}
+use Rattle.proc_run.proofs.of_proc_model.Leading.{led_stands}
 use Rattle.node_answers.specs.session_model.Answers.{with_warning}
 use Rattle.node_answers.specs.session_model.Sessions.{Session, Shared}
 use Rattle.node_answers.specs.session_model.Running.{Call, Given, Turn, statement_run, values_run}

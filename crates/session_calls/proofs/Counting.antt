@@ -14,7 +14,7 @@ use Rattle.proc_run.specs.sql_meaning.Running.{context_after, effect, evaluation
 use Rattle.proc_run.specs.log_entries.declared.entries.Item.{Item}
 use Rattle.proc_run.specs.log_entries.declared.entries.Entry.{Entry}
 use Rattle.node_answers.specs.log_model.Log.{LogPlace, behind, counted, counted_all, log, written_to}
-use Rattle.node_answers.proofs.log_model.Growing.{goes_on}
+use Rattle.node_answers.proofs.of_log_model.Growing.{goes_on}
 use Rattle.session_steps.specs.entry_groups.Entries.{CanLogAll}
 use Rattle.session_steps.specs.logged_items.Logged.{in_log}
 use Rattle.proc_run.specs.proc_model.Talk.{Left, Refusal, Told}
@@ -29,7 +29,7 @@ use Rattle.session_calls.specs.Stepping.{Stood}
 use Rattle.session_steps.specs.session_desk.Logging.{Logs, logged}
 use Rattle.session_steps.specs.Turned.{IsTurn, behind_turn}
 use Rattle.session_steps.specs.session_desk.declared.desk.Desk.{Desk}
-use Rattle.session_steps.proofs.session_desk.Logging.{logged_is}
+use Rattle.session_steps.proofs.of_session_desk.Logging.{logged_is}
 
 -- ---- one step
 

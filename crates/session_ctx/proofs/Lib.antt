@@ -1,2 +1,2 @@
 -- the crates below that this one speaks of, passed on
-pub use Rattle.sql_meaning.proofs.catalog_rules as catalog_rules
+pub use Rattle.sql_meaning.proofs.of_catalog_rules as of_catalog_rules

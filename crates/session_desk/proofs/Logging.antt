@@ -5,7 +5,7 @@ use Rattle.session_model.specs.log_entries.declared.entries.Item.{Item}
 use Rattle.session_model.specs.log_entries.declared.entries.Entry.{Entry}
 use Rattle.session_model.specs.log_entries.declared.entries.Entry.TheVariants.{Transaction, Definition, LogStart}
 use Rattle.session_model.specs.log_model.Log.{LogPlace, behind, counted, entry_bytes, log, moved}
-use Rattle.session_model.proofs.log_model.Growing.{definition_moves, transaction_moves}
+use Rattle.session_model.proofs.of_log_model.Growing.{definition_moves, transaction_moves}
 use Rattle.logged_items.specs.entry_groups.Entries.{CanLogAll}
 use Rattle.logged_items.specs.Logged.{Encodes, in_log}
 use Rattle.session_model.specs.Running.{entry_by}

@@ -34,7 +34,7 @@ use Rattle.closing_laws.specs.sql_meaning.Running.{context_after}
 use Rattle.closing_laws.specs.sql_reach.Closing.{closed}
 use Rattle.session_model.specs.proc_model.Talk.{Left, Refusal, Told}
 use Rattle.session_model.specs.proc_model.Procedures.{scope_of, called}
-use Rattle.session_model.proofs.proc_model.Leading.{talk_keeps}
+use Rattle.session_model.proofs.of_proc_model.Leading.{talk_keeps}
 use Rattle.session_model.specs.Answers.{refused}
 use Rattle.session_model.specs.Sessions.{Save, Open, Session, Shared}
 use Rattle.session_model.specs.Running.{Call, Turn, Given, full, is_other, keep, kept_entries, takes_too_much, made_behind, with_counters, with_context, undone, item_of, settle, ended, given_by, is_warned, scene_for, statement_run, values_run, fitted_run, commit_entries, commit_open, lock_refusal, writing_refusal}

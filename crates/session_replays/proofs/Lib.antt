@@ -17,4 +17,4 @@ mod Staying
 mod Stepping
 mod Turning
 -- the crates below that this one speaks of, passed on
-pub use Rattle.session_model.proofs.proc_model as proc_model
+pub use Rattle.session_model.proofs.of_proc_model as of_proc_model

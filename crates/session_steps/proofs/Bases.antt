@@ -19,7 +19,7 @@ use Rattle.proc_parts.specs.sql_meaning.Scenes.{Ending, done, failed}
 use Rattle.proc_parts.specs.sql_meaning.Frames.{Context}
 use Rattle.proc_parts.specs.sql_meaning.Running.{effect, evaluation}
 use Rattle.proc_parts.specs.sql_meaning.Leading.{EndsWell, Leads, StaysAsItWas}
-use Rattle.proc_parts.proofs.sql_meaning.LedBodies.{statements_end, evaluations_end}
+use Rattle.proc_parts.proofs.of_sql_meaning.LedBodies.{statements_end, evaluations_end}
 use Rattle.proc_parts.specs.prog_run.declared.meter.Meter.{Meter}
 use Rattle.proc_parts.specs.prog_run.declared.meter.Outcome.{Outcome}
 use Rattle.proc_parts.specs.prog_run.Contents.{Contents, IsTogether, as_committed, committed_tables, without_changes}

@@ -15,7 +15,7 @@ use Rattle.proc_parts.specs.sql_meaning.Scenes.{Scene, Ending, done, failed}
 use Rattle.proc_parts.specs.sql_meaning.Frames.{Context}
 use Rattle.proc_parts.specs.sql_meaning.Running.{context_after}
 use Rattle.proc_parts.specs.sql_meaning.Leading.{EndsWell, Leads}
-use Rattle.proc_parts.proofs.sql_meaning.LedBodies.{evaluations_end}
+use Rattle.proc_parts.proofs.of_sql_meaning.LedBodies.{evaluations_end}
 use Rattle.session_desk.specs.logged_items.declared.before.Before.{Before}
 use Rattle.session_desk.specs.logged_items.Items.{numbers_of}
 use Rattle.proc_parts.specs.proc_model.Talk.{Left}

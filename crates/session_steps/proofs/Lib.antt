@@ -4,4 +4,4 @@ pub mod Settling
 pub mod Keeps
 pub mod Fitting
 -- the crates below that this one speaks of, passed on
-pub use Rattle.session_desk.proofs as session_desk
+pub use Rattle.session_desk.proofs as of_session_desk

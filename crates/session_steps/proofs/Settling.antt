@@ -19,7 +19,7 @@ use Rattle.proc_parts.specs.sql_meaning.Frames.{Context}
 use Rattle.proc_parts.specs.sql_meaning.Changing.{Did}
 use Rattle.proc_parts.specs.sql_meaning.Running.{context_after}
 use Rattle.proc_parts.specs.sql_meaning.Leading.{EndsWell, Leads}
-use Rattle.proc_parts.proofs.sql_meaning.LedBodies.{statements_end, evaluations_end}
+use Rattle.proc_parts.proofs.of_sql_meaning.LedBodies.{statements_end, evaluations_end}
 use Rattle.proc_parts.specs.prog_run.declared.meter.Outcome.{Outcome}
 use Rattle.proc_parts.specs.prog_run.Runs.{outcome_of}
 use Rattle.session_desk.specs.logged_items.Items.{numbers_of}

@@ -37,8 +37,8 @@ use Rattle.session_transactions.specs.session_steps.Calls.{call_of}
 use Rattle.session_transactions.specs.session_desk.Desk.{has_any, shared_by, shared_of}
 use Rattle.session_transactions.specs.session_desk.Logging.{Logs}
 use Rattle.session_transactions.specs.session_steps.Turned.{IsTurn, Moves, behind_turn, not_begun}
-use Rattle.session_transactions.proofs.session_desk.Logging.{definition_place, log_on, logs_from, one_logged, same_entry}
-use Rattle.session_transactions.proofs.session_steps.Turns.{turn_is}
+use Rattle.session_transactions.proofs.of_session_desk.Logging.{definition_place, log_on, logs_from, one_logged, same_entry}
+use Rattle.session_transactions.proofs.of_session_steps.Turns.{turn_is}
 
 pub none_if : (cs : List Change) → has_any cs ≡ false → cs ≡ []
 none_if [] e = refl

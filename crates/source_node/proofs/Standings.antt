@@ -8,7 +8,7 @@ use Rattle.session_transactions.specs.catalog_rules.Bases.{empty_base}
 use Rattle.session_transactions.specs.log_entries.declared.entries.Item.{Item}
 use Rattle.session_transactions.specs.log_entries.declared.entries.Entry.{Entry}
 use Rattle.session_transactions.specs.log_model.Log.{LogPlace, counted_all, head, log}
-use Rattle.session_transactions.proofs.log_model.Growing.{goes_on}
+use Rattle.session_transactions.proofs.of_log_model.Growing.{goes_on}
 use Rattle.session_transactions.specs.entry_groups.Entries.{CanLogAll}
 use Rattle.session_transactions.specs.logged_items.Logged.{in_log}
 use Rattle.session_transactions.specs.session_model.Sessions.{Shared, State}
@@ -17,7 +17,7 @@ use Rattle.session_transactions.specs.session_model.Machine.{Machine, Step, Step
 use Rattle.session_transactions.specs.session_desk.Desk.{shared_of}
 use Rattle.source_node.specs.Standing.{Kept, Stands, no_session, state_of}
 use Rattle.session_transactions.specs.session_desk.Logging.{Logs, logged}
-use Rattle.session_transactions.proofs.session_desk.Logging.{logged_is}
+use Rattle.session_transactions.proofs.of_session_desk.Logging.{logged_is}
 
 -- ---- a step
 

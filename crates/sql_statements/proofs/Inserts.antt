@@ -21,7 +21,7 @@ use Rattle.changed_rows.specs.sql_evaluation.declared.world.Around.{Around}
 use Rattle.changed_rows.specs.sql_evaluation.declared.world.View.{View as Shown}
 use Rattle.changed_rows.specs.sql_evaluation.Seen.{values_in}
 use Rattle.changed_rows.specs.sql_evaluation.Seen.{rows_in as query_in}
-use Rattle.changed_rows.proofs.sql_evaluation.Branching.{rest_is}
+use Rattle.changed_rows.proofs.of_sql_evaluation.Branching.{rest_is}
 use Rattle.changed_rows.specs.Changed.{inserted_in, inserting_of}
 use Rattle.changed_rows.specs.declared.inserting.Inserting.{Inserting as SoFar}
 use Rattle.sql_statements.specs.declared.did.Did.{Did as Done}

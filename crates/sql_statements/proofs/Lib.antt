@@ -6,5 +6,5 @@ pub mod Picked
 pub mod Shown
 pub mod Viewed
 -- the crates below that this one speaks of, passed on
-pub use Rattle.changed_rows.proofs as changed_rows
-pub use Rattle.changed_rows.proofs.sql_stage as sql_stage
+pub use Rattle.changed_rows.proofs as of_changed_rows
+pub use Rattle.changed_rows.proofs.of_sql_stage as of_sql_stage

@@ -2,7 +2,7 @@
 use Rattle.std.proofs.Common.{◌≡◌, ℕ, ◌+◌, ◌<◌, ◌≤◌, List, ◌∷◌, length, get_or, drop, refl, sym, ap, ◌∙◌, arith}
 use Rattle.std.proofs.lemmas.List.{drop_all}
 use Rattle.changed_rows.specs.sql_meaning.Scenes.{Scene, Ending, Action, done, failed, then_do, pure, each, counted, carried_on}
-use Rattle.changed_rows.proofs.sql_evaluation.Branching.{rest_is}
+use Rattle.changed_rows.proofs.of_sql_evaluation.Branching.{rest_is}
 
 -- ---- an action that hands a state on
 

@@ -25,7 +25,7 @@ fn limited_to(locals: &Locals, limit: &Option<Count>, rows: List<Shared<Row>>) -
 }
 
 /// The rows that WHERE keeps, all where there is none.
-#[tactic(auto, using(changed_rows::proofs::sql_stage::Leading::leading))]
+#[tactic(auto, using(changed_rows::proofs::of_sql_stage::Leading::leading))]
 fn where_rows<V: Fn(&mut Stage, &Expr, &Views) -> Result<Value, SqlRefusal>>(
     alloc: Global,
     evaluate: &V,
@@ -51,7 +51,7 @@ fn where_rows<V: Fn(&mut Stage, &Expr, &Views) -> Result<Value, SqlRefusal>>(
 }
 
 /// The rows that WHERE keeps, in the order of ORDER BY, up to LIMIT.
-#[tactic(auto, using(changed_rows::proofs::sql_stage::Leading::leading, crate::proofs::Picked::choosing))]
+#[tactic(auto, using(changed_rows::proofs::of_sql_stage::Leading::leading, crate::proofs::Picked::choosing))]
 pub fn chosen_rows<V: Fn(&mut Stage, &Expr, &Views) -> Result<Value, SqlRefusal>>(
     alloc: Global,
     evaluate: &V,

@@ -18,7 +18,7 @@ use std::alloc::Global;
 use val_types::{Row, SqlRefusal, Value};
 
 /// Deletes rows one after the other; how many they are.
-#[tactic(auto, using(changed_rows::proofs::sql_stage::Leading::leading, crate::proofs::Aimed::standing, crate::proofs::Changes::deleting_rows))]
+#[tactic(auto, using(changed_rows::proofs::of_sql_stage::Leading::leading, crate::proofs::Aimed::standing, crate::proofs::Changes::deleting_rows))]
 fn delete_each<E: Executor>(
     table: &ChangedTable<'_, E>,
     stage: &mut Stage,
@@ -36,7 +36,7 @@ fn delete_each<E: Executor>(
 }
 
 /// DELETE: the rows that it deletes are chosen before the first is deleted.
-#[tactic(auto, using(changed_rows::proofs::sql_stage::Leading::leading, crate::proofs::Aimed::standing, crate::proofs::Changes::delete))]
+#[tactic(auto, using(changed_rows::proofs::of_sql_stage::Leading::leading, crate::proofs::Aimed::standing, crate::proofs::Changes::delete))]
 pub(crate) fn delete<V: Fn(&mut Stage, &Expr, &Views) -> Result<Value, SqlRefusal>, E: Executor>(
     alloc: Global,
     evaluate: &V,

@@ -32,7 +32,7 @@ fn nothing_yet() -> Inserting
 }
 
 /// Inserts the rows of VALUES: each list is evaluated behind the insert of the one before.
-#[tactic(auto, using(changed_rows::proofs::sql_stage::Leading::leading, crate::proofs::Aimed::standing, crate::proofs::Inserts::listing))]
+#[tactic(auto, using(changed_rows::proofs::of_sql_stage::Leading::leading, crate::proofs::Aimed::standing, crate::proofs::Inserts::listing))]
 fn insert_lists<V: Fn(&mut Stage, &Expr, &Views) -> Result<Value, SqlRefusal>, E: Executor>(
     evaluate: &V,
     table: &ChangedTable<'_, E>,
@@ -59,7 +59,7 @@ fn insert_lists<V: Fn(&mut Stage, &Expr, &Views) -> Result<Value, SqlRefusal>, E
 }
 
 /// Inserts rows that were read before.
-#[tactic(auto, using(changed_rows::proofs::sql_stage::Leading::leading, crate::proofs::Aimed::standing, crate::proofs::Inserts::reading))]
+#[tactic(auto, using(changed_rows::proofs::of_sql_stage::Leading::leading, crate::proofs::Aimed::standing, crate::proofs::Inserts::reading))]
 fn insert_rows<E: Executor>(
     table: &ChangedTable<'_, E>,
     insertion: &Insertion<'_>,
@@ -80,7 +80,7 @@ fn insert_rows<E: Executor>(
 }
 
 /// Inserts the rows of VALUES, or those of a SELECT, which are all read before the first is inserted.
-#[tactic(auto, using(changed_rows::proofs::sql_stage::Leading::leading, crate::proofs::Aimed::standing, crate::proofs::Inserts::supplying))]
+#[tactic(auto, using(changed_rows::proofs::of_sql_stage::Leading::leading, crate::proofs::Aimed::standing, crate::proofs::Inserts::supplying))]
 fn insert_all<V: Fn(&mut Stage, &Expr, &Views) -> Result<Value, SqlRefusal>, E: Executor>(
     evaluate: &V,
     table: &ChangedTable<'_, E>,
@@ -110,7 +110,7 @@ fn insert_all<V: Fn(&mut Stage, &Expr, &Views) -> Result<Value, SqlRefusal>, E: 
 }
 
 /// INSERT and REPLACE: the rows of a source put into the columns that are named, all where none are.
-#[tactic(auto, using(changed_rows::proofs::sql_stage::Leading::leading, crate::proofs::Aimed::standing, crate::proofs::Inserts::insert))]
+#[tactic(auto, using(changed_rows::proofs::of_sql_stage::Leading::leading, crate::proofs::Aimed::standing, crate::proofs::Inserts::insert))]
 pub(crate) fn insert<V: Fn(&mut Stage, &Expr, &Views) -> Result<Value, SqlRefusal>, E: Executor>(
     alloc: Global,
     evaluate: &V,

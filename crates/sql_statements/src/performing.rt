@@ -37,7 +37,7 @@ fn manner(ignore: bool, sets: &List<ColumnSet>) -> Manner<'_>
 }
 
 /// SELECT.
-#[tactic(auto, using(changed_rows::proofs::sql_stage::Leading::leading, crate::proofs::Shown::selecting))]
+#[tactic(auto, using(changed_rows::proofs::of_sql_stage::Leading::leading, crate::proofs::Shown::selecting))]
 fn select<V: Fn(&mut Stage, &Expr, &Views) -> Result<Value, SqlRefusal>>(
     alloc: Global,
     evaluate: &V,
@@ -57,7 +57,7 @@ fn select<V: Fn(&mut Stage, &Expr, &Views) -> Result<Value, SqlRefusal>>(
 }
 
 /// DO: the values are evaluated and dropped.
-#[tactic(auto, using(changed_rows::proofs::sql_stage::Leading::leading, crate::proofs::Shown::doing))]
+#[tactic(auto, using(changed_rows::proofs::of_sql_stage::Leading::leading, crate::proofs::Shown::doing))]
 fn evaluate_all<V: Fn(&mut Stage, &Expr, &Views) -> Result<Value, SqlRefusal>>(
     alloc: Global,
     evaluate: &V,
@@ -81,7 +81,7 @@ fn evaluate_all<V: Fn(&mut Stage, &Expr, &Views) -> Result<Value, SqlRefusal>>(
 /// `run` calls a stored function, `fire` fires the trigger of an event; `levels` bounds how deep an expression is
 /// evaluated, and past them memory is short. `forced` is the value that an INSERT or REPLACE generates first. The checks
 /// of names stand before it, and an error's changes are taken back behind it.
-#[tactic(auto, using(changed_rows::proofs::sql_stage::Leading::leading))]
+#[tactic(auto, using(changed_rows::proofs::of_sql_stage::Leading::leading))]
 pub fn perform<
     F: Fn(&mut Stage, &Running<'_>, &Bytes, List<Value>) -> Result<Value, SqlRefusal>,
     T: Fn(

@@ -19,7 +19,7 @@ use std::alloc::Global;
 use val_types::{List, Row, SqlRefusal, Value};
 
 /// Updates rows one after the other; how many of them that changes.
-#[tactic(auto, using(changed_rows::proofs::sql_stage::Leading::leading, crate::proofs::Aimed::standing, crate::proofs::Changes::updating))]
+#[tactic(auto, using(changed_rows::proofs::of_sql_stage::Leading::leading, crate::proofs::Aimed::standing, crate::proofs::Changes::updating))]
 fn update_each<E: Executor>(
     table: &ChangedTable<'_, E>,
     stage: &mut Stage,
@@ -43,7 +43,7 @@ fn update_each<E: Executor>(
 }
 
 /// UPDATE: the rows that it changes are chosen before the first is changed.
-#[tactic(auto, using(changed_rows::proofs::sql_stage::Leading::leading, crate::proofs::Aimed::standing, crate::proofs::Changes::update))]
+#[tactic(auto, using(changed_rows::proofs::of_sql_stage::Leading::leading, crate::proofs::Aimed::standing, crate::proofs::Changes::update))]
 pub(crate) fn update<V: Fn(&mut Stage, &Expr, &Views) -> Result<Value, SqlRefusal>, E: Executor>(
     alloc: Global,
     evaluate: &V,

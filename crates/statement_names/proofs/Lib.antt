@@ -3,4 +3,4 @@ pub mod Named
 pub mod Placed
 pub mod Walked
 -- the crates below that this one speaks of, passed on
-pub use Rattle.sql_reach.proofs.sql_meaning as sql_meaning
+pub use Rattle.sql_reach.proofs.of_sql_meaning as of_sql_meaning

@@ -18,7 +18,7 @@ use Rattle.event_codec.specs.Bodies.{int_var_kind, is_schema, only, post_header_
 use Rattle.event_codec.specs.Reading.{Reading, event, none, body_at, damaged, has_sound_header, headed, read_as, reading, short}
 use Rattle.log_groups.specs.log_model.Events.{Place, Placed, events_from, past}
 use Rattle.log_groups.specs.log_model.Groups.{is_xid, until_xid}
-use Rattle.log_groups.proofs.log_model.Walking.{events_none, events_some}
+use Rattle.log_groups.proofs.of_log_model.Walking.{events_none, events_some}
 use Rattle.log_groups.specs.Views.{walked}
 use Rattle.stmt_apply.specs.Needing.{Counts, MayStand}
 

@@ -10,7 +10,7 @@ use Rattle.port_traits.specs.declared.identity.Draw.{Draw}
 use Rattle.sql_tree.specs.Statement.{Statement, create_table, create_function, create_procedure, create_trigger, drop_table, drop_function, drop_procedure, drop_trigger, truncate, insert_into, replace_into, update_rows, delete_rows, select, evaluate, set_all, call_procedure, begin, commit, rollback, savepoint, rollback_to, release_savepoint, block, if_steps, while_steps, return_value}
 use Rattle.applier_laws.specs.sql_meaning.Frames.{Context}
 use Rattle.applier_laws.specs.sql_meaning.Leading.{EndsWell, Leads}
-use Rattle.applier_laws.proofs.sql_meaning.LedBodies.{statements_end}
+use Rattle.applier_laws.proofs.of_sql_meaning.LedBodies.{statements_end}
 use Rattle.applier_laws.specs.sql_reach.Reach.{is_definition}
 use Rattle.applier_laws.specs.applier_model.Texts.{Applier, Progress, allowed, checked, ended_as, may_stand, run_in}
 use Rattle.row_apply.specs.prog_run.declared.meter.Meter.{Meter}

@@ -17,7 +17,7 @@ use Rattle.row_apply.specs.catalog_objects.declared.object.Object.{Object}
 use Rattle.row_apply.specs.catalog_objects.Keys.{objects_of}
 use Rattle.applier_laws.specs.sql_meaning.Frames.{Context}
 use Rattle.applier_laws.specs.sql_meaning.Leading.{EndsWell, Leads}
-use Rattle.applier_laws.proofs.sql_meaning.LedBodies.{statements_end}
+use Rattle.applier_laws.proofs.of_sql_meaning.LedBodies.{statements_end}
 use Rattle.row_apply.specs.prog_run.declared.meter.Meter.{Meter}
 use Rattle.row_apply.specs.prog_run.declared.meter.Outcome.{Outcome}
 use Rattle.row_apply.specs.prog_run.Contents.{Contents, IsTogether, committed_tables, counted_names, without_changes}

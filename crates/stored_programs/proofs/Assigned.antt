@@ -26,7 +26,7 @@ use Rattle.sql_statements.specs.sql_stage.Stage.{EndsAs, EndsAsBy}
 use Rattle.step_checks.specs.sql_evaluation.declared.world.Around.{Around}
 use Rattle.step_checks.specs.sql_evaluation.declared.world.View.{View as Shown}
 use Rattle.step_checks.specs.sql_evaluation.Seen.{Anywhere, running_of, view_of, world_of}
-use Rattle.step_checks.proofs.sql_evaluation.Branching.{rest_is, then_then}
+use Rattle.step_checks.proofs.of_sql_evaluation.Branching.{rest_is, then_then}
 use Rattle.stored_programs.specs.declared.body.Body.{Body as Stands}
 use Rattle.stored_programs.specs.Bodies.{AnywhereBy, body_of, body_then, ended_at, put_in_column, view_in, world_with}
 use Rattle.stored_programs.specs.Steps.{all_assigned, assigned_values, step_in, values_to_set}

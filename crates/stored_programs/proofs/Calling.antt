@@ -24,7 +24,7 @@ use Rattle.sql_statements.specs.sql_stage.Stage.{EndsAs}
 use Rattle.step_checks.specs.sql_evaluation.declared.world.Around.{Around}
 use Rattle.step_checks.specs.sql_evaluation.declared.world.View.{View as Shown}
 use Rattle.step_checks.specs.sql_evaluation.Seen.{Anywhere, world_of}
-use Rattle.step_checks.proofs.sql_evaluation.Branching.{rest_is}
+use Rattle.step_checks.proofs.of_sql_evaluation.Branching.{rest_is}
 use Rattle.sql_statements.specs.changed_rows.Firing.{left_of}
 use Rattle.stored_programs.specs.Bodies.{ended_at, view_in}
 use Rattle.stored_programs.specs.Steps.{locals_for, row_of_view, step_in, triggered_in}

@@ -16,7 +16,7 @@ use Rattle.sql_statements.specs.sql_meaning.Running.{Body, declare, declare_name
 use Rattle.sql_statements.specs.sql_stage.Stage.{EndsAs, EndsAsBy}
 use Rattle.step_checks.specs.sql_evaluation.declared.world.Around.{Around}
 use Rattle.step_checks.specs.sql_evaluation.Seen.{world_of}
-use Rattle.step_checks.proofs.sql_evaluation.Branching.{rest_is}
+use Rattle.step_checks.proofs.of_sql_evaluation.Branching.{rest_is}
 use Rattle.stored_programs.specs.declared.body.Body.{Body as Stands}
 use Rattle.stored_programs.specs.Bodies.{AnywhereBy, body_of, body_then, view_in}
 use Rattle.stored_programs.specs.Steps.{all_declared_in, declared_in, preset_in_body}

@@ -18,10 +18,10 @@ use Rattle.sql_statements.specs.sql_meaning.Values.{holds}
 use Rattle.sql_statements.specs.sql_meaning.Running.{Body, Ended, body_perform, body_value, goes_on, leaves_block, steps, turns, unless_returned}
 use Rattle.sql_statements.specs.sql_stage.Stage.{EndsAs, EndsAsBy, LeadsOn, scene_of}
 use Rattle.sql_statements.specs.sql_stage.declared.stage.Stage.{Stage}
-use Rattle.sql_statements.proofs.sql_stage.Leading.{turns_led}
+use Rattle.sql_statements.proofs.of_sql_stage.Leading.{turns_led}
 use Rattle.step_checks.specs.sql_evaluation.declared.world.Around.{Around}
 use Rattle.step_checks.specs.sql_evaluation.Seen.{world_of}
-use Rattle.step_checks.proofs.sql_evaluation.Branching.{rest_is}
+use Rattle.step_checks.proofs.of_sql_evaluation.Branching.{rest_is}
 use Rattle.stored_programs.specs.declared.body.Body.{Body as Stands}
 use Rattle.stored_programs.specs.Bodies.{body_of, ended_at, view_in}
 use Rattle.stored_programs.specs.Steps.{Taken, all_declared_in, branches_in, holds_in_body, is_other, otherwise_in, step_in, steps_in, taken_at, taken_by, taken_in, value_in_body}

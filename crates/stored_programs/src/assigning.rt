@@ -53,7 +53,7 @@ fn put(mut row: Row, place: usize, value: Value) -> Row
 }
 
 /// A copy of a row with a value put at a place: 1054 where there is no column, or why the value does not fit.
-#[tactic(auto, using(sql_statements::proofs::changed_rows::Fitted::columns))]
+#[tactic(auto, using(sql_statements::proofs::of_changed_rows::Fitted::columns))]
 fn with_value(
     alloc: Global,
     definition: &TableDef,
@@ -148,7 +148,7 @@ fn assign_all(
 }
 
 /// The values of assignments, left to right.
-#[tactic(auto, using(crate::proofs::Assigned::evaluations, sql_statements::proofs::sql_stage::Leading::leading))]
+#[tactic(auto, using(crate::proofs::Assigned::evaluations, sql_statements::proofs::of_sql_stage::Leading::leading))]
 fn assigned_values<
     'a,
     F: Fn(&mut Stage, &Running<'_>, &Bytes, List<Value>) -> Result<Value, SqlRefusal>,
@@ -176,7 +176,7 @@ fn assigned_values<
 }
 
 /// The values of a SET, behind its checks.
-#[tactic(auto, using(crate::proofs::Assigned::checked_values, sql_statements::proofs::sql_stage::Leading::leading))]
+#[tactic(auto, using(crate::proofs::Assigned::checked_values, sql_statements::proofs::of_sql_stage::Leading::leading))]
 fn set_values<F: Fn(&mut Stage, &Running<'_>, &Bytes, List<Value>) -> Result<Value, SqlRefusal>>(
     alloc: Global,
     run: &F,
@@ -198,7 +198,7 @@ fn set_values<F: Fn(&mut Stage, &Running<'_>, &Bytes, List<Value>) -> Result<Val
 }
 
 /// SET: the values first, then the assignments.
-#[tactic(auto, using(crate::proofs::Assigned::setting, sql_statements::proofs::sql_stage::Leading::leading))]
+#[tactic(auto, using(crate::proofs::Assigned::setting, sql_statements::proofs::of_sql_stage::Leading::leading))]
 pub(crate) fn set_step<
     F: Fn(&mut Stage, &Running<'_>, &Bytes, List<Value>) -> Result<Value, SqlRefusal>,
 >(

@@ -82,7 +82,7 @@ fn run_function(
 /// A call of a function: 1305 where there is none, 1318 for another number of arguments, 1424 where it is under way
 /// already, 30003 where it would be nested too deep; then its value, or the error of its body.
 #[cycle(nesting)]
-#[tactic(auto, using(crate::proofs::Nesting::calls, sql_statements::proofs::sql_stage::Leading::leading))]
+#[tactic(auto, using(crate::proofs::Nesting::calls, sql_statements::proofs::of_sql_stage::Leading::leading))]
 pub fn call_function(
     alloc: Global,
     around: &Around<'_>,
@@ -146,7 +146,7 @@ fn run_trigger(
 /// An event of a row of a table, before or after it: the row that its trigger leaves to be stored, None where it is as it
 /// was given, as where there is no trigger; 30003 where the trigger would be nested too deep.
 #[cycle(nesting)]
-#[tactic(auto, using(crate::proofs::Nesting::events, sql_statements::proofs::sql_stage::Leading::leading))]
+#[tactic(auto, using(crate::proofs::Nesting::events, sql_statements::proofs::of_sql_stage::Leading::leading))]
 pub fn fire_trigger(
     alloc: Global,
     around: &Around<'_>,

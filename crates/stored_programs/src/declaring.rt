@@ -54,7 +54,7 @@ fn declare_names(
 }
 
 /// One DECLARE: its DEFAULT is evaluated once.
-#[tactic(auto, using(sql_statements::proofs::sql_stage::Leading::leading))]
+#[tactic(auto, using(sql_statements::proofs::of_sql_stage::Leading::leading))]
 fn declare<F: Fn(&mut Stage, &Running<'_>, &Bytes, List<Value>) -> Result<Value, SqlRefusal>>(
     alloc: Global,
     run: &F,
@@ -74,7 +74,7 @@ fn declare<F: Fn(&mut Stage, &Running<'_>, &Bytes, List<Value>) -> Result<Value,
 }
 
 /// The DECLAREs of a block, each behind the one before.
-#[tactic(auto, using(crate::proofs::Declared::all_declared, sql_statements::proofs::sql_stage::Leading::leading))]
+#[tactic(auto, using(crate::proofs::Declared::all_declared, sql_statements::proofs::of_sql_stage::Leading::leading))]
 pub(crate) fn declare_all<
     F: Fn(&mut Stage, &Running<'_>, &Bytes, List<Value>) -> Result<Value, SqlRefusal>,
 >(

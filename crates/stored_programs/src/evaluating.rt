@@ -105,7 +105,7 @@ pub(crate) fn value_here<
 }
 
 /// The value of a condition, a DEFAULT or a RETURN.
-#[tactic(auto, using(crate::proofs::Evaluated::evaluating, sql_statements::proofs::sql_stage::Leading::leading))]
+#[tactic(auto, using(crate::proofs::Evaluated::evaluating, sql_statements::proofs::of_sql_stage::Leading::leading))]
 pub(crate) fn body_value<
     F: Fn(&mut Stage, &Running<'_>, &Bytes, List<Value>) -> Result<Value, SqlRefusal>,
 >(
@@ -128,7 +128,7 @@ pub(crate) fn body_value<
 }
 
 /// Whether a condition holds; unknown does not.
-#[tactic(auto, using(crate::proofs::Evaluated::conditions, sql_statements::proofs::sql_stage::Leading::leading))]
+#[tactic(auto, using(crate::proofs::Evaluated::conditions, sql_statements::proofs::of_sql_stage::Leading::leading))]
 pub(crate) fn condition_holds<
     F: Fn(&mut Stage, &Running<'_>, &Bytes, List<Value>) -> Result<Value, SqlRefusal>,
 >(
@@ -150,7 +150,7 @@ pub(crate) fn condition_holds<
 }
 
 /// The DEFAULT of a DECLARE, NULL where there is none.
-#[tactic(auto, using(crate::proofs::Evaluated::presets, sql_statements::proofs::sql_stage::Leading::leading))]
+#[tactic(auto, using(crate::proofs::Evaluated::presets, sql_statements::proofs::of_sql_stage::Leading::leading))]
 pub(crate) fn preset_value<
     F: Fn(&mut Stage, &Running<'_>, &Bytes, List<Value>) -> Result<Value, SqlRefusal>,
 >(

@@ -63,7 +63,7 @@ fn perform_here<
 }
 
 /// A change or DO.
-#[tactic(auto, using(crate::proofs::Performed::performing, sql_statements::proofs::sql_stage::Leading::leading))]
+#[tactic(auto, using(crate::proofs::Performed::performing, sql_statements::proofs::of_sql_stage::Leading::leading))]
 pub(crate) fn perform_step<
     F: Fn(&mut Stage, &Running<'_>, &Bytes, List<Value>) -> Result<Value, SqlRefusal>,
     T: Fn(

@@ -67,7 +67,7 @@ fn fit_result(returns: Option<SqlType>, value: Value) -> Result<Value, SqlRefusa
 }
 
 /// The body of a function, with the values of its arguments: its value.
-#[tactic(auto, using(crate::proofs::Calling::functions, sql_statements::proofs::sql_stage::Leading::leading))]
+#[tactic(auto, using(crate::proofs::Calling::functions, sql_statements::proofs::of_sql_stage::Leading::leading))]
 pub(crate) fn function_body<
     F: Fn(&mut Stage, &Running<'_>, &Bytes, List<Value>) -> Result<Value, SqlRefusal>,
     T: Fn(
@@ -135,7 +135,7 @@ fn left(alloc: Global, given: Option<&Row>, left: &Option<View>) -> Result<Optio
 }
 
 /// The body of a trigger on an event of a row: the row that is left to be stored, None where it is as it was given.
-#[tactic(auto, using(crate::proofs::Calling::triggers, sql_statements::proofs::sql_stage::Leading::leading))]
+#[tactic(auto, using(crate::proofs::Calling::triggers, sql_statements::proofs::of_sql_stage::Leading::leading))]
 pub(crate) fn trigger_body<
     F: Fn(&mut Stage, &Running<'_>, &Bytes, List<Value>) -> Result<Value, SqlRefusal>,
     T: Fn(

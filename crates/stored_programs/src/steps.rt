@@ -37,7 +37,7 @@ fn is_other(s: &Stmt) -> bool
 }
 
 /// RETURN.
-#[tactic(auto, using(crate::proofs::Stepping::returning, sql_statements::proofs::sql_stage::Leading::leading))]
+#[tactic(auto, using(crate::proofs::Stepping::returning, sql_statements::proofs::of_sql_stage::Leading::leading))]
 fn return_step<F: Fn(&mut Stage, &Running<'_>, &Bytes, List<Value>) -> Result<Value, SqlRefusal>>(
     alloc: Global,
     run: &F,
@@ -58,7 +58,7 @@ fn return_step<F: Fn(&mut Stage, &Running<'_>, &Bytes, List<Value>) -> Result<Va
 
 /// A step of a body; the value is that of a RETURN. The last arm has no statement left.
 #[cycle(step)]
-#[tactic(auto, using(crate::proofs::Stepping::others, sql_statements::proofs::sql_stage::Leading::leading))]
+#[tactic(auto, using(crate::proofs::Stepping::others, sql_statements::proofs::of_sql_stage::Leading::leading))]
 pub(crate) fn step<
     F: Fn(&mut Stage, &Running<'_>, &Bytes, List<Value>) -> Result<Value, SqlRefusal>,
     T: Fn(
@@ -113,7 +113,7 @@ pub(crate) fn step<
 
 /// Steps, one after the other, up to a RETURN.
 #[cycle(step)]
-#[tactic(auto, using(crate::proofs::Stepping::stepping, sql_statements::proofs::sql_stage::Leading::leading))]
+#[tactic(auto, using(crate::proofs::Stepping::stepping, sql_statements::proofs::of_sql_stage::Leading::leading))]
 fn steps<
     F: Fn(&mut Stage, &Running<'_>, &Bytes, List<Value>) -> Result<Value, SqlRefusal>,
     T: Fn(
@@ -153,7 +153,7 @@ fn steps<
 
 /// A block: its locals end with it.
 #[cycle(step)]
-#[tactic(auto, using(crate::proofs::Stepping::blocks, sql_statements::proofs::sql_stage::Leading::leading))]
+#[tactic(auto, using(crate::proofs::Stepping::blocks, sql_statements::proofs::of_sql_stage::Leading::leading))]
 fn block_step<
     F: Fn(&mut Stage, &Running<'_>, &Bytes, List<Value>) -> Result<Value, SqlRefusal>,
     T: Fn(
@@ -193,7 +193,7 @@ fn block_step<
 
 /// The steps behind the first condition that holds; None where none does.
 #[cycle(step)]
-#[tactic(auto, using(crate::proofs::Stepping::branching, sql_statements::proofs::sql_stage::Leading::leading))]
+#[tactic(auto, using(crate::proofs::Stepping::branching, sql_statements::proofs::of_sql_stage::Leading::leading))]
 fn taken_branch<
     F: Fn(&mut Stage, &Running<'_>, &Bytes, List<Value>) -> Result<Value, SqlRefusal>,
     T: Fn(
@@ -234,7 +234,7 @@ fn taken_branch<
 
 /// The steps behind ELSE, if there is one.
 #[cycle(step)]
-#[tactic(auto, using(crate::proofs::Stepping::elses, sql_statements::proofs::sql_stage::Leading::leading))]
+#[tactic(auto, using(crate::proofs::Stepping::elses, sql_statements::proofs::of_sql_stage::Leading::leading))]
 fn otherwise_step<
     F: Fn(&mut Stage, &Running<'_>, &Bytes, List<Value>) -> Result<Value, SqlRefusal>,
     T: Fn(
@@ -272,7 +272,7 @@ fn otherwise_step<
 
 /// WHILE.
 #[cycle(step)]
-#[tactic(auto, using(crate::proofs::Stepping::looping, sql_statements::proofs::sql_stage::Leading::leading))]
+#[tactic(auto, using(crate::proofs::Stepping::looping, sql_statements::proofs::of_sql_stage::Leading::leading))]
 fn while_step<
     F: Fn(&mut Stage, &Running<'_>, &Bytes, List<Value>) -> Result<Value, SqlRefusal>,
     T: Fn(

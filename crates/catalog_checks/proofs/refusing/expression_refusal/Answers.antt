@@ -3,7 +3,7 @@ use Rattle.std.specs.Option.{option_copied}
 use Rattle.sql_tree.specs.View.{view_tree}
 use Rattle.catalog_objects.specs.Keys.{objects_of}
 use Rattle.catalog_objects.specs.catalog_rules.Ranks.{code_of, tree_rank}
-use Rattle.catalog_objects.proofs.catalog_rules.Refusing.{asking, expression_law}
+use Rattle.catalog_objects.proofs.of_catalog_rules.Refusing.{asking, expression_law}
 use Rattle.catalog_objects.specs.catalog_rules.Nodes.{no_sight}
 use Rattle.catalog_checks.specs.declared.sight.Sight.{the_lemmas}
 use Rattle.catalog_checks.specs.Asking.{scope_with}

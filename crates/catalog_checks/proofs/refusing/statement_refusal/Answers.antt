@@ -3,7 +3,7 @@ use Rattle.std.specs.Option.{option_copied}
 use Rattle.sql_tree.specs.StatementView.{view}
 use Rattle.catalog_objects.specs.Keys.{objects_of}
 use Rattle.catalog_objects.specs.catalog_rules.Ranks.{code_of}
-use Rattle.catalog_objects.proofs.catalog_rules.Refusing.{refusal_law}
+use Rattle.catalog_objects.proofs.of_catalog_rules.Refusing.{refusal_law}
 use Rattle.catalog_checks.specs.Asking.{scope_with}
 use Rattle.catalog_checks.proofs.refusing.statement_refusal.Goals as goal
 
