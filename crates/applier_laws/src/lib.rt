@@ -27,7 +27,7 @@
 
 mod laws;
 
-// The crates below that this one speaks of, passed on: who stands above names them through it.
+// What is its own, and the crates below that it speaks of, passed on: who stands above names them through it.
 pub use applier_model::{session_ctx, transaction_sizes};
 pub use entry_groups;
 pub use entry_groups::log_model;

@@ -20,7 +20,7 @@
 
 mod worked;
 
-// The crates below that this one speaks of, passed on: who stands above names them through it.
+// What is its own, and the crates below that it speaks of, passed on: who stands above names them through it.
 pub use session_ctx;
 pub use transaction_sizes;
 pub use transaction_sizes::row_image;

@@ -22,7 +22,7 @@
 mod catalog;
 mod refusing;
 
-// The crates below that this one speaks of, passed on: who stands above names them through it.
+// What is its own, and the crates below that it speaks of, passed on: who stands above names them through it.
 pub use catalog::Catalog;
 pub use catalog_statements::catalog_objects;
 pub use program_creation;

@@ -24,7 +24,7 @@ mod refusing;
 mod sight;
 mod statements;
 
-// The crates below that this one speaks of, passed on: who stands above names them through it.
+// What is its own, and the crates below that it speaks of, passed on: who stands above names them through it.
 pub use catalog_objects;
 pub use checks::{Checks, is_session_variable};
 pub use inserting::{has_twice, is_among};

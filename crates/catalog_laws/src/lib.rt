@@ -14,6 +14,6 @@
 
 mod laws;
 
-// The crates below that this one speaks of, passed on: who stands above names them through it.
+// What is its own, and the crates below that it speaks of, passed on: who stands above names them through it.
 pub use catalog_statements;
 pub use laws::{creations_are_read, still_made_again, tables_have_names};

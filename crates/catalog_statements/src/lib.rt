@@ -20,7 +20,7 @@ mod laws;
 mod statements;
 mod tables;
 
-// The crates below that this one speaks of, passed on: who stands above names them through it.
+// What is its own, and the crates below that it speaks of, passed on: who stands above names them through it.
 pub use catalog_objects;
 pub use laws::{object_is_made_by_its_statement, statement_is_that_of_making};
 pub use statements::{object_statement, statement_at};

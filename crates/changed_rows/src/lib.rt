@@ -49,7 +49,7 @@ mod standing;
 mod table;
 mod updating;
 
-// The crates below that this one speaks of, passed on: who stands above names them through it.
+// What is its own, and the crates below that it speaks of, passed on: who stands above names them through it.
 pub use columns::place_of;
 pub use deleting::delete_row;
 pub use executor::Executor;

@@ -19,6 +19,6 @@ mod lengths;
 mod statements;
 mod words;
 
-// The crates below that this one speaks of, passed on: who stands above names them through it.
+// What is its own, and the crates below that it speaks of, passed on: who stands above names them through it.
 pub use sql_reach::log_entries;
 pub use statements::closed_length;

@@ -15,6 +15,6 @@
 
 mod names;
 
-// The crates below that this one speaks of, passed on: who stands above names them through it.
+// What is its own, and the crates below that it speaks of, passed on: who stands above names them through it.
 pub use closed_length::log_entries;
 pub use names::{close_count_if, close_limit, close_name};

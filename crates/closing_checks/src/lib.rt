@@ -15,6 +15,6 @@
 
 mod closing;
 
-// The crates below that this one speaks of, passed on: who stands above names them through it.
+// What is its own, and the crates below that it speaks of, passed on: who stands above names them through it.
 pub use closing::check_closing;
 pub use proc_model;

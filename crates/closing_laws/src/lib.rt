@@ -19,7 +19,7 @@
 
 mod laws;
 
-// The crates below that this one speaks of, passed on: who stands above names them through it.
+// What is its own, and the crates below that it speaks of, passed on: who stands above names them through it.
 pub use laws::{closed_does_the_same, closed_is_allowed, closed_is_read, fitted_values_are_short};
 pub use sql_reach::sql_meaning;
 pub use sql_text;

@@ -21,7 +21,7 @@
 
 mod laws;
 
-// The crates below that this one speaks of, passed on: who stands above names them through it.
+// What is its own, and the crates below that it speaks of, passed on: who stands above names them through it.
 pub use laws::{
     entries_can_log_on, entry_is_cut, entry_is_read, few_are_cut, groups_have_bounds,
     relay_is_read, start_is_cut, start_is_read, start_relay_is_read,

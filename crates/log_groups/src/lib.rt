@@ -35,7 +35,7 @@ mod items;
 mod reading;
 mod stage;
 
-// The crates below that this one speaks of, passed on: who stands above names them through it.
+// What is its own, and the crates below that it speaks of, passed on: who stands above names them through it.
 pub use group::{Form, Group, Next};
 pub use growing::{Look, Mark, Progress, look_at, looks_stay};
 pub use items::{Items, Part};

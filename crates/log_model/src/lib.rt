@@ -41,7 +41,7 @@ mod worked;
 mod worked_images;
 mod writing_laws;
 
-// The crates below that this one speaks of, passed on: who stands above names them through it.
+// What is its own, and the crates below that it speaks of, passed on: who stands above names them through it.
 pub use event_laws::{events_end, events_go_on};
 pub use group_laws::{
     fronts_go_on, not_whole_is_front, read_is_spelled, spelled_is_read, whole_is_items,

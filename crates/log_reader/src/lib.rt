@@ -31,7 +31,7 @@ mod laws;
 mod magic;
 mod reader;
 
-// The crates below that this one speaks of, passed on: who stands above names them through it.
+// What is its own, and the crates below that it speaks of, passed on: who stands above names them through it.
 pub use laws::{calls_lead, fronts_are_known, magic_leads};
 pub use magic::read_magic;
 pub use reader::{Found, LogReader};

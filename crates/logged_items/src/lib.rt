@@ -36,7 +36,7 @@ mod start;
 mod tables;
 mod texts;
 
-// The crates below that this one speaks of, passed on: who stands above names them through it.
+// What is its own, and the crates below that it speaks of, passed on: who stands above names them through it.
 pub use before::Before;
 pub use definition::encode_definition;
 pub use items::Items;

@@ -22,7 +22,7 @@ mod closing;
 mod expressions;
 mod statements;
 
-// The crates below that this one speaks of, passed on: who stands above names them through it.
+// What is its own, and the crates below that it speaks of, passed on: who stands above names them through it.
 pub use closed_names::log_entries;
 pub use closing::close_over;
 pub use closing_checks;

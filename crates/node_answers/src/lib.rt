@@ -21,7 +21,7 @@ mod answers;
 mod fault;
 mod reading;
 
-// The crates below that this one speaks of, passed on: who stands above names them through it.
+// What is its own, and the crates below that it speaks of, passed on: who stands above names them through it.
 pub use answers::{
     ok, refused, refused_at, refused_by, row_count_after, showing, told, with_warning,
 };

@@ -19,7 +19,7 @@ mod asking;
 mod expressions;
 mod statements;
 
-// The crates below that this one speaks of, passed on: who stands above names them through it.
+// What is its own, and the crates below that it speaks of, passed on: who stands above names them through it.
 pub use asking::{Ask, is_change};
 pub use catalog_objects;
 pub use expressions::{in_expression, in_expressions};

@@ -41,7 +41,7 @@ mod performing;
 mod runner;
 mod world;
 
-// The crates below that this one speaks of, passed on: who stands above names them through it.
+// What is its own, and the crates below that it speaks of, passed on: who stands above names them through it.
 pub use assigning::set_step;
 pub use calling::call_step;
 pub use declaring::{declare_all, parameters};

@@ -26,7 +26,7 @@ mod calls;
 mod nesting;
 mod steps;
 
-// The crates below that this one speaks of, passed on: who stands above names them through it.
+// What is its own, and the crates below that it speaks of, passed on: who stands above names them through it.
 pub use calls::{CallRefusal, call};
 pub use proc_parts;
 pub use proc_parts::{proc_model, session_ctx};

@@ -53,7 +53,7 @@ mod under_way;
 mod undoing;
 mod work;
 
-// The crates below that this one speaks of, passed on: who stands above names them through it.
+// What is its own, and the crates below that it speaks of, passed on: who stands above names them through it.
 pub use catalog;
 pub use catalog::{catalog_objects, program_creation, table_creation};
 pub use defining::is_definition;

@@ -22,7 +22,7 @@ mod ranks;
 mod refusing;
 mod scope;
 
-// The crates below that this one speaks of, passed on: who stands above names them through it.
+// What is its own, and the crates below that it speaks of, passed on: who stands above names them through it.
 pub use kinds::Kind;
 pub use refusing::{function_refusal, procedure_refusal, trigger_refusal};
 pub use scope::Names;

@@ -26,7 +26,7 @@ mod place;
 mod relay;
 mod walking;
 
-// The crates below that this one speaks of, passed on: who stands above names them through it.
+// What is its own, and the crates below that it speaks of, passed on: who stands above names them through it.
 pub use log_groups;
 pub use place::{Place, Walk};
 pub use relay::Relay;

@@ -40,6 +40,6 @@
 
 mod program;
 
-// The crates below that this one speaks of, passed on: who stands above names them through it.
+// What is its own, and the crates below that it speaks of, passed on: who stands above names them through it.
 pub use program::top;
 pub use script_run::{run_streams, write_log};

@@ -29,7 +29,7 @@ mod nodes;
 mod pages;
 mod starting;
 
-// The crates below that this one speaks of, passed on: who stands above names them through it.
+// What is its own, and the crates below that it speaks of, passed on: who stands above names them through it.
 pub use command_line::{Known, asks_log, words};
 pub use ending::{exit_of, tell};
 pub use nodes::{number_of, replica_identity, source_identity};

@@ -15,6 +15,6 @@
 
 mod worked;
 
-// The crates below that this one speaks of, passed on: who stands above names them through it.
+// What is its own, and the crates below that it speaks of, passed on: who stands above names them through it.
 pub use whole_logs;
 pub use worked::{first_row_applied, first_text_replayed};

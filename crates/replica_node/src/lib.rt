@@ -32,7 +32,7 @@ mod replica;
 mod selecting;
 mod told;
 
-// The crates below that this one speaks of, passed on: who stands above names them through it.
+// What is its own, and the crates below that it speaks of, passed on: who stands above names them through it.
 pub use lines::{applied_line, fetched_line};
 pub use replica::ReplicaNode;
 pub use stmt_apply::node_answers;

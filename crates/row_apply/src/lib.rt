@@ -26,7 +26,7 @@ mod columns;
 mod stop;
 mod table;
 
-// The crates below that this one speaks of, passed on: who stands above names them through it.
+// What is its own, and the crates below that it speaks of, passed on: who stands above names them through it.
 pub use changing::carry_change;
 pub use prog_run;
 pub use stop::{Stop, stop_at};

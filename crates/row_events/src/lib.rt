@@ -39,7 +39,7 @@ mod runs;
 mod tables;
 mod writing;
 
-// The crates below that this one speaks of, passed on: who stands above names them through it.
+// What is its own, and the crates below that it speaks of, passed on: who stands above names them through it.
 pub use event_sizes::rows_size;
 pub use row_image;
 pub use row_image::log_entries;

@@ -35,7 +35,7 @@ mod map;
 mod row;
 mod value;
 
-// The crates below that this one speaks of, passed on: who stands above names them through it.
+// What is its own, and the crates below that it speaks of, passed on: who stands above names them through it.
 pub use changes::rows_of;
 pub use column::{behind_type, column_type};
 pub use fitting::rows_fit;

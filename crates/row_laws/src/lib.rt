@@ -10,6 +10,6 @@
 
 mod laws;
 
-// The crates below that this one speaks of, passed on: who stands above names them through it.
+// What is its own, and the crates below that it speaks of, passed on: who stands above names them through it.
 pub use laws::rows_can_be_written;
 pub use row_events;

@@ -31,7 +31,7 @@
 
 mod laws;
 
-// The crates below that this one speaks of, passed on: who stands above names them through it.
+// What is its own, and the crates below that it speaks of, passed on: who stands above names them through it.
 pub use applier_laws::{entry_groups, log_model, session_model, session_replays};
 pub use laws::{
     all_carried_is_equal, log_is_its_entries, others_follow, replay_is_equal, replica_follows,

@@ -61,7 +61,7 @@ mod logging;
 mod nodes;
 mod script;
 
-// The crates below that this one speaks of, passed on: who stands above names them through it.
+// What is its own, and the crates below that it speaks of, passed on: who stands above names them through it.
 pub use logging::write_log;
 pub use run_streams;
 pub use script::run_script;

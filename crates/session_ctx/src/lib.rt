@@ -35,7 +35,7 @@ mod session;
 mod variables;
 mod worked;
 
-// The crates below that this one speaks of, passed on: who stands above names them through it.
+// What is its own, and the crates below that it speaks of, passed on: who stands above names them through it.
 pub use carrying::from_carried;
 pub use context::Ctx;
 pub use laws::{carried_context_stands_in, names_are_a_table};

@@ -28,7 +28,7 @@ mod formats;
 mod saves;
 mod session;
 
-// The crates below that this one speaks of, passed on: who stands above names them through it.
+// What is its own, and the crates below that it speaks of, passed on: who stands above names them through it.
 pub use call::Call;
 pub use checking::{Refusal, checked, lock_check, refused_as, step_check};
 pub use desk::Desk;

@@ -38,7 +38,7 @@ mod format;
 mod laws;
 mod worked;
 
-// The crates below that this one speaks of, passed on: who stands above names them through it.
+// What is its own, and the crates below that it speaks of, passed on: who stands above names them through it.
 pub use format::Format;
 pub use laws::{
     errors_leave_all, formats_decide, readers_see_committed, runs_hold, steps_are_kept,

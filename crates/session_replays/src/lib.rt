@@ -38,7 +38,7 @@
 mod laws;
 mod worked;
 
-// The crates below that this one speaks of, passed on: who stands above names them through it.
+// What is its own, and the crates below that it speaks of, passed on: who stands above names them through it.
 pub use independence_laws;
 pub use laws::{
     bodies_stay_well, sets_run_as_dos, statements_make_the_base, transactions_replay,

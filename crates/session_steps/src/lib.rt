@@ -23,7 +23,7 @@ mod keeping;
 mod running;
 mod stepping;
 
-// The crates below that this one speaks of, passed on: who stands above names them through it.
+// What is its own, and the crates below that it speaks of, passed on: who stands above names them through it.
 pub use keeping::{Kept, Start, settle};
 pub use running::full;
 pub use session_desk;

@@ -21,7 +21,7 @@ mod beginning;
 mod ending;
 mod savepoints;
 
-// The crates below that this one speaks of, passed on: who stands above names them through it.
+// What is its own, and the crates below that it speaks of, passed on: who stands above names them through it.
 pub use beginning::begin;
 pub use ending::{commit, commit_open, rollback};
 pub use node_answers;

@@ -41,7 +41,7 @@ mod value_lists;
 mod views;
 mod world;
 
-// The crates below that this one speaks of, passed on: who stands above names them through it.
+// What is its own, and the crates below that it speaks of, passed on: who stands above names them through it.
 pub use built_ins::{of_many, of_none, of_one, of_three, of_two};
 pub use choices::{case_value, first_known, first_of_two, if_value};
 pub use expressions::value;

@@ -27,7 +27,7 @@ mod laws;
 mod worked;
 mod worked_programs;
 
-// The crates below that this one speaks of, passed on: who stands above names them through it.
+// What is its own, and the crates below that it speaks of, passed on: who stands above names them through it.
 pub use laws::{
     more_fuel_does_the_same, parts_are_well, reading_changes_nothing, statements_end_well,
     turns_never_rise,

@@ -16,7 +16,7 @@
 mod laws;
 mod worked;
 
-// The crates below that this one speaks of, passed on: who stands above names them through it.
+// What is its own, and the crates below that it speaks of, passed on: who stands above names them through it.
 pub use laws::closed_is_well;
 pub use sql_meaning;
 pub use sql_meaning::log_entries;

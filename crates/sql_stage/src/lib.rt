@@ -18,7 +18,7 @@ mod running;
 mod stage;
 mod storing;
 
-// The crates below that this one speaks of, passed on: who stands above names them through it.
+// What is its own, and the crates below that it speaks of, passed on: who stands above names them through it.
 pub use dml_rows;
 pub use running::Running;
 pub use stage::{Snapshot, Stage};

@@ -39,7 +39,7 @@ mod performing;
 mod target;
 mod updating;
 
-// The crates below that this one speaks of, passed on: who stands above names them through it.
+// What is its own, and the crates below that it speaks of, passed on: who stands above names them through it.
 pub use changed_rows;
 pub use changed_rows::{session_ctx, sql_stage};
 pub use did::Did;

@@ -15,7 +15,7 @@
 
 mod taking_back;
 
-// The crates below that this one speaks of, passed on: who stands above names them through it.
+// What is its own, and the crates below that it speaks of, passed on: who stands above names them through it.
 pub use sql_stage;
 pub use sql_stage::dml_rows;
 pub use taking_back::take_back_at_error;

@@ -32,7 +32,7 @@ mod tables;
 mod variables;
 mod visitor;
 
-// The crates below that this one speaks of, passed on: who stands above names them through it.
+// What is its own, and the crates below that it speaks of, passed on: who stands above names them through it.
 pub use laws::names_are_in_byte_order;
 pub use sql_reach::sql_meaning;
 pub use tables::tables_of;

@@ -21,7 +21,7 @@
 mod checks;
 mod under_way;
 
-// The crates below that this one speaks of, passed on: who stands above names them through it.
+// What is its own, and the crates below that it speaks of, passed on: who stands above names them through it.
 pub use checks::{check_expression, check_statement};
 pub use sql_evaluation;
 pub use under_way::{is_called, is_named};

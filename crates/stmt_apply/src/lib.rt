@@ -35,7 +35,7 @@ mod text;
 mod transaction;
 mod under_way;
 
-// The crates below that this one speaks of, passed on: who stands above names them through it.
+// What is its own, and the crates below that it speaks of, passed on: who stands above names them through it.
 pub use group::apply_group;
 pub use node_answers;
 pub use node_answers::sql_parse;

@@ -40,7 +40,7 @@ mod programs;
 mod steps;
 mod turns;
 
-// The crates below that this one speaks of, passed on: who stands above names them through it.
+// What is its own, and the crates below that it speaks of, passed on: who stands above names them through it.
 pub use calls::{call_function, fire_trigger};
 pub use sql_statements;
 pub use sql_statements::session_ctx;

@@ -16,7 +16,7 @@ mod defining;
 mod keys;
 mod refusing;
 
-// The crates below that this one speaks of, passed on: who stands above names them through it.
+// What is its own, and the crates below that it speaks of, passed on: who stands above names them through it.
 pub use catalog_checks;
 pub use catalog_checks::catalog_objects;
 pub use columns::is_ill_type;

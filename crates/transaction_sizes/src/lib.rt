@@ -13,7 +13,7 @@
 
 mod changes;
 
-// The crates below that this one speaks of, passed on: who stands above names them through it.
+// What is its own, and the crates below that it speaks of, passed on: who stands above names them through it.
 pub use changes::{change_size, changes_size};
 pub use row_events;
 pub use row_events::{log_entries, row_image};

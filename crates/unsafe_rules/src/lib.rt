@@ -43,7 +43,7 @@ mod reaching;
 mod unsafety;
 mod writing;
 
-// The crates below that this one speaks of, passed on: who stands above names them through it.
+// What is its own, and the crates below that it speaks of, passed on: who stands above names them through it.
 pub use carrying::carried;
 pub use explaining::reasons;
 pub use session_ctx;

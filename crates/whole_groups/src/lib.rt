@@ -16,6 +16,6 @@
 
 mod laws;
 
-// The crates below that this one speaks of, passed on: who stands above names them through it.
+// What is its own, and the crates below that it speaks of, passed on: who stands above names them through it.
 pub use laws::{groups_lie_within, groups_stay, nothing_is_not_whole, stops_stay};
 pub use log_model::log_entries;

@@ -25,7 +25,7 @@
 mod laws;
 mod worked;
 
-// The crates below that this one speaks of, passed on: who stands above names them through it.
+// What is its own, and the crates below that it speaks of, passed on: who stands above names them through it.
 pub use laws::{
     end_is_seen, group_is_first, group_is_passed, magic_is_passed, nothing_behind_names,
     others_are_damaged, stop_is_seen, turns_are_enough,
