@@ -1,4 +1,2 @@
 pub mod Counting
 pub mod Most
--- the crates below that this one speaks of, passed on
-pub use Rattle.catalog_objects.proofs as of_catalog_objects

@@ -8,4 +8,3 @@ pub mod Inserts
 -- the crates below that this one speaks of, passed on
 pub use Rattle.sql_evaluation.proofs.of_dml_rows as of_dml_rows
 pub use Rattle.sql_evaluation.proofs as of_sql_evaluation
-pub use Rattle.sql_evaluation.proofs.of_sql_stage as of_sql_stage

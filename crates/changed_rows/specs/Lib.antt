@@ -7,4 +7,3 @@ pub use Rattle.sql_evaluation.specs.catalog_rules as catalog_rules
 pub use Rattle.sql_evaluation.specs.session_ctx as session_ctx
 pub use Rattle.sql_evaluation.specs as sql_evaluation
 pub use Rattle.sql_evaluation.specs.sql_meaning as sql_meaning
-pub use Rattle.sql_evaluation.specs.sql_stage as sql_stage

@@ -55,6 +55,7 @@ pub use deleting::delete_row;
 pub use executor::Executor;
 pub use inserting::{Inserting, Insertion, Manner, insert_row};
 pub use sql_evaluation;
-pub use sql_evaluation::{session_ctx, sql_stage};
+pub use sql_evaluation::session_ctx;
+pub use sql_stage;
 pub use table::ChangedTable;
 pub use updating::update_row;

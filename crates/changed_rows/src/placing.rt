@@ -5,7 +5,7 @@ ghost use Rattle.std.specs.Prelude.{◌≡◌, ◌+◌, ◌*◌, [], IfOk, IfSom
 ghost use Rattle.table_rules.specs.Stored.{has_key_in_way, key_tests};
 ghost use Rattle.sql_tree.specs.StatementView.{view_sets};
 ghost use Rattle.sql_evaluation.specs.sql_meaning.Changing.{clear_way, replacing, update_row, updating};
-ghost use Rattle.sql_evaluation.specs.sql_stage.Stage.{EndsAs, EndsAsBy, LeadsOn, scene_of};
+ghost use Rattle.sql_stage.specs.Stage.{EndsAs, EndsAsBy, LeadsOn, scene_of};
 ghost use Rattle.sql_evaluation.specs.Seen.{world_of};
 ghost use Rattle.changed_rows.specs.Changed.{StandsAt, frame_behind, inserting_of, manner_of};
 ghost use Rattle.changed_rows.specs.Inserted.{IsBehind, InWay, cleared_by, counted_of, placed_in, put_row_in};
@@ -20,8 +20,8 @@ use crate::standing::put_in;
 use crate::table::ChangedTable;
 use crate::updating::update_row;
 use sharing::Shared;
-use sql_evaluation::sql_stage::Stage;
 use sql_evaluation::{Around, View};
+use sql_stage::Stage;
 use sql_tree::{Cause, ColumnSet};
 use std::alloc::Global;
 use val_types::{List, NoMemory, Row, SqlError, SqlRefusal, TableDef};

@@ -8,8 +8,8 @@ ghost use Rattle.prog_run.specs.Together.{Counts};
 
 use catalog::catalog_objects::Objects;
 use sql_locals::Locals;
+use sql_stage::Running;
 use sql_tree::Stmt;
-use stage_undo::sql_stage::Running;
 use stored_programs::session_ctx::Ctx;
 use stored_programs::sql_evaluation::Around;
 

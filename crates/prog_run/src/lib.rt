@@ -59,6 +59,6 @@ pub use catalog::{catalog_objects, program_creation, table_creation};
 pub use defining::is_definition;
 pub use meter::{Meter, Outcome};
 pub use running::{eval_list, run_stmt};
-pub use stage_undo::sql_stage;
+pub use sql_stage;
 pub use stored_programs::{session_ctx, step_checks};
 pub use work::Work;

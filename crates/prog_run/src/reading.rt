@@ -6,8 +6,8 @@ ghost use Rattle.prog_run.specs.Contents.{as_committed};
 
 use crate::work::Work;
 use row_store::Tables;
+use sql_stage::Stage;
 use stage_undo::dml_rows::take_back_to;
-use stage_undo::sql_stage::Stage;
 use std::alloc::Global;
 use undo_log::Undo;
 use val_types::{Change, Duplicate, NoMemory};

@@ -5,8 +5,8 @@ ghost use Rattle.statement_names.specs.catalog_rules.Nodes.{no_sight, nodes_of_t
 ghost use Rattle.statement_names.specs.sql_meaning.Running.{tables_named};
 ghost use Rattle.stored_programs.specs.sql_evaluation.Seen.{running_of};
 
+use sql_stage::Running;
 use sql_tree::Expr;
-use stage_undo::sql_stage::Running;
 use val_types::{Bytes, List};
 
 /// Nothing.

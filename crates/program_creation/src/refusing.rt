@@ -6,7 +6,7 @@ ghost use Rattle.sql_tree.specs.declared.statements.Parameter.{Parameter};
 ghost use Rattle.table_creation.specs.catalog_rules.Bodies.{of_trigger};
 ghost use Rattle.table_creation.specs.catalog_rules.Objects.{count_of_programs, function_in, name_of, procedure_in};
 ghost use Rattle.table_creation.specs.catalog_rules.Creating.{ddl_refusal, first_refusal, runs_before_storing, trigger_checks};
-ghost use Rattle.table_creation.specs.catalog_objects.Keys.{objects_of};
+ghost use Rattle.catalog_objects.specs.Keys.{objects_of};
 ghost use Rattle.program_creation.specs.BodyRanks.{body_rank, types_rank};
 ghost use Rattle.program_creation.specs.Kinds.{kind_of};
 ghost use Rattle.program_creation.specs.Refusing.{code_by, program_rank};
@@ -15,8 +15,8 @@ use crate::bodies::body;
 use crate::kinds::Kind;
 use crate::ranks::{ILL_TYPE, NOTHING, code_by, has_ill_type, trigger_code, type_rank};
 use crate::scope::Names;
+use catalog_objects::Objects;
 use sql_tree::{Cause, Parameter, Routine, SqlType, Stmt, Time, TriggerDef};
-use table_creation::catalog_objects::Objects;
 use table_creation::refused;
 use val_types::{Bytes, List, SqlError};
 
@@ -75,7 +75,7 @@ fn program_code(objects: &Objects, kind: Kind, routine: &Routine) -> Option<SqlE
 }
 
 /// Whether there is a function of its name.
-#[tactic(auto, using(table_creation::proofs::of_catalog_objects::Parts::program_named))]
+#[tactic(auto, using(catalog_objects::proofs::Parts::program_named))]
 fn is_function(objects: &Objects, routine: &Routine) -> bool
     ensures { result ≡ is_some (function_in (objects_of objects.now) (name_of (view_program routine.now))) }
 {
@@ -83,7 +83,7 @@ fn is_function(objects: &Objects, routine: &Routine) -> bool
 }
 
 /// Whether there is a procedure of its name.
-#[tactic(auto, using(table_creation::proofs::of_catalog_objects::Parts::program_named))]
+#[tactic(auto, using(catalog_objects::proofs::Parts::program_named))]
 fn is_procedure(objects: &Objects, routine: &Routine) -> bool
     ensures { result ≡ is_some (procedure_in (objects_of objects.now) (name_of (view_program routine.now))) }
 {

@@ -8,4 +8,3 @@ pub mod Scanning
 pub mod Forming
 -- the crates below that this one speaks of, passed on
 pub use Rattle.sql_stage.proofs.of_dml_rows as of_dml_rows
-pub use Rattle.sql_stage.proofs as of_sql_stage

@@ -4,4 +4,3 @@ pub use Rattle.catalog_objects.specs as catalog_objects
 pub use Rattle.catalog_objects.specs.catalog_rules as catalog_rules
 pub use Rattle.session_ctx.specs as session_ctx
 pub use Rattle.session_ctx.specs.sql_meaning as sql_meaning
-pub use Rattle.sql_stage.specs as sql_stage

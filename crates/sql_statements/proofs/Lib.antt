@@ -5,6 +5,3 @@ pub mod Looping
 pub mod Picked
 pub mod Shown
 pub mod Viewed
--- the crates below that this one speaks of, passed on
-pub use Rattle.changed_rows.proofs as of_changed_rows
-pub use Rattle.changed_rows.proofs.of_sql_stage as of_sql_stage

@@ -41,6 +41,7 @@ mod updating;
 
 // What is its own, and the crates below that it speaks of, passed on: who stands above names them through it.
 pub use changed_rows;
-pub use changed_rows::{session_ctx, sql_stage};
+pub use changed_rows::session_ctx;
 pub use did::Did;
 pub use performing::perform;
+pub use sql_stage;

@@ -16,9 +16,9 @@ use Rattle.sql_tree.specs.declared.statements.Stmt.TheFolds.{fold_out-Branch}
 use Rattle.sql_statements.specs.sql_meaning.Scenes.{Scene, Ending, Action, done, failed, then_do, pure, fail, spend_turn, turn_spent, ◌>>=◌}
 use Rattle.sql_statements.specs.sql_meaning.Values.{holds}
 use Rattle.sql_statements.specs.sql_meaning.Running.{Body, Ended, body_perform, body_value, goes_on, leaves_block, steps, turns, unless_returned}
-use Rattle.sql_statements.specs.sql_stage.Stage.{EndsAs, EndsAsBy, LeadsOn, scene_of}
-use Rattle.sql_statements.specs.sql_stage.declared.stage.Stage.{Stage}
-use Rattle.sql_statements.proofs.of_sql_stage.Leading.{turns_led}
+use Rattle.sql_stage.specs.Stage.{EndsAs, EndsAsBy, LeadsOn, scene_of}
+use Rattle.sql_stage.specs.declared.stage.Stage.{Stage}
+use Rattle.sql_stage.proofs.Leading.{turns_led}
 use Rattle.step_checks.specs.sql_evaluation.declared.world.Around.{Around}
 use Rattle.step_checks.specs.sql_evaluation.Seen.{world_of}
 use Rattle.step_checks.proofs.of_sql_evaluation.Branching.{rest_is}

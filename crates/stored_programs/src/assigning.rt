@@ -4,16 +4,16 @@ ghost use Rattle.sql_tree.specs.Statement.{set_all};
 ghost use Rattle.sql_tree.specs.StatementView.{view, view_assignments};
 ghost use Rattle.sql_statements.specs.sql_meaning.Changing.{put_at};
 ghost use Rattle.sql_statements.specs.sql_meaning.Running.{assign_local, assign_new, assign_one};
-ghost use Rattle.sql_statements.specs.sql_stage.Stage.{EndsAs, EndsAsBy, LeadsOn, scene_of};
+ghost use Rattle.sql_stage.specs.Stage.{EndsAs, EndsAsBy, LeadsOn, scene_of};
 ghost use Rattle.step_checks.specs.sql_evaluation.Seen.{Anywhere, Calls, CallsLead};
 ghost use Rattle.stored_programs.specs.Bodies.{AnywhereBy, body_of, body_then, ended_at, put_in_column, world_with};
 ghost use Rattle.stored_programs.specs.Steps.{all_assigned, assigned_values, step_in, values_to_set};
 
 use crate::body::{Body, fit, take_first};
 use crate::evaluating::{check_statement_here, value_here, with_statement};
+use changed_rows::place_of;
 use sharing::Shared;
-use sql_statements::changed_rows::place_of;
-use sql_statements::sql_stage::{Running, Stage};
+use sql_stage::{Running, Stage};
 use sql_tree::{Assignment, Stmt, Target};
 use std::alloc::Global;
 use step_checks::sql_evaluation::{Around, View};
@@ -53,7 +53,7 @@ fn put(mut row: Row, place: usize, value: Value) -> Row
 }
 
 /// A copy of a row with a value put at a place: 1054 where there is no column, or why the value does not fit.
-#[tactic(auto, using(sql_statements::proofs::of_changed_rows::Fitted::columns))]
+#[tactic(auto, using(changed_rows::proofs::Fitted::columns))]
 fn with_value(
     alloc: Global,
     definition: &TableDef,
@@ -148,7 +148,7 @@ fn assign_all(
 }
 
 /// The values of assignments, left to right.
-#[tactic(auto, using(crate::proofs::Assigned::evaluations, sql_statements::proofs::of_sql_stage::Leading::leading))]
+#[tactic(auto, using(crate::proofs::Assigned::evaluations, sql_stage::proofs::Leading::leading))]
 fn assigned_values<
     'a,
     F: Fn(&mut Stage, &Running<'_>, &Bytes, List<Value>) -> Result<Value, SqlRefusal>,
@@ -176,7 +176,7 @@ fn assigned_values<
 }
 
 /// The values of a SET, behind its checks.
-#[tactic(auto, using(crate::proofs::Assigned::checked_values, sql_statements::proofs::of_sql_stage::Leading::leading))]
+#[tactic(auto, using(crate::proofs::Assigned::checked_values, sql_stage::proofs::Leading::leading))]
 fn set_values<F: Fn(&mut Stage, &Running<'_>, &Bytes, List<Value>) -> Result<Value, SqlRefusal>>(
     alloc: Global,
     run: &F,
@@ -198,7 +198,7 @@ fn set_values<F: Fn(&mut Stage, &Running<'_>, &Bytes, List<Value>) -> Result<Val
 }
 
 /// SET: the values first, then the assignments.
-#[tactic(auto, using(crate::proofs::Assigned::setting, sql_statements::proofs::of_sql_stage::Leading::leading))]
+#[tactic(auto, using(crate::proofs::Assigned::setting, sql_stage::proofs::Leading::leading))]
 pub(crate) fn set_step<
     F: Fn(&mut Stage, &Running<'_>, &Bytes, List<Value>) -> Result<Value, SqlRefusal>,
 >(

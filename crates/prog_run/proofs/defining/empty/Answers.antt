@@ -1,5 +1,5 @@
 use Rattle.std.proofs.Common.{refl}
-use Rattle.stage_undo.specs.sql_stage.declared.stage.Stage.{Stage}
+use Rattle.sql_stage.specs.declared.stage.Stage.{Stage}
 use Rattle.prog_run.proofs.Defined.{cleared_on}
 use Rattle.prog_run.proofs.defining.empty.Goals as goal
 

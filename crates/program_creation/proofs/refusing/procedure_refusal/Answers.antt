@@ -4,7 +4,7 @@ use Rattle.sql_tree.specs.Statement.{create_procedure}
 use Rattle.sql_tree.specs.StatementView.{view_program}
 use Rattle.table_creation.specs.catalog_rules.Bodies.{of_procedure}
 use Rattle.table_creation.specs.catalog_rules.Objects.{count_of_programs}
-use Rattle.table_creation.specs.catalog_objects.Keys.{objects_of}
+use Rattle.catalog_objects.specs.Keys.{objects_of}
 use Rattle.program_creation.proofs.RefusedFirst.{ddl_is, program_refused}
 use Rattle.program_creation.proofs.refusing.procedure_refusal.Goals as goal
 

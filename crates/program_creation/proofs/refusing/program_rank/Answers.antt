@@ -1,6 +1,6 @@
 use Rattle.std.proofs.Common.{◌≡◌, ◌∙◌, ap, sym, min, rules}
 use Rattle.sql_tree.specs.StatementView.{view}
-use Rattle.table_creation.proofs.of_catalog_objects.Parts.{program_seen}
+use Rattle.catalog_objects.proofs.Parts.{program_seen}
 use Rattle.program_creation.specs.Refusing.{program_rank}
 use Rattle.program_creation.specs.Kinds.{kind_of}
 use Rattle.program_creation.proofs.RefusedFirst.{rank_of_parts}

@@ -4,7 +4,7 @@ use Rattle.sql_tree.specs.StatementView.{view}
 use Rattle.table_creation.specs.catalog_rules.Bodies.{of_trigger}
 use Rattle.table_creation.specs.catalog_rules.Creating.{runs_before_storing}
 use Rattle.table_creation.specs.catalog_rules.Objects.{count_of_programs, table_in, trigger_in, trigger_for}
-use Rattle.table_creation.specs.catalog_objects.Keys.{objects_of}
+use Rattle.catalog_objects.specs.Keys.{objects_of}
 use Rattle.program_creation.specs.Refusing.{trigger_code}
 use Rattle.program_creation.proofs.RefusedFirst.{trigger_refused}
 use Rattle.program_creation.proofs.refusing.refusal_for.Goals as goal

@@ -3,8 +3,8 @@ use Rattle.sql_tree.specs.Statement.{Trigger, create_trigger}
 use Rattle.sql_tree.specs.StatementView.{view_trigger}
 use Rattle.program_creation.proofs.RefusedFirst.{ddl_is}
 use Rattle.table_creation.specs.catalog_rules.Creating.{first_refusal, trigger_checks}
-use Rattle.table_creation.specs.catalog_objects.Keys.{objects_of}
-use Rattle.table_creation.proofs.of_catalog_objects.Parts.{trigger_seen}
+use Rattle.catalog_objects.specs.Keys.{objects_of}
+use Rattle.catalog_objects.proofs.Parts.{trigger_seen}
 use Rattle.program_creation.proofs.refusing.trigger_refusal.Goals as goal
 
 pub returns : goal.returns

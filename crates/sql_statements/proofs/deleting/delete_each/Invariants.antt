@@ -1,5 +1,5 @@
 use Rattle.std.proofs.Common.{◌≡◌, length, drop}
-use Rattle.changed_rows.specs.sql_stage.Stage.{LeadsOn, scene_of}
+use Rattle.sql_stage.specs.Stage.{LeadsOn, scene_of}
 use Rattle.changed_rows.specs.Changed.{StandsAt}
 use Rattle.sql_statements.specs.Changed.{deletes_in}
 use Rattle.sql_statements.proofs.Changes.{deletes_left}
