@@ -3,4 +3,3 @@ pub use Rattle.closed_length.specs.catalog_rules as catalog_rules
 pub use Rattle.closed_length.specs as closed_length
 pub use Rattle.closed_length.specs.log_entries as log_entries
 pub use Rattle.closed_length.specs.sql_meaning as sql_meaning
-pub use Rattle.closed_length.specs.sql_reach as sql_reach

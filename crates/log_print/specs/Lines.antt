@@ -15,7 +15,7 @@ use Rattle.event_codec.specs.declared.event.RowsKind.TheVariants.{Write, Update,
 use Rattle.event_codec.specs.declared.event.Step.{Step}
 use Rattle.event_codec.specs.Event.{Body, query, rotate, int_var, rand, user_var, format_description, xid, table_map, rows, Query, Map, Rows, Seen, map_of}
 use Rattle.event_codec.specs.LogName.{log_name}
-use Rattle.row_image.specs.log_model.Images.{changes_of}
+use Rattle.log_model.specs.Images.{changes_of}
 use Rattle.log_print.specs.Escapes.{escapes, before_zero}
 
 -- ---- statements and what they need of their session

@@ -4,7 +4,7 @@ ghost use Rattle.val_types.specs.declared.value.Value.TheVariants.{Int, Null, Te
 ghost use Rattle.event_codec.specs.declared.event.IntVarKind.TheVariants.{InsertId, LastInsertId};
 ghost use Rattle.event_codec.specs.declared.event.RowsKind.TheVariants.{Delete, Update, Write};
 ghost use Rattle.event_codec.specs.Event.{format_description, int_var, query, rand, rotate, rows, table_map, user_var, xid};
-ghost use Rattle.row_image.specs.log_model.Worked.{pair_bytes, pairs};
+ghost use Rattle.log_model.specs.Worked.{pair_bytes, pairs};
 ghost use Rattle.log_print.specs.Escapes.{before_zero, escapes};
 ghost use Rattle.log_print.specs.Lines.{line_of, rows_shown, words_of};
 
@@ -52,7 +52,7 @@ pub fn numbers_by_hand()
 {}
 
 /// Rows of two numbers that were put in, changed and taken out.
-#[tactic(auto, unfolding(row_image::specs::log_model::Images::row_at, row_image::specs::log_model::Images::changes_at, byte_fields::specs::Unroll::all_from, byte_fields::specs::Field::number_at))]
+#[tactic(auto, unfolding(log_model::specs::Images::row_at, log_model::specs::Images::changes_at, byte_fields::specs::Unroll::all_from, byte_fields::specs::Field::number_at))]
 pub fn rows_by_hand()
     ensures put_in { words_of (Some (pairs 1)) 0 (rows (record { kind = Write; id = 1; ends = false; columns = 2; rows = pair_bytes })) ≡ codes "WRITE_ROWS 1 (1, 10)" }
     ensures changed { words_of (Some (pairs 1)) 0 (rows (record { kind = Update; id = 1; ends = false; columns = 2; rows = pair_bytes ++ 2 ∷ 1 ∷ 0 ∷ 0 ∷ 0 ∷ [] })) ≡ codes "UPDATE_ROWS 1 (1, 10)->(1, NULL)" }

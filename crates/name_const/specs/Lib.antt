@@ -6,4 +6,4 @@ pub use Rattle.closing_checks.specs as closing_checks
 pub use Rattle.closed_names.specs.log_entries as log_entries
 pub use Rattle.closing_checks.specs.proc_model as proc_model
 pub use Rattle.closed_names.specs.sql_meaning as sql_meaning
-pub use Rattle.closed_names.specs.sql_reach as sql_reach
+pub use Rattle.sql_reach.specs as sql_reach

@@ -6,7 +6,7 @@ use Rattle.sql_tree.specs.Statement.{Statement}
 use Rattle.sql_tree.specs.StatementView.{view}
 use Rattle.sql_tree.specs.declared.statements.Stmt.{Stmt}
 use Rattle.sql_locals.specs.declared.locals.Local.{Local}
-use Rattle.closed_names.specs.sql_reach.Closing.{closed}
+use Rattle.sql_reach.specs.Closing.{closed}
 use Rattle.closing_checks.specs.proc_model.Closing.{closing_refusal}
 
 -- the closed statement or what refuses it, or no memory

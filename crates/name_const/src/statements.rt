@@ -2,7 +2,7 @@
 ghost use Rattle.std.specs.Prelude.{◌≡◌, IfOk};
 ghost use Rattle.sql_tree.specs.StatementView.{view, view_delete, view_insert, view_replace, view_rows, view_sets, view_supply, view_update};
 ghost use Rattle.sql_tree.specs.View.{view_part};
-ghost use Rattle.closed_names.specs.sql_reach.Closing.{closed};
+ghost use Rattle.sql_reach.specs.Closing.{closed};
 ghost use Rattle.closed_names.specs.closed_length.Closed.{closed_part, closed_rows, closed_sets, closed_supply};
 
 use crate::expressions::{close_expr, close_exprs, close_order, close_select};
@@ -115,7 +115,7 @@ fn close_delete(alloc: Global, locals: &Locals, delete: &DeleteStmt) -> Result<D
 }
 
 /// A statement with locals closed in; one that is no change, SELECT or DO is left as it is.
-#[tactic(auto, unfolding(closed_names::specs::sql_reach::Closing::closed))]
+#[tactic(auto, unfolding(sql_reach::specs::Closing::closed))]
 pub fn close_stmt(alloc: Global, locals: &Locals, s: &Stmt) -> Result<Stmt, NoMemory>
     ensures { IfOk result (λ copy. view copy ≡ closed (view s.now) locals.now) }
 {

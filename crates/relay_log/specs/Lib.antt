@@ -3,4 +3,3 @@ pub mod Reaching
 pub use Rattle.replica_model.specs.applier_model as applier_model
 pub use Rattle.log_groups.specs as log_groups
 pub use Rattle.log_groups.specs.log_model as log_model
-pub use Rattle.replica_model.specs as replica_model

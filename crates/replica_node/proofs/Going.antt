@@ -6,8 +6,8 @@ use Rattle.port_traits.specs.declared.identity.Identity.{Identity}
 use Rattle.port_traits.specs.declared.identity.Draw.{Draw}
 use Rattle.relay_log.specs.log_model.Groups.{Next, not_whole, group_at}
 use Rattle.relay_log.specs.log_model.Log.{moved}
-use Rattle.relay_log.specs.replica_model.Applying.{Going, Stop, apply, by_next, go_on, next_at}
-use Rattle.relay_log.specs.replica_model.Replica.{Replica}
+use Rattle.replica_model.specs.Applying.{Going, Stop, apply, by_next, go_on, next_at}
+use Rattle.replica_model.specs.Replica.{Replica}
 use Rattle.relay_log.specs.declared.place.Walk.{Walk}
 use Rattle.relay_log.specs.Reaching.{Fetched, IsAhead, place_seen}
 use Rattle.relay_log.proofs.of_whole_groups.Lying.{nothing_there}

@@ -3,7 +3,7 @@ use Rattle.std.specs.Prelude.{ℕ}
 use Rattle.port_traits.specs.declared.identity.Identity.{Identity}
 use Rattle.stmt_apply.specs.prog_run.Contents.{Contents, base_of}
 use Rattle.relay_log.specs.Reaching.{Fetched}
-use Rattle.relay_log.specs.replica_model.Replica.{Replica}
+use Rattle.replica_model.specs.Replica.{Replica}
 
 -- who it is, its rows, how many transactions it has carried out, and what it has fetched from its place on
 pub record Kept : Type 0 where

@@ -7,8 +7,8 @@ use Rattle.relay_log.specs.applier_model.Stops.{Differs}
 use Rattle.relay_log.specs.applier_model.Groups.{Applied}
 use Rattle.relay_log.specs.log_model.Log.{moved}
 use Rattle.stmt_apply.specs.prog_run.Contents.{Contents}
-use Rattle.relay_log.specs.replica_model.Applying.{Going, Stop, differs, damaged, foreign, go_on, going_from}
-use Rattle.relay_log.specs.replica_model.Replica.{Replica}
+use Rattle.replica_model.specs.Applying.{Going, Stop, differs, damaged, foreign, go_on, going_from}
+use Rattle.replica_model.specs.Replica.{Replica}
 use Rattle.relay_log.specs.declared.place.Walk.{Walk}
 use Rattle.relay_log.specs.Reaching.{Fetched, IsAhead, place_seen}
 use Rattle.stmt_apply.specs.Applying.{applied_in}

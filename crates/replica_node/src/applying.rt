@@ -3,7 +3,7 @@ ghost use Rattle.std.specs.Prelude.{◌≡◌, ◌-◌, ℕ, [], length, IfOk, O
 ghost use Rattle.relay_log.specs.log_groups.Views.{group_seen};
 ghost use Rattle.stmt_apply.specs.prog_run.Contents.{base_of};
 ghost use Rattle.relay_log.specs.applier_model.Groups.{group_carried};
-ghost use Rattle.relay_log.specs.replica_model.Applying.{Going as Under, apply, by_next, next_at};
+ghost use Rattle.replica_model.specs.Applying.{Going as Under, apply, by_next, next_at};
 ghost use Rattle.replica_node.specs.Kept.{replica_of};
 ghost use Rattle.replica_node.specs.Steps.{CarriesOut, GoesOn, IsFront, IsOver, IsTold, ended_by, going_at};
 
@@ -114,7 +114,7 @@ impl ReplicaNode {
     /// Carries out up to so many definitions and transactions of what was fetched. It stops at one that differs from what is
     /// there, and at bytes that no group has; that group is left as it is, and a later call tries it again. Where memory is short,
     /// what was carried out before stands.
-    #[tactic(auto, unfolding(relay_log::specs::replica_model::Applying::apply))]
+    #[tactic(auto, unfolding(replica_model::specs::Applying::apply))]
     pub fn apply(&mut self, wanted: u32, draw: &Draw) -> Result<Applied, NodeFault>
         ensures identity { self.new.identity ≡ self.old.identity }
         ensures replica { IfOk result (λ told. replica_of self.new ≡ (apply wanted self.old.identity draw.entry.now (replica_of self.old)).replica) }

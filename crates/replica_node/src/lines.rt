@@ -4,8 +4,8 @@ ghost use Rattle.std.specs.Fmt.{decimal};
 ghost use Rattle.std.specs.Option.{option_map};
 ghost use Rattle.val_types.specs.Text.{row_text_of};
 ghost use Rattle.answer_text.specs.Statuses.{table_text};
-ghost use Rattle.relay_log.specs.replica_model.Applying.{differs};
-ghost use Rattle.relay_log.specs.replica_model.Lines.{applied_line, fetched_line, stop_if, stop_words};
+ghost use Rattle.replica_model.specs.Applying.{differs};
+ghost use Rattle.replica_model.specs.Lines.{applied_line, fetched_line, stop_if, stop_words};
 ghost use Rattle.replica_node.specs.Steps.{stop_of};
 
 use crate::told::{Applied, Stopped};

@@ -1,7 +1,7 @@
 //! The replica.
 ghost use Rattle.std.specs.Prelude.{◌≡◌, ◌≤◌, ◌+◌, ◌^◌, length, IfOk, OnErr, OnOk};
-ghost use Rattle.relay_log.specs.replica_model.Replica.{fetched, first_replica, want};
-ghost use Rattle.relay_log.specs.replica_model.Selecting.{select_answer};
+ghost use Rattle.replica_model.specs.Replica.{fetched, first_replica, want};
+ghost use Rattle.replica_model.specs.Selecting.{select_answer};
 ghost use Rattle.replica_node.specs.Kept.{replica_of};
 
 use crate::selecting::answer;
@@ -64,7 +64,7 @@ impl ReplicaNode {
     }
 
     /// The log and the position from which the next bytes are fetched.
-    #[tactic(auto, unfolding(relay_log::specs::replica_model::Replica::want))]
+    #[tactic(auto, unfolding(replica_model::specs::Replica::want))]
     pub fn want(&self) -> (u32, u32)
         ensures { record { log = result.0; pos = result.1 } ≡ want (replica_of self.now) }
     {
@@ -73,7 +73,7 @@ impl ReplicaNode {
     }
 
     /// Takes a piece of the source's log from the place that is wanted on, which ends within 4,294,967,295.
-    #[tactic(auto, unfolding(relay_log::specs::replica_model::Replica::want))]
+    #[tactic(auto, unfolding(replica_model::specs::Replica::want))]
     pub fn fetch(&mut self, piece: &Bytes) -> Result<(), NodeFault>
         requires { (want (replica_of self.old)).pos + length piece.now ≤ 4294967295 }
         ensures identity { self.new.identity ≡ self.old.identity }

@@ -4,7 +4,7 @@ ghost use Rattle.sql_tree.specs.StatementView.{view};
 ghost use Rattle.stmt_apply.specs.prog_run.Contents.{base_of};
 ghost use Rattle.unsafe_rules.specs.sql_reach.Reach.{is_definition};
 ghost use Rattle.stmt_apply.specs.row_apply.Ends.{Stays};
-ghost use Rattle.relay_log.specs.replica_model.Selecting.{select_answer, select_checked, select_run};
+ghost use Rattle.replica_model.specs.Selecting.{select_answer, select_checked, select_run};
 
 use answer_text::Answer;
 use port_traits::{Draw, Identity};
@@ -104,7 +104,7 @@ fn select_checked(
 }
 
 /// The answer to a text, on rows that stay as they are.
-#[tactic(auto, unfolding(relay_log::specs::replica_model::Selecting::select_answer))]
+#[tactic(auto, unfolding(replica_model::specs::Selecting::select_answer))]
 pub(crate) fn answer(
     alloc: Global,
     identity: &Identity,

@@ -15,10 +15,10 @@ use Rattle.val_types.specs.declared.definitions.ColumnDef.{ColumnDef}
 use Rattle.event_codec.specs.declared.event.Header.{Header}
 use Rattle.event_codec.specs.Event.{Body, Map, rows, table_map, Rows}
 use Rattle.event_codec.specs.Writing.{rows_kind}
-use Rattle.row_image.specs.log_model.Images.{change_bytes, IsChange}
-use Rattle.row_image.specs.log_model.Items.{Piece, same_name, rows_kind_of, bytes_in, piece_of, joins, with_change, pieces_from, pieces_of, rows_of, all_rows, at_time, types_in, columns_in, kind_of, tables_of, maps_from, changes_item, CanCarry, CanCarryAll}
-use Rattle.row_image.specs.log_model.Spelling.{bodies_of, maps_before}
-use Rattle.row_image.specs.log_model.Written.{CanWriteAll}
+use Rattle.log_model.specs.Images.{change_bytes, IsChange}
+use Rattle.log_model.specs.Items.{Piece, same_name, rows_kind_of, bytes_in, piece_of, joins, with_change, pieces_from, pieces_of, rows_of, all_rows, at_time, types_in, columns_in, kind_of, tables_of, maps_from, changes_item, CanCarry, CanCarryAll}
+use Rattle.log_model.specs.Spelling.{bodies_of, maps_before}
+use Rattle.log_model.specs.Written.{CanWriteAll}
 use Rattle.row_image.specs.Walk.{HasRows}
 use Rattle.row_events.specs.Writing.{Wrote, GoesOn}
 use Rattle.row_events.proofs.GoingOn.{goes as goes_on, next, at_time_append}

@@ -9,8 +9,8 @@ use Rattle.event_codec.specs.Writing.{event_bytes, size}
 use Rattle.event_codec.proofs.RoundTrip.{length-event_bytes}
 use Rattle.event_codec.specs.declared.event.Event.{Event}
 use Rattle.event_codec.specs.Event.{Body, body_of}
-use Rattle.row_image.specs.log_model.Items.{at_time}
-use Rattle.row_image.specs.log_model.Written.{Stamped, header_of, bytes_of, total, CanWriteAll}
+use Rattle.log_model.specs.Items.{at_time}
+use Rattle.log_model.specs.Written.{Stamped, header_of, bytes_of, total, CanWriteAll}
 use Rattle.row_events.specs.Writing.{one, Wrote, GoesOn}
 
 pub total_append : (xs ys : List Stamped) → total (xs ++ ys) ≡ total xs + total ys

@@ -14,11 +14,11 @@ use Rattle.val_types.specs.declared.value.Value.{Value}
 use Rattle.val_types.specs.declared.change.Change.{Change}
 use Rattle.val_types.specs.Fitting.{is_null}
 use Rattle.val_types.specs.declared.definitions.ColType.{ColType}
-use Rattle.row_image.specs.log_model.Images.{bits_bytes, value_bytes, values_bytes}
+use Rattle.log_model.specs.Images.{bits_bytes, value_bytes, values_bytes}
 use Rattle.row_events.specs.Runs.{rows_events}
-use Rattle.row_image.specs.log_model.Items.{kind_of, is_nullable, type_code, type_metadata, map_of, maps_from, at_time, columns_in, Piece, rows_of, all_rows, pieces_of}
-use Rattle.row_image.specs.log_model.Written.{total}
-use Rattle.row_image.proofs.of_log_model.Bits.{length-bitmap}
+use Rattle.log_model.specs.Items.{kind_of, is_nullable, type_code, type_metadata, map_of, maps_from, at_time, columns_in, Piece, rows_of, all_rows, pieces_of}
+use Rattle.log_model.specs.Written.{total}
+use Rattle.log_model.proofs.Bits.{length-bitmap}
 use Rattle.row_events.specs.Sizes.{sizes}
 
 names_size : (m : Map) → length (names_bytes m) ≡ 14 + length m.name

@@ -6,7 +6,7 @@ use Rattle.std.proofs.lemmas.Slice.Eq.{bytes_eq-Decides}
 use Rattle.val_types.specs.declared.change.Change.{Change}
 use Rattle.val_types.specs.Changes.{table_of}
 use Rattle.val_types.specs.declared.definitions.TableDef.{TableDef}
-use Rattle.row_image.specs.log_model.Items.{same_name, distinct, columns_in, id_from}
+use Rattle.log_model.specs.Items.{same_name, distinct, columns_in, id_from}
 use Rattle.row_events.specs.Tables.{has, new_among}
 
 same_is : (a b : List ℕ) → same_name a b ≡ true → a ≡ b

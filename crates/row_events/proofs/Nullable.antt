@@ -2,7 +2,7 @@
 use Rattle.std.proofs.Common.{◌≡◌, ℕ, zero, suc, ◌≤◌, List, [], ◌∷◌, map, drop, length, None, refl, arith}
 use Rattle.std.specs.Prelude.{slice_get}
 use Rattle.val_types.specs.declared.definitions.ColumnDef.{ColumnDef}
-use Rattle.row_image.specs.log_model.Items.{is_nullable}
+use Rattle.log_model.specs.Items.{is_nullable}
 use Rattle.row_image.specs.Walk.{bit_of}
 
 -- there is no bit behind the last column

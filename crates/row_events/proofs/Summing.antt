@@ -9,9 +9,9 @@ use Rattle.val_types.specs.declared.definitions.ColumnDef.{ColumnDef}
 use Rattle.val_types.specs.declared.definitions.TableDef.{TableDef}
 use Rattle.event_codec.specs.Event.{table_map, rows, Body}
 use Rattle.event_codec.specs.Writing.{size, present_bytes}
-use Rattle.row_image.specs.log_model.Items.{map_of, maps_from, columns_in, rows_kind_of, tables_of, distinct, at_time, changes_item, kind_of, type_metadata}
-use Rattle.row_image.specs.log_model.Spelling.{bodies_of}
-use Rattle.row_image.specs.log_model.Written.{total}
+use Rattle.log_model.specs.Items.{map_of, maps_from, columns_in, rows_kind_of, tables_of, distinct, at_time, changes_item, kind_of, type_metadata}
+use Rattle.log_model.specs.Spelling.{bodies_of}
+use Rattle.log_model.specs.Written.{total}
 use Rattle.row_events.specs.Runs.{piece, run_event, rows_events, IsRun}
 use Rattle.row_events.specs.Sizes.{bounded, sizes}
 use Rattle.row_events.specs.Tables.{has, new_among}

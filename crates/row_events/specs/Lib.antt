@@ -4,4 +4,4 @@ pub mod Runs
 pub mod Sizes
 -- the crates below that this one speaks of, passed on
 pub use Rattle.row_image.specs.log_entries as log_entries
-pub use Rattle.row_image.specs.log_model as log_model
+pub use Rattle.log_model.specs as log_model

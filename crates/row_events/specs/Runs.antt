@@ -8,10 +8,10 @@ use Rattle.val_types.specs.declared.definitions.TableDef.{TableDef}
 use Rattle.event_codec.specs.declared.event.RowsKind.{RowsKind}
 use Rattle.event_codec.specs.Event.{rows, Rows}
 use Rattle.event_codec.specs.Writing.{rows_kind}
-use Rattle.row_image.specs.log_model.Images.{change_bytes}
+use Rattle.log_model.specs.Images.{change_bytes}
 use Rattle.row_image.specs.Walk.{HasRows}
-use Rattle.row_image.specs.log_model.Items.{Piece, same_name, kind_of, rows_kind_of, pieces_of, columns_in, types_in, id_from, all_rows, at_time, CanCarryAll}
-use Rattle.row_image.specs.log_model.Written.{Stamped}
+use Rattle.log_model.specs.Items.{Piece, same_name, kind_of, rows_kind_of, pieces_of, columns_in, types_in, id_from, all_rows, at_time, CanCarryAll}
+use Rattle.log_model.specs.Written.{Stamped}
 
 -- ---- by the types of the first change's columns and the number of its bytes
 

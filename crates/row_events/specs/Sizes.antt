@@ -1,8 +1,8 @@
 -- How many bytes events have, at most the greatest number of 64 bits.
 use Rattle.std.specs.Prelude.{ℕ, ◌-◌, ◌^◌, min, List}
 use Rattle.event_codec.specs.Event.{Body}
-use Rattle.row_image.specs.log_model.Items.{at_time}
-use Rattle.row_image.specs.log_model.Written.{total}
+use Rattle.log_model.specs.Items.{at_time}
+use Rattle.log_model.specs.Written.{total}
 
 -- a number, or the greatest of 64 bits
 abbrev pub bounded : ℕ → ℕ

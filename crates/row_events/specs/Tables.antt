@@ -2,7 +2,7 @@
 use Rattle.std.specs.Prelude.{ℕ, Bool, true, false, not, if◌then◌else◌, List, [], ◌∷◌, filter, Option, Some, None}
 use denote.Ref.{Bor}
 use Rattle.val_types.specs.declared.definitions.ColumnDef.{ColumnDef}
-use Rattle.row_image.specs.log_model.Items.{same_name, distinct}
+use Rattle.log_model.specs.Items.{same_name, distinct}
 
 -- whether a name stands among names
 abbrev pub has : List (List ℕ) → (name : List ℕ) → Bool

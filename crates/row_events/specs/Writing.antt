@@ -4,7 +4,7 @@ use Rattle.byte_fields.specs.Field.{BeginsWith}
 use Rattle.event_codec.specs.declared.event.Event.{Event}
 use Rattle.event_codec.specs.declared.event.Header.{Header}
 use Rattle.event_codec.specs.Event.{Body, body_of}
-use Rattle.row_image.specs.log_model.Written.{Stamped, bytes_of, total, CanWriteAll}
+use Rattle.log_model.specs.Written.{Stamped, bytes_of, total, CanWriteAll}
 
 -- an event alone, at a time
 abbrev pub one : (stamp : ℕ) → Event → List Stamped

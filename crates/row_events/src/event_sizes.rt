@@ -4,9 +4,9 @@ ghost use Rattle.event_codec.specs.Event.{rows, table_map};
 ghost use Rattle.event_codec.specs.Bitmap.{bitmap_size};
 ghost use Rattle.event_codec.specs.Writing.{present_bytes, size};
 ghost use Rattle.byte_fields.specs.LengthEncoded.{lenenc_bytes};
-ghost use Rattle.row_image.specs.log_model.Items.{at_time, changes_item, kind_of, map_of, maps_from, rows_kind_of, tables_of, type_metadata};
-ghost use Rattle.row_image.specs.log_model.Spelling.{bodies_of};
-ghost use Rattle.row_image.specs.log_model.Written.{total};
+ghost use Rattle.log_model.specs.Items.{at_time, changes_item, kind_of, map_of, maps_from, rows_kind_of, tables_of, type_metadata};
+ghost use Rattle.log_model.specs.Spelling.{bodies_of};
+ghost use Rattle.log_model.specs.Written.{total};
 ghost use Rattle.row_events.specs.Runs.{piece, rows_events, run_event};
 ghost use Rattle.row_events.specs.Sizes.{bounded, sizes};
 

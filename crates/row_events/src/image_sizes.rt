@@ -1,7 +1,7 @@
 //! How many bytes values, rows and changes have, at most the greatest number of 64 bits.
 ghost use Rattle.std.specs.Prelude.{◌≡◌, length, map};
-ghost use Rattle.row_image.specs.log_model.Images.{change_bytes, row_bytes, value_bytes, values_bytes};
-ghost use Rattle.row_image.specs.log_model.Items.{kind_of};
+ghost use Rattle.log_model.specs.Images.{change_bytes, row_bytes, value_bytes, values_bytes};
+ghost use Rattle.log_model.specs.Items.{kind_of};
 ghost use Rattle.val_types.specs.declared.definitions.ColType.TheVariants.{Varchar};
 ghost use Rattle.val_types.specs.declared.value.Value.TheVariants.{Text};
 ghost use Rattle.row_events.specs.Sizes.{bounded};
@@ -48,7 +48,7 @@ fn values_size(columns: &[ColumnDef], row: &[Value]) -> u64
 }
 
 /// How many bytes a row has.
-#[tactic(auto, unfolding(row_image::specs::log_model::Images::row_bytes))]
+#[tactic(auto, unfolding(log_model::specs::Images::row_bytes))]
 fn row_size(columns: &[ColumnDef], row: &[Value]) -> u64
     ensures { result ≡ bounded (length (row_bytes (map kind_of columns.now) row.now)) }
 {

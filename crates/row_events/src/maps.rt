@@ -2,8 +2,8 @@
 ghost use Rattle.std.specs.Prelude.{◌≡◌, ◌∷◌, [], map, IfOk, OnErr};
 ghost use Rattle.byte_fields.specs.Field.{BeginsWith};
 ghost use Rattle.event_codec.specs.Event.{table_map};
-ghost use Rattle.row_image.specs.log_model.Items.{at_time, columns_in, map_of, maps_from};
-ghost use Rattle.row_image.specs.log_model.Written.{CanWriteAll};
+ghost use Rattle.log_model.specs.Items.{at_time, columns_in, map_of, maps_from};
+ghost use Rattle.log_model.specs.Written.{CanWriteAll};
 ghost use Rattle.row_events.specs.Writing.{Wrote};
 
 use crate::nulls::nulls_of;

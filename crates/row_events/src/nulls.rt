@@ -1,7 +1,7 @@
 //! The bits of a map: one for each column, set where it may be NULL.
 ghost use Rattle.std.specs.Prelude.{◌≡◌, ◌≤◌, drop, map, take, IfOk};
-ghost use Rattle.row_image.specs.log_model.Images.{bits_bytes, byte_of};
-ghost use Rattle.row_image.specs.log_model.Items.{is_nullable};
+ghost use Rattle.log_model.specs.Images.{bits_bytes, byte_of};
+ghost use Rattle.log_model.specs.Items.{is_nullable};
 ghost use Rattle.row_image.specs.Walk.{bit_of};
 
 use std::alloc::Global;

@@ -2,10 +2,10 @@
 ghost use Rattle.std.specs.Prelude.{◌≡◌, ◌≤◌, ◌+◌, ◌∷◌, [], ◌++◌, flat_map, length, map, IfOk, OnErr, OnOk};
 ghost use Rattle.byte_fields.specs.Field.{BeginsWith};
 ghost use Rattle.event_codec.specs.Event.{rows};
-ghost use Rattle.row_image.specs.log_model.Images.{change_bytes};
-ghost use Rattle.row_image.specs.log_model.Items.{at_time, changes_item, columns_in, CanCarryAll};
-ghost use Rattle.row_image.specs.log_model.Spelling.{bodies_of};
-ghost use Rattle.row_image.specs.log_model.Written.{bytes_of, CanWriteAll};
+ghost use Rattle.log_model.specs.Images.{change_bytes};
+ghost use Rattle.log_model.specs.Items.{at_time, changes_item, columns_in, CanCarryAll};
+ghost use Rattle.log_model.specs.Spelling.{bodies_of};
+ghost use Rattle.log_model.specs.Written.{bytes_of, CanWriteAll};
 ghost use Rattle.val_types.specs.Changes.{table_of};
 ghost use Rattle.row_events.specs.Runs.{rows_events, run_event, run_rows, HaveRows};
 ghost use Rattle.row_events.specs.Writing.{Wrote};

@@ -1,8 +1,8 @@
 //! Neighbouring changes of one kind of one table, as many as one event has.
 ghost use Rattle.std.specs.Prelude.{◌≡◌, map};
 ghost use Rattle.event_codec.specs.Writing.{rows_kind};
-ghost use Rattle.row_image.specs.log_model.Images.{change_bytes};
-ghost use Rattle.row_image.specs.log_model.Items.{columns_in, kind_of, rows_kind_of, types_in};
+ghost use Rattle.log_model.specs.Images.{change_bytes};
+ghost use Rattle.log_model.specs.Items.{columns_in, kind_of, rows_kind_of, types_in};
 ghost use Rattle.val_types.specs.Changes.{table_of};
 ghost use Rattle.row_events.specs.Runs.{goes_with, run_from, IsRun};
 ghost use Rattle.row_events.specs.Sizes.{bounded};

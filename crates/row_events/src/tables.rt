@@ -1,7 +1,7 @@
 //! The tables of changes.
 ghost use Rattle.std.specs.Prelude.{◌≡◌, map, IfOk};
 ghost use Rattle.val_types.specs.Changes.{table_of};
-ghost use Rattle.row_image.specs.log_model.Items.{columns_in, id_from, tables_of};
+ghost use Rattle.log_model.specs.Items.{columns_in, id_from, tables_of};
 ghost use Rattle.row_events.specs.Tables.{columns_seen, has};
 
 use std::alloc::Global;

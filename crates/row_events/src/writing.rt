@@ -1,7 +1,7 @@
 //! Events that are written one after the other.
 ghost use Rattle.std.specs.Prelude.{◌≡◌, OnErr, IfOk};
 ghost use Rattle.byte_fields.specs.Field.{BeginsWith};
-ghost use Rattle.row_image.specs.log_model.Written.{CanWriteAll};
+ghost use Rattle.log_model.specs.Written.{CanWriteAll};
 ghost use Rattle.row_events.specs.Writing.{one, Wrote};
 
 use event_codec::{Event, Header, write_event};

@@ -6,7 +6,6 @@ pub use Rattle.node_answers.specs.log_entries as log_entries
 pub use Rattle.node_answers.specs.log_model as log_model
 pub use Rattle.node_answers.specs.proc_model as proc_model
 pub use Rattle.node_answers.specs.prog_run as prog_run
-pub use Rattle.node_answers.specs.session_model as session_model
 pub use Rattle.node_answers.specs.sql_meaning as sql_meaning
 pub use Rattle.node_answers.specs.sql_reach as sql_reach
 pub use Rattle.node_answers.specs.text_answers as text_answers

@@ -2,16 +2,16 @@
 use Rattle.std.proofs.Common.{rules, ◌≡◌, ℕ, List, Bool, true, false, if◌then◌else◌, Option, None, refl, sym, ap, ◌∙◌}
 use Rattle.answer_text.specs.declared.answer.Answer.{Answer}
 use Rattle.sql_tree.specs.Statement.{Statement, create_table, create_function, create_procedure, create_trigger, drop_table, drop_function, drop_procedure, drop_trigger, truncate, insert_into, replace_into, update_rows, delete_rows, select, evaluate, set_all, call_procedure, begin, commit, rollback, savepoint, rollback_to, release_savepoint, block, if_steps, while_steps, return_value}
-use Rattle.session_transactions.specs.session_model.Sessions.{Session, Shared}
+use Rattle.session_model.specs.Sessions.{Session, Shared}
 use Rattle.sql_tree.specs.StatementView.{view}
 use Rattle.sql_tree.specs.declared.statements.Stmt.{Stmt}
 use Rattle.sql_tree.specs.declared.statements.Stmt.{the_lemmas}
 use Rattle.session_transactions.specs.catalog_rules.Checks.{session_scope, statement_refusal}
 use Rattle.session_transactions.specs.sql_reach.Reach.{is_definition}
 use Rattle.session_transactions.specs.text_answers.Answers.{TextAnswer, a_statement}
-use Rattle.session_transactions.specs.session_model.Running.{Call, full, lock_refusal, statement_run}
-use Rattle.session_transactions.specs.session_model.Commands.{code_answer, definition_turn, given_turn, plain_turn, unless_refused}
-use Rattle.session_transactions.specs.session_model.Machine.{statement_turn, text_turn}
+use Rattle.session_model.specs.Running.{Call, full, lock_refusal, statement_run}
+use Rattle.session_model.specs.Commands.{code_answer, definition_turn, given_turn, plain_turn, unless_refused}
+use Rattle.session_model.specs.Machine.{statement_turn, text_turn}
 use Rattle.session_transactions.specs.log_entries.declared.entries.Item.{Item}
 use Rattle.source_node.specs.Other.{is_call, is_of_transaction, is_set, other_turn}
 

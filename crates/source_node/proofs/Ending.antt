@@ -21,11 +21,11 @@ use Rattle.session_transactions.specs.node_answers.Telling.{told_answer}
 use Rattle.session_transactions.specs.proc_model.Talk.{brought}
 use Rattle.session_transactions.specs.proc_model.Procedures as procedures
 use Rattle.session_transactions.specs.proc_parts.Calls.{left_of}
-use Rattle.session_transactions.specs.session_model.Answers.{ok, ok_warned, refused, showing, with_warning}
-use Rattle.session_transactions.specs.session_model.Sessions.{Session, Shared}
-use Rattle.session_transactions.specs.session_model.Running.{Call, Fuel, Given, Turn, did_answer, expressions_run, full, given_answer, statement_run}
-use Rattle.session_transactions.specs.session_model.Commands.{given_turn}
-use Rattle.session_transactions.specs.session_model.Calling.{Reached, arguments_run, called_by, called_with, came_to, steps_of}
+use Rattle.session_model.specs.Answers.{ok, ok_warned, refused, showing, with_warning}
+use Rattle.session_model.specs.Sessions.{Session, Shared}
+use Rattle.session_model.specs.Running.{Call, Fuel, Given, Turn, did_answer, expressions_run, full, given_answer, statement_run}
+use Rattle.session_model.specs.Commands.{given_turn}
+use Rattle.session_model.specs.Calling.{Reached, arguments_run, called_by, called_with, came_to, steps_of}
 use Rattle.session_transactions.specs.session_steps.Calls.{call_of}
 use Rattle.session_transactions.specs.session_desk.Desk.{shared_of}
 use Rattle.session_transactions.specs.session_steps.Ran.{fuel_at, full_meter, told_given, told_of}

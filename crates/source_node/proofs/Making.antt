@@ -28,10 +28,10 @@ use Rattle.session_transactions.specs.prog_run.Contents.{Contents, base_of, comm
 use Rattle.session_transactions.specs.prog_run.Runs.{Makes}
 use Rattle.session_transactions.specs.proc_model.Procedures.{plain_refusal}
 use Rattle.session_transactions.specs.proc_model.Talk.{Refusal}
-use Rattle.session_transactions.specs.session_model.Answers.{ok, refused, refused_as}
-use Rattle.session_transactions.specs.session_model.Sessions.{Session, Shared}
-use Rattle.session_transactions.specs.session_model.Running.{Turn, commit_entries, commit_open, commit_shared, counted_in, held_by, is_full, is_other, items_of, transaction_of, writing_refusal}
-use Rattle.session_transactions.specs.session_model.Commands.{define_turn, definition_turn, made_turn, unless_answered, with_answer}
+use Rattle.session_model.specs.Answers.{ok, refused, refused_as}
+use Rattle.session_model.specs.Sessions.{Session, Shared}
+use Rattle.session_model.specs.Running.{Turn, commit_entries, commit_open, commit_shared, counted_in, held_by, is_full, is_other, items_of, transaction_of, writing_refusal}
+use Rattle.session_model.specs.Commands.{define_turn, definition_turn, made_turn, unless_answered, with_answer}
 use Rattle.session_transactions.specs.session_desk.declared.desk.Desk.{Desk}
 use Rattle.session_transactions.specs.session_steps.Calls.{call_of}
 use Rattle.session_transactions.specs.session_desk.Desk.{has_any, shared_by, shared_of}

@@ -11,9 +11,9 @@ use Rattle.session_transactions.specs.log_model.Log.{LogPlace, counted_all, head
 use Rattle.session_transactions.proofs.of_log_model.Growing.{goes_on}
 use Rattle.session_transactions.specs.entry_groups.Entries.{CanLogAll}
 use Rattle.session_transactions.specs.logged_items.Logged.{in_log}
-use Rattle.session_transactions.specs.session_model.Sessions.{Shared, State}
-use Rattle.session_transactions.specs.session_model.Holding.{Holds, with_nothing}
-use Rattle.session_transactions.specs.session_model.Machine.{Machine, Step, StepsAreKept, Whole, kept, kept_entry, kept_step, log_of, machine_after, nowhere, opened, step, whole}
+use Rattle.session_model.specs.Sessions.{Shared, State}
+use Rattle.session_model.specs.Holding.{Holds, with_nothing}
+use Rattle.session_model.specs.Machine.{Machine, Step, StepsAreKept, Whole, kept, kept_entry, kept_step, log_of, machine_after, nowhere, opened, step, whole}
 use Rattle.session_transactions.specs.session_desk.Desk.{shared_of}
 use Rattle.source_node.specs.Standing.{Kept, Stands, no_session, state_of}
 use Rattle.session_transactions.specs.session_desk.Logging.{Logs, logged}

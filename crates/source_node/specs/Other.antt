@@ -4,9 +4,9 @@ use Rattle.session_transactions.specs.log_entries.declared.entries.Item.{Item}
 use Rattle.answer_text.specs.declared.answer.Answer.{Answer}
 use Rattle.sql_tree.specs.Statement.{Statement, begin, commit, rollback, savepoint, rollback_to, release_savepoint, set_all, call_procedure}
 use Rattle.session_transactions.specs.sql_reach.Reach.{is_definition}
-use Rattle.session_transactions.specs.session_model.Sessions.{Session, Shared}
-use Rattle.session_transactions.specs.session_model.Running.{Call, Turn}
-use Rattle.session_transactions.specs.session_model.Commands.{definition_turn, plain_turn}
+use Rattle.session_model.specs.Sessions.{Session, Shared}
+use Rattle.session_model.specs.Running.{Call, Turn}
+use Rattle.session_model.specs.Commands.{definition_turn, plain_turn}
 
 abbrev pub other_turn : Call Item → List ℕ → Statement → Shared → Session Item → Turn Item Answer
 other_turn call text s shared session = if is_definition s then definition_turn call text s shared session else plain_turn call text s shared session

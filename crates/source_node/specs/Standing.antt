@@ -2,8 +2,8 @@
 use Rattle.std.specs.Prelude.{◌≡◌, List, Option, None}
 use Rattle.port_traits.specs.declared.identity.Identity.{Identity}
 use Rattle.session_transactions.specs.log_entries.declared.entries.Item.{Item}
-use Rattle.session_transactions.specs.session_model.Sessions.{Session, State}
-use Rattle.session_transactions.specs.session_model.Machine.{Machine, kept_state, log_of}
+use Rattle.session_model.specs.Sessions.{Session, State}
+use Rattle.session_model.specs.Machine.{Machine, kept_state, log_of}
 use Rattle.session_transactions.specs.session_desk.declared.desk.Desk.{Desk}
 use Rattle.session_transactions.specs.session_desk.Desk.{shared_of}
 

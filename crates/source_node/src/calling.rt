@@ -5,7 +5,7 @@ ghost use Rattle.sql_tree.specs.StatementView.{view};
 ghost use Rattle.sql_tree.specs.View.{view_trees};
 ghost use Rattle.session_transactions.specs.catalog_rules.Checks.{session_scope, statement_refusal};
 ghost use Rattle.session_transactions.specs.prog_run.Runs.{Spends};
-ghost use Rattle.session_transactions.specs.session_model.Calling.{arguments_run, call_turn, called_with};
+ghost use Rattle.session_model.specs.Calling.{arguments_run, call_turn, called_with};
 ghost use Rattle.session_transactions.specs.session_steps.Calls.{called};
 ghost use Rattle.session_transactions.specs.session_desk.Desk.{shared_of};
 ghost use Rattle.session_transactions.specs.session_steps.Ran.{fuel_at, full_meter};

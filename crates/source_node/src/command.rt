@@ -1,6 +1,6 @@
 //! A command of a session: a text, whatever it is.
 ghost use Rattle.std.specs.Prelude.{◌≡◌, ◌≤◌, ◌^◌, Some, length, IfOk};
-ghost use Rattle.session_transactions.specs.session_model.Machine.{command, text_turn};
+ghost use Rattle.session_model.specs.Machine.{command, text_turn};
 ghost use Rattle.session_transactions.specs.session_steps.Calls.{called};
 ghost use Rattle.session_transactions.specs.session_desk.Desk.{shared_of};
 ghost use Rattle.session_transactions.specs.session_desk.Logging.{Logs};

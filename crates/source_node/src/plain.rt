@@ -2,8 +2,8 @@
 ghost use Rattle.std.specs.Prelude.{◌≡◌, false, IfOk};
 ghost use Rattle.sql_tree.specs.StatementView.{view};
 ghost use Rattle.session_transactions.specs.sql_reach.Reach.{is_definition};
-ghost use Rattle.session_transactions.specs.session_model.Running.{full, statement_run};
-ghost use Rattle.session_transactions.specs.session_model.Commands.{given_turn};
+ghost use Rattle.session_model.specs.Running.{full, statement_run};
+ghost use Rattle.session_model.specs.Commands.{given_turn};
 ghost use Rattle.session_transactions.specs.session_steps.Calls.{called};
 ghost use Rattle.session_transactions.specs.session_desk.Desk.{shared_of};
 ghost use Rattle.session_transactions.specs.session_steps.Turned.{IsTurn};

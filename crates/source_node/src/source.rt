@@ -1,18 +1,18 @@
 //! The source.
 ghost use Rattle.std.specs.Prelude.{◌≡◌, ◌<◌, ◌≤◌, ◌^◌, length, map, replicate, IfOk};
 ghost use Rattle.session_transactions.specs.entry_groups.Entries.{CanLogAll};
-ghost use Rattle.session_transactions.specs.session_model.Holding.{Holds, with_nothing};
-ghost use Rattle.session_transactions.specs.session_model.Machine.{Machine, kept, kept_entry, log_bytes, machine_after, opened, step, whole};
+ghost use Rattle.session_model.specs.Holding.{Holds, with_nothing};
+ghost use Rattle.session_model.specs.Machine.{Machine, kept, kept_entry, log_bytes, machine_after, opened, step, whole};
 ghost use Rattle.source_node.specs.Standing.{no_session, state_of, Stands};
 ghost use Rattle.session_transactions.specs.session_desk.Logging.{Logs};
 
 use crate::command::run_command;
 use answer_text::Answer;
 use port_traits::{Draw, Identity};
+use session_model::steps_are_kept;
 use session_transactions::logged_items::{encode_start, served_bytes};
 use session_transactions::node_answers::NodeFault;
 use session_transactions::session_desk::{Call, Desk, Session};
-use session_transactions::session_model::steps_are_kept;
 use std::alloc::Global;
 use std::marker::Model;
 use val_types::{Bytes, NoMemory};
@@ -91,7 +91,7 @@ impl SourceNode {
     }
 
     /// Carries out a text in the session of a number, as the machine that keeps of an item what the log has of it.
-    #[tactic(auto, unfolding(session_transactions::specs::session_model::Machine::step))]
+    #[tactic(auto, unfolding(session_model::specs::Machine::step))]
     fn exec_kept(&mut self, session: u8, text: &[u8], draw: &Draw) -> Result<Answer, NodeFault>
         requires number { session < 100 }
         requires length { length text.now ≤ 2 ^ 20 }

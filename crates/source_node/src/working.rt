@@ -1,14 +1,14 @@
 //! A session at its command.
 ghost use Rattle.std.specs.Prelude.{◌≡◌, IfOk};
-ghost use Rattle.session_transactions.specs.session_model.Counting.{counted};
-ghost use Rattle.session_transactions.specs.session_model.Machine.{at_work};
+ghost use Rattle.session_model.specs.Counting.{counted};
+ghost use Rattle.session_model.specs.Machine.{at_work};
 ghost use Rattle.session_transactions.specs.session_steps.Calls.{called};
 
 use answer_text::Answer;
+use session_model::Format;
 use session_transactions::node_answers::row_count_after;
 use session_transactions::session_ctx::SessionVars;
 use session_transactions::session_desk::{Call, Session};
-use session_transactions::session_model::Format;
 use std::alloc::Global;
 use val_types::NoMemory;
 

@@ -6,7 +6,7 @@ ghost use Rattle.session_transactions.specs.catalog_objects.Keys.{objects_of};
 ghost use Rattle.session_transactions.specs.catalog_rules.Checks.{session_scope, statement_refusal};
 ghost use Rattle.session_transactions.specs.catalog_rules.Creating.{ddl_refusal};
 ghost use Rattle.session_transactions.specs.sql_reach.Reach.{is_definition};
-ghost use Rattle.session_transactions.specs.session_model.Running.{writing_refusal};
+ghost use Rattle.session_model.specs.Running.{writing_refusal};
 ghost use Rattle.session_transactions.specs.session_desk.Desk.{shared_of};
 
 use answer_text::Answer;

@@ -6,4 +6,3 @@ pub use Rattle.changed_rows.specs.catalog_objects as catalog_objects
 pub use Rattle.changed_rows.specs.catalog_rules as catalog_rules
 pub use Rattle.changed_rows.specs.session_ctx as session_ctx
 pub use Rattle.changed_rows.specs.sql_meaning as sql_meaning
-pub use Rattle.sql_stage.specs as sql_stage

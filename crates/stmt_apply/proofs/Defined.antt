@@ -13,8 +13,8 @@ use Rattle.row_apply.specs.catalog_objects.Keys.{objects_of}
 use Rattle.applier_laws.specs.sql_reach.Defining.{counters_after}
 use Rattle.applier_laws.specs.sql_reach.Reach.{is_definition}
 use Rattle.applier_laws.specs.text_answers.Answers.{TextAnswer, text_answer}
-use Rattle.applier_laws.specs.applier_model.Groups.{Applied, define_allowed, define_if}
-use Rattle.applier_laws.specs.applier_model.Texts.{statement_by, statement_in, most_text}
+use Rattle.applier_model.specs.Groups.{Applied, define_allowed, define_if}
+use Rattle.applier_model.specs.Texts.{statement_by, statement_in, most_text}
 use Rattle.row_apply.specs.prog_run.Contents.{Contents, base_of}
 use Rattle.row_apply.specs.prog_run.Runs.{Defines, Makes}
 use Rattle.row_apply.specs.prog_run.declared.meter.Outcome.{Outcome}

@@ -13,8 +13,8 @@ use Rattle.node_answers.specs.session_model.Machine.{Whole, kept_entry}
 use Rattle.node_answers.specs.session_model.Holding.{changes_of, define}
 use Rattle.applier_laws.specs.Following.{CanFollow}
 use Rattle.applier_laws.specs.Laws.{EntryIsCarried}
-use Rattle.applier_laws.specs.applier_model.Groups.{Applied, group_carried}
-use Rattle.applier_laws.specs.applier_model.Stops.{Differs}
+use Rattle.applier_model.specs.Groups.{Applied, group_carried}
+use Rattle.applier_model.specs.Stops.{Differs}
 use Rattle.row_apply.specs.prog_run.Contents.{Contents, base_of}
 use Rattle.row_apply.specs.Ends.{Ends}
 use Rattle.row_apply.specs.declared.stop.Stop.{Stop}

@@ -12,7 +12,7 @@ use Rattle.applier_laws.specs.sql_meaning.Frames.{Context}
 use Rattle.applier_laws.specs.sql_meaning.Leading.{EndsWell, Leads}
 use Rattle.applier_laws.proofs.of_sql_meaning.LedBodies.{statements_end}
 use Rattle.applier_laws.specs.sql_reach.Reach.{is_definition}
-use Rattle.applier_laws.specs.applier_model.Texts.{Applier, Progress, allowed, checked, ended_as, may_stand, run_in}
+use Rattle.applier_model.specs.Texts.{Applier, Progress, allowed, checked, ended_as, may_stand, run_in}
 use Rattle.row_apply.specs.prog_run.declared.meter.Meter.{Meter}
 use Rattle.row_apply.specs.prog_run.declared.meter.Outcome.{Outcome}
 use Rattle.row_apply.specs.prog_run.Contents.{Contents}

@@ -3,8 +3,8 @@ use Rattle.std.specs.Prelude.{◌≡◌, ◌++◌, drop, length}
 use Rattle.port_traits.specs.declared.identity.Identity.{Identity}
 use Rattle.port_traits.specs.declared.identity.Draw.{Draw}
 use Rattle.applier_laws.specs.sql_meaning.Running.{most_nested, most_turns}
-use Rattle.applier_laws.specs.applier_model.Texts.{Applier}
-use Rattle.applier_laws.specs.applier_model.Groups.{Applied, applier_of}
+use Rattle.applier_model.specs.Texts.{Applier}
+use Rattle.applier_model.specs.Groups.{Applied, applier_of}
 use Rattle.row_apply.specs.prog_run.declared.meter.Meter.{Meter}
 use Rattle.row_apply.specs.prog_run.Contents.{Contents, base_of}
 

@@ -2,8 +2,8 @@
 ghost use Rattle.std.specs.Prelude.{◌≡◌, [], true, Ok, OnErr};
 ghost use Rattle.sql_tree.specs.StatementView.{view};
 ghost use Rattle.applier_laws.specs.sql_reach.Reach.{is_definition};
-ghost use Rattle.applier_laws.specs.applier_model.Groups.{define_allowed};
-ghost use Rattle.applier_laws.specs.applier_model.Texts.{statement_in, stops_at};
+ghost use Rattle.applier_model.specs.Groups.{define_allowed};
+ghost use Rattle.applier_model.specs.Texts.{statement_in, stops_at};
 ghost use Rattle.row_apply.specs.prog_run.Contents.{base_of};
 ghost use Rattle.row_apply.specs.Ends.{Ends};
 ghost use Rattle.stmt_apply.specs.Applying.{applied_in};

@@ -9,7 +9,7 @@ ghost use Rattle.applier_laws.specs.entry_groups.Entries.{group_of_entry};
 ghost use Rattle.node_answers.specs.session_model.Machine.{Whole, kept_entry};
 ghost use Rattle.node_answers.specs.session_model.Holding.{changes_of, define};
 ghost use Rattle.applier_laws.specs.Following.{CanFollow};
-ghost use Rattle.applier_laws.specs.applier_model.Groups.{group_carried};
+ghost use Rattle.applier_model.specs.Groups.{group_carried};
 ghost use Rattle.row_apply.specs.prog_run.Contents.{base_of};
 ghost use Rattle.row_apply.specs.Ends.{Ends};
 ghost use Rattle.stmt_apply.specs.Applying.{applied_in};
@@ -25,7 +25,7 @@ use row_apply::prog_run::Work;
 use std::alloc::Global;
 
 /// A group, by its form.
-#[tactic(auto, unfolding(applier_laws::specs::applier_model::Groups::group_carried))]
+#[tactic(auto, unfolding(applier_model::specs::Groups::group_carried))]
 fn apply_form(
     alloc: Global,
     work: &mut Work,

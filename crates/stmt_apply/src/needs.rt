@@ -3,8 +3,8 @@ ghost use Rattle.std.specs.Prelude.{◌≡◌, ◌≤◌, IfOk, IfSome, OnErr, O
 ghost use Rattle.log_groups.specs.log_entries.Variables.{variable_set};
 ghost use Rattle.applier_laws.specs.session_ctx.Carrying.{context_carried};
 ghost use Rattle.event_codec.specs.Event.{query_of, value_of};
-ghost use Rattle.applier_laws.specs.applier_model.Texts.{carried_of, increment_of, offset_of};
-ghost use Rattle.applier_laws.specs.applier_model.Groups.{with_number};
+ghost use Rattle.applier_model.specs.Texts.{carried_of, increment_of, offset_of};
+ghost use Rattle.applier_model.specs.Groups.{with_number};
 ghost use Rattle.stmt_apply.specs.Needing.{Counts, needs_of, no_text};
 
 use applier_laws::session_ctx::{Ctx, from_carried};

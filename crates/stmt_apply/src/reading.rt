@@ -1,7 +1,7 @@
 //! The statement that a text of a log is.
 ghost use Rattle.std.specs.Prelude.{◌≡◌, IfErr, IfOk, Ok};
 ghost use Rattle.sql_tree.specs.StatementView.{view};
-ghost use Rattle.applier_laws.specs.applier_model.Texts.{statement_in};
+ghost use Rattle.applier_model.specs.Texts.{statement_in};
 ghost use Rattle.stmt_apply.specs.Ending.{IsRefusal};
 
 use node_answers::sql_parse::ParseRefusal;

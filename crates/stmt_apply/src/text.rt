@@ -6,7 +6,7 @@ ghost use Rattle.log_groups.specs.catalog_rules.Checks.{session_scope, statement
 ghost use Rattle.applier_laws.specs.sql_reach.Reach.{is_definition};
 ghost use Rattle.event_codec.specs.Event.{query_of};
 ghost use Rattle.port_traits.specs.declared.identity.Identity.{Identity as Who};
-ghost use Rattle.applier_laws.specs.applier_model.Texts.{allowed, carried_of, carry_text, may_stand, run_in};
+ghost use Rattle.applier_model.specs.Texts.{allowed, carried_of, carry_text, may_stand, run_in};
 ghost use Rattle.row_apply.specs.Ends.{Stays, progress_in};
 ghost use Rattle.stmt_apply.specs.Applying.{Adds, applier_in, full_meter};
 ghost use Rattle.stmt_apply.specs.Ending.{EndsBy};

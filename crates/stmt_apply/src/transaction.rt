@@ -3,7 +3,7 @@ ghost use Rattle.std.specs.Prelude.{◌≡◌, ◌≤◌, [], drop, length, reve
 ghost use Rattle.event_codec.specs.Event.{body_of, map_of, query_of, rows_of, size_of};
 ghost use Rattle.log_groups.specs.log_model.Groups.{find};
 ghost use Rattle.log_groups.specs.Views.{part_of, parts};
-ghost use Rattle.applier_laws.specs.applier_model.Groups.{Going, carry_changes, carry_rows, event_carried, with_bytes};
+ghost use Rattle.applier_model.specs.Groups.{Going, carry_changes, carry_rows, event_carried, with_bytes};
 ghost use Rattle.applier_laws.specs.row_events.Sizes.{bounded};
 ghost use Rattle.applier_laws.specs.transaction_sizes.Sizes.{changes_size};
 ghost use Rattle.row_apply.specs.Ends.{Ends, Stays, progress_in};

@@ -4,7 +4,7 @@ use Rattle.val_types.specs.declared.refusal.SqlRefusal.{SqlRefusal}
 use Rattle.val_types.specs.declared.refusal.SqlRefusal.TheVariants.{Sql}
 use Rattle.sql_statements.specs.sql_meaning.Scenes.{Scene, Ending, Action, failed, then_do, ◌>>=◌}
 use Rattle.sql_stage.specs.Stage.{EndsAs, EndsAsBy}
-use Rattle.step_checks.specs.sql_evaluation.Seen.{Anywhere}
+use Rattle.sql_evaluation.specs.Seen.{Anywhere}
 
 -- what stands behind an answer
 pub behind : {A B : Type 0} (m : Action A) (a : A) (next : A → Action B) (scene : Scene) → Anywhere (Ok a) m → (m >>= next) scene ≡ next a scene

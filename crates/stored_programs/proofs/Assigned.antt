@@ -23,10 +23,10 @@ use Rattle.sql_statements.specs.sql_meaning.Changing.{fitted, put_at}
 use Rattle.sql_statements.specs.sql_meaning.Running.{Body, Ended, also_running, assign_local, assign_new, assign_one, body_checked, frame_of, goes_on, with_new_row}
 use Rattle.sql_stage.specs.declared.running.Running.{Running as Chain}
 use Rattle.sql_stage.specs.Stage.{EndsAs, EndsAsBy}
-use Rattle.step_checks.specs.sql_evaluation.declared.world.Around.{Around}
-use Rattle.step_checks.specs.sql_evaluation.declared.world.View.{View as Shown}
-use Rattle.step_checks.specs.sql_evaluation.Seen.{Anywhere, running_of, view_of, world_of}
-use Rattle.step_checks.proofs.of_sql_evaluation.Branching.{rest_is, then_then}
+use Rattle.sql_evaluation.specs.declared.world.Around.{Around}
+use Rattle.sql_evaluation.specs.declared.world.View.{View as Shown}
+use Rattle.sql_evaluation.specs.Seen.{Anywhere, running_of, view_of, world_of}
+use Rattle.sql_evaluation.proofs.Branching.{rest_is, then_then}
 use Rattle.stored_programs.specs.declared.body.Body.{Body as Stands}
 use Rattle.stored_programs.specs.Bodies.{AnywhereBy, body_of, body_then, ended_at, put_in_column, view_in, world_with}
 use Rattle.stored_programs.specs.Steps.{all_assigned, assigned_values, step_in, values_to_set}

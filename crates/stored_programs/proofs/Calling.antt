@@ -21,10 +21,10 @@ use Rattle.sql_statements.specs.sql_meaning.Frames.{View}
 use Rattle.sql_statements.specs.sql_meaning.Changing.{fitted}
 use Rattle.sql_statements.specs.sql_meaning.Running.{Body, Ended, fitted_result, function_body, local_for, row_left, seen_as, step}
 use Rattle.sql_stage.specs.Stage.{EndsAs}
-use Rattle.step_checks.specs.sql_evaluation.declared.world.Around.{Around}
-use Rattle.step_checks.specs.sql_evaluation.declared.world.View.{View as Shown}
-use Rattle.step_checks.specs.sql_evaluation.Seen.{Anywhere, world_of}
-use Rattle.step_checks.proofs.of_sql_evaluation.Branching.{rest_is}
+use Rattle.sql_evaluation.specs.declared.world.Around.{Around}
+use Rattle.sql_evaluation.specs.declared.world.View.{View as Shown}
+use Rattle.sql_evaluation.specs.Seen.{Anywhere, world_of}
+use Rattle.sql_evaluation.proofs.Branching.{rest_is}
 use Rattle.changed_rows.specs.Firing.{left_of}
 use Rattle.stored_programs.specs.Bodies.{ended_at, view_in}
 use Rattle.stored_programs.specs.Steps.{locals_for, row_of_view, step_in, triggered_in}

@@ -14,9 +14,9 @@ use Rattle.sql_locals.specs.Types.{column_type}
 use Rattle.sql_statements.specs.sql_meaning.Scenes.{Scene, Ending, Action, done, failed, then_do, carried_on}
 use Rattle.sql_statements.specs.sql_meaning.Running.{Body, declare, declare_name}
 use Rattle.sql_stage.specs.Stage.{EndsAs, EndsAsBy}
-use Rattle.step_checks.specs.sql_evaluation.declared.world.Around.{Around}
-use Rattle.step_checks.specs.sql_evaluation.Seen.{world_of}
-use Rattle.step_checks.proofs.of_sql_evaluation.Branching.{rest_is}
+use Rattle.sql_evaluation.specs.declared.world.Around.{Around}
+use Rattle.sql_evaluation.specs.Seen.{world_of}
+use Rattle.sql_evaluation.proofs.Branching.{rest_is}
 use Rattle.stored_programs.specs.declared.body.Body.{Body as Stands}
 use Rattle.stored_programs.specs.Bodies.{AnywhereBy, body_of, body_then, view_in}
 use Rattle.stored_programs.specs.Steps.{all_declared_in, declared_in, preset_in_body}

@@ -21,8 +21,8 @@ use Rattle.sql_statements.specs.sql_meaning.Running.{Body, also_running, checked
 use Rattle.sql_stage.specs.Stage.{EndsAs}
 use Rattle.sql_stage.specs.declared.running.Running.{Running as Chain, Statement, Expression, the_lemmas}
 use Rattle.sql_stage.specs.UnderWay.{under_way}
-use Rattle.step_checks.specs.sql_evaluation.declared.world.Around.{Around}
-use Rattle.step_checks.specs.sql_evaluation.Seen.{Anywhere, running_of, setting_of, world_of}
+use Rattle.sql_evaluation.specs.declared.world.Around.{Around}
+use Rattle.sql_evaluation.specs.Seen.{Anywhere, running_of, setting_of, world_of}
 use Rattle.stored_programs.specs.Bodies.{world_with}
 use Rattle.stored_programs.specs.Steps.{value_in_body, holds_in_body, preset_in_body}
 use Rattle.stored_programs.proofs.Acting.{behind, refused, ends_so}

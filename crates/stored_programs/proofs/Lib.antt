@@ -8,4 +8,4 @@ pub mod Stepping
 pub mod Calling
 pub mod Nesting
 -- the crates below that this one speaks of, passed on
-pub use Rattle.step_checks.proofs.of_sql_evaluation as of_sql_evaluation
+pub use Rattle.sql_evaluation.proofs as of_sql_evaluation

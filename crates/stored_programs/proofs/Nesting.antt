@@ -19,8 +19,8 @@ use Rattle.sql_statements.specs.sql_meaning.Running.{call_function, fire_trigger
 use Rattle.sql_stage.specs.Stage.{EndsAs, EndsAsBy}
 use Rattle.sql_stage.specs.declared.running.Running.{Running as Chain, Function, the_lemmas}
 use Rattle.sql_stage.specs.UnderWay.{under_way}
-use Rattle.step_checks.specs.sql_evaluation.declared.world.Around.{Around}
-use Rattle.step_checks.specs.sql_evaluation.Seen.{running_of, setting_of, world_of}
+use Rattle.sql_evaluation.specs.declared.world.Around.{Around}
+use Rattle.sql_evaluation.specs.Seen.{running_of, setting_of, world_of}
 use Rattle.changed_rows.specs.Firing.{left_of}
 use Rattle.stored_programs.specs.Steps.{triggered_in}
 use Rattle.stored_programs.proofs.Acting.{ends_so, ends_so_by}

@@ -13,8 +13,8 @@ use Rattle.sql_stage.specs.declared.running.Running.{Running as Chain}
 use Rattle.sql_stage.specs.Stage.{EndsAsBy}
 use Rattle.sql_statements.specs.declared.did.Did.{Did as Done}
 use Rattle.sql_statements.specs.Did.{did_of}
-use Rattle.step_checks.specs.sql_evaluation.declared.world.Around.{Around}
-use Rattle.step_checks.specs.sql_evaluation.Seen.{Anywhere, running_of, world_of}
+use Rattle.sql_evaluation.specs.declared.world.Around.{Around}
+use Rattle.sql_evaluation.specs.Seen.{Anywhere, running_of, world_of}
 use Rattle.stored_programs.specs.Bodies.{ended_at, world_with}
 use Rattle.stored_programs.proofs.Acting.{behind, refused}
 use Rattle.stored_programs.proofs.Evaluated.{also, world_also}

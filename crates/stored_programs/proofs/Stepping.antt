@@ -19,9 +19,9 @@ use Rattle.sql_statements.specs.sql_meaning.Running.{Body, Ended, body_perform, 
 use Rattle.sql_stage.specs.Stage.{EndsAs, EndsAsBy, LeadsOn, scene_of}
 use Rattle.sql_stage.specs.declared.stage.Stage.{Stage}
 use Rattle.sql_stage.proofs.Leading.{turns_led}
-use Rattle.step_checks.specs.sql_evaluation.declared.world.Around.{Around}
-use Rattle.step_checks.specs.sql_evaluation.Seen.{world_of}
-use Rattle.step_checks.proofs.of_sql_evaluation.Branching.{rest_is}
+use Rattle.sql_evaluation.specs.declared.world.Around.{Around}
+use Rattle.sql_evaluation.specs.Seen.{world_of}
+use Rattle.sql_evaluation.proofs.Branching.{rest_is}
 use Rattle.stored_programs.specs.declared.body.Body.{Body as Stands}
 use Rattle.stored_programs.specs.Bodies.{body_of, ended_at, view_in}
 use Rattle.stored_programs.specs.Steps.{Taken, all_declared_in, branches_in, holds_in_body, is_other, otherwise_in, step_in, steps_in, taken_at, taken_by, taken_in, value_in_body}

@@ -11,9 +11,9 @@ use Rattle.sql_statements.specs.sql_meaning.Frames.{World, View}
 use Rattle.sql_statements.specs.sql_meaning.Running.{Body, Ended}
 use Rattle.sql_stage.specs.Stage.{EndsAsBy}
 use Rattle.sql_stage.specs.declared.running.Running.{Running as UnderWay}
-use Rattle.step_checks.specs.sql_evaluation.declared.world.Around.{Around}
-use Rattle.step_checks.specs.sql_evaluation.declared.world.View.{View as Shown}
-use Rattle.step_checks.specs.sql_evaluation.Seen.{view_of, world_of, running_of}
+use Rattle.sql_evaluation.specs.declared.world.Around.{Around}
+use Rattle.sql_evaluation.specs.declared.world.View.{View as Shown}
+use Rattle.sql_evaluation.specs.Seen.{view_of, world_of, running_of}
 use Rattle.stored_programs.specs.declared.body.Body.{Body as Stands}
 
 -- a row that a body sees

@@ -14,8 +14,8 @@ use Rattle.std.specs.Option.{option_map}
 use Rattle.sql_statements.specs.sql_meaning.Frames.{View, World}
 use Rattle.sql_statements.specs.sql_meaning.Values.{value, holds}
 use Rattle.sql_statements.specs.sql_meaning.Running.{Body, Ended, also_running, frame_of, assign_one, body_checked, body_value, declare, local_for, preset_value, row_left, seen_as, step, steps, step_of_branches, steps_otherwise}
-use Rattle.step_checks.specs.sql_evaluation.declared.world.Around.{Around}
-use Rattle.step_checks.specs.sql_evaluation.Seen.{world_of}
+use Rattle.sql_evaluation.specs.declared.world.Around.{Around}
+use Rattle.sql_evaluation.specs.Seen.{world_of}
 
 -- ---- expressions
 

@@ -5,7 +5,7 @@ ghost use Rattle.sql_tree.specs.StatementView.{view, view_assignments};
 ghost use Rattle.sql_statements.specs.sql_meaning.Changing.{put_at};
 ghost use Rattle.sql_statements.specs.sql_meaning.Running.{assign_local, assign_new, assign_one};
 ghost use Rattle.sql_stage.specs.Stage.{EndsAs, EndsAsBy, LeadsOn, scene_of};
-ghost use Rattle.step_checks.specs.sql_evaluation.Seen.{Anywhere, Calls, CallsLead};
+ghost use Rattle.sql_evaluation.specs.Seen.{Anywhere, Calls, CallsLead};
 ghost use Rattle.stored_programs.specs.Bodies.{AnywhereBy, body_of, body_then, ended_at, put_in_column, world_with};
 ghost use Rattle.stored_programs.specs.Steps.{all_assigned, assigned_values, step_in, values_to_set};
 
@@ -13,10 +13,10 @@ use crate::body::{Body, fit, take_first};
 use crate::evaluating::{check_statement_here, value_here, with_statement};
 use changed_rows::place_of;
 use sharing::Shared;
+use sql_evaluation::{Around, View};
 use sql_stage::{Running, Stage};
 use sql_tree::{Assignment, Stmt, Target};
 use std::alloc::Global;
-use step_checks::sql_evaluation::{Around, View};
 use val_types::{Bytes, Duplicate, List, Row, SqlError, SqlRefusal, TableDef, Value, type_fits};
 
 /// No local of a name, or no NEW.

@@ -4,14 +4,14 @@ ghost use Rattle.std.specs.Option.{option_copied};
 ghost use Rattle.sql_locals.specs.Types.{column_type};
 ghost use Rattle.sql_statements.specs.sql_meaning.Changing.{fitted};
 ghost use Rattle.sql_statements.specs.sql_meaning.Running.{seen_as};
-ghost use Rattle.step_checks.specs.sql_evaluation.Seen.{Anywhere, view_if};
+ghost use Rattle.sql_evaluation.specs.Seen.{Anywhere, view_if};
 ghost use Rattle.stored_programs.specs.Bodies.{ComesFirst, view_in};
 
 use sharing::Shared;
+use sql_evaluation::View;
 use sql_locals::{Locals, column_type};
 use sql_tree::SqlType;
 use std::alloc::{AllocError, Global};
-use step_checks::sql_evaluation::View;
 use val_types::{ColType, Duplicate, List, NoMemory, Row, SqlRefusal, TableDef, Value, type_fits};
 
 /// Where a body stands: its locals, and in a trigger NEW and OLD.

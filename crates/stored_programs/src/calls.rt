@@ -4,17 +4,17 @@ ghost use Rattle.std.specs.Option.{option_copied};
 ghost use Rattle.sql_tree.specs.StatementView.{view_program, view_trigger};
 ghost use Rattle.sql_statements.specs.sql_meaning.Running.{function_body, in_function};
 ghost use Rattle.sql_stage.specs.Stage.{EndsAs, EndsAsBy, LeadsOn, scene_of};
-ghost use Rattle.step_checks.specs.sql_evaluation.Seen.{running_of, setting_of, world_of};
+ghost use Rattle.sql_evaluation.specs.Seen.{running_of, setting_of, world_of};
 ghost use Rattle.changed_rows.specs.Firing.{left_of};
 ghost use Rattle.stored_programs.specs.Steps.{triggered_in};
 
 use crate::programs::{function_body, trigger_body};
 use sharing::Shared;
+use sql_evaluation::Around;
 use sql_stage::{Running, Stage};
 use sql_tree::{Cause, Routine, Time, TriggerDef};
 use std::alloc::Global;
 use step_checks::is_called;
-use step_checks::sql_evaluation::Around;
 use val_types::{Bytes, List, Row, SqlError, SqlRefusal, TableDef, Value};
 
 /// A name that is no function's.

@@ -4,17 +4,17 @@ ghost use Rattle.sql_tree.specs.StatementView.{view_declaration, view_declaratio
 ghost use Rattle.sql_statements.specs.sql_meaning.Scenes.{carried_on};
 ghost use Rattle.sql_statements.specs.sql_meaning.Running.{declare_name};
 ghost use Rattle.sql_stage.specs.Stage.{EndsAsBy, LeadsOn, scene_of};
-ghost use Rattle.step_checks.specs.sql_evaluation.Seen.{Calls, CallsLead};
+ghost use Rattle.sql_evaluation.specs.Seen.{Calls, CallsLead};
 ghost use Rattle.stored_programs.specs.Bodies.{AnywhereBy, body_of, body_then};
 ghost use Rattle.stored_programs.specs.Steps.{all_declared_in, declared_in};
 
 use crate::body::{Body, written_type};
 use crate::evaluating::preset_value;
+use sql_evaluation::Around;
 use sql_locals::Local;
 use sql_stage::{Running, Stage};
 use sql_tree::{Declaration, SqlType};
 use std::alloc::Global;
-use step_checks::sql_evaluation::Around;
 use val_types::{Bytes, Duplicate, List, SqlRefusal, Value, type_fits};
 
 /// A local of a name, with a value fitted to its type.

@@ -7,16 +7,16 @@ ghost use Rattle.sql_statements.specs.catalog_rules.Nodes.{no_sight, nodes_of, n
 ghost use Rattle.sql_statements.specs.sql_meaning.Running.{body_checked, checked, frame_of, scope_of, tables_named};
 ghost use Rattle.sql_statements.specs.sql_meaning.Values.{value};
 ghost use Rattle.sql_stage.specs.Stage.{EndsAs, LeadsOn, scene_of};
-ghost use Rattle.step_checks.specs.sql_evaluation.Seen.{Anywhere, Calls, CallsLead, running_of, setting_of, world_of};
+ghost use Rattle.sql_evaluation.specs.Seen.{Anywhere, Calls, CallsLead, running_of, setting_of, world_of};
 ghost use Rattle.stored_programs.specs.Bodies.{body_of, world_with};
 ghost use Rattle.stored_programs.specs.Steps.{holds_in_body, preset_in_body, value_in_body};
 
 use crate::body::{Body, row_in};
 use expr_ops::holds;
+use sql_evaluation::{Around, Views, value};
 use sql_stage::{Running, Stage};
 use sql_tree::{Expr, Stmt};
 use std::alloc::Global;
-use step_checks::sql_evaluation::{Around, Views, value};
 use step_checks::{check_expression, check_statement};
 use val_types::{Bytes, List, SqlRefusal, Value};
 
@@ -54,7 +54,7 @@ fn check_here<'a>(around: &Around<'a>, body: &'a Body, e: &Expr) -> Result<(), S
 }
 
 /// The checks of a statement where a body stands.
-#[tactic(auto, unfolding(step_checks::specs::sql_evaluation::Seen::world_of))]
+#[tactic(auto, unfolding(sql_evaluation::specs::Seen::world_of))]
 pub(crate) fn check_statement_here<'a>(
     around: &Around<'a>,
     body: &'a Body,
@@ -73,7 +73,7 @@ pub(crate) fn check_statement_here<'a>(
 }
 
 /// The value of an expression where a body stands, without checks.
-#[tactic(auto, unfolding(step_checks::specs::sql_evaluation::Seen::world_of, step_checks::specs::sql_evaluation::Seen::frame_of))]
+#[tactic(auto, unfolding(sql_evaluation::specs::Seen::world_of, sql_evaluation::specs::Seen::frame_of))]
 pub(crate) fn value_here<
     'a,
     F: Fn(&mut Stage, &Running<'_>, &Bytes, List<Value>) -> Result<Value, SqlRefusal>,

@@ -42,7 +42,7 @@ mod turns;
 
 // What is its own, and the crates below that it speaks of, passed on: who stands above names them through it.
 pub use calls::{call_function, fire_trigger};
+pub use sql_evaluation;
 pub use sql_statements;
 pub use sql_statements::session_ctx;
 pub use step_checks;
-pub use step_checks::sql_evaluation;

@@ -3,7 +3,7 @@ ghost use Rattle.std.specs.Prelude.{◌≡◌, None};
 ghost use Rattle.sql_tree.specs.StatementView.{view};
 ghost use Rattle.sql_statements.specs.sql_meaning.Running.{body_perform, frame_of, perform};
 ghost use Rattle.sql_stage.specs.Stage.{EndsAsBy, LeadsOn, scene_of};
-ghost use Rattle.step_checks.specs.sql_evaluation.Seen.{Calls, CallsLead, world_of};
+ghost use Rattle.sql_evaluation.specs.Seen.{Calls, CallsLead, world_of};
 ghost use Rattle.changed_rows.specs.Firing.{Fires, FiresLead};
 ghost use Rattle.sql_statements.specs.Did.{did_of};
 ghost use Rattle.stored_programs.specs.Bodies.{body_of, ended_at, world_with};
@@ -11,15 +11,15 @@ ghost use Rattle.stored_programs.specs.Bodies.{body_of, ended_at, world_with};
 use crate::body::{Body, row_in};
 use crate::evaluating::{LEVELS, check_statement_here, with_statement};
 use sharing::Shared;
+use sql_evaluation::Around;
 use sql_stage::{Running, Stage};
 use sql_statements::{Did, perform};
 use sql_tree::{Cause, Stmt, Time};
 use std::alloc::Global;
-use step_checks::sql_evaluation::Around;
 use val_types::{Bytes, List, Row, SqlRefusal, TableDef, Value};
 
 /// Does a statement where a body stands, without checks.
-#[tactic(auto, unfolding(step_checks::specs::sql_evaluation::Seen::world_of, step_checks::specs::sql_evaluation::Seen::frame_of))]
+#[tactic(auto, unfolding(sql_evaluation::specs::Seen::world_of, sql_evaluation::specs::Seen::frame_of))]
 fn perform_here<
     'a,
     F: Fn(&mut Stage, &Running<'_>, &Bytes, List<Value>) -> Result<Value, SqlRefusal>,

@@ -5,7 +5,7 @@ ghost use Rattle.val_types.specs.declared.value.Value.{Value as SqlValue};
 ghost use Rattle.sql_tree.specs.StatementView.{view_program, view_trigger};
 ghost use Rattle.sql_statements.specs.sql_meaning.Running.{fitted_result, function_body, local_for};
 ghost use Rattle.sql_stage.specs.Stage.{EndsAs, EndsAsBy, LeadsOn, scene_of};
-ghost use Rattle.step_checks.specs.sql_evaluation.Seen.{Anywhere, Calls, CallsLead, world_of};
+ghost use Rattle.sql_evaluation.specs.Seen.{Anywhere, Calls, CallsLead, world_of};
 ghost use Rattle.changed_rows.specs.Firing.{Fires, FiresLead, left_of};
 ghost use Rattle.stored_programs.specs.Bodies.{view_in};
 ghost use Rattle.stored_programs.specs.Steps.{locals_for, row_of_view, triggered_in};
@@ -13,11 +13,11 @@ ghost use Rattle.stored_programs.specs.Steps.{locals_for, row_of_view, triggered
 use crate::body::{Body, fit, given_row, old_row, take_first, written_type};
 use crate::steps::step;
 use sharing::Shared;
+use sql_evaluation::{Around, View};
 use sql_locals::{Local, Locals};
 use sql_stage::{Running, Stage};
 use sql_tree::{Cause, Parameter, Routine, SqlType, Time, TriggerDef};
 use std::alloc::{AllocError, Global};
-use step_checks::sql_evaluation::{Around, View};
 use val_types::{
     Bytes, Duplicate, List, NoMemory, Row, SqlError, SqlRefusal, TableDef, Value, key_cmp,
 };

@@ -4,7 +4,7 @@ ghost use Rattle.sql_tree.specs.Statement.{block, if_steps, return_value, while_
 ghost use Rattle.sql_tree.specs.StatementView.{view, view_branches, view_declarations, view_otherwise, view_statements};
 ghost use Rattle.sql_tree.specs.View.{view_tree};
 ghost use Rattle.sql_stage.specs.Stage.{EndsAsBy, LeadsOn, scene_of};
-ghost use Rattle.step_checks.specs.sql_evaluation.Seen.{Calls, CallsLead};
+ghost use Rattle.sql_evaluation.specs.Seen.{Calls, CallsLead};
 ghost use Rattle.changed_rows.specs.Firing.{Fires, FiresLead};
 ghost use Rattle.stored_programs.specs.Bodies.{body_of, ended_at};
 ghost use Rattle.stored_programs.specs.Steps.{is_other, otherwise_in, step_in, steps_in, taken_at, taken_in};
@@ -16,10 +16,10 @@ use crate::evaluating::{body_value, condition_holds};
 use crate::performing::perform_step;
 use crate::turns::spend_turn;
 use sharing::Shared;
+use sql_evaluation::Around;
 use sql_stage::{Running, Stage};
 use sql_tree::{Branch, Cause, Declaration, Expr, Stmt, Time};
 use std::alloc::Global;
-use step_checks::sql_evaluation::Around;
 use val_types::{Bytes, List, Row, SqlRefusal, TableDef, Value};
 
 /// Whether a step is a change, DO or another statement that a body hands on.

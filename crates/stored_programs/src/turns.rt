@@ -10,7 +10,7 @@ use val_types::{SqlError, SqlRefusal};
 const TOO_MANY_TURNS: SqlError = 30004;
 
 /// Spends a turn; 30004 where none is left.
-#[tactic(auto, using(sql_stage::proofs::Leading::stage_stays, crate::proofs::Turning::spending), unfolding(sql_statements::specs::sql_stage::Stage::scene_of))]
+#[tactic(auto, using(sql_stage::proofs::Leading::stage_stays, crate::proofs::Turning::spending), unfolding(sql_stage::specs::Stage::scene_of))]
 pub(crate) fn spend_turn(stage: &mut Stage) -> Result<(), SqlRefusal>
     ensures gives { EndsAs result (scene_of stage.new) (spend_turn (scene_of stage.old)) }
     ensures leads { LeadsOn stage.old stage.new }

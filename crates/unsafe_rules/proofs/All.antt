@@ -5,7 +5,7 @@ use Rattle.std.proofs.lemmas.List.Folds.{list_any-append}
 use Rattle.std.proofs.lemmas.Bool.Decides.{nat_tests}
 use Rattle.session_ctx.specs.catalog_rules.Objects.{Object}
 use Rattle.session_ctx.specs.catalog_rules.Nodes.{Node}
-use Rattle.statement_names.specs.sql_reach.Reach.{body_nodes, reached_nodes, reached_programs}
+use Rattle.sql_reach.specs.Reach.{body_nodes, reached_nodes, reached_programs}
 use Rattle.node_walk.specs.declared.asking.Ask.{Ask}
 use Rattle.node_walk.specs.Asking.{asks_node}
 use Rattle.unsafe_rules.specs.Reaching.{is_at, in_round, in_place, in_programs, at_places, IsAll}

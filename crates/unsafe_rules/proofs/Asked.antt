@@ -8,7 +8,7 @@ use Rattle.sql_tree.specs.declared.statements.TriggerDef.{TriggerDef}
 use Rattle.session_ctx.specs.catalog_rules.Objects.{Object, table, function, procedure, reaction, name_of}
 use Rattle.session_ctx.specs.catalog_rules.Nodes.{Node, a_name, a_column, a_new_column, an_old_column, an_inserted_value, a_user_variable, a_system_variable, a_built_in, a_random_number, a_function_call, a_table_read, a_limit, a_statement}
 use Rattle.session_ctx.specs.catalog_rules.Names.{same_name}
-use Rattle.statement_names.specs.sql_reach.Reach.{body_nodes, fires_trigger, holds_change}
+use Rattle.sql_reach.specs.Reach.{body_nodes, fires_trigger, holds_change}
 use Rattle.node_walk.specs.declared.asking.Ask.TheVariants as asks
 use Rattle.node_walk.specs.declared.asking.Ask.{Ask}
 use Rattle.node_walk.specs.Asking.{asks_node}

@@ -5,7 +5,7 @@ use Rattle.sql_tree.specs.Statement.{Statement, insert_into, replace_into, updat
 use Rattle.sql_tree.specs.Statement.{Trigger, trigger}
 use Rattle.session_ctx.specs.catalog_rules.Objects.{Object, table, function, procedure, reaction}
 use Rattle.session_ctx.specs.catalog_rules.Nodes.{Node, a_name, a_column, a_new_column, an_old_column, an_inserted_value, a_user_variable, a_system_variable, a_built_in, a_random_number, a_function_call, a_table_read, a_limit, a_statement}
-use Rattle.statement_names.specs.sql_reach.Reach.{rounds}
+use Rattle.sql_reach.specs.Reach.{rounds}
 use Rattle.node_walk.specs.declared.asking.Ask.TheVariants as asks
 use Rattle.node_walk.specs.Asking.{asks_node}
 use Rattle.unsafe_rules.specs.Reaching.{reaches, nothing_wanted, IsAll}

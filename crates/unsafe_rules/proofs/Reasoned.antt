@@ -8,8 +8,8 @@ use Rattle.session_ctx.specs.catalog_rules.Objects.{Object}
 use Rattle.session_ctx.specs.catalog_rules.Nodes.{Node, Sight, a_name, a_column, a_new_column, an_old_column, an_inserted_value, a_user_variable, a_system_variable, a_built_in, a_random_number, a_function_call, a_table_read, a_limit, a_statement, nodes_of}
 use Rattle.node_walk.specs.catalog_objects.Keys.{objects_of}
 use Rattle.node_walk.specs.catalog_objects.declared.object.Object as code
-use Rattle.statement_names.specs.sql_reach.Carrying.{asks_last_id, draws}
-use Rattle.statement_names.specs.sql_reach.Reasons.{Reason, a_function, a_variable, a_limited, a_counted_select, a_counted_program, two_keys, ignored_select, replaced_select, updated_select, all_reasons, names_unsafe_function, names_server_id, is_limited, inserts_counted, selects_counted, updates_by_two_keys, ignores_select, replaces_select, updates_select, reason_holds, reasons}
+use Rattle.sql_reach.specs.Carrying.{asks_last_id, draws}
+use Rattle.sql_reach.specs.Reasons.{Reason, a_function, a_variable, a_limited, a_counted_select, a_counted_program, two_keys, ignored_select, replaced_select, updated_select, all_reasons, names_unsafe_function, names_server_id, is_limited, inserts_counted, selects_counted, updates_by_two_keys, ignores_select, replaces_select, updates_select, reason_holds, reasons}
 use Rattle.node_walk.specs.declared.asking.Ask.TheVariants as asks
 use Rattle.node_walk.specs.Asking.{asks_node}
 use Rattle.unsafe_rules.specs.declared.unsafety.Reasons.{Reasons}

@@ -5,7 +5,7 @@ use Rattle.std.proofs.lemmas.List.Folds.{list_any-append}
 use Rattle.std.proofs.lemmas.Bool.Decides.{nat_tests}
 use Rattle.session_ctx.specs.catalog_rules.Objects.{Object, table, function, procedure, reaction}
 use Rattle.session_ctx.specs.catalog_rules.Nodes.{Node}
-use Rattle.statement_names.specs.sql_reach.Reach.{is_reached_from, body_nodes, rounds}
+use Rattle.sql_reach.specs.Reach.{is_reached_from, body_nodes, rounds}
 use Rattle.unsafe_rules.specs.Reaching.{reaches, body_reaches, is_reached, is_at, in_round, IsNew, IsNext, IsFound}
 use Rattle.unsafe_rules.proofs.Elements.{any_is, any_from, none_of, none_kept, any_kept, any_made}
 use Rattle.unsafe_rules.proofs.Counting.{others_none, one_less}

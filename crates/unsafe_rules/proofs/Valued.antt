@@ -9,8 +9,8 @@ use Rattle.val_types.specs.declared.value.Value.{Value}
 use Rattle.session_ctx.specs.catalog_rules.Objects.{Object}
 use Rattle.session_ctx.specs.catalog_rules.Nodes.{Node}
 use Rattle.session_ctx.specs.log_entries.Variables.{variable_set}
-use Rattle.statement_names.specs.sql_reach.Carrying.{user_variable_at, in_byte_order}
-use Rattle.statement_names.specs.sql_reach.Reach.{body_nodes, reached_nodes, reached_programs}
+use Rattle.sql_reach.specs.Carrying.{user_variable_at, in_byte_order}
+use Rattle.sql_reach.specs.Reach.{body_nodes, reached_nodes, reached_programs}
 use Rattle.statement_names.specs.Naming.{nodes_put, NamesAreInByteOrder}
 use Rattle.statement_names.specs.Rising.{by_bytes, Above, Rises}
 use Rattle.unsafe_rules.specs.Reaching.{at_places, is_at, IsAll}

@@ -4,4 +4,4 @@ pub mod Unsafe
 -- the crates below that this one speaks of, passed on
 pub use Rattle.session_ctx.specs.catalog_rules as catalog_rules
 pub use Rattle.session_ctx.specs.sql_meaning as sql_meaning
-pub use Rattle.statement_names.specs.sql_reach as sql_reach
+pub use Rattle.sql_reach.specs as sql_reach

@@ -3,7 +3,7 @@ use Rattle.std.specs.Prelude.{◌≡◌, ◌+◌, ◌<◌, ◌≤◌, ℕ, zero,
 use Rattle.std.specs.List.{list_any}
 use Rattle.session_ctx.specs.catalog_rules.Objects.{Object, table, function, procedure, reaction, name_of}
 use Rattle.session_ctx.specs.catalog_rules.Nodes.{Node}
-use Rattle.statement_names.specs.sql_reach.Reach.{calls_function, fires_trigger, body_nodes, is_reached_from, rounds}
+use Rattle.sql_reach.specs.Reach.{calls_function, fires_trigger, body_nodes, is_reached_from, rounds}
 use Rattle.node_walk.specs.declared.asking.Ask.{Ask}
 use Rattle.node_walk.specs.Asking.{asks_node}
 

@@ -1,6 +1,6 @@
 -- The reasons for which a statement is unsafe to log by its text, as they are kept.
 use Rattle.std.specs.Prelude.{Bool, true, false, List, [], ◌∷◌, filter}
-use Rattle.statement_names.specs.sql_reach.Reasons.{Reason, a_function, a_variable, a_limited, a_counted_select, a_counted_program, two_keys, ignored_select, replaced_select, updated_select, all_reasons}
+use Rattle.sql_reach.specs.Reasons.{Reason, a_function, a_variable, a_limited, a_counted_select, a_counted_program, two_keys, ignored_select, replaced_select, updated_select, all_reasons}
 use Rattle.unsafe_rules.specs.declared.unsafety.Reasons.{Reasons}
 
 -- whether a reason is among them

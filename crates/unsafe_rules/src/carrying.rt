@@ -4,8 +4,8 @@ ghost use Rattle.std.specs.List.{list_any};
 ghost use Rattle.node_walk.specs.catalog_objects.Keys.{objects_of, seen};
 ghost use Rattle.session_ctx.specs.catalog_rules.Nodes.{nodes_of};
 ghost use Rattle.session_ctx.specs.log_entries.Variables.{variable_value};
-ghost use Rattle.statement_names.specs.sql_reach.Carrying.{asks_last_id, carried, draws, if_asked, variables_reached};
-ghost use Rattle.statement_names.specs.sql_reach.Reach.{body_nodes, reached_nodes};
+ghost use Rattle.sql_reach.specs.Carrying.{asks_last_id, carried, draws, if_asked, variables_reached};
+ghost use Rattle.sql_reach.specs.Reach.{body_nodes, reached_nodes};
 ghost use Rattle.sql_tree.specs.StatementView.{view};
 ghost use Rattle.unsafe_rules.specs.Places.{places_of};
 ghost use Rattle.unsafe_rules.specs.Reaching.{IsAll, IsFound, at_places, nothing_wanted};
@@ -113,7 +113,7 @@ fn seeds_reached(s: &Stmt, objects: &Objects, found: &Found<'_>, x: &Ctx) -> Opt
 }
 
 /// What is carried, where all programs that are reached were found.
-#[tactic(auto, unfolding(statement_names::specs::sql_reach::Carrying::carried))]
+#[tactic(auto, unfolding(sql_reach::specs::Carrying::carried))]
 fn carried_of_all(
     alloc: Global,
     s: &Stmt,

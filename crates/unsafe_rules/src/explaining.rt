@@ -2,7 +2,7 @@
 ghost use Rattle.std.specs.Prelude.{◌≡◌};
 ghost use Rattle.node_walk.specs.catalog_objects.Keys.{objects_of};
 ghost use Rattle.session_ctx.specs.catalog_rules.Nodes.{nodes_of};
-ghost use Rattle.statement_names.specs.sql_reach.Reasons.{reasons};
+ghost use Rattle.sql_reach.specs.Reasons.{reasons};
 ghost use Rattle.sql_tree.specs.StatementView.{view};
 ghost use Rattle.unsafe_rules.specs.Places.{places_of};
 ghost use Rattle.unsafe_rules.specs.Reaching.{IsAll, IsFound, nothing_wanted};

@@ -4,7 +4,7 @@ ghost use Rattle.std.specs.List.{list_any};
 ghost use Rattle.node_walk.specs.catalog_objects.Keys.{objects_of};
 ghost use Rattle.session_ctx.specs.catalog_rules.Nodes.{nodes_of};
 ghost use Rattle.node_walk.specs.Asking.{asks_node};
-ghost use Rattle.statement_names.specs.sql_reach.Reach.{body_nodes, reached_nodes, reached_programs};
+ghost use Rattle.sql_reach.specs.Reach.{body_nodes, reached_nodes, reached_programs};
 ghost use Rattle.sql_tree.specs.StatementView.{view};
 ghost use Rattle.unsafe_rules.specs.Places.{places_of};
 ghost use Rattle.unsafe_rules.specs.Reaching.{IsAll, IsNext, in_programs};

@@ -4,7 +4,7 @@ ghost use Rattle.std.specs.Option.{option_copied};
 ghost use Rattle.std.specs.List.{list_any};
 ghost use Rattle.node_walk.specs.catalog_objects.Keys.{objects_of, seen};
 ghost use Rattle.session_ctx.specs.catalog_rules.Nodes.{nodes_of};
-ghost use Rattle.statement_names.specs.sql_reach.Reach.{is_writing_function, reached_programs};
+ghost use Rattle.sql_reach.specs.Reach.{is_writing_function, reached_programs};
 ghost use Rattle.sql_tree.specs.StatementView.{view, view_program};
 ghost use Rattle.session_ctx.specs.catalog_rules.Objects.{body_of, function};
 ghost use Rattle.unsafe_rules.specs.Places.{places_of};

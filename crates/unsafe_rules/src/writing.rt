@@ -1,7 +1,7 @@
 //! Which statements need the writer's lock.
 ghost use Rattle.std.specs.Prelude.{◌≡◌};
 ghost use Rattle.node_walk.specs.catalog_objects.Keys.{objects_of};
-ghost use Rattle.statement_names.specs.sql_reach.Reach.{is_definition, writes};
+ghost use Rattle.sql_reach.specs.Reach.{is_definition, writes};
 ghost use Rattle.sql_tree.specs.StatementView.{view};
 
 use crate::reaching::reaches_writing;
@@ -29,7 +29,7 @@ fn is_definition(s: &Stmt) -> bool
 
 /// Whether a statement needs the writer's lock: a change of rows, a definition, or one that reaches a function with a change
 /// in it. Takes no memory; what was found is kept on the stack.
-#[tactic(auto, unfolding(statement_names::specs::sql_reach::Reach::writes))]
+#[tactic(auto, unfolding(sql_reach::specs::Reach::writes))]
 pub fn writes(s: &Stmt, objects: &Objects) -> bool
     ensures { result ≡ writes (objects_of objects.now) (view s.now) }
 {

@@ -1,7 +1,7 @@
 use Rattle.std.proofs.Common.{refl, arith}
 use Rattle.byte_fields.specs.Unroll.{all_from}
 use Rattle.byte_fields.specs.Field.{number_at}
-use Rattle.row_image.specs.log_model.Images.{changes_at, row_at}
+use Rattle.log_model.specs.Images.{changes_at, row_at}
 use Rattle.log_print.proofs.Digits.{digits_by_steps}
 use Rattle.log_print.proofs.worked.rows_by_hand.Goals as goal
 

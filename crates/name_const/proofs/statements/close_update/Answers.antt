@@ -1,5 +1,5 @@
 use Rattle.sql_tree.specs.Statement.{update_rows}
-use Rattle.closed_names.specs.sql_reach.Closing.{closed}
+use Rattle.sql_reach.specs.Closing.{closed}
 use Rattle.name_const.proofs.statements.close_update.Goals as goal
 
 pub returns : goal.returns

@@ -2,7 +2,7 @@ use Rattle.std.proofs.Common.{◌≡◌, ◌++◌, ◌∷◌, [], ℕ, List, ap,
 use Rattle.std.specs.Prelude.{codes}
 use Rattle.std.specs.Fmt.{decimal}
 use Rattle.std.specs.Option.{option_map}
-use Rattle.relay_log.specs.replica_model.Lines.{stop_if}
+use Rattle.replica_model.specs.Lines.{stop_if}
 use Rattle.replica_node.specs.Steps.{stop_of}
 use Rattle.replica_node.proofs.Written.{applied_joined}
 use Rattle.replica_node.proofs.lines.applied_line.Goals as goal

@@ -1,6 +1,6 @@
 use Rattle.std.proofs.Common.{◌≡◌, ◌+◌, ◌*◌, ◌≤◌, drop, length, map}
 use Rattle.std.specs.Prelude.{flat_map}
-use Rattle.row_image.specs.log_model.Items.{kind_of, type_metadata}
+use Rattle.log_model.specs.Items.{kind_of, type_metadata}
 use Rattle.row_events.proofs.event_sizes.all_metadata_size.Given as goal
 
 abbrev pub invariant-loop-column : goal.invariant-loop-column

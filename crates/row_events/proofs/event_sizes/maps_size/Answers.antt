@@ -3,7 +3,7 @@ use Rattle.event_codec.specs.Event.{table_map}
 use Rattle.event_codec.specs.Writing.{size}
 use Rattle.val_types.specs.Changes.{table_of}
 use Rattle.val_types.specs.declared.definitions.ColumnDef.{ColumnDef}
-use Rattle.row_image.specs.log_model.Items.{map_of, columns_in}
+use Rattle.log_model.specs.Items.{map_of, columns_in}
 use Rattle.row_events.specs.Sizes.{bounded}
 use Rattle.row_events.proofs.Summing.{maps_old, maps_new, maps_begin, maps_done}
 use Rattle.row_events.proofs.event_sizes.maps_size.Goals as goal

@@ -1,7 +1,7 @@
 use Rattle.std.proofs.Common.{◌≡◌, ◌+◌, ◌-◌, ◌^◌, ◌≤◌, drop, take, length, map}
 use Rattle.val_types.specs.Changes.{table_of}
 use Rattle.event_codec.specs.Event.{table_map}
-use Rattle.row_image.specs.log_model.Items.{maps_from, tables_of}
+use Rattle.log_model.specs.Items.{maps_from, tables_of}
 use Rattle.row_events.specs.Sizes.{bounded, sizes}
 use Rattle.row_events.specs.Tables.{new_among}
 use Rattle.row_events.proofs.event_sizes.maps_size.Given as goal

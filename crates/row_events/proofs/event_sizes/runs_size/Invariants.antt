@@ -1,5 +1,5 @@
 use Rattle.std.proofs.Common.{◌≡◌, ◌+◌, ◌-◌, ◌^◌, ◌≤◌, [], length}
-use Rattle.row_image.specs.log_model.Written.{total}
+use Rattle.log_model.specs.Written.{total}
 use Rattle.row_events.specs.Runs.{rows_events}
 use Rattle.row_events.specs.Sizes.{bounded}
 use Rattle.row_events.proofs.event_sizes.runs_size.Given as goal

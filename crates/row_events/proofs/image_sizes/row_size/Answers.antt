@@ -1,7 +1,7 @@
 use Rattle.std.proofs.Common.{arith, map, length-append}
 use Rattle.val_types.specs.Fitting.{is_null}
-use Rattle.row_image.specs.log_model.Images.{row_bytes, bits_bytes, values_bytes}
-use Rattle.row_image.specs.log_model.Items.{kind_of}
+use Rattle.log_model.specs.Images.{row_bytes, bits_bytes, values_bytes}
+use Rattle.log_model.specs.Items.{kind_of}
 use Rattle.row_events.proofs.Measuring.{bits_size}
 use Rattle.row_events.proofs.image_sizes.row_size.Goals as goal
 

@@ -1,6 +1,6 @@
 use Rattle.std.proofs.Common.{◌≡◌, ◌+◌, ◌-◌, ◌^◌, ◌≤◌, drop, length, map}
-use Rattle.row_image.specs.log_model.Images.{values_bytes}
-use Rattle.row_image.specs.log_model.Items.{kind_of}
+use Rattle.log_model.specs.Images.{values_bytes}
+use Rattle.log_model.specs.Items.{kind_of}
 use Rattle.row_events.specs.Sizes.{bounded}
 use Rattle.row_events.proofs.image_sizes.values_size.Given as goal
 

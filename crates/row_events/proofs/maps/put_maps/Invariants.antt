@@ -1,6 +1,6 @@
 use Rattle.std.proofs.Common.{◌≡◌, ◌+◌, map, drop}
 use Rattle.event_codec.specs.Event.{table_map}
-use Rattle.row_image.specs.log_model.Items.{at_time, maps_from}
+use Rattle.log_model.specs.Items.{at_time, maps_from}
 use Rattle.row_events.specs.Writing.{GoesOn}
 use Rattle.row_events.proofs.maps.put_maps.Given as goal
 

@@ -1,5 +1,5 @@
 use Rattle.std.proofs.Common.{arith, map}
-use Rattle.row_image.specs.log_model.Items.{is_nullable}
+use Rattle.log_model.specs.Items.{is_nullable}
 use Rattle.row_image.proofs.Packing.{eight}
 use Rattle.row_events.proofs.nulls.byte.Goals as goal
 

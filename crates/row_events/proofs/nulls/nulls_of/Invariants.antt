@@ -1,7 +1,7 @@
 use Rattle.std.proofs.Common.{◌≡◌, ◌++◌, ◌-◌, length, map}
 use Rattle.event_codec.specs.Bitmap.{bitmap_size}
-use Rattle.row_image.specs.log_model.Images.{bitmap, bits_bytes}
-use Rattle.row_image.specs.log_model.Items.{is_nullable}
+use Rattle.log_model.specs.Images.{bitmap, bits_bytes}
+use Rattle.log_model.specs.Items.{is_nullable}
 use Rattle.row_events.proofs.nulls.nulls_of.Given as goal
 
 abbrev pub invariant-loop-byte : goal.invariant-loop-byte

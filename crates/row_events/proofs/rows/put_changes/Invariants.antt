@@ -1,6 +1,6 @@
 use Rattle.std.proofs.Common.{◌≡◌, ◌++◌, drop}
 use Rattle.std.specs.Prelude.{flat_map}
-use Rattle.row_image.specs.log_model.Images.{change_bytes}
+use Rattle.log_model.specs.Images.{change_bytes}
 use Rattle.row_image.specs.Walk.{types_in}
 use Rattle.row_events.specs.Runs.{HaveRows}
 use Rattle.row_events.proofs.rows.put_changes.Given as goal

@@ -1,8 +1,8 @@
 use Rattle.std.proofs.Common.{◌≡◌, ℕ, List, ◌++◌, map, sym, ap, ◌∙◌, subst}
 use Rattle.std.specs.Prelude.{IfOk}
 use Rattle.event_codec.specs.Event.{table_map}
-use Rattle.row_image.specs.log_model.Items.{at_time, maps_from}
-use Rattle.row_image.specs.log_model.Written.{CanWriteAll}
+use Rattle.log_model.specs.Items.{at_time, maps_from}
+use Rattle.log_model.specs.Written.{CanWriteAll}
 use Rattle.row_events.specs.Runs.{rows_events}
 use Rattle.row_events.specs.Writing.{Wrote}
 use Rattle.row_events.proofs.Cutting.{item_split}

@@ -1,5 +1,5 @@
 use Rattle.std.proofs.Common.{length}
-use Rattle.row_image.specs.log_model.Items.{CanCarryAll}
+use Rattle.log_model.specs.Items.{CanCarryAll}
 use Rattle.row_events.specs.Runs.{rows_events}
 use Rattle.row_events.specs.Writing.{GoesOn}
 use Rattle.row_events.proofs.rows.put_runs.Given as goal

@@ -1,5 +1,5 @@
 use Rattle.std.proofs.Common.{◌≡◌, length, map}
-use Rattle.row_image.specs.log_model.Items.{kind_of}
+use Rattle.log_model.specs.Items.{kind_of}
 use Rattle.row_events.specs.Runs.{run_from}
 use Rattle.row_events.proofs.runs.run_from.Given as goal
 

@@ -1,5 +1,5 @@
 use Rattle.std.proofs.Common.{◌≡◌, drop}
-use Rattle.row_image.specs.log_model.Items.{columns_in}
+use Rattle.log_model.specs.Items.{columns_in}
 use Rattle.row_events.proofs.tables.columns_of.Given as goal
 
 abbrev pub invariant-loop-def : goal.invariant-loop-def

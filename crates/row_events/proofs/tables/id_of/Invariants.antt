@@ -1,5 +1,5 @@
 use Rattle.std.proofs.Common.{◌≡◌, ◌+◌, drop}
-use Rattle.row_image.specs.log_model.Items.{id_from}
+use Rattle.log_model.specs.Items.{id_from}
 use Rattle.row_events.proofs.tables.id_of.Given as goal
 
 abbrev pub invariant-loop-other : goal.invariant-loop-other

@@ -1,6 +1,6 @@
 use Rattle.std.proofs.Common.{◌≡◌, ◌++◌, map, take, drop}
 use Rattle.val_types.specs.Changes.{table_of}
-use Rattle.row_image.specs.log_model.Items.{tables_of}
+use Rattle.log_model.specs.Items.{tables_of}
 use Rattle.row_events.specs.Tables.{new_among}
 use Rattle.row_events.proofs.tables.tables_of.Given as goal
 

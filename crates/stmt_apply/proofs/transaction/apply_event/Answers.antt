@@ -1,7 +1,7 @@
 use Rattle.std.proofs.Common.{◌≡◌, ◌+◌, ap, ◌∙◌}
 use Rattle.std.proofs.Common.{ℕ}
 use Rattle.event_codec.specs.Event.{size_of}
-use Rattle.applier_laws.specs.applier_model.Groups.{with_bytes}
+use Rattle.applier_model.specs.Groups.{with_bytes}
 use Rattle.applier_laws.specs.row_events.Sizes.{bounded}
 use Rattle.stmt_apply.proofs.Going.{counted}
 use Rattle.stmt_apply.proofs.transaction.apply_event.Goals as goal

@@ -1,6 +1,6 @@
 use Rattle.std.proofs.Common.{◌≡◌, drop, flat_map}
 use Rattle.node_walk.specs.catalog_objects.Keys.{objects_of}
-use Rattle.statement_names.specs.sql_reach.Reach.{body_nodes}
+use Rattle.sql_reach.specs.Reach.{body_nodes}
 use Rattle.statement_names.specs.Naming.{nodes_put}
 use Rattle.unsafe_rules.specs.Places.{places_of}
 use Rattle.unsafe_rules.specs.Reaching.{at_places}

@@ -2,8 +2,8 @@ use Rattle.std.proofs.Common.{◌≡◌, rules}
 use Rattle.std.specs.Prelude.{filter_map}
 use Rattle.node_walk.specs.catalog_objects.Keys.{objects_of}
 use Rattle.session_ctx.specs.catalog_rules.Nodes.{nodes_of}
-use Rattle.statement_names.specs.sql_reach.Carrying.{in_byte_order, user_variable_at}
-use Rattle.statement_names.specs.sql_reach.Reach.{reached_nodes}
+use Rattle.sql_reach.specs.Carrying.{in_byte_order, user_variable_at}
+use Rattle.sql_reach.specs.Reach.{reached_nodes}
 use Rattle.sql_tree.specs.StatementView.{view}
 use Rattle.unsafe_rules.specs.Places.{places_of}
 use Rattle.unsafe_rules.proofs.Valued.{names_reached}

@@ -1,5 +1,5 @@
 use Rattle.std.proofs.Common.{◌∙◌, flat_map}
-use Rattle.statement_names.specs.sql_reach.Reach.{body_nodes, reached_nodes, reached_programs}
+use Rattle.sql_reach.specs.Reach.{body_nodes, reached_nodes, reached_programs}
 use Rattle.session_ctx.specs.catalog_rules.Nodes.{nodes_of}
 use Rattle.node_walk.specs.catalog_objects.Keys.{objects_of}
 use Rattle.sql_tree.specs.StatementView.{view}

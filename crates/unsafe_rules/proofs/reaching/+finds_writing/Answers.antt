@@ -3,7 +3,7 @@ use Rattle.std.proofs.lemmas.List.{length-map}
 use Rattle.session_ctx.specs.catalog_rules.Nodes.{nodes_of}
 use Rattle.node_walk.specs.catalog_objects.Keys.{objects_of, seen}
 use Rattle.sql_tree.specs.StatementView.{view}
-use Rattle.statement_names.specs.sql_reach.Reach.{is_writing_function}
+use Rattle.sql_reach.specs.Reach.{is_writing_function}
 use Rattle.unsafe_rules.specs.Places.{places_of}
 use Rattle.unsafe_rules.specs.Reaching.{others}
 use Rattle.unsafe_rules.proofs.Counting.{one_less}

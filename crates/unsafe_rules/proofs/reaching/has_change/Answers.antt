@@ -2,7 +2,7 @@ use Rattle.std.proofs.Common.{ap, ◌∙◌}
 use Rattle.std.specs.List.{list_any}
 use Rattle.session_ctx.specs.catalog_rules.Nodes.{nodes_of}
 use Rattle.sql_tree.specs.StatementView.{view}
-use Rattle.statement_names.specs.sql_reach.Reach.{holds_change}
+use Rattle.sql_reach.specs.Reach.{holds_change}
 use Rattle.unsafe_rules.proofs.Asked.{changes_asked}
 use Rattle.unsafe_rules.proofs.reaching.has_change.Goals as goal
 

@@ -2,7 +2,7 @@ use Rattle.std.proofs.Common.{sym, ◌∙◌}
 use Rattle.session_ctx.specs.catalog_rules.Nodes.{nodes_of}
 use Rattle.node_walk.specs.catalog_objects.Keys.{objects_of}
 use Rattle.sql_tree.specs.StatementView.{view}
-use Rattle.statement_names.specs.sql_reach.Reach.{is_writing_function}
+use Rattle.sql_reach.specs.Reach.{is_writing_function}
 use Rattle.unsafe_rules.proofs.Rounds.{nothing_found}
 use Rattle.unsafe_rules.proofs.Causing.{nothing_caused}
 use Rattle.unsafe_rules.proofs.reaching.reaches_writing.Goals as goal

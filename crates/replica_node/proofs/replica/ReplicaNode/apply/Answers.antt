@@ -1,8 +1,8 @@
 use Rattle.std.proofs.Common.{◌≡◌, ℕ, ◌+◌, ◌-◌, length, refl, sym, ap, ◌∙◌, arith, subst}
 use Rattle.std.specs.Option.{option_map}
 use Rattle.relay_log.specs.Reaching.{Fetched}
-use Rattle.relay_log.specs.replica_model.Applying.{Going}
-use Rattle.relay_log.specs.replica_model.Replica.{Replica}
+use Rattle.replica_model.specs.Applying.{Going}
+use Rattle.replica_model.specs.Replica.{Replica}
 use Rattle.replica_node.specs.declared.told.Step.{Step}
 use Rattle.replica_node.specs.declared.told.Step.TheVariants.{Over, Moved, Carried, Waits, Stopped as StoppedBy}
 use Rattle.replica_node.specs.Kept.{Kept, replica_of}
