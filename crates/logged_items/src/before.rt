@@ -8,10 +8,10 @@ ghost use Rattle.sql_tree.specs.StatementView.{view};
 
 use catalog_checks::catalog_objects::Objects;
 use entry_groups::log_entries::Carried;
+use session_ctx::Ctx;
 use sql_tree::Stmt;
 use std::alloc::Global;
 use unsafe_rules::carried;
-use unsafe_rules::session_ctx::Ctx;
 use val_types::NoMemory;
 
 /// What an item may carry of the context before its statement, and the statement may have changed since.

@@ -8,8 +8,8 @@ ghost use Rattle.logged_items.specs.Logged.{Encodes};
 use crate::items::LAST_END;
 use event_codec::{Event, Header, QueryView, Step};
 use row_laws::row_events::put;
+use session_ctx::Ctx;
 use std::alloc::{AllocError, Global};
-use unsafe_rules::session_ctx::Ctx;
 use val_types::{Bytes, NoMemory};
 
 /// The most bytes that a QUERY has beside its text.

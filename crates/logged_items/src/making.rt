@@ -9,9 +9,9 @@ use crate::before::{Before, carried_before};
 use crate::tables::definitions_changed;
 use catalog_checks::catalog_objects::Objects;
 use entry_groups::log_entries::Item;
+use session_ctx::Ctx;
 use sql_tree::Stmt;
 use std::alloc::Global;
-use unsafe_rules::session_ctx::Ctx;
 use val_types::{Bytes, Change, List, NoMemory};
 
 /// The item of a statement, by its rows or by its text: the text as given, with what it carries of the context before it, the

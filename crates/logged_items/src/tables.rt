@@ -8,8 +8,8 @@ ghost use Rattle.val_types.specs.Changes.{table_of};
 
 use catalog_checks::catalog_objects::{Object, Objects};
 use catalog_checks::is_among;
+use statement_names::Names;
 use std::alloc::Global;
-use unsafe_rules::statement_names::Names;
 use val_types::{Bytes, Change, Duplicate, List, NoMemory, TableDef};
 
 /// Puts a copy of a definition at the end, where its table is among some names.

@@ -9,10 +9,10 @@ ghost use Rattle.proc_run.specs.declared.calls.CallRefusal.TheVariants.{Device};
 
 use crate::nesting::call_procedure;
 use answer_text::{Answer, End};
-use proc_parts::catalog::Catalog;
-use proc_parts::prog_run::Meter;
+use catalog::Catalog;
 use proc_parts::sql_stage::Running;
 use proc_parts::{Held, RunRefusal, Runner, World};
+use prog_run::Meter;
 use std::alloc::Global;
 use thiserror::Error;
 use val_types::{Bytes, List, Value};

@@ -7,10 +7,10 @@ ghost use Rattle.stored_programs.specs.sql_evaluation.Seen.{setting_of};
 ghost use Rattle.prog_run.specs.Together.{Counts};
 
 use catalog::catalog_objects::Objects;
+use session_ctx::Ctx;
 use sql_locals::Locals;
 use sql_stage::Running;
 use sql_tree::Stmt;
-use stored_programs::session_ctx::Ctx;
 use stored_programs::sql_evaluation::Around;
 
 /// Whether a statement uses a forced INSERT_ID.

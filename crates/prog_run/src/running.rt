@@ -11,11 +11,11 @@ use crate::number::number_of_bytes;
 use crate::staged::{evaluate_on, run_on};
 use crate::work::Work;
 use port_traits::Draw;
+use session_ctx::Ctx;
 use sql_locals::Locals;
 use sql_stage::Stage;
 use sql_tree::{Expr, Stmt};
 use std::alloc::Global;
-use stored_programs::session_ctx::Ctx;
 use val_types::{List, SqlRefusal, Value};
 
 /// Takes over what a statement begins with: the seeds of its context, and what is left to its command.

@@ -14,12 +14,12 @@ use crate::meter::Outcome;
 use crate::under_way::{expressions_alone, nothing, tables_alone};
 use crate::undoing::{undo_failed, undo_unknown};
 use catalog::catalog_objects::Objects;
+use session_ctx::Ctx;
 use sql_locals::Locals;
 use sql_stage::Stage;
 use sql_tree::{Expr, Stmt};
 use statement_names::tables_of;
 use std::alloc::Global;
-use stored_programs::session_ctx::Ctx;
 use stored_programs::sql_statements::Did;
 use val_types::{List, SqlRefusal, Value};
 

@@ -9,12 +9,12 @@ ghost use Rattle.replica_node.specs.Steps.{CarriesOut, GoesOn, IsFront, IsOver, 
 
 use crate::replica::ReplicaNode;
 use crate::told::{Applied, Step, Stopped};
+use node_answers::NodeFault;
 use port_traits::{Draw, Identity};
 use relay_log::Walk;
 use relay_log::log_groups::{Form, Group, Next};
 use std::alloc::Global;
 use stmt_apply::apply_group;
-use stmt_apply::node_answers::NodeFault;
 use stmt_apply::prog_run::Work;
 use stmt_apply::row_apply::Stop;
 

@@ -6,11 +6,11 @@ ghost use Rattle.replica_node.specs.Kept.{replica_of};
 
 use crate::selecting::answer;
 use answer_text::Answer;
+use node_answers::NodeFault;
 use port_traits::{Draw, Identity};
 use relay_log::Relay;
 use std::alloc::Global;
 use std::marker::Model;
-use stmt_apply::node_answers::NodeFault;
 use stmt_apply::prog_run::Work;
 use val_types::Bytes;
 

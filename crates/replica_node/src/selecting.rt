@@ -7,14 +7,14 @@ ghost use Rattle.stmt_apply.specs.row_apply.Ends.{Stays};
 ghost use Rattle.replica_model.specs.Selecting.{select_answer, select_checked, select_run};
 
 use answer_text::Answer;
+use node_answers::{NodeFault, refused, refused_at, statement_of, told};
 use port_traits::{Draw, Identity};
+use session_ctx::SessionVars;
+use sql_parse::ParseRefusal;
 use sql_tree::Stmt;
 use std::alloc::Global;
 use stmt_apply::checked;
-use stmt_apply::node_answers::{NodeFault, refused, refused_at, statement_of, told};
 use stmt_apply::prog_run::{Meter, Work, run_stmt};
-use stmt_apply::sql_parse::ParseRefusal;
-use unsafe_rules::session_ctx::SessionVars;
 use unsafe_rules::writes;
 use val_types::{Duplicate, SqlRefusal};
 

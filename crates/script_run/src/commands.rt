@@ -12,9 +12,9 @@ ghost use Rattle.script_run.specs.Together.{Grew, Lined, Opened, Stopped, Togeth
 use crate::asked::Asked;
 use crate::nodes::Nodes;
 use answer_text::{Report, Status};
+use node_answers::NodeFault;
 use port_traits::{Env, Sink};
 use replica_node::ReplicaNode;
-use replica_node::node_answers::NodeFault;
 use run_laws::replica_follows;
 use run_laws::session_replays::transactions_replay;
 use run_streams::{open, write_line};

@@ -9,8 +9,8 @@ ghost use Rattle.script_run.specs.Together.{CarriedOut, Grew, Shows, Together};
 
 use crate::asked::Asked;
 use answer_text::{Mark, Report, shown};
+use node_answers::NodeFault;
 use port_traits::Env;
-use replica_node::node_answers::NodeFault;
 use replica_node::{ReplicaNode, applied_line, fetched_line};
 use run_laws::entry_groups::entries_can_log_on;
 use run_laws::log_model::{entries_have_length, heads_have_length};

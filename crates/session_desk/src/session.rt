@@ -8,9 +8,9 @@ ghost use Rattle.session_model.specs.transaction_sizes.Sizes.{are_too_large};
 
 use crate::saves::{Save, marks_at, place_of, put_last, take_out};
 use logged_items::Items;
+use session_ctx::SessionVars;
 use session_model::Format;
 use session_model::log_entries::Item;
-use session_model::session_ctx::SessionVars;
 use std::alloc::Global;
 use std::marker::Model;
 use val_types::{Bytes, Duplicate, NoMemory};

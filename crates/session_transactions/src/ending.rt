@@ -9,7 +9,7 @@ ghost use Rattle.session_steps.specs.Turned.{IsTurn, Moves};
 
 use answer_text::Answer;
 use node_answers::ok;
-use node_answers::session_ctx::Ctx;
+use session_ctx::Ctx;
 use session_steps::session_desk::{Call, Desk, Open, Session};
 use std::alloc::Global;
 use val_types::NoMemory;

@@ -12,7 +12,7 @@ use crate::working::{at_work, count};
 use answer_text::Answer;
 use session_transactions::node_answers::{NodeFault, refused, refused_at, statement_of};
 use session_transactions::session_desk::{Call, Desk, Session};
-use session_transactions::sql_parse::ParseRefusal;
+use sql_parse::ParseRefusal;
 use std::alloc::Global;
 
 /// A text is too deep.

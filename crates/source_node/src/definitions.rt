@@ -14,11 +14,11 @@ ghost use Rattle.session_transactions.specs.session_steps.Turned.{IsTurn, not_be
 use crate::writing::{definition_refusal, writing_refusal};
 use answer_text::Answer;
 use port_traits::Draw;
+use session_ctx::Ctx;
 use session_transactions::commit_open;
 use session_transactions::logged_items::encode_definition;
 use session_transactions::node_answers::{NodeFault, ok, refused};
 use session_transactions::prog_run::{Outcome, run_stmt};
-use session_transactions::session_ctx::Ctx;
 use session_transactions::session_desk::{Call, Desk, Session};
 use session_transactions::session_steps::full;
 use sql_tree::Stmt;

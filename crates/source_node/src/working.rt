@@ -5,9 +5,9 @@ ghost use Rattle.session_model.specs.Machine.{at_work};
 ghost use Rattle.session_transactions.specs.session_steps.Calls.{called};
 
 use answer_text::Answer;
+use session_ctx::SessionVars;
 use session_model::Format;
 use session_transactions::node_answers::row_count_after;
-use session_transactions::session_ctx::SessionVars;
 use session_transactions::session_desk::{Call, Session};
 use std::alloc::Global;
 use val_types::NoMemory;

@@ -10,7 +10,7 @@ ghost use Rattle.session_model.specs.Running.{writing_refusal};
 ghost use Rattle.session_transactions.specs.session_desk.Desk.{shared_of};
 
 use answer_text::Answer;
-use session_transactions::catalog::Catalog;
+use catalog::Catalog;
 use session_transactions::program_creation::{
     function_refusal, procedure_refusal, trigger_refusal,
 };

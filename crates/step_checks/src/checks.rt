@@ -14,9 +14,9 @@ ghost use Rattle.step_checks.specs.Checked.{body_in};
 use crate::under_way::is_named;
 use catalog_checks::{expression_refusal, statement_refusal};
 use node_walk::{Ask, in_expression, in_statement};
-use sql_evaluation::sql_stage::Running;
 use sql_evaluation::{Around, View};
 use sql_locals::Locals;
+use sql_stage::Running;
 use sql_tree::{Expr, Stmt};
 use val_types::{SqlError, SqlRefusal, TableDef};
 

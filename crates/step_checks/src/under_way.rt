@@ -9,7 +9,7 @@ ghost use Rattle.sql_evaluation.specs.Seen.{running_of};
 
 use catalog_checks::is_among;
 use node_walk::{Ask, in_expression, in_expressions, in_statement};
-use sql_evaluation::sql_stage::Running;
+use sql_stage::Running;
 use sql_tree::{Expr, Stmt};
 use val_types::{Bytes, List};
 

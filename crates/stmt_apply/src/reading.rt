@@ -4,8 +4,8 @@ ghost use Rattle.sql_tree.specs.StatementView.{view};
 ghost use Rattle.applier_model.specs.Texts.{statement_in};
 ghost use Rattle.stmt_apply.specs.Ending.{IsRefusal};
 
-use node_answers::sql_parse::ParseRefusal;
 use node_answers::statement_of;
+use sql_parse::ParseRefusal;
 use sql_tree::Stmt;
 use std::alloc::Global;
 use val_types::{SqlError, SqlRefusal, TEXT_TOO_LONG};
