@@ -3,7 +3,7 @@
 //! `main` hands both nodes, at the system's edges, to [`start`].
 //!
 //! # Proved
-//! Nothing of its own: who the nodes are, and what is done with them, are clauses of `repl_start` and `repl_run`.
+//! Nothing of its own: who the nodes are, and what is done with them, are clauses of `repl_run`.
 //!
 //! # Only tested
 //! What `main` hands on, by one stored run.
@@ -11,7 +11,7 @@
 
 use answer_text::Status;
 use port_traits::HostEnv;
-use repl_start::{Known, exit_of, replica_identity, source_identity, start, tell};
+use repl_run::{Known, exit_of, replica_identity, source_identity, start, tell};
 use std::process::ExitCode;
 use val_types::NoMemory;
 

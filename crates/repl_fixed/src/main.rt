@@ -18,7 +18,7 @@ mod draws;
 
 use answer_text::Status;
 use draws::{replica_env, source_env};
-use repl_start::{Known, exit_of, start, tell};
+use repl_run::{Known, exit_of, start, tell};
 use std::process::ExitCode;
 use val_types::NoMemory;
 

@@ -1,13 +1,21 @@
-//! The program: a script of commands, carried out over a source and a replica; a log that is replayed, or shown.
+//! The program: a script of commands, carried out over a source and a replica; a log that is replayed, or shown; and what each
+//! program does around that.
 //!
 //! [`top`] is all that the program does, over any input, output and environments. Its clauses are over definitions: how a run
 //! ends (`script_run`, in specs/Ran), and how a log that is shown (`print_log`) or replayed (`replay_log`) ends.
 //!
 //! - `program`: [`top`], which asks which word it is
 //! - [`write_log`] of `script_run`: a script carried out as `run` has it, and the source's log behind it
+//! - `starting`: [`start`], one call of a program over two environments
+//! - `command_line`: [`words`], those of the command line; which a program has ([`Known`]), and [`asks_log`]
+//! - `pages`: [`Page`], `--help` and `--version`, and which of them some words ask for
+//! - `ending`: [`exit_of`] and [`tell`], how a status ends the process
+//! - `nodes`: who the nodes of a program over the system are ([`source_identity`], [`replica_identity`]), with the number that
+//!   `REPL_SERVER_ID` gives the source ([`number_of`])
 //!
 //! It stands on `run_streams`, on `script_run` for the word that is given a script, and on `print_log` and `replay_log` for the
-//! words that are given a log; the programs give it the real edges.
+//! words that are given a log; the programs give it the real edges. What stands around [`top`] is no crate of its own, since `rt` sums
+//! up all that a library is made from, which takes minutes for one more on top of all.
 //!
 //! # Proved
 //! Over any input, output and environments that keep the contracts of `port_traits`:
@@ -34,12 +42,38 @@
 //! - The report's identities and draws are the environments' at any status (`source`, `replica`), and at any but NoMemory all
 //!   that was drawn is told (`src_drawn`, `rep_drawn`).
 //!
+//! Around it:
+//!
+//! - The source's log is asked for exactly by the one word `log` ([`asks_log`]).
+//! - A page is shown exactly where the first word is `--help` or `--version` ([`page_asked`]).
+//! - The exit status is the number of the status ([`exit_of`]).
+//! - Where [`tell`] ends well, it put exactly the line of the status at the end of a writer that tells its bytes, which is
+//!   nothing at Done.
+//! - The number of a text is the one that it is in decimal from 1 to 4294967295, and 1 for any other text; without a text it is 1
+//!   (`server_id_of`).
+//! - The source is `root@localhost`, the replica `rep@localhost` with the number 2.
+//!
+//! # Only read
+//! The text of the pages; that only a program that has the word `log` takes it; that pages go to standard output, and the line of
+//! a status to standard error; that `REPL_SERVER_ID` is the variable that is read. What [`start`] hands to `top` is tested by the
+//! programs' stored runs.
+//!
 //! # Only tested
 //! In the tests of the program: that calls succeed with ample memory.
 #![tactic(auto)]
 
+mod command_line;
+mod ending;
+mod nodes;
+mod pages;
 mod program;
+mod starting;
 
 // What is its own, and the crates below that it speaks of, passed on: who stands above names them through it.
+pub use command_line::{Known, asks_log, words};
+pub use ending::{exit_of, tell};
+pub use nodes::{number_of, replica_identity, source_identity};
+pub use pages::{Page, page_asked};
 pub use program::top;
 pub use script_run::{run_streams, write_log};
+pub use starting::start;

@@ -5,7 +5,7 @@ use crate::playing::{
     is_rep, is_root, joined, plays, report_of, wanted,
 };
 use answer_text::{Report, Status};
-use repl_start::{number_of, tell};
+use repl_run::{number_of, tell};
 use std::alloc::Global;
 use val_types::{Bytes, List};
 

@@ -1,7 +1,7 @@
 //! The words of the command line.
 ghost use Rattle.std.specs.Prelude.{◌≡◌, map, string_bytes};
 ghost use Rattle.std.specs.Str.{bytes_eq};
-ghost use Rattle.repl_start.specs.Words.{asks_log};
+ghost use Rattle.repl_run.specs.Words.{asks_log};
 
 use answer_text::Status;
 use std::alloc::Global;

@@ -1,7 +1,7 @@
 //! The pages that a program shows in place of doing its work.
 ghost use Rattle.std.specs.Prelude.{◌≡◌, map, string_bytes};
 ghost use Rattle.std.specs.Str.{bytes_eq};
-ghost use Rattle.repl_start.specs.Pages.{page_asked, page_of};
+ghost use Rattle.repl_run.specs.Pages.{page_asked, page_of};
 
 use crate::command_line::Known;
 

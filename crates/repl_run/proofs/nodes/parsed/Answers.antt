@@ -1,7 +1,7 @@
 use Rattle.std.proofs.Common.{ap, ◌∙◌, arith}
 use Rattle.std.specs.Result.{result_unwrap_or}
 use Rattle.std.proofs.lemmas.Fmt.{parse-decimal}
-use Rattle.repl_start.proofs.nodes.parsed.Goals as goal
+use Rattle.repl_run.proofs.nodes.parsed.Goals as goal
 
 pub returns : goal.returns
 returns c = λ n small e.

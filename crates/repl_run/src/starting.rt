@@ -3,10 +3,11 @@
 use crate::command_line::{Known, asks_log, words};
 use crate::ending::{exit_of, tell};
 use crate::pages::{Page, page_asked};
+use crate::program::top;
 use answer_text::Status;
 use port_traits::{Env, StdSink, StdSource};
-use repl_run::run_streams::empty_report;
-use repl_run::{top, write_log};
+use script_run::run_streams::empty_report;
+use script_run::write_log;
 use std::io;
 use std::io::{BufReader, Write};
 use std::process::ExitCode;
