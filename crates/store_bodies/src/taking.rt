@@ -50,7 +50,7 @@ pub fn take_signed(bytes: &[u8]) -> Option<(i64, &[u8])>
 }
 
 /// So many bytes.
-fn take_piece(count: usize, bytes: &[u8]) -> Option<(&[u8], &[u8])>
+pub fn take_piece(count: usize, bytes: &[u8]) -> Option<(&[u8], &[u8])>
     ensures { piece_seen result ≡ piece_of count bytes.now }
 {
     if bytes.len() < count {
