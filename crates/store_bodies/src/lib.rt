@@ -1,0 +1,38 @@
+//! The bytes of what a store keeps, both ways.
+//!
+//! A record of a store's journal has a body: its kind, its head, and changes or a text. This crate puts the body of a record
+//! behind some bytes, and reads the record that a body is; what a body says stands in the definitions of `store_model`. It
+//! asks for no more memory than the bytes of a damaged body can have. Who commits to a store, or loads it, stands on it.
+//!
+//! - `writing`: [`put_record`]
+//! - `putting`: the bytes of numbers, texts, values, rows and changes
+//! - `reading`: [`record_of`]
+//! - `changes`, `rows`, `taking`: changes, rows with their values, and texts and numbers at the front of some bytes
+//! - `snapshots`: parts of a snapshot's body, both ways
+//!
+//! # Proved
+//! - [`put_record`] puts exactly the body of a record at the end, or answers want of memory and leaves the bytes as they were.
+//! - [`record_of`] gives exactly the record that a body is in a store of one kind, None exactly where it is none, or answers
+//!   want of memory, for all bytes.
+//! - [`put_object_text`] and [`put_row`] put exactly the text of an object and a row as a snapshot has them, or a front of them;
+//!   [`take_object_text`] and [`take_rows`] take exactly an object's text and a table's rows, and what is behind them, None exactly
+//!   where there are none.
+//!
+//! That a body is read as the record that it was put for is a law of `store_model`.
+//!
+//! # Only tested
+//! Nothing yet: no test calls it.
+#![tactic(auto)]
+
+mod changes;
+mod putting;
+mod reading;
+mod rows;
+mod snapshots;
+mod taking;
+mod writing;
+
+pub use putting::put_row;
+pub use reading::record_of;
+pub use snapshots::{put_object_text, take_object_text, take_rows};
+pub use writing::put_record;
