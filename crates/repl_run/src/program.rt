@@ -1,11 +1,11 @@
 //! The whole program, over any input, output and environments.
 ghost use Rattle.std.specs.Prelude.{◌≡◌, ◌↔◌, ◌≤◌, [], true, Some, None, map, string_bytes, IfSome};
 ghost use Rattle.fault_counts.specs.Causes.{Rose};
-ghost use Rattle.script_run.specs.run_streams.Read.{RestBehindScript, TakesUpToLimit};
-ghost use Rattle.script_run.specs.run_streams.Reports.{AllTold, IsEmpty, Tells};
-ghost use Rattle.script_run.specs.run_streams.Stops.{failed_writes, is_early};
-ghost use Rattle.script_run.specs.run_streams.Words.{word_asked};
-ghost use Rattle.script_run.specs.run_streams.declared.words.Word.TheVariants.{Print, Replay, Run};
+ghost use Rattle.run_streams.specs.Read.{RestBehindScript, TakesUpToLimit};
+ghost use Rattle.run_streams.specs.Reports.{AllTold, IsEmpty, Tells};
+ghost use Rattle.run_streams.specs.Stops.{failed_writes, is_early};
+ghost use Rattle.run_streams.specs.Words.{word_asked};
+ghost use Rattle.run_streams.specs.declared.words.Word.TheVariants.{Print, Replay, Run};
 ghost use Rattle.script_run.specs.Ran.{EndsBy};
 ghost use Rattle.print_log.specs.Ends.{PrintEnds};
 ghost use Rattle.replay_log.specs.Ends.{ReplayEnds};
@@ -14,8 +14,8 @@ use answer_text::{Report, Status};
 use port_traits::{Env, Sink, Source};
 use print_log::print;
 use replay_log::replay;
+use run_streams::{Word, asked_word};
 use script_run::run_script;
-use script_run::run_streams::{Word, asked_word};
 use std::alloc::Global;
 
 /// The whole program: the words ask for something to be done with the input and the output, by a

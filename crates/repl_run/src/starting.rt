@@ -6,7 +6,7 @@ use crate::pages::{Page, page_asked};
 use crate::program::top;
 use answer_text::Status;
 use port_traits::{Env, StdSink, StdSource};
-use script_run::run_streams::empty_report;
+use run_streams::empty_report;
 use script_run::write_log;
 use std::io;
 use std::io::{BufReader, Write};

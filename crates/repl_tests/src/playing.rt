@@ -5,8 +5,8 @@
 
 use answer_text::{Report, Status, status_line};
 use port_traits::{Draw, Identity, MemEnv, MemSink, MemSource};
-use repl_run::run_streams::empty_report;
 use repl_run::{top, write_log};
+use run_streams::empty_report;
 use std::alloc::Global;
 use std::process::Abort;
 use val_types::{Bytes, List, NoMemory};

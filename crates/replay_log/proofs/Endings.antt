@@ -9,8 +9,8 @@ use Rattle.replica_node.specs.applier_model.Stops.{Differs as Stop}
 use Rattle.log_reader.specs.log_model.Log.{LogPlace}
 use Rattle.replica_node.specs.replica_model.Lines.{applied_words, replayed_line}
 use Rattle.replica_node.specs.replica_model.Replaying.{Replay, all_replayed, first_replay, replayed}
-use Rattle.log_reader.specs.run_streams.Stops.{failed_writes}
-use Rattle.log_reader.specs.run_streams.Wrote.{Wrote, WroteFront}
+use Rattle.run_streams.specs.Stops.{failed_writes}
+use Rattle.run_streams.specs.Wrote.{Wrote, WroteFront}
 use Rattle.log_reader.specs.whole_logs.Walk.{Ending, ended, damaged, foreign, Grouped, Piece, grouped}
 use Rattle.log_reader.specs.whole_logs.Passing.{with_pieces}
 use Rattle.replay_log.specs.declared.replaying.Replaying as code_replaying

@@ -10,7 +10,7 @@ use Rattle.log_reader.specs.declared.reader.Found.TheVariants as found
 use Rattle.log_reader.specs.Behind.{CallsLead, FrontsAreKnown, LeadsTo, piece_read}
 use Rattle.log_reader.specs.Reading.{Reader, IsGroup, IsEnd, Reads, next_pos}
 use Rattle.replica_node.specs.replica_model.Replaying.{Replay, by_form, all_replayed, first_replay}
-use Rattle.log_reader.specs.run_streams.Stops.{status_of}
+use Rattle.run_streams.specs.Stops.{status_of}
 use Rattle.log_reader.proofs.of_whole_groups.Lying.{group_lies}
 use Rattle.log_reader.specs.whole_logs.Passing.{names_next}
 use Rattle.log_reader.specs.whole_logs.Walk.{ended, Piece}

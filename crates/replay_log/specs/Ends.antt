@@ -8,8 +8,8 @@ use Rattle.answer_text.specs.declared.status.Status.TheVariants.{Done, ReadFault
 use Rattle.replica_node.specs.applier_model.Stops.{Differs as Stop}
 use Rattle.replica_node.specs.replica_model.Replaying.{replayed}
 use Rattle.replica_node.specs.replica_model.Lines.{replayed_line}
-use Rattle.log_reader.specs.run_streams.Reports.{first_mark}
-use Rattle.log_reader.specs.run_streams.Wrote.{Wrote, WroteFront}
+use Rattle.run_streams.specs.Reports.{first_mark}
+use Rattle.run_streams.specs.Wrote.{Wrote, WroteFront}
 use Rattle.log_reader.specs.whole_logs.Walk.{Ending, ended, damaged, foreign, grouped}
 
 -- the report tells who the replica is and its one draw, and nothing of a source

@@ -14,7 +14,7 @@ use Rattle.replica_node.specs.replica_model.Replaying.{Replay, all_replayed, fir
 use Rattle.replica_node.specs.declared.told.Stopped.{Stopped}
 use Rattle.replica_node.specs.declared.told.Stopped.TheVariants as stopped
 use Rattle.replica_node.specs.Kept.{replica_of}
-use Rattle.log_reader.specs.run_streams.Wrote.{Wrote, WroteFront}
+use Rattle.run_streams.specs.Wrote.{Wrote, WroteFront}
 use Rattle.log_reader.specs.whole_logs.Walk.{Ending, ended, damaged, foreign, Piece}
 use Rattle.replay_log.specs.declared.replaying.Replaying as code_replaying
 use Rattle.replay_log.specs.Ends.{Reports}

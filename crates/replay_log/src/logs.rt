@@ -1,15 +1,15 @@
 //! A log on an input, replayed.
 ghost use Rattle.std.specs.Prelude.{◌≡◌, ◌≤◌, [], None, IfOk, OnOk};
 ghost use Rattle.fault_counts.specs.Causes.{Rose};
-ghost use Rattle.log_reader.specs.run_streams.Reports.{AllTold, Drawn, IsEmpty, Tells};
-ghost use Rattle.log_reader.specs.run_streams.Stops.{failed_writes};
+ghost use Rattle.run_streams.specs.Reports.{AllTold, Drawn, IsEmpty, Tells};
+ghost use Rattle.run_streams.specs.Stops.{failed_writes};
 ghost use Rattle.replay_log.specs.Ends.{ReplayEnds};
 ghost use Rattle.replay_log.specs.Replaying.{CameTo};
 
 use crate::replaying::Replaying;
 use answer_text::{Report, Status};
-use log_reader::run_streams::open;
 use port_traits::{Env, Sink, Source};
+use run_streams::open;
 use std::alloc::Global;
 use val_types::NoMemory;
 

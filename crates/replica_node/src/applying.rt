@@ -1,7 +1,7 @@
 //! Groups carried out, one after the other.
 ghost use Rattle.std.specs.Prelude.{◌≡◌, ◌-◌, ℕ, [], length, IfOk, OnErr};
-ghost use Rattle.relay_log.specs.log_groups.Views.{group_seen};
-ghost use Rattle.stmt_apply.specs.prog_run.Contents.{base_of};
+ghost use Rattle.log_groups.specs.Views.{group_seen};
+ghost use Rattle.prog_run.specs.Contents.{base_of};
 ghost use Rattle.relay_log.specs.applier_model.Groups.{group_carried};
 ghost use Rattle.replica_model.specs.Applying.{Going as Under, apply, by_next, next_at};
 ghost use Rattle.replica_node.specs.Kept.{replica_of};
@@ -9,14 +9,14 @@ ghost use Rattle.replica_node.specs.Steps.{CarriesOut, GoesOn, IsFront, IsOver, 
 
 use crate::replica::ReplicaNode;
 use crate::told::{Applied, Step, Stopped};
+use log_groups::{Form, Group, Next};
 use node_answers::NodeFault;
 use port_traits::{Draw, Identity};
+use prog_run::Work;
 use relay_log::Walk;
-use relay_log::log_groups::{Form, Group, Next};
+use row_apply::Stop;
 use std::alloc::Global;
 use stmt_apply::apply_group;
-use stmt_apply::prog_run::Work;
-use stmt_apply::row_apply::Stop;
 
 /// Carries a group out and lets its changes stand, or says why it stops.
 fn carry_out(

@@ -8,10 +8,10 @@ use crate::selecting::answer;
 use answer_text::Answer;
 use node_answers::NodeFault;
 use port_traits::{Draw, Identity};
+use prog_run::Work;
 use relay_log::Relay;
 use std::alloc::Global;
 use std::marker::Model;
-use stmt_apply::prog_run::Work;
 use val_types::Bytes;
 
 /// A replica in memory, which contracts see as who it is and what it keeps.

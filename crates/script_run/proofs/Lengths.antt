@@ -7,10 +7,10 @@ use Rattle.event_codec.specs.Writing.{size}
 use Rattle.run_laws.specs.log_entries.declared.entries.Item.{Item}
 use Rattle.run_laws.specs.log_entries.declared.entries.Entry.{Entry}
 use Rattle.run_laws.specs.log_entries.declared.entries.Entry.TheVariants.{Transaction, Definition, LogStart}
-use Rattle.run_laws.specs.log_model.Log.{EntriesHaveLength, HeadsHaveLength, LogPlace, definition, entry_bytes, head, log, moved, transaction}
-use Rattle.run_laws.specs.log_model.Written.{CanWriteAll, Stamped, total}
-use Rattle.run_laws.specs.entry_groups.Entries.{CanLogAll}
-use Rattle.run_laws.specs.session_model.Machine.{Whole, first_place, kept_entry, kept_of, log_bytes, log_of, nowhere}
+use Rattle.log_model.specs.Log.{EntriesHaveLength, HeadsHaveLength, LogPlace, definition, entry_bytes, head, log, moved, transaction}
+use Rattle.log_model.specs.Written.{CanWriteAll, Stamped, total}
+use Rattle.entry_groups.specs.Entries.{CanLogAll}
+use Rattle.session_model.specs.Machine.{Whole, first_place, kept_entry, kept_of, log_bytes, log_of, nowhere}
 use Rattle.run_laws.specs.run_model.Following.{AreCommitted, head_entries}
 use Rattle.run_laws.specs.run_model.Run.{Both, Names, Starts}
 use Rattle.run_streams.specs.Stops.{with_status}

@@ -6,7 +6,7 @@ use Rattle.port_traits.specs.Streams.{ended_after, is_end}
 use Rattle.answer_text.specs.declared.report.Report.{Report}
 use Rattle.answer_text.specs.declared.status.Status.{Status}
 use Rattle.answer_text.specs.declared.status.Status.TheVariants.{Done, BadWords, BadScript, ReadFault, WriteFault, SourceDisk, ReplicaDisk, SourceDamaged, ReplicaDamaged, LogDamaged, LogForeign, Differs, NoMemory}
-use Rattle.run_laws.specs.session_model.Machine.{log_of}
+use Rattle.session_model.specs.Machine.{log_of}
 use Rattle.run_laws.specs.run_model.Asked.{Asked}
 use Rattle.run_laws.specs.run_model.Run.{Names, Both, first_both, end_of}
 use Rattle.run_streams.specs.Reports.{DrewUntil, StaysHandedOut}

@@ -8,16 +8,16 @@ use Rattle.port_traits.specs.declared.identity.Identity.{Identity}
 use Rattle.port_traits.specs.declared.identity.Draw.{Draw}
 use Rattle.run_laws.specs.log_entries.declared.entries.Item.{Item}
 use Rattle.run_laws.specs.log_entries.declared.entries.Entry.{Entry}
-use Rattle.run_laws.specs.log_model.Log.{LogPlace, counted_all, written_to}
+use Rattle.log_model.specs.Log.{LogPlace, counted_all, written_to}
 use Rattle.answer_text.specs.declared.answer.Answer.{Answer}
 use Rattle.answer_text.specs.declared.report.Report.{Report}
 use Rattle.answer_text.specs.Shown.{shown}
-use Rattle.run_laws.specs.entry_groups.Entries.{CanLogAll}
-use Rattle.run_laws.specs.entry_groups.Laws.{EntriesCanLogOn}
-use Rattle.run_laws.specs.session_model.Sessions.{State}
-use Rattle.run_laws.specs.session_model.Holding.{FormatsDecide, Holds, with_nothing}
-use Rattle.run_laws.specs.session_model.Machine.{Whole, whole, kept_entry, step, Step, opened, Machine, machine_after, log_bytes, nowhere}
-use Rattle.run_laws.specs.session_replays.Replaying.{ReplaysOpen, ReplaysGoOn}
+use Rattle.entry_groups.specs.Entries.{CanLogAll}
+use Rattle.entry_groups.specs.Laws.{EntriesCanLogOn}
+use Rattle.session_model.specs.Sessions.{State}
+use Rattle.session_model.specs.Holding.{FormatsDecide, Holds, with_nothing}
+use Rattle.session_model.specs.Machine.{Whole, whole, kept_entry, step, Step, opened, Machine, machine_after, log_bytes, nowhere}
+use Rattle.session_replays.specs.Replaying.{ReplaysOpen, ReplaysGoOn}
 use Rattle.source_node.specs.Standing.{Stands}
 use Rattle.replica_node.specs.replica_model.Replica.{Replica, fetched, first_replica, want}
 use Rattle.replica_node.specs.replica_model.Applying.{Going, apply}

@@ -4,7 +4,7 @@ use Rattle.port_traits.specs.declared.identity.Draw.{Draw}
 use Rattle.answer_text.specs.declared.report.Report.{Report}
 use Rattle.answer_text.specs.declared.status.Status.{Status}
 use Rattle.answer_text.specs.declared.status.Status.TheVariants.{Done, BadScript, ReadFault, WriteFault, NoMemory}
-use Rattle.run_laws.specs.session_model.Machine.{log_of}
+use Rattle.session_model.specs.Machine.{log_of}
 use Rattle.run_laws.specs.run_model.Asked.{Asked, asked_of}
 use Rattle.run_laws.specs.run_model.Run.{Names, from_nothing, first_both, end_of}
 use Rattle.run_laws.specs.Laws.{AllLoggedAsSet, IsSound}

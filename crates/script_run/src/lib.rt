@@ -33,7 +33,7 @@
 //!   one, and where they are all, it is the source's (`run_laws::all_carried_is_equal`). No APPLY stopped where each item that it
 //!   came to does the same at every replica, and none at anything but an item that has no effect at the replica. Each item does
 //!   where it is logged by its rows, is not warned, or is warned because of RAND() alone; so under MIXED and ROW each does
-//!   (`run_laws::session_replays::unwarned_items_follow`, `run_laws::others_follow`).
+//!   (`session_replays::unwarned_items_follow`, `run_laws::others_follow`).
 //!   WriteFault: the first commands were carried out, each at a draw that the report tells; the lines of all but the last were
 //!   written, of the last's a front, and of APPLY and of the formats the same is known. BadScript: the
 //!   byte is the first at which no command begins, or else the first of a command that no node carries out, and nothing was

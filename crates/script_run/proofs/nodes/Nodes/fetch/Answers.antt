@@ -1,6 +1,6 @@
 use Rattle.std.proofs.Common.{ℕ, ◌≡◌, ◌≤◌, length, refl, ap, ◌∙◌, subst, arith}
 use Rattle.replica_node.specs.replica_model.Lines.{fetched_line}
-use Rattle.run_laws.specs.session_model.Machine.{log_bytes}
+use Rattle.session_model.specs.Machine.{log_bytes}
 use Rattle.script_run.proofs.Lengths.{log_ends, served_short, served_whole}
 use Rattle.script_run.proofs.Spoken.{fetched_shown}
 use Rattle.script_run.proofs.nodes.Nodes.fetch.Goals as goal
