@@ -13,7 +13,7 @@
 //! - the worked answers and statuses, but for the digits of numbers
 //!
 //! # Only tested
-//! That lines are shown with ample memory, in `repl_tests` and the stored runs of the programs.
+//! That lines are shown with ample memory, in `test_scripts` and the stored runs of the programs.
 #![tactic(auto)]
 
 mod answer;

@@ -29,7 +29,7 @@
 //! - the worked values
 //!
 //! # Only tested
-//! That `add` succeeds with ample memory, and first values at the ends of the types, in `context_callers`.
+//! That `add` succeeds with ample memory, and first values at the ends of the types, in `test_contexts`.
 #![tactic(auto)]
 
 mod counters;

@@ -3,11 +3,11 @@ use Rattle.std.specs.Prelude.{flat_map}
 use Rattle.std.proofs.Common.{◌≡◌, ℕ, ◌+◌, ◌≤◌, ◌<◌, List, [], ◌∷◌, ◌++◌, length, drop, get_or, refl, sym, ap, ◌∙◌, subst, arith}
 use Rattle.std.proofs.lemmas.List.{drop_more}
 use Rattle.event_codec.specs.declared.event.Header.{Header}
-use Rattle.transaction_sizes.specs.log_model.Items.{item_events, IsCarried, AreCarried}
-use Rattle.transaction_sizes.specs.log_model.Log.{transaction}
-use Rattle.transaction_sizes.specs.log_model.Written.{Stamped, bytes_of, CanWriteAll}
-use Rattle.transaction_sizes.specs.row_events.Writing.{Wrote, GoesOn}
-use Rattle.transaction_sizes.proofs.of_row_events.GoingOn.{starts, goes, ends, next}
+use Rattle.binlog_sizes.specs.log_model.Items.{item_events, IsCarried, AreCarried}
+use Rattle.binlog_sizes.specs.log_model.Log.{transaction}
+use Rattle.binlog_sizes.specs.log_model.Written.{Stamped, bytes_of, CanWriteAll}
+use Rattle.binlog_sizes.specs.row_events.Writing.{Wrote, GoesOn}
+use Rattle.binlog_sizes.proofs.of_row_events.GoingOn.{starts, goes, ends, next}
 use Rattle.binlog_cache.specs.declared.kept.Kept.{Kept}
 use Rattle.binlog_cache.specs.Sums.{items_of, begin_event, xid_event}
 

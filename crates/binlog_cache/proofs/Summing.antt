@@ -1,9 +1,9 @@
 -- Items that are kept with their sums.
 use Rattle.std.proofs.Common.{◌≡◌, ℕ, ◌+◌, ◌-◌, ◌^◌, ◌≤◌, zero, suc, min, List, [], ◌∷◌, ◌++◌, length, take, get_or, refl, sym, ap, ◌∙◌, arith}
-use Rattle.transaction_sizes.specs.log_entries.declared.entries.Item.{Item}
-use Rattle.transaction_sizes.specs.log_model.Items.{item_size}
-use Rattle.transaction_sizes.specs.row_events.Sizes.{bounded}
-use Rattle.transaction_sizes.specs.Sizes.{all_changes_size, all_sizes}
+use Rattle.binlog_sizes.specs.log_entries.declared.entries.Item.{Item}
+use Rattle.binlog_sizes.specs.log_model.Items.{item_size}
+use Rattle.binlog_sizes.specs.row_events.Sizes.{bounded}
+use Rattle.binlog_sizes.specs.Sizes.{all_changes_size, all_sizes}
 use Rattle.binlog_cache.specs.declared.kept.Kept.{Kept}
 use Rattle.binlog_cache.specs.Sums.{items_of, AreSummed, AreCounted, log_sum, changes_sum, changes_of_item}
 

@@ -1,13 +1,13 @@
 -- Items with how many bytes all up to each have, at most the greatest number of 64 bits.
 use Rattle.std.specs.Prelude.{◌≡◌, ℕ, ◌+◌, List, [], ◌∷◌, map}
 use Rattle.event_codec.specs.Event.{query, xid}
-use Rattle.transaction_sizes.specs.log_entries.declared.carried.Carried.{Carried}
-use Rattle.transaction_sizes.specs.log_entries.declared.entries.Item.{Item}
-use Rattle.transaction_sizes.specs.log_model.Log.{begin_query}
-use Rattle.transaction_sizes.specs.log_model.Written.{Stamped}
-use Rattle.transaction_sizes.specs.log_model.Items.{item_size}
-use Rattle.transaction_sizes.specs.row_events.Sizes.{bounded}
-use Rattle.transaction_sizes.specs.Sizes.{changes_size}
+use Rattle.binlog_sizes.specs.log_entries.declared.carried.Carried.{Carried}
+use Rattle.binlog_sizes.specs.log_entries.declared.entries.Item.{Item}
+use Rattle.binlog_sizes.specs.log_model.Log.{begin_query}
+use Rattle.binlog_sizes.specs.log_model.Written.{Stamped}
+use Rattle.binlog_sizes.specs.log_model.Items.{item_size}
+use Rattle.binlog_sizes.specs.row_events.Sizes.{bounded}
+use Rattle.binlog_sizes.specs.Sizes.{changes_size}
 use Rattle.binlog_cache.specs.declared.kept.Kept.{Kept}
 
 abbrev pub items_of : List Kept → List Item

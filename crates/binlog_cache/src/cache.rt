@@ -1,20 +1,20 @@
 //! The items of a transaction that is not yet committed.
 ghost use Rattle.std.specs.Prelude.{◌≡◌, ◌≤◌, ◌++◌, ◌∷◌, [], length, take, IfOk, OnErr, OnOk};
-ghost use Rattle.transaction_sizes.specs.log_model.Items.{AreCarried};
-ghost use Rattle.transaction_sizes.specs.log_model.Log.{transaction};
-ghost use Rattle.transaction_sizes.specs.log_model.Written.{bytes_of, CanWriteAll};
-ghost use Rattle.transaction_sizes.specs.row_events.Sizes.{bounded};
-ghost use Rattle.transaction_sizes.specs.Sizes.{all_changes_size, all_sizes};
+ghost use Rattle.binlog_sizes.specs.log_model.Items.{AreCarried};
+ghost use Rattle.binlog_sizes.specs.log_model.Log.{transaction};
+ghost use Rattle.binlog_sizes.specs.log_model.Written.{bytes_of, CanWriteAll};
+ghost use Rattle.binlog_sizes.specs.row_events.Sizes.{bounded};
+ghost use Rattle.binlog_sizes.specs.Sizes.{all_changes_size, all_sizes};
 ghost use Rattle.binlog_cache.specs.Sums.{items_of, AreCounted};
 
 use crate::encoding::encode_items;
 use crate::kept::{Kept, Sums};
+use binlog_sizes::changes_size;
+use binlog_sizes::log_entries::Item;
 use event_codec::Header;
 use item_events::item_size;
 use std::alloc::Global;
 use std::marker::Model;
-use transaction_sizes::changes_size;
-use transaction_sizes::log_entries::Item;
 use val_types::{Bytes, List, NoMemory};
 
 /// How many bytes BEGIN and XID have beside the items.
@@ -28,7 +28,7 @@ pub struct Cache {
 
 impl Model for Cache {
     ghost use Rattle.std.specs.Prelude.{List};
-    ghost use Rattle.transaction_sizes.specs.log_entries.declared.entries.Item.{Item as CachedItem};
+    ghost use Rattle.binlog_sizes.specs.log_entries.declared.entries.Item.{Item as CachedItem};
     ghost use Rattle.binlog_cache.specs.Sums.{items_of, AreCounted};
 
     ghost Value = { List CachedItem };

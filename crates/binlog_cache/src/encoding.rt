@@ -2,18 +2,18 @@
 ghost use Rattle.std.specs.Prelude.{◌≡◌, flat_map, IfOk, OnErr};
 ghost use Rattle.byte_fields.specs.Field.{BeginsWith};
 ghost use Rattle.event_codec.specs.Event.{query, xid};
-ghost use Rattle.transaction_sizes.specs.log_model.Items.{item_events, AreCarried};
-ghost use Rattle.transaction_sizes.specs.log_model.Log.{begin_query, transaction};
-ghost use Rattle.transaction_sizes.specs.log_model.Written.{bytes_of, CanWriteAll};
-ghost use Rattle.transaction_sizes.specs.row_events.Writing.{Wrote};
+ghost use Rattle.binlog_sizes.specs.log_model.Items.{item_events, AreCarried};
+ghost use Rattle.binlog_sizes.specs.log_model.Log.{begin_query, transaction};
+ghost use Rattle.binlog_sizes.specs.log_model.Written.{bytes_of, CanWriteAll};
+ghost use Rattle.binlog_sizes.specs.row_events.Writing.{Wrote};
 ghost use Rattle.binlog_cache.specs.Sums.{begin_event, items_of, xid_event};
 
 use crate::kept::Kept;
+use binlog_sizes::log_entries::Carried;
+use binlog_sizes::row_events::put;
 use event_codec::{Event, Header, QueryView};
 use item_events::put_item;
 use std::alloc::Global;
-use transaction_sizes::log_entries::Carried;
-use transaction_sizes::row_events::put;
 use val_types::{Bytes, List, NoMemory};
 
 /// Puts the BEGIN of a transaction at the end, with the timestamp and the thread of its first item:

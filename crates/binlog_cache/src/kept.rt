@@ -1,6 +1,6 @@
 //! An item with how many bytes it and those before it have.
 
-use transaction_sizes::log_entries::Item;
+use binlog_sizes::log_entries::Item;
 
 /// How many bytes items have in a log, and how many their changes, or the greatest number of 64 bits
 /// where they have more.

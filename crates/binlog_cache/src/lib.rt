@@ -17,7 +17,7 @@
 //!   place.
 //!
 //! # Only tested
-//! That calls succeed with ample memory, and the bytes of a small transaction, in `item_callers`.
+//! That calls succeed with ample memory, and the bytes of a small transaction, in `test_items`.
 #![tactic(auto)]
 
 mod cache;

@@ -34,7 +34,7 @@
 //! - each call leaves the shape of blocks and the count
 //!
 //! # Only tested
-//! That calls succeed with ample memory, in `block_callers`.
+//! That calls succeed with ample memory, in `test_blocks`.
 #![tactic(auto)]
 
 mod block;

@@ -7,15 +7,15 @@ use Rattle.val_types.specs.declared.definitions.TableDef.{TableDef}
 use Rattle.sql_tree.specs.declared.statements.CreateTable.{CreateTable}
 use Rattle.sql_tree.specs.declared.statements.Column.{Column}
 use Rattle.sql_tree.specs.Statement.{create_table}
-use Rattle.catalog_statements.specs.catalog_rules.Objects as rules
-use Rattle.catalog_statements.specs.catalog_rules.Defined.{definition_of}
-use Rattle.catalog_statements.specs.catalog_rules.Creating.{Check, first_refusal, table_checks, ddl_refusal, is_past_table_limits, is_ill_type}
-use Rattle.catalog_statements.specs.catalog_objects.declared.object.Object.{Object}
-use Rattle.catalog_statements.specs.catalog_objects.declared.object.Object.TheVariants as kinds
-use Rattle.catalog_statements.specs.catalog_objects.Keys.{seen, objects_of}
-use Rattle.catalog_statements.specs.catalog_objects.Lookups.{object_of, is_free}
-use Rattle.catalog_statements.proofs.of_catalog_objects.Found.{same_tied}
-use Rattle.program_creation.proofs.RefusedFirst.{ddl_is}
+use Rattle.catalog_show_create.specs.catalog_rules.Objects as rules
+use Rattle.catalog_show_create.specs.catalog_rules.Defined.{definition_of}
+use Rattle.catalog_show_create.specs.catalog_rules.Creating.{Check, first_refusal, table_checks, ddl_refusal, is_past_table_limits, is_ill_type}
+use Rattle.catalog_show_create.specs.catalog_objects.declared.object.Object.{Object}
+use Rattle.catalog_show_create.specs.catalog_objects.declared.object.Object.TheVariants as kinds
+use Rattle.catalog_show_create.specs.catalog_objects.Keys.{seen, objects_of}
+use Rattle.catalog_show_create.specs.catalog_objects.Lookups.{object_of, is_free}
+use Rattle.catalog_show_create.proofs.of_catalog_objects.Found.{same_tied}
+use Rattle.catalog_create_program.proofs.RefusedFirst.{ddl_is}
 
 -- ---- names that are free
 

@@ -5,16 +5,16 @@ use Rattle.sql_tree.specs.Statement.{Trigger, trigger, create_function, create_p
 use Rattle.sql_tree.specs.StatementView.{view, view_program, view_trigger}
 use Rattle.sql_tree.specs.declared.statements.Routine.{Routine}
 use Rattle.sql_tree.specs.declared.statements.TriggerDef.{TriggerDef}
-use Rattle.catalog_statements.specs.catalog_rules.Names.{same_name}
-use Rattle.catalog_statements.specs.catalog_rules.Objects as rules
-use Rattle.catalog_statements.specs.catalog_rules.Creating.{first_refusal, trigger_checks, ddl_refusal}
-use Rattle.catalog_statements.specs.catalog_objects.declared.object.Object.{Object}
-use Rattle.catalog_statements.specs.catalog_objects.declared.object.Object.TheVariants as kinds
-use Rattle.catalog_statements.specs.catalog_objects.Keys.{objects_of}
-use Rattle.catalog_statements.specs.catalog_objects.Lookups.{object_of, is_free, is_event_free}
-use Rattle.catalog_statements.proofs.of_catalog_objects.Found.{same_tied, waiting_found}
-use Rattle.catalog_statements.proofs.of_catalog_objects.Parts.{program_named, trigger_named, trigger_seen}
-use Rattle.program_creation.proofs.RefusedFirst.{ddl_is}
+use Rattle.catalog_show_create.specs.catalog_rules.Names.{same_name}
+use Rattle.catalog_show_create.specs.catalog_rules.Objects as rules
+use Rattle.catalog_show_create.specs.catalog_rules.Creating.{first_refusal, trigger_checks, ddl_refusal}
+use Rattle.catalog_show_create.specs.catalog_objects.declared.object.Object.{Object}
+use Rattle.catalog_show_create.specs.catalog_objects.declared.object.Object.TheVariants as kinds
+use Rattle.catalog_show_create.specs.catalog_objects.Keys.{objects_of}
+use Rattle.catalog_show_create.specs.catalog_objects.Lookups.{object_of, is_free, is_event_free}
+use Rattle.catalog_show_create.proofs.of_catalog_objects.Found.{same_tied, waiting_found}
+use Rattle.catalog_show_create.proofs.of_catalog_objects.Parts.{program_named, trigger_named, trigger_seen}
+use Rattle.catalog_create_program.proofs.RefusedFirst.{ddl_is}
 use Rattle.catalog.proofs.Added.{free_step, passed, behind, no_some, neither}
 
 -- ---- names that are free

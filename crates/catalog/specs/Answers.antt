@@ -3,8 +3,8 @@ use Rattle.std.specs.Prelude.{◌≡◌, ℕ, Bool, true, false, List, Option, S
 use Rattle.val_types.specs.declared.refusal.SqlRefusal.{SqlRefusal}
 use Rattle.val_types.specs.declared.refusal.SqlRefusal.TheVariants.{Sql, NoMemory}
 use Rattle.sql_tree.specs.Statement.{Statement, create_table, create_function, create_procedure, create_trigger}
-use Rattle.catalog_statements.specs.catalog_rules.Objects.{Object}
-use Rattle.catalog_statements.specs.catalog_rules.Creating.{ddl_refusal, catalog_after}
+use Rattle.catalog_show_create.specs.catalog_rules.Objects.{Object}
+use Rattle.catalog_show_create.specs.catalog_rules.Creating.{ddl_refusal, catalog_after}
 
 -- a check takes no memory: it lets through, or refuses with the error
 abbrev pub answer_of : Option ℕ → Result (Unit {0}) SqlRefusal

@@ -3,22 +3,22 @@ ghost use Rattle.std.specs.Prelude.{◌≡◌, [], true, false, None, if◌then�
 ghost use Rattle.std.specs.Option.{option_copied, option_map};
 ghost use Rattle.sql_tree.specs.View.{view_tree};
 ghost use Rattle.sql_tree.specs.StatementView.{view, view_program, view_trigger};
-ghost use Rattle.catalog_statements.specs.catalog_rules.Objects.{table_in, function_in, procedure_in, trigger_for};
-ghost use Rattle.catalog_statements.specs.catalog_rules.Checks.{expression_refusal, statement_refusal};
-ghost use Rattle.catalog_statements.specs.catalog_objects.Keys.{objects_of};
-ghost use Rattle.program_creation.specs.catalog_checks.Asking.{scope_with};
+ghost use Rattle.catalog_show_create.specs.catalog_rules.Objects.{table_in, function_in, procedure_in, trigger_for};
+ghost use Rattle.catalog_show_create.specs.catalog_rules.Checks.{expression_refusal, statement_refusal};
+ghost use Rattle.catalog_show_create.specs.catalog_objects.Keys.{objects_of};
+ghost use Rattle.catalog_create_program.specs.catalog_checks.Asking.{scope_with};
 ghost use Rattle.catalog.specs.Answers.{Lets, Makes, is_create};
-ghost use Rattle.catalog_statements.specs.Stated.{statement_of};
+ghost use Rattle.catalog_show_create.specs.Stated.{statement_of};
 ghost use Rattle.sql_tree.specs.Statement.{create_function, create_procedure, create_table, create_trigger};
-ghost use Rattle.catalog_statements.specs.catalog_rules.Creating.{ddl_refusal};
-ghost use Rattle.catalog_statements.specs.catalog_objects.Lookups.{is_drop};
+ghost use Rattle.catalog_show_create.specs.catalog_rules.Creating.{ddl_refusal};
+ghost use Rattle.catalog_show_create.specs.catalog_objects.Lookups.{is_drop};
 
 use crate::refusing::{creation_refusal, removal_refusal};
-use catalog_statements::catalog_objects::{Object, Objects};
-use catalog_statements::statement_at;
-use program_creation::catalog_checks::{expression_refusal, statement_refusal};
-use program_creation::table_creation::definition_of;
-use program_creation::{function_refusal, procedure_refusal, trigger_refusal};
+use catalog_create_program::catalog_checks::{expression_refusal, statement_refusal};
+use catalog_create_program::catalog_create_table::definition_of;
+use catalog_create_program::{function_refusal, procedure_refusal, trigger_refusal};
+use catalog_show_create::catalog_objects::{Object, Objects};
+use catalog_show_create::statement_at;
 use sharing::Shared;
 use sql_locals::Locals;
 use sql_tree::{Cause, CreateTable, Expr, Routine, Stmt, Time, TriggerDef};
@@ -35,7 +35,7 @@ pub struct Catalog {
 
 impl Model for Catalog {
     ghost use Rattle.std.specs.Prelude.{List};
-    ghost use Rattle.catalog_statements.specs.catalog_objects.declared.object.Object.{Object};
+    ghost use Rattle.catalog_show_create.specs.catalog_objects.declared.object.Object.{Object};
 
     ghost Value = { List Object };
 

@@ -16,7 +16,7 @@
 //!   nothing changes. [`Catalog::check_removal`] answers what refuses a DROP or TRUNCATE
 //! - [`Catalog::copy`] is equal, or wants memory
 //! - [`Catalog::object`] gives the CREATE statement of the object at a place in order of creation, None just past the last, or
-//!   wants memory; what that statement is, and that it makes the object again, stands in `catalog_statements`
+//!   wants memory; what that statement is, and that it makes the object again, stands in `catalog_show_create`
 #![tactic(auto)]
 
 mod catalog;
@@ -24,6 +24,6 @@ mod refusing;
 
 // What is its own, and the crates below that it speaks of, passed on: who stands above names them through it.
 pub use catalog::Catalog;
-pub use catalog_statements::catalog_objects;
-pub use program_creation;
-pub use program_creation::table_creation;
+pub use catalog_create_program;
+pub use catalog_create_program::catalog_create_table;
+pub use catalog_show_create::catalog_objects;

@@ -2,12 +2,12 @@
 ghost use Rattle.std.specs.Prelude.{◌≡◌, false, if◌then◌else◌, Some, None};
 ghost use Rattle.sql_tree.specs.Statement.{create_table};
 ghost use Rattle.sql_tree.specs.StatementView.{view};
-ghost use Rattle.catalog_statements.specs.catalog_objects.Keys.{objects_of};
-ghost use Rattle.catalog_statements.specs.catalog_rules.Creating.{ddl_checks, ddl_refusal, first_refusal};
+ghost use Rattle.catalog_show_create.specs.catalog_objects.Keys.{objects_of};
+ghost use Rattle.catalog_show_create.specs.catalog_rules.Creating.{ddl_checks, ddl_refusal, first_refusal};
 ghost use Rattle.catalog.specs.Answers.{is_create};
 
-use catalog_statements::catalog_objects::Objects;
-use program_creation::table_creation::table_refusal;
+use catalog_create_program::catalog_create_table::table_refusal;
+use catalog_show_create::catalog_objects::Objects;
 use sql_tree::{CreateTable, Stmt};
 use val_types::SqlError;
 

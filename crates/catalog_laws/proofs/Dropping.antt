@@ -5,10 +5,10 @@ use Rattle.std.specs.Cmp.Lexicographic.{pointwise}
 use Rattle.std.proofs.lemmas.Bool.{leb-false, lt-leb, eqb-true}
 use Rattle.val_types.specs.declared.definitions.TableDef.{TableDef}
 use Rattle.sql_tree.specs.Statement.{trigger}
-use Rattle.catalog_statements.specs.catalog_rules.Names.{same_name, first_made}
-use Rattle.catalog_statements.specs.catalog_rules.Objects.{Object, table, function, procedure, reaction, name_of, as_table, as_function, as_procedure, as_trigger, as_trigger_for, table_in, is_table, is_program, trigger_table}
-use Rattle.catalog_statements.specs.catalog_rules.Creating.{goes_with_table, is_function_named, is_procedure_named, is_trigger_named}
-use Rattle.catalog_statements.specs.Stated.{HasRoom}
+use Rattle.catalog_show_create.specs.catalog_rules.Names.{same_name, first_made}
+use Rattle.catalog_show_create.specs.catalog_rules.Objects.{Object, table, function, procedure, reaction, name_of, as_table, as_function, as_procedure, as_trigger, as_trigger_for, table_in, is_table, is_program, trigger_table}
+use Rattle.catalog_show_create.specs.catalog_rules.Creating.{goes_with_table, is_function_named, is_procedure_named, is_trigger_named}
+use Rattle.catalog_show_create.specs.Stated.{HasRoom}
 
 -- which objects stay
 abbrev pub Keep : Type 0

@@ -9,11 +9,11 @@ use Rattle.sql_tree.specs.Statement.{Statement, create_table, create_function, c
 use Rattle.sql_tree.specs.declared.statements.CreateTable.{CreateTable}
 use Rattle.sql_tree.specs.Depth.{depth_of}
 use Rattle.sql_tree.specs.Well.{IsWell, is_whole, is_name, is_name_byte, is_table, has_table_part, is_column, are_names_if, is_unique}
-use Rattle.catalog_statements.specs.catalog_rules.Bases.{Base, defined, tables_after, creation_of, definitions_in, CanBeMade}
-use Rattle.catalog_statements.specs.catalog_rules.Defined.{definition_of, written_table}
-use Rattle.catalog_statements.specs.catalog_rules.Objects.{Object, table, function, procedure, reaction}
-use Rattle.catalog_statements.specs.catalog_rules.Creating.{ddl_refusal, catalog_after, goes_with_table, is_function_named, is_procedure_named, is_trigger_named}
-use Rattle.catalog_statements.specs.Stated.{statement_of, object_made, HasRoom, IsMade, IsMadeByItsStatement, StatementIsThatOfMaking}
+use Rattle.catalog_show_create.specs.catalog_rules.Bases.{Base, defined, tables_after, creation_of, definitions_in, CanBeMade}
+use Rattle.catalog_show_create.specs.catalog_rules.Defined.{definition_of, written_table}
+use Rattle.catalog_show_create.specs.catalog_rules.Objects.{Object, table, function, procedure, reaction}
+use Rattle.catalog_show_create.specs.catalog_rules.Creating.{ddl_refusal, catalog_after, goes_with_table, is_function_named, is_procedure_named, is_trigger_named}
+use Rattle.catalog_show_create.specs.Stated.{statement_of, object_made, HasRoom, IsMade, IsMadeByItsStatement, StatementIsThatOfMaking}
 use Rattle.catalog_laws.specs.Making.{IsMadeWell, AreMadeAgain, StillMadeAgain}
 use Rattle.catalog_laws.proofs.Room.{room_of}
 use Rattle.catalog_laws.proofs.Dropping.{Keep, KeepsFor, room_still, table_goes, function_goes, procedure_goes, trigger_goes}

@@ -2,12 +2,12 @@
 use Rattle.std.proofs.Common.{◌≡◌, ℕ, Bool, true, false, ◌||◌, cond, List, [], ◌∷◌, Option, Some, None, refl}
 use Rattle.std.specs.Prelude.{is_some}
 use Rattle.sql_tree.specs.Statement.{trigger}
-use Rattle.catalog_statements.specs.catalog_rules.Bases.{creation_of}
-use Rattle.catalog_statements.specs.catalog_rules.Objects.{Object, table, function, procedure, reaction, name_of, function_in, procedure_in}
-use Rattle.catalog_statements.specs.catalog_rules.Bodies.{of_function, of_procedure}
-use Rattle.catalog_statements.specs.catalog_rules.Creating.{Check, first_refusal, ddl_refusal, program_checks, table_checks, trigger_checks}
-use Rattle.catalog_statements.specs.catalog_rules.Defined.{written_table}
-use Rattle.catalog_statements.specs.Stated.{HasRoom}
+use Rattle.catalog_show_create.specs.catalog_rules.Bases.{creation_of}
+use Rattle.catalog_show_create.specs.catalog_rules.Objects.{Object, table, function, procedure, reaction, name_of, function_in, procedure_in}
+use Rattle.catalog_show_create.specs.catalog_rules.Bodies.{of_function, of_procedure}
+use Rattle.catalog_show_create.specs.catalog_rules.Creating.{Check, first_refusal, ddl_refusal, program_checks, table_checks, trigger_checks}
+use Rattle.catalog_show_create.specs.catalog_rules.Defined.{written_table}
+use Rattle.catalog_show_create.specs.Stated.{HasRoom}
 
 -- no check refuses
 abbrev AllPass : List Check → Type 0

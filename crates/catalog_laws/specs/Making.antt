@@ -6,10 +6,10 @@ use Rattle.val_types.specs.declared.definitions.TableDef.{TableDef}
 use Rattle.sql_tree.specs.Statement.{Statement}
 use Rattle.sql_tree.specs.Well.{IsWell}
 use Rattle.sql_print.specs.StatementSpelling.{spelling}
-use Rattle.catalog_statements.specs.catalog_rules.Bases.{Base, defined, creation_of, definitions_in, CanBeMade}
-use Rattle.catalog_statements.specs.catalog_rules.Objects.{Object}
-use Rattle.catalog_statements.specs.catalog_rules.Creating.{ddl_refusal, catalog_after}
-use Rattle.catalog_statements.specs.Stated.{IsMade}
+use Rattle.catalog_show_create.specs.catalog_rules.Bases.{Base, defined, creation_of, definitions_in, CanBeMade}
+use Rattle.catalog_show_create.specs.catalog_rules.Objects.{Object}
+use Rattle.catalog_show_create.specs.catalog_rules.Creating.{ddl_refusal, catalog_after}
+use Rattle.catalog_show_create.specs.Stated.{IsMade}
 use Rattle.text_answers.specs.Answers.{a_statement, text_answer}
 
 -- an object was made by a statement that the parser can give, and that is the one by which it is made again

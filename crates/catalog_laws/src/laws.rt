@@ -1,7 +1,7 @@
 //! Laws of catalogs that are made again: each function proves one, and does nothing.
 ghost use Rattle.catalog_laws.specs.Making.{BasesStillMadeAgain, CreationsAreRead, NoneAreMade, StillMadeAgain, TablesHaveNames};
 
-use catalog_statements::{object_is_made_by_its_statement, statement_is_that_of_making};
+use catalog_show_create::{object_is_made_by_its_statement, statement_is_that_of_making};
 use sql_text::prints_are_read;
 use text_answers::{answers_are_well, texts_are_answered};
 

@@ -2,7 +2,7 @@
 //!
 //! A store keeps objects by the canonical texts of the statements that make them. These laws say that each catalog
 //! that CREATE, DROP and TRUNCATE come to, from nothing on, can be kept so. They stand on the laws of `sql_text`, `text_answers` and
-//! `catalog_statements`; no code runs here.
+//! `catalog_show_create`; no code runs here.
 //!
 //! - `laws`: what follows; the definitions stand in specs/ (`Making`)
 //!
@@ -15,5 +15,5 @@
 mod laws;
 
 // What is its own, and the crates below that it speaks of, passed on: who stands above names them through it.
-pub use catalog_statements;
+pub use catalog_show_create;
 pub use laws::{creations_are_read, still_made_again, tables_have_names};

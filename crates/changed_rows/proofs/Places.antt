@@ -5,9 +5,9 @@ use Rattle.val_types.specs.declared.definitions.TableDef.{TableDef}
 use Rattle.table_rules.specs.Leads.{Leads}
 use Rattle.table_rules.specs.Stores.{place_of, definitions_of}
 use Rattle.table_rules.proofs.Places.{places_stay}
-use Rattle.sql_stage.specs.declared.stage.Stage.{Stage}
-use Rattle.sql_stage.specs.Stage.{LeadsOn}
-use Rattle.sql_stage.proofs.Leading.{rows_led, stage_stays, stage_on}
+use Rattle.exec_state.specs.declared.stage.Stage.{Stage}
+use Rattle.exec_state.specs.Stage.{LeadsOn}
+use Rattle.exec_state.proofs.Leading.{rows_led, stage_stays, stage_on}
 use Rattle.changed_rows.specs.Changed.{StandsAt}
 
 -- it has the place of its name

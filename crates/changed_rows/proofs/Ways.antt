@@ -9,9 +9,9 @@ use Rattle.table_rules.specs.Tables.{Table}
 use Rattle.table_rules.specs.Stored.{table_named, has_key_in_way, row_in_way}
 use Rattle.table_rules.specs.Stores.{place_of}
 use Rattle.sql_evaluation.specs.sql_meaning.Scenes.{done, needed, then_do, pure}
-use Rattle.sql_stage.specs.declared.stage.Stage.{Stage}
-use Rattle.sql_stage.specs.Stage.{scene_of}
-use Rattle.sql_stage.proofs.Snapshots.{definition_there}
+use Rattle.exec_state.specs.declared.stage.Stage.{Stage}
+use Rattle.exec_state.specs.Stage.{scene_of}
+use Rattle.exec_state.proofs.Snapshots.{definition_there}
 use Rattle.changed_rows.specs.Changed.{StandsAt}
 use Rattle.changed_rows.specs.Inserted.{InWay, found_by, way_of}
 use Rattle.changed_rows.proofs.Places.{stands_place, stands_there}

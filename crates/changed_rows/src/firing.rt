@@ -3,15 +3,15 @@ ghost use Rattle.std.specs.Prelude.{◌≡◌, None, Some};
 ghost use Rattle.std.specs.Option.{option_copied};
 ghost use Rattle.sql_tree.specs.declared.statements.Cause.TheVariants as causes;
 ghost use Rattle.sql_evaluation.specs.sql_meaning.Changing.{after_row, before_row};
-ghost use Rattle.sql_stage.specs.Stage.{EndsAs, EndsAsBy, LeadsOn, scene_of};
+ghost use Rattle.exec_state.specs.Stage.{EndsAs, EndsAsBy, LeadsOn, scene_of};
 ghost use Rattle.sql_evaluation.specs.Seen.{world_of};
 ghost use Rattle.changed_rows.specs.Changed.{left_in};
 ghost use Rattle.changed_rows.specs.Firing.{left_of};
 
 use crate::executor::Executor;
 use crate::table::ChangedTable;
+use exec_state::Stage;
 use sharing::Shared;
-use sql_stage::Stage;
 use sql_tree::{Cause, Time};
 use val_types::{Row, SqlRefusal};
 

@@ -1,6 +1,6 @@
 //! One row changed: INSERT, REPLACE, ON DUPLICATE KEY UPDATE, UPDATE and DELETE, with the triggers of its table.
 //!
-//! Each function changes one row of the table at a place of a `Stage` of `sql_stage`, of which `StandsAt` says that it has
+//! Each function changes one row of the table at a place of a `Stage` of `exec_state`, of which `StandsAt` says that it has
 //! just the definition that is handed in; a statement looks a table up once, for all its rows. What all calls for a table are
 //! handed is one [`ChangedTable`]. Who evaluates expressions and fires triggers is an [`Executor`], which promises what the
 //! definitions say. So programs stand above this crate, as whole statements do.
@@ -34,7 +34,7 @@
 //! - a table stands where it stood whatever is done by these calls (`stands_on` of proofs/Places)
 //!
 //! # Only tested
-//! That changes are made with ample memory, in `repl_tests` and the stored runs of the programs.
+//! That changes are made with ample memory, in `test_scripts` and the stored runs of the programs.
 #![tactic(auto)]
 
 mod columns;
@@ -52,10 +52,10 @@ mod updating;
 // What is its own, and the crates below that it speaks of, passed on: who stands above names them through it.
 pub use columns::place_of;
 pub use deleting::delete_row;
+pub use exec_state;
 pub use executor::Executor;
 pub use inserting::{Inserting, Insertion, Manner, insert_row};
 pub use sql_evaluation;
 pub use sql_evaluation::session_ctx;
-pub use sql_stage;
 pub use table::ChangedTable;
 pub use updating::update_row;

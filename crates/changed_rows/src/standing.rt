@@ -5,11 +5,11 @@ ghost use Rattle.std.specs.Prelude.{◌≡◌};
 ghost use Rattle.sql_evaluation.specs.sql_meaning.Changing.{put_in_place, store_update, take_out};
 ghost use Rattle.sql_evaluation.specs.sql_meaning.Scenes.{make};
 ghost use Rattle.val_types.specs.declared.change.Change.TheVariants as changes;
-ghost use Rattle.sql_stage.specs.Stage.{EndsAs, LeadsOn, scene_of};
+ghost use Rattle.exec_state.specs.Stage.{EndsAs, LeadsOn, scene_of};
 ghost use Rattle.changed_rows.specs.Changed.{StandsAt};
 
+use exec_state::Stage;
 use sharing::Shared;
-use sql_stage::Stage;
 use std::alloc::Global;
 use val_types::{Duplicate, Row, SqlRefusal, TableDef, key_cmp};
 

@@ -1,7 +1,7 @@
 //! One row updated.
 ghost use Rattle.std.specs.Prelude.{◌≡◌, []};
 ghost use Rattle.sql_tree.specs.StatementView.{view_set, view_sets};
-ghost use Rattle.sql_stage.specs.Stage.{EndsAs, LeadsOn, scene_of};
+ghost use Rattle.exec_state.specs.Stage.{EndsAs, LeadsOn, scene_of};
 ghost use Rattle.sql_evaluation.specs.sql_meaning.Changing.{assign_column};
 ghost use Rattle.sql_evaluation.specs.Seen.{Anywhere, frame_of, seen, world_of};
 ghost use Rattle.changed_rows.specs.Changed.{StandsAt, assigned_in, put_named, stored_in, updated_in};
@@ -11,9 +11,9 @@ use crate::executor::Executor;
 use crate::firing::{after, before_update};
 use crate::standing::store_update;
 use crate::table::ChangedTable;
+use exec_state::Stage;
 use sharing::Shared;
 use sql_evaluation::{Views, seeing};
-use sql_stage::Stage;
 use sql_tree::{Cause, ColumnSet};
 use std::alloc::Global;
 use val_types::{Bytes, Duplicate, List, Row, SqlRefusal, TableDef, Value};

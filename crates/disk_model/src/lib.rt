@@ -41,7 +41,7 @@
 //!   `Laws`), claims go on from call to call and join at any moment (`Moments`, `Putting`, `Quiet`).
 //!
 //! # Only tested
-//! In `disk_callers`: that calls succeed with ample memory, which call of a `FuseDisk` fails, what a `TwistDisk`
+//! In `test_disks`: that calls succeed with ample memory, which call of a `FuseDisk` fails, what a `TwistDisk`
 //! gives back, and each call of a `HostDisk` on a real folder. What a real file holds is neither proved nor tested.
 #![tactic(auto)]
 

@@ -17,7 +17,7 @@
 //!   there (`home`)
 //!
 //! # Only tested
-//! That calls succeed with ample memory, in `row_callers`.
+//! That calls succeed with ample memory, in `test_rows`.
 #![tactic(auto)]
 
 mod by_name;

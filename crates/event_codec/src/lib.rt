@@ -33,7 +33,7 @@
 //! - The worked events of `worked`.
 //!
 //! # Only tested
-//! That writing succeeds with ample memory, and small logs as a whole, in `log_callers`. That a MySQL
+//! That writing succeeds with ample memory, and small logs as a whole, in `test_log`. That a MySQL
 //! server reads or writes the same bytes is not claimed.
 #![tactic(auto)]
 

@@ -26,7 +26,7 @@
 //!   want memory
 //!
 //! # Only tested
-//! That calls succeed with ample memory, in `row_callers`.
+//! That calls succeed with ample memory, in `test_rows`.
 #![tactic(auto)]
 
 mod arithmetic;

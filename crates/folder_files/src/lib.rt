@@ -14,7 +14,7 @@
 //! - A read gives no more bytes than the buffer has; a write that is done ends below 2^64. All else is safety.
 //!
 //! # Only tested
-//! In `disk_callers`, on a real folder.
+//! In `test_disks`, on a real folder.
 #![tactic(auto)]
 
 mod fault;

@@ -29,7 +29,7 @@
 //! - [`journals_by_hand`], [`damage_by_hand`]: records and places of damage, byte by byte
 //!
 //! # Only tested
-//! In `disk_callers`: that calls succeed with ample memory; the bytes of a journal that was written; journals over
+//! In `test_disks`: that calls succeed with ample memory; the bytes of a journal that was written; journals over
 //! disks in which each call fails in turn, with what four crashes leave.
 #![tactic(auto)]
 

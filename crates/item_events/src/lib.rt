@@ -16,7 +16,7 @@
 //!
 //! # Only tested
 //! That calls succeed with ample memory, and a text's bytes beside those of another program, in
-//! `item_callers`.
+//! `test_items`.
 #![tactic(auto)]
 
 mod item;

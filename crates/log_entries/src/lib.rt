@@ -16,7 +16,7 @@
 //! - entries behind others are applied to what those leave (`entries_go_on`)
 //!
 //! # Only tested
-//! That variables are set and copied with ample memory, in `context_callers`.
+//! That variables are set and copied with ample memory, in `test_contexts`.
 #![tactic(auto)]
 
 mod carried;

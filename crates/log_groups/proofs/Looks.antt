@@ -16,7 +16,7 @@ use Rattle.row_image.specs.log_model.Events.{Place, Placed, past, events_from, s
 use Rattle.row_image.specs.log_model.Groups.{Stage, first, between, maps, in_rows, go, close, refuse, move, int_var_move, rows_move, Scan, done, stopped, scan, start, group, not_whole, damaged_at, until_xid, stop_next, txn_of, begun_by, group_at}
 use Rattle.row_image.specs.log_model.Images.{are_rows}
 use Rattle.row_image.proofs.of_log_model.Walking.{events_some, events_none, stop_none}
-use Rattle.whole_groups.proofs.Staying.{event_front, number_front}
+use Rattle.log_group_laws.proofs.Staying.{event_front, number_front}
 use Rattle.log_groups.specs.declared.growing.Mark.{Mark}
 use Rattle.log_groups.specs.declared.growing.Mark.TheVariants as mark
 use Rattle.log_groups.specs.declared.growing.Progress.{Progress}

@@ -18,7 +18,7 @@
 //! - The worked bytes and lines of `worked`.
 //!
 //! # Only tested
-//! That lines are made with ample memory, one and more for each type of event, in `log_callers`.
+//! That lines are made with ample memory, one and more for each type of event, in `test_log`.
 #![tactic(auto)]
 
 mod events;

@@ -1,9 +1,9 @@
 -- What is known of the log on an input behind calls that read it group by group.
 use Rattle.std.proofs.Common.{◌≡◌, inl, inr, ℕ, ◌+◌, Bool, true, false, List, [], ◌++◌, length, Option, sym, ap, ◌∙◌, subst, append-nil}
 use Rattle.log_groups.specs.log_model.Groups.{group, foreign_at, group_at}
-use Rattle.whole_logs.specs.Walk.{Ending, ended, damaged, foreign, Piece, grouped}
-use Rattle.whole_logs.specs.Passing.{from_there, ending_with, Passed}
-use Rattle.whole_logs.proofs.Walking.{magic_is_passed, others_are_damaged, group_is_passed, end_is_seen, stop_is_seen, nothing_behind_names}
+use Rattle.log_file_model.specs.Walk.{Ending, ended, damaged, foreign, Piece, grouped}
+use Rattle.log_file_model.specs.Passing.{from_there, ending_with, Passed}
+use Rattle.log_file_model.proofs.Walking.{magic_is_passed, others_are_damaged, group_is_passed, end_is_seen, stop_is_seen, nothing_behind_names}
 use Rattle.log_reader.specs.declared.reader.Found.{Found}
 use Rattle.log_reader.specs.declared.reader.Found.TheVariants as found
 use Rattle.log_reader.specs.Reading.{Reader, next_pos, Took, IsEnd, IsGroup, IsDamaged, Finds, FindsMagic}

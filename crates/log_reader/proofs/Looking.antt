@@ -6,7 +6,7 @@ use Rattle.log_groups.specs.Growing.{IsLooked, IsSettled}
 use Rattle.log_groups.proofs.Looks.{looks_stay}
 use Rattle.log_reader.specs.declared.reader.Found.{Found}
 use Rattle.log_reader.specs.declared.reader.Found.TheVariants as found
-use Rattle.log_groups.proofs.of_whole_groups.Lying.{group_lies}
+use Rattle.log_groups.proofs.of_log_group_laws.Lying.{group_lies}
 use Rattle.log_reader.specs.Reading.{Reader, next_pos, Took, IsEnd, IsDamaged, Reads}
 use Rattle.log_reader.specs.Reading as reading
 use Rattle.log_reader.specs.Filling.{Grows}

@@ -1,8 +1,8 @@
 -- What is known of a whole log on an input behind calls that read it group by group.
 use Rattle.std.specs.Prelude.{◌≡◌, ℕ, Bool, true, false, List, [], ◌∷◌, ◌++◌, Option, IfSome}
 use Rattle.log_groups.specs.log_model.Groups.{Group, group, group_at}
-use Rattle.whole_logs.specs.Walk.{Ending, ended, damaged, foreign, Piece, Grouped, grouped}
-use Rattle.whole_logs.specs.Passing.{with_pieces, ending_with, Passed}
+use Rattle.log_file_model.specs.Walk.{Ending, ended, damaged, foreign, Piece, Grouped, grouped}
+use Rattle.log_file_model.specs.Passing.{with_pieces, ending_with, Passed}
 use Rattle.log_reader.specs.declared.reader.Found.{Found}
 use Rattle.log_reader.specs.declared.reader.Found.TheVariants as found
 use Rattle.log_reader.specs.Reading.{Reader, next_pos, Took, Reads, ReadsMagic}

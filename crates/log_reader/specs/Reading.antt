@@ -2,7 +2,7 @@
 use Rattle.std.specs.Prelude.{◌≡◌, ◌≤◌, ◌<◌, ◌⊎◌, ℕ, ◌+◌, Bool, true, false, List, [], ◌++◌, length, Option, option_map, IfSome}
 use Rattle.log_groups.specs.log_model.Groups.{Group, group, not_whole, damaged_at, foreign_at, group_at}
 use Rattle.log_groups.specs.log_model.Log.{magic}
-use Rattle.whole_logs.specs.Passing.{names_next}
+use Rattle.log_file_model.specs.Passing.{names_next}
 use Rattle.log_reader.specs.declared.reader.Found.{Found}
 use Rattle.log_reader.specs.declared.reader.Found.TheVariants as found
 

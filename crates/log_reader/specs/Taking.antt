@@ -1,7 +1,7 @@
 -- What bytes are that were taken from a place on: just a group, of no group, or none.
 use Rattle.std.specs.Prelude.{◌≡◌, ◌≤◌, ◌⊎◌, ℕ, ◌+◌, Bool, true, false, List, [], length, Option}
 use Rattle.log_groups.specs.log_model.Groups.{Group, group, not_whole, damaged_at, foreign_at, group_at}
-use Rattle.whole_logs.specs.Passing.{names_next}
+use Rattle.log_file_model.specs.Passing.{names_next}
 use Rattle.log_reader.specs.declared.reader.Found.{Found}
 use Rattle.log_reader.specs.declared.reader.Found.TheVariants as found
 use Rattle.log_reader.specs.Reading.{IsEnd}

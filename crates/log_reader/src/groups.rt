@@ -4,7 +4,7 @@ ghost use Rattle.log_groups.specs.Growing.{IsSettled};
 ghost use Rattle.log_groups.specs.Views.{form_of};
 ghost use Rattle.log_groups.specs.log_model.Groups.{group_at, not_whole};
 ghost use Rattle.run_streams.specs.Stops.{StopsReading};
-ghost use Rattle.whole_logs.specs.Passing.{names_next};
+ghost use Rattle.log_file_model.specs.Passing.{names_next};
 ghost use Rattle.log_reader.specs.declared.reader.Found.TheVariants as found;
 ghost use Rattle.log_reader.specs.Reading.{IsEnd, Takes};
 ghost use Rattle.log_reader.specs.Taking.{Ends, Finds, FindsBehindName, FindsNext, FindsSettled, IsKept};

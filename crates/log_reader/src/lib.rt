@@ -33,7 +33,7 @@ mod reader;
 
 // What is its own, and the crates below that it speaks of, passed on: who stands above names them through it.
 pub use laws::{calls_lead, fronts_are_known, magic_leads};
+pub use log_file_model::log_print;
 pub use magic::read_magic;
 pub use reader::{Found, LogReader};
 pub use run_streams;
-pub use whole_logs::log_print;

@@ -5,8 +5,8 @@ use Rattle.val_types.specs.declared.ops.Agg.{Agg}
 use Rattle.sql_tree.specs.Tree.{Tree, tree, arm, aggregate, count_all, order_by}
 use Rattle.sql_tree.specs.View.{trees_of, arms_of, aggregates_of, orders_of}
 use Rattle.sql_locals.specs.declared.locals.Local.{Local}
-use Rattle.closed_names.specs.closed_length.Closed.{closed_tree, closed_trees, closed_arms, closed_aggregates, closed_orders}
-use Rattle.closed_names.specs.closed_length.Items.{closed_arm, closed_aggregate, closed_item}
+use Rattle.name_const_names.specs.name_const_length.Closed.{closed_tree, closed_trees, closed_arms, closed_aggregates, closed_orders}
+use Rattle.name_const_names.specs.name_const_length.Items.{closed_arm, closed_aggregate, closed_item}
 
 module _ (locals : List Local) where
   pub trees-items : (ts : List Tree) → closed_trees locals (trees_of ts) ≡ trees_of (map (closed_tree locals) ts)

@@ -7,7 +7,7 @@ use Rattle.sql_tree.specs.StatementView.{view}
 use Rattle.sql_tree.specs.declared.statements.Stmt.{Stmt}
 use Rattle.sql_locals.specs.declared.locals.Local.{Local}
 use Rattle.sql_reach.specs.Closing.{closed}
-use Rattle.closing_checks.specs.proc_model.Closing.{closing_refusal}
+use Rattle.name_const_checks.specs.proc_model.Closing.{closing_refusal}
 
 -- the closed statement or what refuses it, or no memory
 abbrev pub Closes : Result Stmt SqlRefusal → Statement → List Local → Type 0

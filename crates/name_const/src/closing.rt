@@ -3,7 +3,7 @@ ghost use Rattle.sql_tree.specs.StatementView.{view};
 ghost use Rattle.name_const.specs.Refusing.{Closes};
 
 use crate::statements::close_stmt;
-use closing_checks::check_closing;
+use name_const_checks::check_closing;
 use sql_locals::Locals;
 use sql_tree::Stmt;
 use std::alloc::Global;

@@ -1,10 +1,10 @@
 //! Expressions and SELECTs with locals closed in.
 ghost use Rattle.std.specs.Prelude.{◌≡◌, IfOk};
 ghost use Rattle.sql_tree.specs.View.{view_aggregate, view_aggregates, view_arm, view_arms, view_orders, view_origin, view_part, view_query, view_selected, view_tree, view_trees};
-ghost use Rattle.closed_names.specs.closed_length.Closed.{closed_aggregates, closed_arms, closed_orders, closed_origin, closed_part, closed_query, closed_selected, closed_tree, closed_trees};
-ghost use Rattle.closed_names.specs.closed_length.Items.{closed_aggregate, closed_arm};
+ghost use Rattle.name_const_names.specs.name_const_length.Closed.{closed_aggregates, closed_arms, closed_orders, closed_origin, closed_part, closed_query, closed_selected, closed_tree, closed_trees};
+ghost use Rattle.name_const_names.specs.name_const_length.Items.{closed_aggregate, closed_arm};
 
-use closed_names::{close_limit, close_name};
+use name_const_names::{close_limit, close_name};
 use sql_locals::Locals;
 use sql_tree::{Aggregate, Arm, Expr, FromClause, OrderItem, Select, Selection};
 use std::alloc::Global;

@@ -3,10 +3,10 @@ ghost use Rattle.std.specs.Prelude.{◌≡◌, IfOk};
 ghost use Rattle.sql_tree.specs.StatementView.{view, view_delete, view_insert, view_replace, view_rows, view_sets, view_supply, view_update};
 ghost use Rattle.sql_tree.specs.View.{view_part};
 ghost use Rattle.sql_reach.specs.Closing.{closed};
-ghost use Rattle.closed_names.specs.closed_length.Closed.{closed_part, closed_rows, closed_sets, closed_supply};
+ghost use Rattle.name_const_names.specs.name_const_length.Closed.{closed_part, closed_rows, closed_sets, closed_supply};
 
 use crate::expressions::{close_expr, close_exprs, close_order, close_select};
-use closed_names::close_count_if;
+use name_const_names::close_count_if;
 use sql_locals::Locals;
 use sql_tree::{ColumnSet, DeleteStmt, Expr, InsertStmt, ReplaceStmt, Source, Stmt, UpdateStmt};
 use std::alloc::Global;

@@ -28,7 +28,7 @@
 //! - Laws of counts, reads and draws: [`counts_rise`], [`reads_join`], [`draws_come_in_order`].
 //!
 //! # Only tested
-//! In `list_callers`: that calls succeed with ample memory; the edges over the system, once each. That a
+//! In `test_values`: that calls succeed with ample memory; the edges over the system, once each. That a
 //! clock is right or random words are random is neither proved nor tested.
 #![tactic(auto)]
 

@@ -16,9 +16,9 @@ use Rattle.log_reader.specs.log_print.Lines.{line_of}
 use Rattle.log_reader.specs.run_streams.Stops.{StopsReading, StopsWriting}
 use Rattle.log_reader.specs.run_streams.Wrote.{Wrote, WroteFront}
 use Rattle.log_reader.proofs.of_run_streams.Writing.{wrote_nothing, wrote_more, broken_behind, front_of_more, whole_front}
-use Rattle.log_reader.proofs.of_whole_groups.Lying.{group_lies}
-use Rattle.log_reader.specs.whole_logs.Walk.{Ending, ended, damaged, foreign, Piece, Grouped, grouped}
-use Rattle.log_reader.specs.whole_logs.Printed.{map_for, maps_behind, lines_from, piece_lines, log_lines}
+use Rattle.log_reader.proofs.of_log_group_laws.Lying.{group_lies}
+use Rattle.log_reader.specs.log_file_model.Walk.{Ending, ended, damaged, foreign, Piece, Grouped, grouped}
+use Rattle.log_reader.specs.log_file_model.Printed.{map_for, maps_behind, lines_from, piece_lines, log_lines}
 use Rattle.log_reader.specs.declared.reader.Found.{Found}
 use Rattle.log_reader.specs.declared.reader.Found.TheVariants as found
 use Rattle.log_reader.specs.Reading.{Reader, next_pos, Reads, ReadsMagic}

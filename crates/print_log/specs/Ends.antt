@@ -3,8 +3,8 @@ use Rattle.std.specs.Prelude.{◌≡◌, ℕ, List, [], Option, IfSome}
 use Rattle.answer_text.specs.declared.status.Status.{Status}
 use Rattle.answer_text.specs.declared.status.Status.TheVariants.{Done, ReadFault, WriteFault, LogDamaged, LogForeign, NoMemory}
 use Rattle.log_reader.specs.run_streams.Wrote.{Wrote, WroteFront}
-use Rattle.log_reader.specs.whole_logs.Walk.{Ending, ended, damaged, foreign, grouped}
-use Rattle.log_reader.specs.whole_logs.Printed.{log_lines}
+use Rattle.log_reader.specs.log_file_model.Walk.{Ending, ended, damaged, foreign, grouped}
+use Rattle.log_reader.specs.log_file_model.Printed.{log_lines}
 
 -- the log on the input ends so, and the lines of all its groups were written
 pub record Printed (ending : Ending) (input before after : Option (List ℕ)) : Type 0 where

@@ -1,8 +1,8 @@
 -- A log on an input of which some groups are shown.
 use Rattle.std.specs.Prelude.{ℕ, List, flat_map, Option}
 use Rattle.log_reader.specs.run_streams.Wrote.{Wrote}
-use Rattle.log_reader.specs.whole_logs.Walk.{Piece}
-use Rattle.log_reader.specs.whole_logs.Printed.{piece_lines}
+use Rattle.log_reader.specs.log_file_model.Walk.{Piece}
+use Rattle.log_reader.specs.log_file_model.Printed.{piece_lines}
 use Rattle.log_reader.specs.Reading.{Reader}
 use Rattle.log_reader.specs.Behind.{Behind}
 

@@ -1,7 +1,7 @@
 //! The word that prints a log: one line for each event of each whole group, up to the end or to what is damaged.
 //!
 //! One group is read and held at a time (`log_reader`), and its lines are written before the next is read. Lines of events are
-//! made by `log_print`; which groups a log has, and the lines of a whole log, is defined in `whole_logs`.
+//! made by `log_print`; which groups a log has, and the lines of a whole log, is defined in `log_file_model`.
 //!
 //! - `printing`: [`print`]
 //! - `lines`: the lines of a group

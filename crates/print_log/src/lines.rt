@@ -5,7 +5,7 @@ ghost use Rattle.event_codec.specs.Event.{body_of, map_of, seen};
 ghost use Rattle.log_reader.specs.log_model.Events.{events_from};
 ghost use Rattle.log_reader.specs.log_model.Groups.{find};
 ghost use Rattle.log_reader.specs.log_print.Lines.{line_of};
-ghost use Rattle.log_reader.specs.whole_logs.Printed.{lines_from, map_for, maps_behind};
+ghost use Rattle.log_reader.specs.log_file_model.Printed.{lines_from, map_for, maps_behind};
 
 use event_codec::{Event, MapView, Read, read_event};
 use log_reader::log_print::line;

@@ -4,7 +4,7 @@ ghost use Rattle.fault_counts.specs.Causes.{Rose};
 ghost use Rattle.log_reader.specs.log_model.Events.{events_from};
 ghost use Rattle.log_reader.specs.run_streams.Stops.{StopsWriting, failed_writes, status_of};
 ghost use Rattle.log_reader.specs.run_streams.Wrote.{Wrote, WroteFront};
-ghost use Rattle.log_reader.specs.whole_logs.Printed.{lines_from};
+ghost use Rattle.log_reader.specs.log_file_model.Printed.{lines_from};
 ghost use Rattle.print_log.specs.Ends.{PrintEnds};
 
 use crate::lines::put_lines;

@@ -7,7 +7,7 @@ use Rattle.sql_tree.specs.StatementView.{view}
 use Rattle.sql_tree.specs.declared.statements.Stmt.{Stmt}
 use Rattle.sql_locals.specs.declared.locals.Local.{Local}
 use Rattle.name_const.specs.sql_reach.Closing.{closed}
-use Rattle.name_const.specs.closing_checks.Refusing.{CanClose}
+use Rattle.name_const.specs.name_const_checks.Refusing.{CanClose}
 use Rattle.name_const.specs.Refusing.{Closes}
 use Rattle.name_const.specs.proc_model.Closing.{closing_refusal}
 use Rattle.name_const.specs.proc_model.Procedures.{is_plain}

@@ -10,4 +10,4 @@ pub use Rattle.prog_run.specs.session_ctx as session_ctx
 pub use Rattle.prog_run.specs.sql_evaluation as sql_evaluation
 pub use Rattle.name_const.specs.sql_meaning as sql_meaning
 pub use Rattle.name_const.specs.sql_reach as sql_reach
-pub use Rattle.sql_stage.specs as sql_stage
+pub use Rattle.exec_state.specs as exec_state

@@ -16,7 +16,7 @@ use val_types::{Boxed, SqlRefusal};
 pub(crate) fn check_closing(alloc: Global, s: &Stmt, locals: &Locals) -> Result<(), SqlRefusal>
     ensures passes { Passes result (closing_refusal (view s.now) locals.now) }
 {
-    name_const::closing_checks::check_closing(alloc, s, locals)
+    name_const::name_const_checks::check_closing(alloc, s, locals)
 }
 
 /// A change, a SELECT or a DO with its locals closed in, on the heap; another statement of the same kind.

@@ -26,7 +26,7 @@
 //!   asks of what carries out a procedure that it does what the definition says
 //!
 //! # Only tested
-//! That they succeed with ample memory, in `proc_callers`.
+//! That they succeed with ample memory, in `test_procedures`.
 #![tactic(auto)]
 
 mod asking;
@@ -51,6 +51,6 @@ pub use name_const;
 pub use name_const::{log_entries, proc_model};
 pub use performing::plain_step;
 pub use prog_run;
-pub use prog_run::{catalog, session_ctx, sql_stage, step_checks};
+pub use prog_run::{catalog, exec_body_checks, exec_state, session_ctx};
 pub use runner::{RunRefusal, Runner};
 pub use world::World;

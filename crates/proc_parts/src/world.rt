@@ -1,6 +1,6 @@
 //! What is round a statement of a procedure.
+use exec_state::Running;
 use prog_run::catalog::Catalog;
-use sql_stage::Running;
 
 /// The catalog, how many more programs may run one inside the other, and the procedures that are running.
 #[derive(Clone, Copy)]

@@ -5,8 +5,8 @@ use Rattle.val_types.specs.declared.value.Value.{Value}
 use Rattle.answer_text.specs.declared.answer.Answer.{Answer}
 use Rattle.fault_counts.specs.Causes.{Rose}
 use Rattle.proc_parts.specs.catalog_rules.Objects.{Object}
-use Rattle.sql_stage.specs.declared.running.Running.{Nothing, the_lemmas}
-use Rattle.sql_stage.specs.UnderWay.{under_way}
+use Rattle.exec_state.specs.declared.running.Running.{Nothing, the_lemmas}
+use Rattle.exec_state.specs.UnderWay.{under_way}
 use Rattle.proc_parts.specs.proc_model.Talk.{Left, Rules, Led, ends}
 use Rattle.proc_parts.specs.proc_model.Procedures.{Came, Ending, Held, IsCall, begins, call_at, called, came, done, failed}
 use Rattle.proc_parts.proofs.of_proc_model.Leading.{led_then}

@@ -13,8 +13,8 @@ use Rattle.sql_locals.specs.declared.locals.Local.{Local}
 use Rattle.proc_parts.specs.catalog_objects.Keys.{objects_of}
 use Rattle.proc_parts.specs.catalog_rules.Names.{is_among}
 use Rattle.proc_parts.specs.catalog_rules.Objects.{Object, procedure_in, parameters_of}
-use Rattle.sql_stage.specs.declared.running.Running.{Running as Chain, Function, the_lemmas}
-use Rattle.sql_stage.specs.UnderWay.{under_way}
+use Rattle.exec_state.specs.declared.running.Running.{Running as Chain, Function, the_lemmas}
+use Rattle.exec_state.specs.UnderWay.{under_way}
 use Rattle.proc_parts.specs.sql_evaluation.Seen.{running_of}
 use Rattle.proc_parts.specs.proc_model.Talk.{Rules}
 use Rattle.proc_parts.specs.proc_model.Procedures.{Held, Action, World as Around, done, ◌>>=◌, pure, fail, answered, all_tried, add_parameter, call_at, free_procedure, procedure_body, started}

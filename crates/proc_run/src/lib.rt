@@ -19,7 +19,7 @@
 //! - it asks nothing of the catalog or of the statements in it, nor of the runner but what its methods promise
 //!
 //! # Only tested
-//! That a CALL succeeds with ample memory, in `proc_callers`.
+//! That a CALL succeeds with ample memory, in `test_procedures`.
 #![tactic(auto)]
 
 mod calls;

@@ -8,10 +8,10 @@ ghost use Rattle.proc_parts.specs.Calls.{EndsBy, Moves, held_of, plainly, world_
 ghost use Rattle.proc_run.specs.Steps.{body_at};
 
 use crate::steps::step;
-use proc_parts::step_checks::is_called;
+use exec_state::Running;
+use proc_parts::exec_body_checks::is_called;
 use proc_parts::{Held, RunRefusal, Runner, World, parameters};
 use sql_locals::Locals;
-use sql_stage::Running;
 use sql_tree::Routine;
 use std::alloc::Global;
 use val_types::{Bytes, List, SqlError, Value};

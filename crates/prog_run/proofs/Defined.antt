@@ -18,7 +18,7 @@ use Rattle.statement_names.specs.catalog_rules.Bases.{Base, tables_after}
 use Rattle.catalog.specs.Answers.{Makes as Made}
 use Rattle.catalog.specs.catalog_objects.declared.object.Object.{Object}
 use Rattle.catalog.specs.catalog_objects.Keys.{objects_of}
-use Rattle.sql_stage.specs.declared.stage.Stage.{Stage}
+use Rattle.exec_state.specs.declared.stage.Stage.{Stage}
 use Rattle.statement_names.specs.sql_reach.Defining.{counters_after, counters_with}
 use Rattle.prog_run.specs.Contents.{Contents}
 use Rattle.prog_run.specs.Runs.{Makes, definition_refusal, outcome_of_none, contents_of}

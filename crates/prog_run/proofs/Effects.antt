@@ -10,7 +10,7 @@ use Rattle.statement_names.specs.sql_meaning.Scenes.{Scene, Ending, undone}
 use Rattle.statement_names.specs.sql_meaning.Frames.{Setting}
 use Rattle.statement_names.specs.sql_meaning.Changing.{Did}
 use Rattle.statement_names.specs.sql_meaning.Running.{perform, tables_named, forced_for, effect, evaluation}
-use Rattle.sql_stage.specs.Stage.{EndsAs, EndsAsBy}
+use Rattle.exec_state.specs.Stage.{EndsAs, EndsAsBy}
 use Rattle.stored_programs.specs.sql_evaluation.declared.world.Around.{Around}
 use Rattle.stored_programs.specs.sql_evaluation.Seen.{setting_of, running_of, world_of, frame_of, values_in}
 use Rattle.stored_programs.specs.sql_statements.declared.did.Did.{Did as Done}

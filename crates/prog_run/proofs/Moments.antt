@@ -15,9 +15,9 @@ use Rattle.statement_names.specs.sql_meaning.Scenes.{Scene, Ending, done, failed
 use Rattle.statement_names.specs.sql_meaning.Frames.{Context, Setting}
 use Rattle.statement_names.specs.sql_meaning.Changing.{Did}
 use Rattle.statement_names.specs.sql_meaning.Running.{effect, evaluation, context_after}
-use Rattle.sql_stage.specs.declared.stage.Stage.{Stage}
-use Rattle.sql_stage.specs.Stage.{scene_of, LeadsOn}
-use Rattle.sql_stage.proofs.Leading.{rows_led, counters_led, names_led}
+use Rattle.exec_state.specs.declared.stage.Stage.{Stage}
+use Rattle.exec_state.specs.Stage.{scene_of, LeadsOn}
+use Rattle.exec_state.proofs.Leading.{rows_led, counters_led, names_led}
 use Rattle.stage_undo.specs.Back.{IsBack}
 use Rattle.statement_names.specs.sql_reach.Defining.{number_of_bytes}
 use Rattle.prog_run.specs.declared.meter.Meter.{Meter}

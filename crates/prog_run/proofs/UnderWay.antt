@@ -8,8 +8,8 @@ use Rattle.sql_tree.specs.declared.expressions.Expr.{Expr}
 use Rattle.statement_names.specs.catalog_rules.Nodes.{nodes_of_trees, no_sight}
 use Rattle.statement_names.specs.sql_meaning.Frames.{Running}
 use Rattle.statement_names.specs.sql_meaning.Running.{tables_named}
-use Rattle.sql_stage.specs.declared.running.Running.{Running as Chain, Tables, Expressions, the_lemmas}
-use Rattle.sql_stage.specs.UnderWay.{under_way}
+use Rattle.exec_state.specs.declared.running.Running.{Running as Chain, Tables, Expressions, the_lemmas}
+use Rattle.exec_state.specs.UnderWay.{under_way}
 
 abbrev pub nothing_running : Running
 nothing_running = record { tables = []; functions = [] }

@@ -6,9 +6,9 @@ use Rattle.val_types.specs.declared.refusal.SqlRefusal.TheVariants.{Sql, NoMemor
 use Rattle.table_rules.specs.Stores.{can_take_back}
 use Rattle.table_rules.proofs.Leading.{noted_taken_back}
 use Rattle.statement_names.specs.sql_meaning.Scenes.{Scene, done, failed, Action, undone, undone_from, put_back}
-use Rattle.sql_stage.specs.declared.stage.Stage.{Stage}
-use Rattle.sql_stage.specs.Stage.{scene_of, LeadsOn, EndsAs, EndsAsBy}
-use Rattle.sql_stage.proofs.Leading.{rows_led}
+use Rattle.exec_state.specs.declared.stage.Stage.{Stage}
+use Rattle.exec_state.specs.Stage.{scene_of, LeadsOn, EndsAs, EndsAsBy}
+use Rattle.exec_state.proofs.Leading.{rows_led}
 use Rattle.stage_undo.specs.Back.{StandsBack, IsBack}
 
 -- the changes since can be taken back

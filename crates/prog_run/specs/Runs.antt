@@ -15,8 +15,8 @@ use Rattle.statement_names.specs.sql_meaning.Scenes.{Scene, Ending, done, failed
 use Rattle.statement_names.specs.sql_meaning.Frames.{Context, Setting}
 use Rattle.statement_names.specs.sql_meaning.Changing.{Did}
 use Rattle.statement_names.specs.sql_meaning.Running.{effect, evaluation, context_after}
-use Rattle.sql_stage.specs.declared.stage.Stage.{Stage}
-use Rattle.sql_stage.specs.Stage.{NoneLower, scene_of}
+use Rattle.exec_state.specs.declared.stage.Stage.{Stage}
+use Rattle.exec_state.specs.Stage.{NoneLower, scene_of}
 use Rattle.statement_names.specs.sql_reach.Defining.{counters_after, number_of_bytes}
 use Rattle.prog_run.specs.declared.meter.Meter.{Meter}
 use Rattle.prog_run.specs.declared.meter.Outcome.{Outcome}

@@ -7,9 +7,9 @@ ghost use Rattle.stored_programs.specs.sql_evaluation.Seen.{setting_of};
 ghost use Rattle.prog_run.specs.Together.{Counts};
 
 use catalog::catalog_objects::Objects;
+use exec_state::Running;
 use session_ctx::Ctx;
 use sql_locals::Locals;
-use sql_stage::Running;
 use sql_tree::Stmt;
 use stored_programs::sql_evaluation::Around;
 

@@ -55,10 +55,10 @@ mod work;
 
 // What is its own, and the crates below that it speaks of, passed on: who stands above names them through it.
 pub use catalog;
-pub use catalog::{catalog_objects, program_creation, table_creation};
+pub use catalog::{catalog_create_program, catalog_create_table, catalog_objects};
 pub use defining::is_definition;
+pub use exec_state;
 pub use meter::{Meter, Outcome};
 pub use running::{eval_list, run_stmt};
-pub use sql_stage;
-pub use stored_programs::{session_ctx, step_checks};
+pub use stored_programs::{exec_body_checks, session_ctx};
 pub use work::Work;

@@ -4,13 +4,13 @@ ghost use Rattle.std.specs.Option.{option_copied};
 ghost use Rattle.sql_tree.specs.View.{view_tree, view_trees};
 ghost use Rattle.sql_tree.specs.StatementView.{view};
 ghost use Rattle.statement_names.specs.sql_meaning.Running.{perform};
-ghost use Rattle.sql_stage.specs.Stage.{EndsAs, EndsAsBy, LeadsOn, scene_of};
+ghost use Rattle.exec_state.specs.Stage.{EndsAs, EndsAsBy, LeadsOn, scene_of};
 ghost use Rattle.stored_programs.specs.sql_evaluation.Seen.{Calls, CallsLead, frame_of, running_of, value_in, values_in, world_of};
 ghost use Rattle.stored_programs.specs.changed_rows.Firing.{left_of};
 ghost use Rattle.stored_programs.specs.sql_statements.Did.{did_of};
 
+use exec_state::{Running, Stage};
 use sharing::Shared;
-use sql_stage::{Running, Stage};
 use sql_tree::{Cause, Expr, Stmt, Time};
 use std::alloc::Global;
 use stored_programs::sql_evaluation::{Around, Views, value, values};

@@ -5,8 +5,8 @@ ghost use Rattle.table_rules.specs.Stores.{can_take_back};
 ghost use Rattle.prog_run.specs.Contents.{as_committed};
 
 use crate::work::Work;
+use exec_state::Stage;
 use row_store::Tables;
-use sql_stage::Stage;
 use stage_undo::dml_rows::take_back_to;
 use std::alloc::Global;
 use undo_log::Undo;

@@ -10,10 +10,10 @@ use crate::meter::{Meter, Outcome};
 use crate::number::number_of_bytes;
 use crate::staged::{evaluate_on, run_on};
 use crate::work::Work;
+use exec_state::Stage;
 use port_traits::Draw;
 use session_ctx::Ctx;
 use sql_locals::Locals;
-use sql_stage::Stage;
 use sql_tree::{Expr, Stmt};
 use std::alloc::Global;
 use val_types::{List, SqlRefusal, Value};
@@ -36,7 +36,7 @@ fn end(stage: &Stage, meter: &mut Meter)
 }
 
 /// Runs a change, a SELECT or a DO.
-#[tactic(auto, using(crate::proofs::Moments::together_on, crate::proofs::Moments::leaves_all, crate::proofs::Moments::runs_from, sql_stage::proofs::Leading::turns_led))]
+#[tactic(auto, using(crate::proofs::Moments::together_on, crate::proofs::Moments::leaves_all, crate::proofs::Moments::runs_from, exec_state::proofs::Leading::turns_led))]
 fn run_plain(
     alloc: Global,
     work: &mut Work,
@@ -90,7 +90,7 @@ pub fn run_stmt(
 
 /// The values of expressions, left to right, as the DO over them evaluates them. Changes that functions made stand
 /// behind the ones before, and an error takes them back.
-#[tactic(auto, using(crate::proofs::Moments::together_on, crate::proofs::Moments::leaves_all, crate::proofs::Moments::evaluated_from, sql_stage::proofs::Leading::turns_led))]
+#[tactic(auto, using(crate::proofs::Moments::together_on, crate::proofs::Moments::leaves_all, crate::proofs::Moments::evaluated_from, exec_state::proofs::Leading::turns_led))]
 pub fn eval_list(
     alloc: Global,
     work: &mut Work,

@@ -4,7 +4,7 @@ ghost use Rattle.sql_tree.specs.View.{view_trees};
 ghost use Rattle.sql_tree.specs.StatementView.{view};
 ghost use Rattle.catalog.specs.catalog_objects.Keys.{objects_of};
 ghost use Rattle.statement_names.specs.sql_meaning.Running.{effect, evaluation};
-ghost use Rattle.sql_stage.specs.Stage.{EndsAs, EndsAsBy, LeadsOn, scene_of};
+ghost use Rattle.exec_state.specs.Stage.{EndsAs, EndsAsBy, LeadsOn, scene_of};
 ghost use Rattle.stored_programs.specs.sql_statements.Did.{did_of};
 ghost use Rattle.stage_undo.specs.Back.{IsBack};
 ghost use Rattle.prog_run.specs.Runs.{Comes, Gives};
@@ -14,9 +14,9 @@ use crate::meter::Outcome;
 use crate::under_way::{expressions_alone, nothing, tables_alone};
 use crate::undoing::{undo_failed, undo_unknown};
 use catalog::catalog_objects::Objects;
+use exec_state::Stage;
 use session_ctx::Ctx;
 use sql_locals::Locals;
-use sql_stage::Stage;
 use sql_tree::{Expr, Stmt};
 use statement_names::tables_of;
 use std::alloc::Global;
@@ -24,7 +24,7 @@ use stored_programs::sql_statements::Did;
 use val_types::{List, SqlRefusal, Value};
 
 /// What a statement does to a stage.
-#[tactic(auto, using(crate::proofs::Effects::effect_ends, crate::proofs::Undone::stays_back, sql_stage::proofs::Leading::stage_stays))]
+#[tactic(auto, using(crate::proofs::Effects::effect_ends, crate::proofs::Undone::stays_back, exec_state::proofs::Leading::stage_stays))]
 fn effect(
     alloc: Global,
     catalog: &Objects,
@@ -75,7 +75,7 @@ fn evaluation(
 }
 
 /// A statement run on a stage, with its context.
-#[tactic(auto, using(crate::proofs::LastId::last_id_counts, sql_stage::proofs::Leading::stage_stays))]
+#[tactic(auto, using(crate::proofs::LastId::last_id_counts, exec_state::proofs::Leading::stage_stays))]
 pub(crate) fn run_on(
     alloc: Global,
     catalog: &Objects,

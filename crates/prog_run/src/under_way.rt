@@ -5,7 +5,7 @@ ghost use Rattle.statement_names.specs.catalog_rules.Nodes.{no_sight, nodes_of_t
 ghost use Rattle.statement_names.specs.sql_meaning.Running.{tables_named};
 ghost use Rattle.stored_programs.specs.sql_evaluation.Seen.{running_of};
 
-use sql_stage::Running;
+use exec_state::Running;
 use sql_tree::Expr;
 use val_types::{Bytes, List};
 

@@ -4,13 +4,13 @@ ghost use Rattle.sql_tree.specs.View.{view_trees};
 ghost use Rattle.sql_tree.specs.StatementView.{view};
 ghost use Rattle.statement_names.specs.sql_meaning.Scenes.{undone};
 ghost use Rattle.statement_names.specs.sql_meaning.Running.{perform};
-ghost use Rattle.sql_stage.specs.Stage.{EndsAs, EndsAsBy, LeadsOn, scene_of};
+ghost use Rattle.exec_state.specs.Stage.{EndsAs, EndsAsBy, LeadsOn, scene_of};
 ghost use Rattle.stored_programs.specs.sql_evaluation.Seen.{frame_of, values_in, world_of};
 ghost use Rattle.stored_programs.specs.sql_statements.Did.{did_of};
 ghost use Rattle.stage_undo.specs.Back.{IsBack};
 
 use crate::programs::{evaluated, performed};
-use sql_stage::Stage;
+use exec_state::Stage;
 use sql_tree::{Expr, Stmt};
 use stage_undo::take_back_at_error;
 use std::alloc::Global;

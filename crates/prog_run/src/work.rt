@@ -4,8 +4,8 @@ ghost use Rattle.prog_run.specs.Contents.{IsTogether, as_committed, committed_ta
 
 use auto_inc::Counters;
 use catalog::Catalog;
+use exec_state::Stage;
 use row_store::{Tables, tables_are_kept};
-use sql_stage::Stage;
 use stage_undo::dml_rows::take_back_to;
 use std::alloc::Global;
 use std::marker::Model;

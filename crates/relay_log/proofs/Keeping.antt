@@ -4,7 +4,7 @@ use Rattle.std.proofs.lemmas.List.{drop-drop, drop-append-le, length-append}
 use Rattle.log_groups.specs.log_model.Groups.{Group, group, group_at}
 use Rattle.log_groups.specs.log_model.Log.{LogPlace, moved}
 use Rattle.replica_model.specs.Replica.{behind_group, size_of}
-use Rattle.log_groups.proofs.of_whole_groups.Lying.{group_lies}
+use Rattle.log_groups.proofs.of_log_group_laws.Lying.{group_lies}
 use Rattle.relay_log.specs.declared.place.Walk.{Walk}
 use Rattle.relay_log.specs.Reaching.{ahead_of, Fetched, IsAhead, IsKept, past_all, place_seen, Reaches}
 use Rattle.relay_log.proofs.Leading.{ends_low, past_reached, reaches_back, reaches_group, reaches_here, reaches_on}

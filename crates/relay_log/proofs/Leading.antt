@@ -5,9 +5,9 @@ use Rattle.log_groups.specs.log_model.Events.{Place as Part}
 use Rattle.log_groups.specs.log_model.Groups.{Form, start, next_log, ddl, txn, Group, Next, group, not_whole, damaged_at, foreign_at, group_at}
 use Rattle.log_groups.specs.log_model.Log.{LogPlace, moved}
 use Rattle.replica_model.specs.Replica.{behind_form, behind_group, size_of, past_next, past_groups}
-use Rattle.log_groups.specs.whole_groups.Laws.{Lies}
-use Rattle.log_groups.proofs.of_whole_groups.Lying.{group_lies, nothing_there}
-use Rattle.log_groups.proofs.of_whole_groups.Staying.{group_stays}
+use Rattle.log_groups.specs.log_group_laws.Laws.{Lies}
+use Rattle.log_groups.proofs.of_log_group_laws.Lying.{group_lies, nothing_there}
+use Rattle.log_groups.proofs.of_log_group_laws.Staying.{group_stays}
 use Rattle.relay_log.specs.Reaching.{past_all, Reaches}
 
 -- some bytes from a place on

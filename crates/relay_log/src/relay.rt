@@ -3,12 +3,12 @@ ghost use Rattle.std.specs.Prelude.{◌≡◌, ◌<◌, ◌≤◌, ◌+◌, ◌^
 ghost use Rattle.log_groups.specs.Views.{group_seen, next_of};
 ghost use Rattle.log_groups.specs.log_model.Groups.{group as whole, group_at};
 ghost use Rattle.replica_model.specs.Replica.{behind_group, log_begin, size_of};
-ghost use Rattle.log_groups.specs.whole_groups.Laws.{Lies};
+ghost use Rattle.log_groups.specs.log_group_laws.Laws.{Lies};
 ghost use Rattle.relay_log.specs.Reaching.{ahead_of, IsAhead, past_all, place_seen};
 
 use crate::place::{Place, Walk};
 use crate::walking::{behind, walk};
-use log_groups::whole_groups::groups_lie_within;
+use log_groups::log_group_laws::groups_lie_within;
 use log_groups::{Group, Next, next_group};
 use std::alloc::Global;
 use std::marker::Model;

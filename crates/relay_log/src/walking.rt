@@ -6,7 +6,7 @@ ghost use Rattle.replica_model.specs.Replica.{behind_group, size_of};
 ghost use Rattle.relay_log.specs.Reaching.{past_all, Reaches, place_seen};
 
 use crate::place::{Place, Walk};
-use log_groups::whole_groups::groups_lie_within;
+use log_groups::log_group_laws::groups_lie_within;
 use log_groups::{Form, Group, Next, next_group};
 
 /// The place behind a group that stands at a place: the end of a log leads to the next one.

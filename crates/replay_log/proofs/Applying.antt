@@ -5,7 +5,7 @@ use Rattle.port_traits.specs.declared.identity.Identity.{Identity}
 use Rattle.port_traits.specs.declared.identity.Draw.{Draw}
 use Rattle.log_reader.specs.log_model.Groups.{Group}
 use Rattle.log_reader.specs.Reading.{Reader, next_pos}
-use Rattle.replica_node.specs.applier_model.Stops.{Differs}
+use Rattle.replica_node.specs.apply_model.Stops.{Differs}
 use Rattle.replica_node.specs.replica_model.Applying.{Going, apply, damaged, differs, foreign}
 use Rattle.replica_node.specs.replica_model.Replica.{Replica, fetched, want}
 use Rattle.replica_node.specs.replica_model.Replaying.{Replay, by_form}
@@ -14,8 +14,8 @@ use Rattle.replica_node.specs.declared.told.Stopped.{Stopped}
 use Rattle.replica_node.specs.declared.told.Stopped.TheVariants as stopped
 use Rattle.replica_node.specs.Kept.{Kept, replica_of}
 use Rattle.replica_node.specs.Steps.{IsTold, stop_of}
-use Rattle.log_reader.specs.whole_logs.Passing.{names_next}
-use Rattle.log_reader.proofs.of_whole_groups.Lying.{group_lies}
+use Rattle.log_reader.specs.log_file_model.Passing.{names_next}
+use Rattle.log_reader.proofs.of_log_group_laws.Lying.{group_lies}
 use Rattle.replay_log.specs.declared.replaying.Replaying as code_replaying
 use Rattle.replay_log.specs.Keeping.{IsWhole, IsBegun, Keeps, Follows}
 use Rattle.replay_log.specs.Replaying.{Stands, IsReady, IsNext, WentOn}

@@ -5,14 +5,14 @@ use Rattle.answer_text.specs.declared.status.Status.{Status}
 use Rattle.answer_text.specs.declared.status.Status.TheVariants.{Done, BadWords, BadScript, ReadFault, WriteFault, SourceDisk, ReplicaDisk, SourceDamaged, ReplicaDamaged, LogDamaged, LogForeign, Differs, NoMemory}
 use Rattle.port_traits.specs.declared.identity.Identity.{Identity}
 use Rattle.port_traits.specs.declared.identity.Draw.{Draw}
-use Rattle.replica_node.specs.applier_model.Stops.{Differs as Stop}
+use Rattle.replica_node.specs.apply_model.Stops.{Differs as Stop}
 use Rattle.log_reader.specs.log_model.Log.{LogPlace}
 use Rattle.replica_node.specs.replica_model.Lines.{applied_words, replayed_line}
 use Rattle.replica_node.specs.replica_model.Replaying.{Replay, all_replayed, first_replay, replayed}
 use Rattle.run_streams.specs.Stops.{failed_writes}
 use Rattle.run_streams.specs.Wrote.{Wrote, WroteFront}
-use Rattle.log_reader.specs.whole_logs.Walk.{Ending, ended, damaged, foreign, Grouped, Piece, grouped}
-use Rattle.log_reader.specs.whole_logs.Passing.{with_pieces}
+use Rattle.log_reader.specs.log_file_model.Walk.{Ending, ended, damaged, foreign, Grouped, Piece, grouped}
+use Rattle.log_reader.specs.log_file_model.Passing.{with_pieces}
 use Rattle.replay_log.specs.declared.replaying.Replaying as code_replaying
 use Rattle.replay_log.specs.Ends.{Reports, Replayed, Stopped, ReplayedFront, ReplayEnds}
 use Rattle.replay_log.specs.Replaying.{Stands, Through, UpTo, ComesTo, CameTo, Tells, is_told, line_of}

@@ -2,9 +2,9 @@
 use Rattle.std.proofs.Common.{◌≡◌, List, [], ◌∷◌, ◌++◌, Option, Some, None, refl, sym, ap, ◌∙◌}
 use Rattle.port_traits.specs.declared.identity.Identity.{Identity}
 use Rattle.port_traits.specs.declared.identity.Draw.{Draw}
-use Rattle.replica_node.specs.applier_model.Stops.{Differs}
+use Rattle.replica_node.specs.apply_model.Stops.{Differs}
 use Rattle.replica_node.specs.replica_model.Replaying.{Replay, by_form, unless_stopped, all_replayed, first_replay}
-use Rattle.log_reader.specs.whole_logs.Walk.{Piece}
+use Rattle.log_reader.specs.log_file_model.Walk.{Piece}
 
 module _ (identity : Identity) (draw : Draw) where
   stopped_by : (qs : List Piece) (s : Replay) (d : Differs) → s.stop ≡ Some d → s ≡ unless_stopped (all_replayed identity draw qs) s s.stop

@@ -11,9 +11,9 @@ use Rattle.log_reader.specs.Behind.{CallsLead, FrontsAreKnown, LeadsTo, piece_re
 use Rattle.log_reader.specs.Reading.{Reader, IsGroup, IsEnd, Reads, next_pos}
 use Rattle.replica_node.specs.replica_model.Replaying.{Replay, by_form, all_replayed, first_replay}
 use Rattle.run_streams.specs.Stops.{status_of}
-use Rattle.log_reader.proofs.of_whole_groups.Lying.{group_lies}
-use Rattle.log_reader.specs.whole_logs.Passing.{names_next}
-use Rattle.log_reader.specs.whole_logs.Walk.{ended, Piece}
+use Rattle.log_reader.proofs.of_log_group_laws.Lying.{group_lies}
+use Rattle.log_reader.specs.log_file_model.Passing.{names_next}
+use Rattle.log_reader.specs.log_file_model.Walk.{ended, Piece}
 use Rattle.replay_log.specs.declared.replaying.Replaying as code_replaying
 use Rattle.replay_log.specs.Keeping.{IsWhole}
 use Rattle.replay_log.specs.Replaying.{Stands, IsReady, IsNext, IsStop, Went, Under, Through, ComesTo}

@@ -5,12 +5,12 @@ use Rattle.port_traits.specs.declared.identity.Draw.{Draw}
 use Rattle.answer_text.specs.declared.report.Report.{Report}
 use Rattle.answer_text.specs.declared.status.Status.{Status}
 use Rattle.answer_text.specs.declared.status.Status.TheVariants.{Done, ReadFault, WriteFault, LogDamaged, LogForeign, Differs, NoMemory}
-use Rattle.replica_node.specs.applier_model.Stops.{Differs as Stop}
+use Rattle.replica_node.specs.apply_model.Stops.{Differs as Stop}
 use Rattle.replica_node.specs.replica_model.Replaying.{replayed}
 use Rattle.replica_node.specs.replica_model.Lines.{replayed_line}
 use Rattle.run_streams.specs.Reports.{first_mark}
 use Rattle.run_streams.specs.Wrote.{Wrote, WroteFront}
-use Rattle.log_reader.specs.whole_logs.Walk.{Ending, ended, damaged, foreign, grouped}
+use Rattle.log_reader.specs.log_file_model.Walk.{Ending, ended, damaged, foreign, grouped}
 
 -- the report tells who the replica is and its one draw, and nothing of a source
 pub record Reports (identity : Identity) (draw : Draw) (report : Report) : Type 0 where

@@ -5,7 +5,7 @@ use Rattle.port_traits.specs.declared.identity.Draw.{Draw}
 use Rattle.answer_text.specs.declared.status.Status.{Status}
 use Rattle.answer_text.specs.declared.status.Status.TheVariants.{Done, ReadFault, WriteFault, LogDamaged, LogForeign, Differs, NoMemory}
 use Rattle.answer_text.specs.declared.report.Report.{Report}
-use Rattle.replica_node.specs.applier_model.Stops.{Differs as Stop}
+use Rattle.replica_node.specs.apply_model.Stops.{Differs as Stop}
 use Rattle.log_reader.specs.log_model.Groups.{Group}
 use Rattle.log_reader.specs.Behind.{Behind, IsLog, IsLogFront}
 use Rattle.log_reader.specs.Reading.{Reader, IsEnd, next_pos}
@@ -15,7 +15,7 @@ use Rattle.replica_node.specs.declared.told.Stopped.{Stopped}
 use Rattle.replica_node.specs.declared.told.Stopped.TheVariants as stopped
 use Rattle.replica_node.specs.Kept.{replica_of}
 use Rattle.run_streams.specs.Wrote.{Wrote, WroteFront}
-use Rattle.log_reader.specs.whole_logs.Walk.{Ending, ended, damaged, foreign, Piece}
+use Rattle.log_reader.specs.log_file_model.Walk.{Ending, ended, damaged, foreign, Piece}
 use Rattle.replay_log.specs.declared.replaying.Replaying as code_replaying
 use Rattle.replay_log.specs.Ends.{Reports}
 use Rattle.replay_log.specs.Keeping.{IsWhole, IsBegun, Keeps}

@@ -5,14 +5,14 @@ ghost use Rattle.log_reader.specs.log_model.Groups.{Group as AnyGroup};
 ghost use Rattle.log_reader.specs.Reading.{next_pos};
 ghost use Rattle.replica_node.specs.replica_model.Replaying.{Replay, by_form, first_replay};
 ghost use Rattle.run_streams.specs.Stops.{failed_writes, status_of};
-ghost use Rattle.log_reader.specs.whole_logs.Passing.{names_next};
+ghost use Rattle.log_reader.specs.log_file_model.Passing.{names_next};
 ghost use Rattle.replay_log.specs.Keeping.{IsWhole};
 ghost use Rattle.replay_log.specs.Replaying.{ComesTo, IsNext, IsReady, IsStop, Stands, Tells, Went, WentOn, is_told};
 
 use crate::line::replayed_line;
+use answer_making::NodeFault;
 use answer_text::Status;
 use log_reader::{Found, LogReader, calls_lead, fronts_are_known, magic_leads, read_magic};
-use node_answers::NodeFault;
 use port_traits::{Draw, Identity, Sink, Source};
 use replica_node::{Applied, ReplicaNode, Stopped};
 use run_streams::write_line;

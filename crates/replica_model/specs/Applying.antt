@@ -3,8 +3,8 @@ use Rattle.std.specs.Prelude.{ℕ, zero, suc, ◌+◌, ◌-◌, ◌^◌, min, na
 use Rattle.port_traits.specs.declared.identity.Identity.{Identity}
 use Rattle.port_traits.specs.declared.identity.Draw.{Draw}
 use Rattle.session_model.specs.log_model.Groups.{Form, start, next_log, ddl, txn, Group, Next, group, not_whole, damaged_at, foreign_at, group_at}
-use Rattle.applier_model.specs.Stops.{Differs}
-use Rattle.applier_model.specs.Groups.{Applied, group_carried}
+use Rattle.apply_model.specs.Stops.{Differs}
+use Rattle.apply_model.specs.Groups.{Applied, group_carried}
 use Rattle.replica_model.specs.Replica.{Replica, behind_group, size_of}
 
 -- Where it stops: at an item that has no effect, at bytes that are damaged, or at an event that is not known, each with its place.

@@ -5,5 +5,5 @@ pub mod Replaying
 pub mod Lines
 pub mod Worked
 -- the crates below that this one speaks of, passed on
-pub use Rattle.applier_model.specs as applier_model
-pub use Rattle.whole_logs.specs as whole_logs
+pub use Rattle.apply_model.specs as apply_model
+pub use Rattle.log_file_model.specs as log_file_model

@@ -3,12 +3,12 @@ use Rattle.std.specs.Prelude.{ℕ, ◌+◌, List, [], ◌∷◌, Option, Some, N
 use Rattle.auto_inc.specs.declared.counters.Counter.{Counter}
 use Rattle.port_traits.specs.declared.identity.Identity.{Identity}
 use Rattle.port_traits.specs.declared.identity.Draw.{Draw}
-use Rattle.whole_logs.specs.catalog_rules.Bases.{Base, empty_base}
+use Rattle.log_file_model.specs.catalog_rules.Bases.{Base, empty_base}
 use Rattle.session_model.specs.log_model.Groups.{Form, start, next_log, ddl, txn, Group}
 use Rattle.session_model.specs.log_model.Log.{LogPlace}
-use Rattle.whole_logs.specs.Walk.{Piece, grouped}
-use Rattle.applier_model.specs.Stops.{Differs}
-use Rattle.applier_model.specs.Groups.{Applied, group_carried}
+use Rattle.log_file_model.specs.Walk.{Piece, grouped}
+use Rattle.apply_model.specs.Stops.{Differs}
+use Rattle.apply_model.specs.Groups.{Applied, group_carried}
 use Rattle.replica_model.specs.Replica.{log_begin}
 
 -- A replay on its way: base and counters, the place behind what was carried out, how many groups that are, and the item that has no

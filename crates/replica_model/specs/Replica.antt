@@ -2,7 +2,7 @@
 -- has fetched from there on.
 use Rattle.std.specs.Prelude.{ℕ, zero, suc, ◌-◌, List, [], ◌++◌, length, drop}
 use Rattle.auto_inc.specs.declared.counters.Counter.{Counter}
-use Rattle.whole_logs.specs.catalog_rules.Bases.{Base, empty_base}
+use Rattle.log_file_model.specs.catalog_rules.Bases.{Base, empty_base}
 use Rattle.session_model.specs.log_model.Groups.{Form, start, next_log, ddl, txn, Group, Next, group, not_whole, damaged_at, foreign_at, group_at}
 use Rattle.session_model.specs.log_model.Log.{LogPlace, moved}
 

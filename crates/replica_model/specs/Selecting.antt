@@ -4,17 +4,17 @@ use Rattle.auto_inc.specs.declared.counters.Counter.{Counter}
 use Rattle.port_traits.specs.declared.identity.Identity.{Identity}
 use Rattle.port_traits.specs.declared.identity.Draw.{Draw}
 use Rattle.answer_text.specs.declared.answer.Answer.{Answer}
-use Rattle.whole_logs.specs.catalog_rules.Bases.{Base}
-use Rattle.whole_logs.specs.catalog_rules.Checks.{session_scope, statement_refusal}
-use Rattle.applier_model.specs.session_ctx.Contexts.{new_context}
-use Rattle.applier_model.specs.sql_meaning.Changing.{Did}
-use Rattle.applier_model.specs.sql_meaning.Scenes.{Scene, Ending, done, failed}
-use Rattle.applier_model.specs.sql_meaning.Frames.{Context}
-use Rattle.applier_model.specs.sql_meaning.Running.{most_nested, effect}
-use Rattle.applier_model.specs.sql_reach.Defining.{number_of_bytes}
-use Rattle.applier_model.specs.sql_reach.Reach.{writes}
+use Rattle.log_file_model.specs.catalog_rules.Bases.{Base}
+use Rattle.log_file_model.specs.catalog_rules.Checks.{session_scope, statement_refusal}
+use Rattle.apply_model.specs.session_ctx.Contexts.{new_context}
+use Rattle.apply_model.specs.sql_meaning.Changing.{Did}
+use Rattle.apply_model.specs.sql_meaning.Scenes.{Scene, Ending, done, failed}
+use Rattle.apply_model.specs.sql_meaning.Frames.{Context}
+use Rattle.apply_model.specs.sql_meaning.Running.{most_nested, effect}
+use Rattle.apply_model.specs.sql_reach.Defining.{number_of_bytes}
+use Rattle.apply_model.specs.sql_reach.Reach.{writes}
 use Rattle.sql_tree.specs.Statement.{Statement}
-use Rattle.applier_model.specs.text_answers.Answers.{TextAnswer, a_statement, a_syntax_error, too_deep, text_answer}
+use Rattle.apply_model.specs.text_answers.Answers.{TextAnswer, a_statement, a_syntax_error, too_deep, text_answer}
 use Rattle.session_model.specs.Answers.{refused, refused_at}
 use Rattle.session_model.specs.Running.{full, setting_of, did_answer}
 

@@ -3,12 +3,12 @@
 use Rattle.std.specs.Prelude.{ℕ, ◌-◌, List, [], ◌∷◌, codes, drop, pos, slice_set, true}
 use Rattle.val_types.specs.declared.change.Change.TheVariants.{Insert}
 use Rattle.val_types.specs.declared.value.Value.TheVariants.{Int}
-use Rattle.whole_logs.specs.log_entries.declared.entries.Item.{Item}
-use Rattle.whole_logs.specs.log_entries.declared.entries.Entry.{Entry}
-use Rattle.whole_logs.specs.log_entries.declared.entries.Entry.TheVariants.{Transaction, Definition, LogStart}
+use Rattle.log_file_model.specs.log_entries.declared.entries.Item.{Item}
+use Rattle.log_file_model.specs.log_entries.declared.entries.Entry.{Entry}
+use Rattle.log_file_model.specs.log_entries.declared.entries.Entry.TheVariants.{Transaction, Definition, LogStart}
 use Rattle.session_model.specs.log_model.Log.{log}
 use Rattle.session_model.specs.log_model.Worked.{by_rows, creating, nowhere, plainly, table_named}
-use Rattle.applier_model.specs.Worked.{no_draw, replica}
+use Rattle.apply_model.specs.Worked.{no_draw, replica}
 use Rattle.replica_model.specs.Replica.{Replica, fetched, first_replica}
 use Rattle.replica_model.specs.Applying.{Going, apply}
 use Rattle.replica_model.specs.Replaying.{Replay, replayed}

@@ -1,7 +1,7 @@
 //! What a replica does: definitions and no code.
 //!
 //! A replica has a base, which began empty, and follows the log of its source: it fetches bytes, and carries out the whole groups among
-//! them, one after the other, each whole or not at all (`applier_model`). It shows its rows and changes none by itself.
+//! them, one after the other, each whole or not at all (`apply_model`). It shows its rows and changes none by itself.
 //!
 //! The definitions stand in specs/: `Replica` (what it keeps, and where it fetches), `Applying` (APPLY), `Selecting` (a SELECT of the
 //! replica), `Replaying` (the replay of a whole log), `Lines` (the lines that show FETCH, APPLY and a replay), `Worked`.
@@ -16,5 +16,5 @@
 mod worked;
 
 // What is its own, and the crates below that it speaks of, passed on: who stands above names them through it.
-pub use whole_logs;
+pub use log_file_model;
 pub use worked::{first_row_applied, first_text_replayed};

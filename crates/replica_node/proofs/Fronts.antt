@@ -3,8 +3,8 @@ use Rattle.std.proofs.Common.{◌≡◌, ℕ, zero, suc, ◌+◌, ◌<◌, Bool,
 use Rattle.std.specs.Prelude.{if◌then◌else◌, nat_le}
 use Rattle.port_traits.specs.declared.identity.Identity.{Identity}
 use Rattle.port_traits.specs.declared.identity.Draw.{Draw}
-use Rattle.relay_log.specs.applier_model.Stops.{Differs}
-use Rattle.relay_log.specs.applier_model.Groups.{Applied, group_carried}
+use Rattle.relay_log.specs.apply_model.Stops.{Differs}
+use Rattle.relay_log.specs.apply_model.Groups.{Applied, group_carried}
 use Rattle.relay_log.specs.log_model.Groups.{Form, start, next_log, ddl, txn, Group, Next, group, not_whole, damaged_at, foreign_at}
 use Rattle.replica_model.specs.Applying.{Going, Stop, differs, damaged, foreign, by_form, by_next, carried_out, carry, go_on, going_from, moved_behind, next_at}
 use Rattle.replica_model.specs.Replica.{Replica, size_of}

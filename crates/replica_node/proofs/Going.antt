@@ -10,7 +10,7 @@ use Rattle.replica_model.specs.Applying.{Going, Stop, apply, by_next, go_on, nex
 use Rattle.replica_model.specs.Replica.{Replica}
 use Rattle.relay_log.specs.declared.place.Walk.{Walk}
 use Rattle.relay_log.specs.Reaching.{Fetched, IsAhead, place_seen}
-use Rattle.relay_log.proofs.of_whole_groups.Lying.{nothing_there}
+use Rattle.relay_log.proofs.of_log_group_laws.Lying.{nothing_there}
 use Rattle.replica_node.specs.declared.told.Applied.{Applied}
 use Rattle.replica_node.specs.declared.told.Step.{Step}
 use Rattle.replica_node.specs.declared.told.Step.TheVariants.{Over, Moved, Carried, Waits, Stopped as StoppedBy}

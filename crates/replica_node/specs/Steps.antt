@@ -3,8 +3,8 @@ use Rattle.std.specs.Prelude.{◌≡◌, ◌≤◌, ◌<◌, ℕ, ◌+◌, lengt
 use Rattle.std.specs.Option.{option_map}
 use Rattle.port_traits.specs.declared.identity.Identity.{Identity}
 use Rattle.port_traits.specs.declared.identity.Draw.{Draw}
-use Rattle.relay_log.specs.applier_model.Stops.{Differs}
-use Rattle.relay_log.specs.applier_model.Groups.{Applied}
+use Rattle.relay_log.specs.apply_model.Stops.{Differs}
+use Rattle.relay_log.specs.apply_model.Groups.{Applied}
 use Rattle.relay_log.specs.log_model.Log.{moved}
 use Rattle.prog_run.specs.Contents.{Contents}
 use Rattle.replica_model.specs.Applying.{Going, Stop, differs, damaged, foreign, go_on, going_from}

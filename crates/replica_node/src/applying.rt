@@ -2,15 +2,15 @@
 ghost use Rattle.std.specs.Prelude.{◌≡◌, ◌-◌, ℕ, [], length, IfOk, OnErr};
 ghost use Rattle.log_groups.specs.Views.{group_seen};
 ghost use Rattle.prog_run.specs.Contents.{base_of};
-ghost use Rattle.relay_log.specs.applier_model.Groups.{group_carried};
+ghost use Rattle.relay_log.specs.apply_model.Groups.{group_carried};
 ghost use Rattle.replica_model.specs.Applying.{Going as Under, apply, by_next, next_at};
 ghost use Rattle.replica_node.specs.Kept.{replica_of};
 ghost use Rattle.replica_node.specs.Steps.{CarriesOut, GoesOn, IsFront, IsOver, IsTold, ended_by, going_at};
 
 use crate::replica::ReplicaNode;
 use crate::told::{Applied, Step, Stopped};
+use answer_making::NodeFault;
 use log_groups::{Form, Group, Next};
-use node_answers::NodeFault;
 use port_traits::{Draw, Identity};
 use prog_run::Work;
 use relay_log::Walk;

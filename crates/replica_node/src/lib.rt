@@ -35,5 +35,5 @@ mod told;
 // What is its own, and the crates below that it speaks of, passed on: who stands above names them through it.
 pub use lines::{applied_line, fetched_line};
 pub use replica::ReplicaNode;
-pub use stmt_apply::node_answers;
+pub use stmt_apply::answer_making;
 pub use told::{Applied, Stopped};

@@ -5,8 +5,8 @@ ghost use Rattle.replica_model.specs.Selecting.{select_answer};
 ghost use Rattle.replica_node.specs.Kept.{replica_of};
 
 use crate::selecting::answer;
+use answer_making::NodeFault;
 use answer_text::Answer;
-use node_answers::NodeFault;
 use port_traits::{Draw, Identity};
 use prog_run::Work;
 use relay_log::Relay;

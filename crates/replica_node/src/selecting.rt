@@ -6,8 +6,8 @@ ghost use Rattle.unsafe_rules.specs.sql_reach.Reach.{is_definition};
 ghost use Rattle.row_apply.specs.Ends.{Stays};
 ghost use Rattle.replica_model.specs.Selecting.{select_answer, select_checked, select_run};
 
+use answer_making::{NodeFault, refused, refused_at, statement_of, told};
 use answer_text::Answer;
-use node_answers::{NodeFault, refused, refused_at, statement_of, told};
 use port_traits::{Draw, Identity};
 use prog_run::{Meter, Work, run_stmt};
 use session_ctx::SessionVars;

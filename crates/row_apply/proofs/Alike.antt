@@ -2,9 +2,9 @@
 use Rattle.std.proofs.Common.{◌≡◌, ℕ, ◌<◌, List, [], ◌∷◌, map, drop, length, get_or, Bool, false, refl, sym, ap, ◌∙◌, arith}
 use Rattle.val_types.specs.declared.definitions.ColType.{ColType}
 use Rattle.val_types.specs.declared.definitions.ColumnDef.{ColumnDef}
-use Rattle.applier_model.specs.log_model.Images.{types_of as types_in}
-use Rattle.applier_model.proofs.of_row_image.Columns.{types_step}
-use Rattle.applier_model.specs.Rows.{are_same_types}
+use Rattle.apply_model.specs.log_model.Images.{types_of as types_in}
+use Rattle.apply_model.proofs.of_row_image.Columns.{types_step}
+use Rattle.apply_model.specs.Rows.{are_same_types}
 
 abbrev pub kinds_of : List ColumnDef → List ColType
 kinds_of columns = map (λ (c : ColumnDef). c.kind) columns

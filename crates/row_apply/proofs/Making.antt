@@ -15,10 +15,10 @@ use Rattle.table_rules.proofs.Equations.{deletion_by_row}
 use Rattle.prog_run.specs.dml_rows.Noted.{changes_of}
 use Rattle.prog_run.proofs.of_dml_rows.Noting.{carried, inserted, replaced}
 use Rattle.event_codec.specs.Event.{Map}
-use Rattle.applier_model.specs.Stops.{Differs}
-use Rattle.applier_model.specs.Rows.{Refusal, Store, change_if, change_refusal, counters_moved, matches, storing_refusal, table_refusal}
-use Rattle.applier_model.specs.Texts.{Progress}
-use Rattle.applier_model.specs.Groups.{and_then, with_store}
+use Rattle.apply_model.specs.Stops.{Differs}
+use Rattle.apply_model.specs.Rows.{Refusal, Store, change_if, change_refusal, counters_moved, matches, storing_refusal, table_refusal}
+use Rattle.apply_model.specs.Texts.{Progress}
+use Rattle.apply_model.specs.Groups.{and_then, with_store}
 use Rattle.row_apply.specs.Changes.{change_carried, code_in, is_row, table_code}
 use Rattle.row_apply.proofs.Refusing.{not_refused, insert_unfit, insert_taken, update_unfit, update_taken, update_absent, delete_absent}
 

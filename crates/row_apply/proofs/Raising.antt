@@ -8,7 +8,7 @@ use Rattle.val_types.specs.declared.definitions.TableDef.{TableDef}
 use Rattle.auto_inc.specs.declared.counters.Counter.{Counter}
 use Rattle.auto_inc.specs.Counting.{behind, changed_for}
 use Rattle.table_rules.specs.Tables.{Table}
-use Rattle.applier_model.specs.Rows.{behind_value, raised_by, raised_in}
+use Rattle.apply_model.specs.Rows.{behind_value, raised_by, raised_in}
 use Rattle.row_apply.specs.Changes.{definition_of, raised_to}
 
 abbrev no_value : Option ℤ

@@ -16,7 +16,7 @@ use Rattle.table_rules.specs.Changes.{applied, may_put, put, rows_after, with_ro
 use Rattle.table_rules.specs.Stored.{table_named, has_key, row_of_key, row_at, rows_beside, fits_table, insertion, replacement}
 use Rattle.table_rules.proofs.Storing.{applied_where, inserts_where, named_kept, replaces_where, without_is_beside}
 use Rattle.table_rules.proofs.Taking.{Kept, as_kept, same_is, same_self, taken_out}
-use Rattle.applier_model.specs.Rows.{Refusal, taken_if, replacing, removing, storing_refusal}
+use Rattle.apply_model.specs.Rows.{Refusal, taken_if, replacing, removing, storing_refusal}
 use Rattle.row_apply.specs.Changes.{is_row}
 
 -- ---- by whether the change can be made

@@ -11,10 +11,10 @@ use Rattle.auto_inc.specs.Counting.{behind, changed_for}
 use Rattle.table_rules.specs.Tables.{Table}
 use Rattle.table_rules.specs.Stored.{table_named}
 use Rattle.event_codec.specs.Event.{Map}
-use Rattle.applier_model.specs.Stops.{Differs}
-use Rattle.applier_model.specs.Rows.{carry_change, matches}
-use Rattle.applier_model.specs.Texts.{Progress}
-use Rattle.applier_model.specs.Groups.{and_then, with_store}
+use Rattle.apply_model.specs.Stops.{Differs}
+use Rattle.apply_model.specs.Rows.{carry_change, matches}
+use Rattle.apply_model.specs.Texts.{Progress}
+use Rattle.apply_model.specs.Groups.{and_then, with_store}
 
 abbrev pub definition_of : Table → TableDef
 definition_of table = table.definition

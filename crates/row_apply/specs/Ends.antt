@@ -1,8 +1,8 @@
 -- How carrying out a part of a group ends.
 use Rattle.std.specs.Prelude.{◌≡◌, Result, Ok, Err}
 use Rattle.auto_inc.specs.Counting.{tables_of}
-use Rattle.applier_model.specs.Stops.{Differs}
-use Rattle.applier_model.specs.Texts.{Progress}
+use Rattle.apply_model.specs.Stops.{Differs}
+use Rattle.apply_model.specs.Texts.{Progress}
 use Rattle.prog_run.specs.Contents.{Contents, committed_tables}
 use Rattle.row_apply.specs.declared.stop.Stop.{Stop}
 use Rattle.row_apply.specs.declared.stop.Stop.TheVariants as stop

@@ -1,10 +1,10 @@
 //! Whether the columns of a map and of a table are the same.
 ghost use Rattle.std.specs.Prelude.{◌≡◌};
 ghost use Rattle.event_codec.specs.Event.{map_of};
-ghost use Rattle.applier_model.specs.log_model.Images.{map_types};
-ghost use Rattle.applier_model.specs.Rows.{are_same_types, is_same_type, matches, takes_row, types_of};
+ghost use Rattle.apply_model.specs.log_model.Images.{map_types};
+ghost use Rattle.apply_model.specs.Rows.{are_same_types, is_same_type, matches, takes_row, types_of};
 
-use applier_model::row_image::{behind_type, column_type};
+use apply_model::row_image::{behind_type, column_type};
 use event_codec::MapView;
 use val_types::{Change, ColType, ColumnDef, List, Row, TableDef};
 

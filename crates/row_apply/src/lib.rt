@@ -2,7 +2,7 @@
 //!
 //! [`carry_change`] carries out a change as a log has it on the rows and the counters of a [`Work`](prog_run::Work): its row is
 //! put as it is, with no trigger, or what is there differs from what the change says, and it stops. `stmt_apply` stands on it,
-//! which carries out whole groups; the definition is `applier_model`'s.
+//! which carries out whole groups; the definition is `apply_model`'s.
 //!
 //! - `stop`: [`Stop`], why a group is not carried out, and [`stop_at`], one that names no table
 //! - `changing`: one change of a row, [`carry_change`]; `table`: what its table says of it; `columns`: whether the columns of a
@@ -18,7 +18,7 @@
 //! - [`stop_at`] is just the stop at this place with this number, without a table and a key
 //!
 //! # Only tested
-//! That changes are carried out with ample memory, where a replica applies them (`repl_tests`).
+//! That changes are carried out with ample memory, where a replica applies them (`test_scripts`).
 #![tactic(auto)]
 
 mod changing;

@@ -7,7 +7,7 @@ ghost use Rattle.auto_inc.specs.declared.counters.Counter.{Counter};
 ghost use Rattle.table_rules.specs.Stored.{row_at, table_named};
 ghost use Rattle.table_rules.specs.Tables.{Table};
 ghost use Rattle.event_codec.specs.Event.{map_of};
-ghost use Rattle.applier_model.specs.Rows.{counters_moved};
+ghost use Rattle.apply_model.specs.Rows.{counters_moved};
 ghost use Rattle.row_apply.specs.Changes.{definition_of, is_row, raised_to, table_code};
 
 use crate::columns::matches;

@@ -14,7 +14,7 @@
 //! - [`RowArena::make_room`] makes room for so many more, or wants memory; the rows stay, and the room is never less
 //!
 //! # Only tested
-//! That calls succeed with ample memory, in `block_callers`.
+//! That calls succeed with ample memory, in `test_blocks`.
 #![tactic(auto)]
 
 mod arena;

@@ -26,7 +26,7 @@
 //!
 //! # Only tested
 //! That calls succeed with ample memory, and the bytes of a small table's changes beside those of another
-//! program, in `item_callers`. That what was written is read again is a law of `log_model`; that callers
+//! program, in `test_items`. That what was written is read again is a law of `log_model`; that callers
 //! can meet what is asked is the law of `row_laws`.
 #![tactic(auto)]
 

@@ -24,7 +24,7 @@
 //!   left of the metadata behind it, for all bytes.
 //!
 //! # Only tested
-//! That calls succeed with ample memory, in `log_callers`.
+//! That calls succeed with ample memory, in `test_log`.
 #![tactic(auto)]
 
 mod bits;

@@ -46,7 +46,7 @@
 //!   and no two tables have the same name ([`tables_are_kept`])
 //!
 //! # Only tested
-//! That calls succeed with ample memory, in `row_callers`.
+//! That calls succeed with ample memory, in `test_rows`.
 #![tactic(auto)]
 
 mod by_name;

@@ -4,20 +4,20 @@ use Rattle.std.specs.Prelude.{◌^◌, min, nat_le, if◌then◌else◌, take, r
 use Rattle.std.specs.Option.{option_and_then}
 use Rattle.std.proofs.lemmas.List.{drop-drop}
 use Rattle.port_traits.specs.declared.identity.Draw.{Draw}
-use Rattle.applier_laws.specs.catalog_rules.Bases.{Base}
-use Rattle.applier_laws.specs.log_entries.declared.entries.Entry.{Entry}
-use Rattle.applier_laws.specs.log_entries.declared.entries.Entry.TheVariants.{Transaction, Definition, LogStart}
-use Rattle.applier_laws.specs.log_entries.Entries.{entry_applied, after}
-use Rattle.applier_laws.specs.log_model.Groups.{Group, Next, group, not_whole, group_at}
-use Rattle.applier_laws.specs.log_model.Log.{LogPlace, behind, counted, description, entry_bytes, log}
-use Rattle.applier_laws.specs.log_model.Written.{bytes_of}
-use Rattle.applier_laws.specs.applier_model.Stops.{Differs}
-use Rattle.applier_laws.specs.applier_model.Groups.{Applied, and_then, group_carried}
-use Rattle.applier_laws.specs.entry_groups.Entries.{group_of_entry, start_group, StaysInLog, CanLog, CanLogAll}
-use Rattle.applier_laws.specs.entry_groups.Laws.{Fetched, partly, wholly}
-use Rattle.applier_laws.specs.session_model.Machine.{Whole, kept_entry, Machine, first_place}
-use Rattle.applier_laws.specs.session_model.Holding.{changes_of, define}
-use Rattle.applier_laws.specs.session_replays.Followed.{EntriesFollow}
+use Rattle.apply_laws.specs.catalog_rules.Bases.{Base}
+use Rattle.apply_laws.specs.log_entries.declared.entries.Entry.{Entry}
+use Rattle.apply_laws.specs.log_entries.declared.entries.Entry.TheVariants.{Transaction, Definition, LogStart}
+use Rattle.apply_laws.specs.log_entries.Entries.{entry_applied, after}
+use Rattle.apply_laws.specs.log_model.Groups.{Group, Next, group, not_whole, group_at}
+use Rattle.apply_laws.specs.log_model.Log.{LogPlace, behind, counted, description, entry_bytes, log}
+use Rattle.apply_laws.specs.log_model.Written.{bytes_of}
+use Rattle.apply_laws.specs.apply_model.Stops.{Differs}
+use Rattle.apply_laws.specs.apply_model.Groups.{Applied, and_then, group_carried}
+use Rattle.apply_laws.specs.log_entry_laws.Entries.{group_of_entry, start_group, StaysInLog, CanLog, CanLogAll}
+use Rattle.apply_laws.specs.log_entry_laws.Laws.{Fetched, partly, wholly}
+use Rattle.apply_laws.specs.session_model.Machine.{Whole, kept_entry, Machine, first_place}
+use Rattle.apply_laws.specs.session_model.Holding.{changes_of, define}
+use Rattle.apply_laws.specs.session_replays.Followed.{EntriesFollow}
 use Rattle.run_model.specs.replica_model.Replica.{Replica, behind_group, log_begin, size_of}
 use Rattle.run_model.specs.replica_model.Applying.{differs, Going, going_from, next_at, carried_out, carry, by_next, go_on, apply}
 use Rattle.run_model.specs.Run.{Names, Read, nothing, bytes_to, Starts, log_with, number_before, place_before}

@@ -4,21 +4,21 @@ use Rattle.std.specs.Option.{option_and_then}
 use Rattle.auto_inc.specs.declared.counters.Counter.{Counter}
 use Rattle.port_traits.specs.declared.identity.Identity.{Identity}
 use Rattle.port_traits.specs.declared.identity.Draw.{Draw}
-use Rattle.applier_laws.specs.catalog_rules.Bases.{Base}
-use Rattle.applier_laws.specs.log_entries.declared.entries.Entry.{Entry}
-use Rattle.applier_laws.specs.log_entries.declared.entries.Entry.TheVariants.{Transaction, Definition, LogStart}
-use Rattle.applier_laws.specs.log_entries.Entries.{entry_applied, after}
-use Rattle.applier_laws.specs.log_model.Log.{LogPlace}
-use Rattle.applier_laws.specs.applier_model.Groups.{group_carried}
-use Rattle.applier_laws.specs.entry_groups.Entries.{group_of_entry, StaysInLog, CanLog}
-use Rattle.applier_laws.specs.Following.{BaseHolds, CanFollow, EntriesOfRunsFollow}
-use Rattle.applier_laws.specs.Laws.{BasesHold, EntryIsCarried}
-use Rattle.applier_laws.specs.session_model.Machine.{Whole, kept_entry, Machine}
-use Rattle.applier_laws.specs.session_model.Holding.{changes_of, define, EntriesMade}
-use Rattle.applier_laws.specs.session_replays.Again.{EntriesGive}
-use Rattle.applier_laws.specs.session_replays.Followed.{EntriesFollow}
-use Rattle.applier_laws.specs.session_replays.Texts.{EntriesSay}
-use Rattle.applier_laws.specs.session_replays.Replaying.{Replays}
+use Rattle.apply_laws.specs.catalog_rules.Bases.{Base}
+use Rattle.apply_laws.specs.log_entries.declared.entries.Entry.{Entry}
+use Rattle.apply_laws.specs.log_entries.declared.entries.Entry.TheVariants.{Transaction, Definition, LogStart}
+use Rattle.apply_laws.specs.log_entries.Entries.{entry_applied, after}
+use Rattle.apply_laws.specs.log_model.Log.{LogPlace}
+use Rattle.apply_laws.specs.apply_model.Groups.{group_carried}
+use Rattle.apply_laws.specs.log_entry_laws.Entries.{group_of_entry, StaysInLog, CanLog}
+use Rattle.apply_laws.specs.Following.{BaseHolds, CanFollow, EntriesOfRunsFollow}
+use Rattle.apply_laws.specs.Laws.{BasesHold, EntryIsCarried}
+use Rattle.apply_laws.specs.session_model.Machine.{Whole, kept_entry, Machine}
+use Rattle.apply_laws.specs.session_model.Holding.{changes_of, define, EntriesMade}
+use Rattle.apply_laws.specs.session_replays.Again.{EntriesGive}
+use Rattle.apply_laws.specs.session_replays.Followed.{EntriesFollow}
+use Rattle.apply_laws.specs.session_replays.Texts.{EntriesSay}
+use Rattle.apply_laws.specs.session_replays.Replaying.{Replays}
 use Rattle.run_model.specs.Run.{Read, nothing, bytes_to, Starts, source_from}
 use Rattle.run_model.specs.Following.{AreCommitted, head_entries}
 use Rattle.run_laws.specs.Laws.{IsBehind, NothingIsOwed}

@@ -10,30 +10,30 @@ use Rattle.sql_tree.specs.Tree.{Tree, Trees, no_tree, tree}
 use Rattle.sql_locals.specs.declared.locals.Local.{Local}
 use Rattle.sql_tree.specs.Statement.{Statement, evaluate, set_all, call_procedure, begin, commit, rollback, savepoint, rollback_to, release_savepoint}
 use Rattle.sql_tree.specs.declared.statements.Target.{Target}
-use Rattle.applier_laws.specs.catalog_rules.Bases.{Base, defined}
-use Rattle.applier_laws.specs.catalog_rules.Checks.{session_scope, statement_refusal}
-use Rattle.applier_laws.specs.catalog_rules.Creating.{ddl_refusal}
-use Rattle.applier_laws.specs.log_entries.declared.entries.Entry.{Entry}
-use Rattle.applier_laws.specs.log_entries.declared.entries.Entry.TheVariants.{Transaction, Definition, LogStart}
+use Rattle.apply_laws.specs.catalog_rules.Bases.{Base, defined}
+use Rattle.apply_laws.specs.catalog_rules.Checks.{session_scope, statement_refusal}
+use Rattle.apply_laws.specs.catalog_rules.Creating.{ddl_refusal}
+use Rattle.apply_laws.specs.log_entries.declared.entries.Entry.{Entry}
+use Rattle.apply_laws.specs.log_entries.declared.entries.Entry.TheVariants.{Transaction, Definition, LogStart}
 use Rattle.answer_text.specs.declared.answer.Answer.{Answer}
-use Rattle.applier_laws.specs.sql_meaning.Frames.{Context}
-use Rattle.applier_laws.specs.sql_meaning.Scenes.{Scene, Ending, done, failed}
-use Rattle.applier_laws.specs.sql_meaning.Changing.{Did}
-use Rattle.applier_laws.specs.sql_meaning.Running.{effect, evaluation, context_after}
-use Rattle.applier_laws.specs.sql_reach.Closing.{closed}
-use Rattle.applier_laws.specs.sql_reach.Defining.{number_of_bytes}
-use Rattle.applier_laws.specs.sql_reach.Reach.{is_definition}
+use Rattle.apply_laws.specs.sql_meaning.Frames.{Context}
+use Rattle.apply_laws.specs.sql_meaning.Scenes.{Scene, Ending, done, failed}
+use Rattle.apply_laws.specs.sql_meaning.Changing.{Did}
+use Rattle.apply_laws.specs.sql_meaning.Running.{effect, evaluation, context_after}
+use Rattle.apply_laws.specs.sql_reach.Closing.{closed}
+use Rattle.apply_laws.specs.sql_reach.Defining.{number_of_bytes}
+use Rattle.apply_laws.specs.sql_reach.Reach.{is_definition}
 use Rattle.sql_print.specs.StatementSpelling.{spelling}
-use Rattle.applier_laws.specs.proc_model.Talk.{Left, Refusal, Told}
-use Rattle.applier_laws.specs.proc_model.Procedures.{scope_of, called}
-use Rattle.applier_laws.proofs.of_proc_model.Leading.{talk_keeps}
-use Rattle.applier_laws.specs.text_answers.Answers.{TextAnswer, a_statement, a_syntax_error, too_deep, text_answer}
-use Rattle.applier_laws.specs.session_model.Answers.{ok, refused}
-use Rattle.applier_laws.specs.session_model.Sessions.{Save, Open, Session, Shared, State}
-use Rattle.applier_laws.specs.session_model.Running.{Call, full, Turn, Given, is_other, items_of, commit_open, commit_entries, kept_entries, keep, settle, ended, takes_too_much, undone, setting_of, scene_for, made_behind, item_of, with_counters, with_context, given_by, is_warned, statement_run, values_run, fitted, fitted_run, writing_refusal, lock_refusal}
-use Rattle.applier_laws.specs.session_model.Commands.{is_too_long, definition_turn, define_turn, made_turn, unless_answered, unless_refused, code_answer, is_open, set_by, set_given, set_misfit, set_turn, set_expressions, plain_turn, given_turn, answered, back_in, back_to_save, release_in, definition_entry, is_save_of, saves_but}
-use Rattle.applier_laws.specs.session_model.Calling.{Reached, reached_by, step_check, unless_checked, with_counted, steps_of, left_with, arguments_run, called_by, called_with, call_turn}
-use Rattle.applier_laws.specs.session_model.Machine.{Whole, whole, step, text_turn, statement_turn, at_work}
+use Rattle.apply_laws.specs.proc_model.Talk.{Left, Refusal, Told}
+use Rattle.apply_laws.specs.proc_model.Procedures.{scope_of, called}
+use Rattle.apply_laws.proofs.of_proc_model.Leading.{talk_keeps}
+use Rattle.apply_laws.specs.text_answers.Answers.{TextAnswer, a_statement, a_syntax_error, too_deep, text_answer}
+use Rattle.apply_laws.specs.session_model.Answers.{ok, refused}
+use Rattle.apply_laws.specs.session_model.Sessions.{Save, Open, Session, Shared, State}
+use Rattle.apply_laws.specs.session_model.Running.{Call, full, Turn, Given, is_other, items_of, commit_open, commit_entries, kept_entries, keep, settle, ended, takes_too_much, undone, setting_of, scene_for, made_behind, item_of, with_counters, with_context, given_by, is_warned, statement_run, values_run, fitted, fitted_run, writing_refusal, lock_refusal}
+use Rattle.apply_laws.specs.session_model.Commands.{is_too_long, definition_turn, define_turn, made_turn, unless_answered, unless_refused, code_answer, is_open, set_by, set_given, set_misfit, set_turn, set_expressions, plain_turn, given_turn, answered, back_in, back_to_save, release_in, definition_entry, is_save_of, saves_but}
+use Rattle.apply_laws.specs.session_model.Calling.{Reached, reached_by, step_check, unless_checked, with_counted, steps_of, left_with, arguments_run, called_by, called_with, call_turn}
+use Rattle.apply_laws.specs.session_model.Machine.{Whole, whole, step, text_turn, statement_turn, at_work}
 use Rattle.run_model.specs.Following.{AreCommitted}
 
 -- entries behind others

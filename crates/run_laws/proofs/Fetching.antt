@@ -3,15 +3,15 @@ use Rattle.std.proofs.Common.{◌≡◌, ◌<◌, ℕ, ◌+◌, ◌-◌, zero, s
 use Rattle.std.specs.Prelude.{◌^◌}
 use Rattle.std.proofs.Math.Seq.{drop-append_seam}
 use Rattle.std.proofs.lemmas.List.{drop-drop, map-append, take-append-drop}
-use Rattle.applier_laws.specs.log_entries.declared.entries.Item.{Item}
-use Rattle.applier_laws.specs.log_entries.declared.entries.Entry.{Entry}
-use Rattle.applier_laws.specs.log_entries.declared.entries.Entry.TheVariants.{Transaction, Definition, LogStart}
-use Rattle.applier_laws.specs.log_model.Groups.{Group, Next, not_whole, group_at}
-use Rattle.applier_laws.specs.log_model.Log.{LogPlace, moved, behind, counted, description, entry_bytes, log, EntriesHaveLength, HeadsHaveLength, LogGoesOn}
-use Rattle.applier_laws.specs.log_model.Written.{bytes_of}
-use Rattle.applier_laws.specs.entry_groups.Entries.{group_of_entry, start_group, StaysInLog, CanLog, CanLogAll}
-use Rattle.applier_laws.specs.entry_groups.Laws.{Fetched, partly, wholly, EntriesCanLogOn, FewAreCut, GroupsHaveBounds, RelayIsRead, StartRelayIsRead}
-use Rattle.applier_laws.specs.session_model.Machine.{Whole, kept_entry, Machine, log_bytes, first_place}
+use Rattle.apply_laws.specs.log_entries.declared.entries.Item.{Item}
+use Rattle.apply_laws.specs.log_entries.declared.entries.Entry.{Entry}
+use Rattle.apply_laws.specs.log_entries.declared.entries.Entry.TheVariants.{Transaction, Definition, LogStart}
+use Rattle.apply_laws.specs.log_model.Groups.{Group, Next, not_whole, group_at}
+use Rattle.apply_laws.specs.log_model.Log.{LogPlace, moved, behind, counted, description, entry_bytes, log, EntriesHaveLength, HeadsHaveLength, LogGoesOn}
+use Rattle.apply_laws.specs.log_model.Written.{bytes_of}
+use Rattle.apply_laws.specs.log_entry_laws.Entries.{group_of_entry, start_group, StaysInLog, CanLog, CanLogAll}
+use Rattle.apply_laws.specs.log_entry_laws.Laws.{Fetched, partly, wholly, EntriesCanLogOn, FewAreCut, GroupsHaveBounds, RelayIsRead, StartRelayIsRead}
+use Rattle.apply_laws.specs.session_model.Machine.{Whole, kept_entry, Machine, log_bytes, first_place}
 use Rattle.run_model.specs.replica_model.Replica.{Replica, behind_group, size_of, past_next, past_groups, want, log_begin}
 use Rattle.run_model.specs.Run.{Read, nothing, bytes_to, number_before, place_before, Starts, log_with}
 use Rattle.run_model.specs.Following.{AreCommitted, head_entries, place_behind, reader_at, reader_from}

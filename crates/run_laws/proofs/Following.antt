@@ -2,16 +2,16 @@
 use Rattle.std.proofs.Common.{◌≡◌, ◌≤◌, ◌^◌, ℕ, ◌+◌, ◌-◌, false, List, [], ◌∷◌, ◌++◌, map, length, drop, take, Some, Ok, refl, sym, ap, ◌∙◌, subst, append_assoc, append-nil, arith}
 use Rattle.std.specs.Prelude.{min}
 use Rattle.port_traits.specs.declared.identity.Draw.{Draw}
-use Rattle.applier_laws.specs.catalog_rules.Bases.{Base}
-use Rattle.applier_laws.specs.log_entries.declared.entries.Entry.{Entry}
-use Rattle.applier_laws.specs.log_entries.Entries.{after}
-use Rattle.applier_laws.specs.log_model.Log.{log}
-use Rattle.applier_laws.specs.Laws.{BasesHold}
-use Rattle.applier_laws.specs.session_model.Machine.{Whole, whole, kept_entry, Machine, machine_after, Step, step, log_bytes}
-use Rattle.applier_laws.specs.session_model.declared.format.Format.{Format}
-use Rattle.applier_laws.specs.session_model.declared.format.Format.TheVariants.{Statement, Mixed, Row}
-use Rattle.applier_laws.specs.session_model.Holding.{changes_of, define, EntriesIn, format_of, session_at}
-use Rattle.applier_laws.specs.session_replays.Followed.{EntriesFollow, UnwarnedFollow, MixedIsUnwarned, RowsAreUnwarned}
+use Rattle.apply_laws.specs.catalog_rules.Bases.{Base}
+use Rattle.apply_laws.specs.log_entries.declared.entries.Entry.{Entry}
+use Rattle.apply_laws.specs.log_entries.Entries.{after}
+use Rattle.apply_laws.specs.log_model.Log.{log}
+use Rattle.apply_laws.specs.Laws.{BasesHold}
+use Rattle.apply_laws.specs.session_model.Machine.{Whole, whole, kept_entry, Machine, machine_after, Step, step, log_bytes}
+use Rattle.apply_laws.specs.session_model.declared.format.Format.{Format}
+use Rattle.apply_laws.specs.session_model.declared.format.Format.TheVariants.{Statement, Mixed, Row}
+use Rattle.apply_laws.specs.session_model.Holding.{changes_of, define, EntriesIn, format_of, session_at}
+use Rattle.apply_laws.specs.session_replays.Followed.{EntriesFollow, UnwarnedFollow, MixedIsUnwarned, RowsAreUnwarned}
 use Rattle.run_model.specs.replica_model.Replica.{Replica, want, fetched}
 use Rattle.run_model.specs.replica_model.Applying.{apply}
 use Rattle.run_model.specs.Asked.{Asked, say, select, take_bytes, take_groups}

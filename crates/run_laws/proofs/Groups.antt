@@ -4,13 +4,13 @@ use Rattle.std.specs.Prelude.{replicate}
 use Rattle.std.proofs.lemmas.List.{length-replicate, replicate_more}
 use Rattle.port_traits.specs.declared.identity.Identity.{Identity}
 use Rattle.port_traits.specs.declared.identity.Draw.{Draw}
-use Rattle.applier_laws.specs.log_entries.declared.entries.Entry.{Entry}
-use Rattle.applier_laws.specs.log_model.Groups.{Group}
-use Rattle.applier_laws.specs.log_model.Log.{LogPlace, behind, counted, counted_all, written_to}
-use Rattle.applier_laws.specs.applier_model.Stops.{Differs}
-use Rattle.applier_laws.specs.applier_model.Groups.{Applied, and_then, group_carried}
-use Rattle.applier_laws.specs.entry_groups.Entries.{group_of_entry}
-use Rattle.applier_laws.specs.session_model.Machine.{Whole, kept_entry}
+use Rattle.apply_laws.specs.log_entries.declared.entries.Entry.{Entry}
+use Rattle.apply_laws.specs.log_model.Groups.{Group}
+use Rattle.apply_laws.specs.log_model.Log.{LogPlace, behind, counted, counted_all, written_to}
+use Rattle.apply_laws.specs.apply_model.Stops.{Differs}
+use Rattle.apply_laws.specs.apply_model.Groups.{Applied, and_then, group_carried}
+use Rattle.apply_laws.specs.log_entry_laws.Entries.{group_of_entry}
+use Rattle.apply_laws.specs.session_model.Machine.{Whole, kept_entry}
 use Rattle.run_model.specs.Following.{all_carried, groups_of}
 
 -- ---- the groups of entries

@@ -2,12 +2,12 @@
 use Rattle.std.proofs.Common.{◌≡◌, ◌≤◌, ℕ, ◌+◌, List, [], ◌∷◌, ◌++◌, length, map, drop, refl, sym, ap, ◌∙◌, append_assoc, arith, length-append}
 use Rattle.std.proofs.lemmas.List.{map-append, drop-append-le}
 use Rattle.std.proofs.Math.Seq.{drop-append_seam}
-use Rattle.applier_laws.specs.log_entries.declared.entries.Item.{Item}
-use Rattle.applier_laws.specs.log_entries.declared.entries.Entry.{Entry}
-use Rattle.applier_laws.specs.log_entries.declared.entries.Entry.TheVariants.{Transaction, Definition, LogStart}
-use Rattle.applier_laws.specs.log_model.Log.{LogPlace, moved, magic, head, description, behind, counted, entry_bytes, log, written_to, counted_all, LogGoesOn, EntriesHaveLength, HeadsHaveLength}
-use Rattle.applier_laws.specs.log_model.Written.{bytes_of}
-use Rattle.applier_laws.specs.session_model.Machine.{Whole, kept_of, kept_entry, Machine, nowhere, first_place}
+use Rattle.apply_laws.specs.log_entries.declared.entries.Item.{Item}
+use Rattle.apply_laws.specs.log_entries.declared.entries.Entry.{Entry}
+use Rattle.apply_laws.specs.log_entries.declared.entries.Entry.TheVariants.{Transaction, Definition, LogStart}
+use Rattle.apply_laws.specs.log_model.Log.{LogPlace, moved, magic, head, description, behind, counted, entry_bytes, log, written_to, counted_all, LogGoesOn, EntriesHaveLength, HeadsHaveLength}
+use Rattle.apply_laws.specs.log_model.Written.{bytes_of}
+use Rattle.apply_laws.specs.session_model.Machine.{Whole, kept_of, kept_entry, Machine, nowhere, first_place}
 use Rattle.run_model.specs.Run.{Read, nothing, bytes_to, bytes_before, number_before, place_before, Starts, log_with}
 use Rattle.run_model.specs.Following.{AreCommitted, head_bytes, head_entries, place_behind, reader_at, reader_from}
 

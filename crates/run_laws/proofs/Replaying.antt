@@ -2,20 +2,20 @@
 use Rattle.std.proofs.Common.{◌≡◌, ◌<◌, ◌^◌, ℕ, ◌+◌, Bool, false, List, [], ◌∷◌, ◌++◌, length, map, Option, Some, None, Result, refl, sym, ap, ◌∙◌, subst, append_assoc, append-nil, arith}
 use Rattle.port_traits.specs.declared.identity.Identity.{Identity}
 use Rattle.port_traits.specs.declared.identity.Draw.{Draw}
-use Rattle.applier_laws.specs.catalog_rules.Bases.{Base, empty_base}
-use Rattle.applier_laws.specs.log_entries.declared.entries.Entry.{Entry}
-use Rattle.applier_laws.specs.log_entries.declared.entries.Entry.TheVariants.{Transaction, Definition, LogStart}
-use Rattle.applier_laws.specs.log_model.Groups.{Group, group, group_at}
-use Rattle.applier_laws.specs.log_model.Log.{LogPlace, behind, counted, description, entry_bytes, log, magic, EntriesHaveLength, HeadsHaveLength}
-use Rattle.applier_laws.specs.log_model.Written.{bytes_of}
-use Rattle.applier_laws.specs.entry_groups.Entries.{group_of_entry, start_group, StaysInLog, CanLog, CanLogAll}
-use Rattle.applier_laws.specs.entry_groups.Laws.{EntryIsRead, GroupsHaveBounds, StartIsRead}
-use Rattle.run_model.specs.whole_logs.Passing.{EndIsSeen, GroupIsPassed, MagicIsPassed, Passed, ending_with, names_next}
-use Rattle.run_model.specs.whole_logs.Walk.{ended, grouped, Grouped, Piece}
-use Rattle.applier_laws.specs.applier_model.Stops.{Differs}
-use Rattle.applier_laws.specs.applier_model.Groups.{Applied, group_carried}
-use Rattle.applier_laws.specs.session_model.Machine.{Whole, kept_entry, log_of, first_place, nowhere}
-use Rattle.applier_laws.specs.session_replays.Followed.{EntriesFollow}
+use Rattle.apply_laws.specs.catalog_rules.Bases.{Base, empty_base}
+use Rattle.apply_laws.specs.log_entries.declared.entries.Entry.{Entry}
+use Rattle.apply_laws.specs.log_entries.declared.entries.Entry.TheVariants.{Transaction, Definition, LogStart}
+use Rattle.apply_laws.specs.log_model.Groups.{Group, group, group_at}
+use Rattle.apply_laws.specs.log_model.Log.{LogPlace, behind, counted, description, entry_bytes, log, magic, EntriesHaveLength, HeadsHaveLength}
+use Rattle.apply_laws.specs.log_model.Written.{bytes_of}
+use Rattle.apply_laws.specs.log_entry_laws.Entries.{group_of_entry, start_group, StaysInLog, CanLog, CanLogAll}
+use Rattle.apply_laws.specs.log_entry_laws.Laws.{EntryIsRead, GroupsHaveBounds, StartIsRead}
+use Rattle.run_model.specs.log_file_model.Passing.{EndIsSeen, GroupIsPassed, MagicIsPassed, Passed, ending_with, names_next}
+use Rattle.run_model.specs.log_file_model.Walk.{ended, grouped, Grouped, Piece}
+use Rattle.apply_laws.specs.apply_model.Stops.{Differs}
+use Rattle.apply_laws.specs.apply_model.Groups.{Applied, group_carried}
+use Rattle.apply_laws.specs.session_model.Machine.{Whole, kept_entry, log_of, first_place, nowhere}
+use Rattle.apply_laws.specs.session_replays.Followed.{EntriesFollow}
 use Rattle.run_model.specs.replica_model.Replaying.{Replay, all_replayed, by_form, carried, first_replay, replayed, unless_stopped}
 use Rattle.run_model.specs.Following.{AreCommitted, groups_of}
 use Rattle.run_laws.specs.Replays.{LogIsItsEntries, ReplayIsEqual, groups_in}

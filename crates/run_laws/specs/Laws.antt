@@ -11,20 +11,20 @@
 -- (`UnwarnedFollow` of session_replays). Under MIXED and ROW no item is warned.
 use Rattle.std.specs.Prelude.{◌≡◌, ◌≤◌, ◌^◌, ℕ, suc, ◌+◌, ◌-◌, Bool, true, false, List, [], ◌∷◌, ◌++◌, length, map, take, drop, Option, Some, None}
 use Rattle.port_traits.specs.declared.identity.Draw.{Draw}
-use Rattle.applier_laws.specs.entry_groups.Entries.{CanLogAll}
-use Rattle.applier_laws.specs.log_entries.declared.entries.Entry.{Entry}
-use Rattle.applier_laws.specs.log_entries.declared.entries.Entry.TheVariants.{Transaction, Definition, LogStart}
-use Rattle.applier_laws.specs.log_entries.Entries.{after}
-use Rattle.applier_laws.specs.Following.{BaseHolds}
-use Rattle.applier_laws.specs.session_model.Formats.{warns}
-use Rattle.applier_laws.specs.session_model.declared.format.Format.{Format}
-use Rattle.applier_laws.specs.session_model.declared.format.Format.TheVariants.{Statement, Mixed, Row}
-use Rattle.applier_laws.specs.session_model.Machine.{Machine, Whole, whole, step, kept_entry}
-use Rattle.applier_laws.specs.session_model.Holding.{AreIn, EntriesIn, EntriesMade, changes_of, define, format_of, is_warned, reasons_of, session_at}
-use Rattle.applier_laws.specs.session_replays.Again.{EntriesGive}
-use Rattle.applier_laws.specs.session_replays.Texts.{EntriesSay}
-use Rattle.applier_laws.specs.session_replays.Followed.{EntriesFollow}
-use Rattle.applier_laws.specs.session_replays.Replaying.{Replays}
+use Rattle.apply_laws.specs.log_entry_laws.Entries.{CanLogAll}
+use Rattle.apply_laws.specs.log_entries.declared.entries.Entry.{Entry}
+use Rattle.apply_laws.specs.log_entries.declared.entries.Entry.TheVariants.{Transaction, Definition, LogStart}
+use Rattle.apply_laws.specs.log_entries.Entries.{after}
+use Rattle.apply_laws.specs.Following.{BaseHolds}
+use Rattle.apply_laws.specs.session_model.Formats.{warns}
+use Rattle.apply_laws.specs.session_model.declared.format.Format.{Format}
+use Rattle.apply_laws.specs.session_model.declared.format.Format.TheVariants.{Statement, Mixed, Row}
+use Rattle.apply_laws.specs.session_model.Machine.{Machine, Whole, whole, step, kept_entry}
+use Rattle.apply_laws.specs.session_model.Holding.{AreIn, EntriesIn, EntriesMade, changes_of, define, format_of, is_warned, reasons_of, session_at}
+use Rattle.apply_laws.specs.session_replays.Again.{EntriesGive}
+use Rattle.apply_laws.specs.session_replays.Texts.{EntriesSay}
+use Rattle.apply_laws.specs.session_replays.Followed.{EntriesFollow}
+use Rattle.apply_laws.specs.session_replays.Replaying.{Replays}
 use Rattle.run_model.specs.replica_model.Applying.{Going, Stop, differs, damaged, foreign, apply}
 use Rattle.run_model.specs.Asked.{Asked, say, select, take_bytes, take_groups}
 use Rattle.run_model.specs.Run.{Names, Both, Starts, from_nothing, number_before, place_before, source_from, log_with, Told, answered, got, went, first_both, next, end_of}

@@ -1,9 +1,9 @@
 pub mod Laws
 pub mod Replays
 -- the crates below that this one speaks of, passed on
-pub use Rattle.applier_laws.specs.entry_groups as entry_groups
-pub use Rattle.applier_laws.specs.log_entries as log_entries
-pub use Rattle.applier_laws.specs.log_model as log_model
+pub use Rattle.apply_laws.specs.log_entry_laws as log_entry_laws
+pub use Rattle.apply_laws.specs.log_entries as log_entries
+pub use Rattle.apply_laws.specs.log_model as log_model
 pub use Rattle.run_model.specs as run_model
-pub use Rattle.applier_laws.specs.session_model as session_model
-pub use Rattle.applier_laws.specs.session_replays as session_replays
+pub use Rattle.apply_laws.specs.session_model as session_model
+pub use Rattle.apply_laws.specs.session_replays as session_replays

@@ -2,15 +2,15 @@
 use Rattle.std.specs.Prelude.{◌≡◌, ℕ, List, ◌∷◌, map, None}
 use Rattle.port_traits.specs.declared.identity.Identity.{Identity}
 use Rattle.port_traits.specs.declared.identity.Draw.{Draw}
-use Rattle.applier_laws.specs.log_entries.declared.entries.Entry.{Entry}
-use Rattle.applier_laws.specs.log_entries.declared.entries.Entry.TheVariants.{LogStart}
-use Rattle.applier_laws.specs.log_model.Groups.{Group}
-use Rattle.applier_laws.specs.entry_groups.Entries.{CanLogAll, start_group}
-use Rattle.run_model.specs.whole_logs.Walk.{ended, grouped, Piece}
-use Rattle.applier_laws.specs.session_model.Machine.{Machine, Whole, first_place, kept_entry, log_of, nowhere}
-use Rattle.applier_laws.specs.session_model.Holding.{with_nothing}
-use Rattle.applier_laws.specs.session_replays.Followed.{EntriesFollow}
-use Rattle.applier_laws.specs.session_replays.Replaying.{Replays}
+use Rattle.apply_laws.specs.log_entries.declared.entries.Entry.{Entry}
+use Rattle.apply_laws.specs.log_entries.declared.entries.Entry.TheVariants.{LogStart}
+use Rattle.apply_laws.specs.log_model.Groups.{Group}
+use Rattle.apply_laws.specs.log_entry_laws.Entries.{CanLogAll, start_group}
+use Rattle.run_model.specs.log_file_model.Walk.{ended, grouped, Piece}
+use Rattle.apply_laws.specs.session_model.Machine.{Machine, Whole, first_place, kept_entry, log_of, nowhere}
+use Rattle.apply_laws.specs.session_model.Holding.{with_nothing}
+use Rattle.apply_laws.specs.session_replays.Followed.{EntriesFollow}
+use Rattle.apply_laws.specs.session_replays.Replaying.{Replays}
 use Rattle.run_model.specs.replica_model.Replaying.{replayed}
 use Rattle.run_model.specs.Following.{AreCommitted, groups_of}
 

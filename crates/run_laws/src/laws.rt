@@ -2,14 +2,14 @@
 ghost use Rattle.run_laws.specs.Laws.{AllCarriedIsEqual, FollowsBegins, FollowsGoOn, FollowsOpened, NoApplyStops, NothingIsDamaged, NothingIsOwed, OthersFollow, WarnedAsShown};
 ghost use Rattle.run_laws.specs.Replays.{LogIsItsEntries, ReplayIsEqual};
 
-use applier_laws::entry_groups::{
+use apply_laws::log_entry_laws::{
     entries_can_log_on, entry_is_read, few_are_cut, groups_have_bounds, relay_is_read,
     start_is_read, start_relay_is_read,
 };
-use applier_laws::log_model::{entries_have_length, heads_have_length, log_goes_on};
-use applier_laws::session_replays::unwarned_items_follow;
-use applier_laws::{bases_hold, entries_of_runs_follow, entry_is_carried};
-use run_model::whole_logs::{end_is_seen, group_is_passed, magic_is_passed};
+use apply_laws::log_model::{entries_have_length, heads_have_length, log_goes_on};
+use apply_laws::session_replays::unwarned_items_follow;
+use apply_laws::{bases_hold, entries_of_runs_follow, entry_is_carried};
+use run_model::log_file_model::{end_is_seen, group_is_passed, magic_is_passed};
 
 /// A law: a replica that begins behind its source, owing it some entries, or with nothing as it does, follows it behind each command,
 /// however FETCH cuts the log. No APPLY of

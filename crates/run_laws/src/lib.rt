@@ -6,7 +6,7 @@
 //! - `laws`: the laws, each a function that does nothing
 //!
 //! In specs/: `Laws` (what each says), `Replays` (what is said of a whole log and its replay). It stands on the laws of sessions
-//! (`session_model`, `session_replays`), of logged entries (`entry_groups`, `whole_logs`) and of appliers (`applier_laws`); `repl_run`
+//! (`session_model`, `session_replays`), of logged entries (`log_entry_laws`, `log_file_model`) and of appliers (`apply_laws`); `repl_run`
 //! stands on it.
 //!
 //! # Proved
@@ -25,14 +25,14 @@
 //!   Where each item does the same at every replica, who has nothing and carries out the whole log goes through to its end and has the
 //!   source's committed base (`replay_is_equal`).
 //! - An item does the same at every replica where it is logged by its rows, or where it is not warned, or by RAND() alone
-//!   (`applier_laws::session_replays::unwarned_items_follow`). So in a run each does in which no session is under STATEMENT as it says something
+//!   (`apply_laws::session_replays::unwarned_items_follow`). So in a run each does in which no session is under STATEMENT as it says something
 //!   (`others_follow`), and what is warned is what the answers show as warned (`warned_as_shown`).
 #![tactic(auto)]
 
 mod laws;
 
 // What is its own, and the crates below that it speaks of, passed on: who stands above names them through it.
-pub use applier_laws::{entry_groups, log_model, session_model, session_replays};
+pub use apply_laws::{log_entry_laws, log_model, session_model, session_replays};
 pub use laws::{
     all_carried_is_equal, log_is_its_entries, others_follow, replay_is_equal, replica_follows,
     warned_as_shown,

@@ -11,15 +11,15 @@
 use Rattle.std.specs.Prelude.{◌≡◌, ℕ, ◌^◌, ◌+◌, ◌-◌, min, List, [], ◌∷◌, ◌++◌, map, length, drop, Some, Result, Ok}
 use Rattle.port_traits.specs.declared.identity.Identity.{Identity}
 use Rattle.port_traits.specs.declared.identity.Draw.{Draw}
-use Rattle.entry_groups.specs.log_entries.declared.entries.Item.{Item}
-use Rattle.entry_groups.specs.log_entries.declared.entries.Entry.{Entry}
-use Rattle.entry_groups.specs.log_entries.declared.entries.Entry.TheVariants.{Transaction, Definition, LogStart}
-use Rattle.entry_groups.specs.log_entries.Entries.{after}
-use Rattle.entry_groups.specs.log_model.Groups.{Group}
-use Rattle.entry_groups.specs.log_model.Log.{LogPlace, behind, counted, head, log}
-use Rattle.entry_groups.specs.Entries.{group_of_entry}
-use Rattle.replica_model.specs.applier_model.Stops.{Differs}
-use Rattle.replica_model.specs.applier_model.Groups.{Applied, and_then, group_carried}
+use Rattle.log_entry_laws.specs.log_entries.declared.entries.Item.{Item}
+use Rattle.log_entry_laws.specs.log_entries.declared.entries.Entry.{Entry}
+use Rattle.log_entry_laws.specs.log_entries.declared.entries.Entry.TheVariants.{Transaction, Definition, LogStart}
+use Rattle.log_entry_laws.specs.log_entries.Entries.{after}
+use Rattle.log_entry_laws.specs.log_model.Groups.{Group}
+use Rattle.log_entry_laws.specs.log_model.Log.{LogPlace, behind, counted, head, log}
+use Rattle.log_entry_laws.specs.Entries.{group_of_entry}
+use Rattle.replica_model.specs.apply_model.Stops.{Differs}
+use Rattle.replica_model.specs.apply_model.Groups.{Applied, and_then, group_carried}
 use Rattle.session_replays.specs.session_model.Machine.{Whole, first_place, kept_entry}
 use Rattle.session_replays.specs.session_model.Holding.{changes_of, define}
 use Rattle.session_replays.specs.Followed.{EntriesFollow}

@@ -4,4 +4,4 @@ pub mod Following
 pub mod Worked
 -- the crates below that this one speaks of, passed on
 pub use Rattle.replica_model.specs as replica_model
-pub use Rattle.replica_model.specs.whole_logs as whole_logs
+pub use Rattle.replica_model.specs.log_file_model as log_file_model

@@ -2,9 +2,9 @@
 use Rattle.std.specs.Prelude.{ℕ, ◌+◌, Bool, true, false, List, [], ◌∷◌, ◌++◌, length, map, replicate}
 use Rattle.port_traits.specs.declared.identity.Identity.{Identity}
 use Rattle.port_traits.specs.declared.identity.Draw.{Draw}
-use Rattle.entry_groups.specs.log_entries.declared.entries.Entry.{Entry}
-use Rattle.entry_groups.specs.log_model.Log.{LogPlace, counted_all, log, written_to}
-use Rattle.entry_groups.specs.catalog_rules.Bases.{Base, empty_base}
+use Rattle.log_entry_laws.specs.log_entries.declared.entries.Entry.{Entry}
+use Rattle.log_entry_laws.specs.log_model.Log.{LogPlace, counted_all, log, written_to}
+use Rattle.log_entry_laws.specs.catalog_rules.Bases.{Base, empty_base}
 use Rattle.answer_text.specs.declared.answer.Answer.{Answer}
 use Rattle.answer_text.specs.declared.report.Mark.{Mark}
 use Rattle.answer_text.specs.Shown.{shown}

@@ -17,5 +17,5 @@
 mod worked;
 
 // What is its own, and the crates below that it speaks of, passed on: who stands above names them through it.
-pub use replica_model::whole_logs;
+pub use replica_model::log_file_model;
 pub use worked::{a_row_replicated, a_row_replicated_by_rows, replica_only_reads};

@@ -9,7 +9,7 @@ use Rattle.run_laws.specs.log_entries.declared.entries.Entry.{Entry}
 use Rattle.run_laws.specs.log_entries.declared.entries.Entry.TheVariants.{Transaction, Definition, LogStart}
 use Rattle.log_model.specs.Log.{EntriesHaveLength, HeadsHaveLength, LogPlace, definition, entry_bytes, head, log, moved, transaction}
 use Rattle.log_model.specs.Written.{CanWriteAll, Stamped, total}
-use Rattle.entry_groups.specs.Entries.{CanLogAll}
+use Rattle.log_entry_laws.specs.Entries.{CanLogAll}
 use Rattle.session_model.specs.Machine.{Whole, first_place, kept_entry, kept_of, log_bytes, log_of, nowhere}
 use Rattle.run_laws.specs.run_model.Following.{AreCommitted, head_entries}
 use Rattle.run_laws.specs.run_model.Run.{Both, Names, Starts}

@@ -12,8 +12,8 @@ use Rattle.log_model.specs.Log.{LogPlace, counted_all, written_to}
 use Rattle.answer_text.specs.declared.answer.Answer.{Answer}
 use Rattle.answer_text.specs.declared.report.Report.{Report}
 use Rattle.answer_text.specs.Shown.{shown}
-use Rattle.entry_groups.specs.Entries.{CanLogAll}
-use Rattle.entry_groups.specs.Laws.{EntriesCanLogOn}
+use Rattle.log_entry_laws.specs.Entries.{CanLogAll}
+use Rattle.log_entry_laws.specs.Laws.{EntriesCanLogOn}
 use Rattle.session_model.specs.Sessions.{State}
 use Rattle.session_model.specs.Holding.{FormatsDecide, Holds, with_nothing}
 use Rattle.session_model.specs.Machine.{Whole, whole, kept_entry, step, Step, opened, Machine, machine_after, log_bytes, nowhere}

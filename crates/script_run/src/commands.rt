@@ -11,8 +11,8 @@ ghost use Rattle.script_run.specs.Together.{Grew, Lined, Opened, Stopped, Togeth
 
 use crate::asked::Asked;
 use crate::nodes::Nodes;
+use answer_making::NodeFault;
 use answer_text::{Report, Status};
-use node_answers::NodeFault;
 use port_traits::{Env, Sink};
 use replica_node::ReplicaNode;
 use run_laws::replica_follows;

@@ -8,10 +8,10 @@ ghost use Rattle.script_run.specs.Asking.{asked_seen, is_fit};
 ghost use Rattle.script_run.specs.Together.{CarriedOut, Grew, Shows, Together};
 
 use crate::asked::Asked;
+use answer_making::NodeFault;
 use answer_text::{Mark, Report, shown};
-use entry_groups::entries_can_log_on;
+use log_entry_laws::entries_can_log_on;
 use log_model::{entries_have_length, heads_have_length};
-use node_answers::NodeFault;
 use port_traits::Env;
 use replica_node::{ReplicaNode, applied_line, fetched_line};
 use run_laws::replica_follows;

@@ -15,7 +15,7 @@
 //! - [`aggregate`] gives exactly the value or the error number of the definition, or wants memory
 //!
 //! # Only tested
-//! That calls succeed with ample memory, in `row_callers`.
+//! That calls succeed with ample memory, in `test_rows`.
 #![tactic(auto)]
 
 mod aggregates;

@@ -25,7 +25,7 @@
 //! - the worked assignments
 //!
 //! # Only tested
-//! That calls succeed with ample memory, in `context_callers`.
+//! That calls succeed with ample memory, in `test_contexts`.
 #![tactic(auto)]
 
 mod carrying;

@@ -5,7 +5,7 @@ use Rattle.std.specs.Option.{option_map}
 use Rattle.val_types.specs.declared.value.Value.{Value}
 use Rattle.session_ctx.specs.catalog_rules.Bodies.{format_name}
 use Rattle.session_ctx.specs.catalog_rules.Names.{same_name}
-use Rattle.transaction_sizes.specs.log_entries.declared.entries.Item.{Item}
+use Rattle.binlog_sizes.specs.log_entries.declared.entries.Item.{Item}
 use Rattle.session_ctx.specs.Variables.{assigned, fitting, setting}
 use Rattle.sql_tree.specs.declared.statements.Target.{Target}
 use Rattle.session_model.specs.Commands.{all_assigned, assign, assignment_refusal, first_refused, is_open, refusal_of, variable_refusal, with_format, with_setting, with_vars}

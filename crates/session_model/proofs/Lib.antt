@@ -9,5 +9,5 @@ mod Staying
 pub mod Keeping
 pub mod Calling
 -- the crates below that this one speaks of, passed on
-pub use Rattle.transaction_sizes.proofs.of_log_model as of_log_model
+pub use Rattle.binlog_sizes.proofs.of_log_model as of_log_model
 pub use Rattle.proc_model.proofs as of_proc_model

@@ -3,12 +3,12 @@ use Rattle.std.proofs.Common.{◌≡◌, ◌≤◌, ◌+◌, ℕ, zero, suc, Boo
 use Rattle.std.specs.Prelude.{nat_lt, ◌||◌}
 use Rattle.std.proofs.lemmas.Bool.{ltb-false, le-ltb}
 use Rattle.std.proofs.lemmas.List.{map-append}
-use Rattle.transaction_sizes.specs.log_entries.declared.entries.Item.{Item}
-use Rattle.transaction_sizes.specs.log_entries.declared.entries.Entry.{Entry}
-use Rattle.transaction_sizes.specs.log_entries.declared.entries.Entry.TheVariants.{Transaction, Definition, LogStart}
-use Rattle.transaction_sizes.specs.log_model.Items.{item_size}
-use Rattle.transaction_sizes.specs.log_model.Log.{LogPlace, behind, counted, counted_all, written_to}
-use Rattle.transaction_sizes.specs.Sizes.{all_sizes, all_changes_size, are_too_large, changes_size, most_bytes}
+use Rattle.binlog_sizes.specs.log_entries.declared.entries.Item.{Item}
+use Rattle.binlog_sizes.specs.log_entries.declared.entries.Entry.{Entry}
+use Rattle.binlog_sizes.specs.log_entries.declared.entries.Entry.TheVariants.{Transaction, Definition, LogStart}
+use Rattle.binlog_sizes.specs.log_model.Items.{item_size}
+use Rattle.binlog_sizes.specs.log_model.Log.{LogPlace, behind, counted, counted_all, written_to}
+use Rattle.binlog_sizes.specs.Sizes.{all_sizes, all_changes_size, are_too_large, changes_size, most_bytes}
 use Rattle.session_model.specs.Machine.{Whole, kept_of, kept_entry}
 use Rattle.session_model.specs.Formats.{logs_rows}
 use Rattle.session_model.specs.Holding.{reasons_of, IsMade, AreMade, AreIn, AreOne, EntriesIn, EntriesMade}

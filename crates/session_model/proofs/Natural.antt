@@ -16,10 +16,10 @@ use Rattle.session_ctx.specs.catalog_rules.Bases.{Base, defined}
 use Rattle.session_ctx.specs.catalog_rules.Checks.{session_scope, statement_refusal}
 use Rattle.session_ctx.specs.catalog_rules.Creating.{ddl_refusal}
 use Rattle.sql_print.specs.StatementSpelling.{spelling}
-use Rattle.transaction_sizes.specs.log_entries.declared.entries.Item.{Item}
-use Rattle.transaction_sizes.specs.log_entries.declared.entries.Entry.{Entry}
-use Rattle.transaction_sizes.specs.log_entries.declared.entries.Entry.TheVariants.{Transaction}
-use Rattle.transaction_sizes.specs.Sizes.{are_too_large}
+use Rattle.binlog_sizes.specs.log_entries.declared.entries.Item.{Item}
+use Rattle.binlog_sizes.specs.log_entries.declared.entries.Entry.{Entry}
+use Rattle.binlog_sizes.specs.log_entries.declared.entries.Entry.TheVariants.{Transaction}
+use Rattle.binlog_sizes.specs.Sizes.{are_too_large}
 use Rattle.answer_text.specs.declared.answer.Answer.{Answer}
 use Rattle.port_traits.specs.declared.identity.Identity.{Identity}
 use Rattle.port_traits.specs.declared.identity.Draw.{Draw}

@@ -10,10 +10,10 @@ use Rattle.table_rules.specs.Tables.{Table}
 use Rattle.table_rules.specs.Stored.{all_applied}
 use Rattle.table_rules.proofs.Equations.{all_applied_behind}
 use Rattle.session_ctx.specs.catalog_rules.Bases.{Base}
-use Rattle.transaction_sizes.specs.log_entries.declared.entries.Entry.{Entry}
-use Rattle.transaction_sizes.specs.log_entries.declared.entries.Entry.TheVariants.{Transaction}
-use Rattle.transaction_sizes.specs.log_entries.Entries.{after, with_tables}
-use Rattle.transaction_sizes.proofs.of_log_entries.Following.{go_on}
+use Rattle.binlog_sizes.specs.log_entries.declared.entries.Entry.{Entry}
+use Rattle.binlog_sizes.specs.log_entries.declared.entries.Entry.TheVariants.{Transaction}
+use Rattle.binlog_sizes.specs.log_entries.Entries.{after, with_tables}
+use Rattle.binlog_sizes.proofs.of_log_entries.Following.{go_on}
 use Rattle.session_ctx.specs.sql_meaning.Scenes.{Scene}
 use Rattle.session_ctx.specs.sql_meaning.Frames.{Context}
 use Rattle.session_ctx.specs.sql_meaning.Leading.{Leads}

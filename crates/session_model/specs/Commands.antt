@@ -11,9 +11,9 @@ use Rattle.session_ctx.specs.catalog_rules.Bases.{Base, defined}
 use Rattle.session_ctx.specs.catalog_rules.Bodies.{format_name}
 use Rattle.session_ctx.specs.catalog_rules.Checks.{session_scope, statement_refusal}
 use Rattle.session_ctx.specs.catalog_rules.Creating.{ddl_refusal}
-use Rattle.transaction_sizes.specs.log_entries.declared.carried.Carried.{Carried}
-use Rattle.transaction_sizes.specs.log_entries.declared.entries.Entry.{Entry}
-use Rattle.transaction_sizes.specs.log_entries.declared.entries.Entry.TheVariants.{Definition}
+use Rattle.binlog_sizes.specs.log_entries.declared.carried.Carried.{Carried}
+use Rattle.binlog_sizes.specs.log_entries.declared.entries.Entry.{Entry}
+use Rattle.binlog_sizes.specs.log_entries.declared.entries.Entry.TheVariants.{Definition}
 use Rattle.answer_text.specs.declared.answer.Answer.{Answer}
 use Rattle.session_ctx.specs.sql_meaning.Frames.{Context}
 use Rattle.session_ctx.specs.sql_meaning.Changing.{Did}
@@ -27,7 +27,7 @@ use Rattle.session_model.specs.Sessions.{Save, Open, just_opened, Session, Share
 use Rattle.session_model.specs.Running.{Call, full, Turn, Given, is_other, writing_refusal, lock_refusal, closed, commit_open, counted_in, logged_by, statement_run, fitted_run, given_answer}
 use Rattle.session_ctx.specs.Variables.{setting, fitting, assigned}
 use Rattle.session_ctx.specs.declared.session.SessionVars.{SessionVars}
-use Rattle.transaction_sizes.specs.log_entries.Variables.{variable_set}
+use Rattle.binlog_sizes.specs.log_entries.Variables.{variable_set}
 
 -- a command that changes nothing of what is shared
 abbrev pub answered : {I : Type 0} → Answer → Shared → Session I → Turn I Answer

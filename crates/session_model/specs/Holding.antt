@@ -8,11 +8,11 @@ use Rattle.port_traits.specs.declared.identity.Identity.{Identity}
 use Rattle.port_traits.specs.declared.identity.Draw.{Draw}
 use Rattle.table_rules.specs.Stored.{all_applied}
 use Rattle.session_ctx.specs.catalog_rules.Bases.{Base, defined, empty_base}
-use Rattle.transaction_sizes.specs.log_entries.declared.entries.Entry.{Entry}
-use Rattle.transaction_sizes.specs.log_entries.declared.entries.Entry.TheVariants.{Transaction, Definition, LogStart}
-use Rattle.transaction_sizes.specs.log_entries.Entries.{after}
-use Rattle.transaction_sizes.specs.log_model.Log.{LogPlace, counted_all, written_to}
-use Rattle.transaction_sizes.specs.Sizes.{are_too_large}
+use Rattle.binlog_sizes.specs.log_entries.declared.entries.Entry.{Entry}
+use Rattle.binlog_sizes.specs.log_entries.declared.entries.Entry.TheVariants.{Transaction, Definition, LogStart}
+use Rattle.binlog_sizes.specs.log_entries.Entries.{after}
+use Rattle.binlog_sizes.specs.log_model.Log.{LogPlace, counted_all, written_to}
+use Rattle.binlog_sizes.specs.Sizes.{are_too_large}
 use Rattle.proc_model.specs.Talk.{Left, Talk, brought}
 use Rattle.proc_model.specs.Procedures.{Came}
 use Rattle.session_ctx.specs.declared.session.SessionVars.{SessionVars}

@@ -10,10 +10,10 @@ pub mod Holding
 pub mod Worked
 -- the crates below that this one speaks of, passed on
 pub use Rattle.session_ctx.specs.catalog_rules as catalog_rules
-pub use Rattle.transaction_sizes.specs.log_entries as log_entries
-pub use Rattle.transaction_sizes.specs.log_model as log_model
+pub use Rattle.binlog_sizes.specs.log_entries as log_entries
+pub use Rattle.binlog_sizes.specs.log_model as log_model
 pub use Rattle.proc_model.specs as proc_model
 pub use Rattle.session_ctx.specs.sql_meaning as sql_meaning
 pub use Rattle.proc_model.specs.sql_reach as sql_reach
 pub use Rattle.text_answers.specs as text_answers
-pub use Rattle.transaction_sizes.specs as transaction_sizes
+pub use Rattle.binlog_sizes.specs as binlog_sizes

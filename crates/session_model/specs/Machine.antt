@@ -4,10 +4,10 @@ use Rattle.std.specs.Option.{option_map}
 use Rattle.port_traits.specs.declared.identity.Identity.{Identity}
 use Rattle.port_traits.specs.declared.identity.Draw.{Draw}
 use Rattle.sql_tree.specs.Statement.{Statement, set_all, call_procedure, begin, commit, rollback, savepoint, rollback_to, release_savepoint}
-use Rattle.transaction_sizes.specs.log_entries.declared.entries.Item.{Item}
-use Rattle.transaction_sizes.specs.log_entries.declared.entries.Entry.{Entry}
-use Rattle.transaction_sizes.specs.log_entries.declared.entries.Entry.TheVariants.{LogStart}
-use Rattle.transaction_sizes.specs.log_model.Log.{LogPlace, log}
+use Rattle.binlog_sizes.specs.log_entries.declared.entries.Item.{Item}
+use Rattle.binlog_sizes.specs.log_entries.declared.entries.Entry.{Entry}
+use Rattle.binlog_sizes.specs.log_entries.declared.entries.Entry.TheVariants.{LogStart}
+use Rattle.binlog_sizes.specs.log_model.Log.{LogPlace, log}
 use Rattle.answer_text.specs.declared.answer.Answer.{Answer}
 use Rattle.session_ctx.specs.catalog_rules.Bases.{Base, empty_base}
 use Rattle.auto_inc.specs.declared.counters.Counter.{Counter}

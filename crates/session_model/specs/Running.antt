@@ -13,11 +13,11 @@ use Rattle.sql_tree.specs.Tree.{Trees}
 use Rattle.session_ctx.specs.catalog_rules.Names.{is_among}
 use Rattle.session_ctx.specs.catalog_rules.Objects.{Object}
 use Rattle.session_ctx.specs.catalog_rules.Bases.{definitions_in}
-use Rattle.transaction_sizes.specs.log_entries.declared.entries.Item.{Item}
-use Rattle.transaction_sizes.specs.log_entries.declared.entries.Entry.{Entry}
-use Rattle.transaction_sizes.specs.log_entries.declared.entries.Entry.TheVariants.{Transaction, Definition, LogStart}
-use Rattle.transaction_sizes.specs.log_model.Log.{LogPlace, behind}
-use Rattle.transaction_sizes.specs.Sizes.{are_too_large}
+use Rattle.binlog_sizes.specs.log_entries.declared.entries.Item.{Item}
+use Rattle.binlog_sizes.specs.log_entries.declared.entries.Entry.{Entry}
+use Rattle.binlog_sizes.specs.log_entries.declared.entries.Entry.TheVariants.{Transaction, Definition, LogStart}
+use Rattle.binlog_sizes.specs.log_model.Log.{LogPlace, behind}
+use Rattle.binlog_sizes.specs.Sizes.{are_too_large}
 use Rattle.answer_text.specs.declared.answer.Answer.{Answer}
 use Rattle.proc_model.specs.Talk.{Left, Refusal}
 use Rattle.proc_model.specs.Procedures.{plain_refusal}

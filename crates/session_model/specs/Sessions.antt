@@ -8,7 +8,7 @@ use Rattle.auto_inc.specs.declared.counters.Counter.{Counter}
 use Rattle.table_rules.specs.Tables.{Table}
 use Rattle.table_rules.specs.Stored.{all_applied}
 use Rattle.session_ctx.specs.catalog_rules.Bases.{Base}
-use Rattle.transaction_sizes.specs.log_model.Log.{LogPlace}
+use Rattle.binlog_sizes.specs.log_model.Log.{LogPlace}
 use Rattle.session_ctx.specs.declared.session.SessionVars.{SessionVars}
 use Rattle.session_model.specs.declared.format.Format.{Format}
 

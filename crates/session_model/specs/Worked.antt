@@ -4,10 +4,10 @@ use Rattle.val_types.specs.declared.value.Value.{Value}
 use Rattle.val_types.specs.declared.value.Value.TheVariants.{Int}
 use Rattle.port_traits.specs.declared.identity.Identity.{Identity}
 use Rattle.port_traits.specs.declared.identity.Draw.{Draw}
-use Rattle.transaction_sizes.specs.log_entries.declared.entries.Item.{Item}
-use Rattle.transaction_sizes.specs.log_entries.declared.entries.Entry.{Entry}
-use Rattle.transaction_sizes.specs.log_entries.declared.entries.Entry.TheVariants.{Transaction, Definition, LogStart}
-use Rattle.transaction_sizes.specs.log_model.Log.{LogPlace}
+use Rattle.binlog_sizes.specs.log_entries.declared.entries.Item.{Item}
+use Rattle.binlog_sizes.specs.log_entries.declared.entries.Entry.{Entry}
+use Rattle.binlog_sizes.specs.log_entries.declared.entries.Entry.TheVariants.{Transaction, Definition, LogStart}
+use Rattle.binlog_sizes.specs.log_model.Log.{LogPlace}
 use Rattle.answer_text.specs.declared.answer.Answer.{Answer}
 use Rattle.answer_text.specs.declared.answer.End.TheVariants as ends
 use Rattle.session_ctx.specs.catalog_rules.Bases.{empty_base}

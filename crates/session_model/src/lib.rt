@@ -39,13 +39,13 @@ mod laws;
 mod worked;
 
 // What is its own, and the crates below that it speaks of, passed on: who stands above names them through it.
+pub use binlog_sizes::log_entries;
 pub use format::Format;
 pub use laws::{
     errors_leave_all, formats_decide, readers_see_committed, runs_hold, steps_are_kept,
 };
 pub use session_ctx;
 pub use text_answers;
-pub use transaction_sizes::log_entries;
 pub use worked::{
     calls_committed, calls_warned, first_refusal_counts, formats_set, locals_closed_in, log_grows,
     logs_full, mixed_chooses, procedures_called, refused_sets_taken_back, savepoints_kept,

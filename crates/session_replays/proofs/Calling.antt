@@ -8,15 +8,15 @@ use Rattle.sql_tree.specs.Statement.{Statement, evaluate}
 use Rattle.sql_tree.specs.Tree.{Trees, no_tree, tree}
 use Rattle.sql_locals.specs.declared.locals.Local.{Local}
 use Rattle.sql_print.specs.StatementSpelling.{spelling}
-use Rattle.closing_laws.specs.catalog_rules.Checks.{session_scope}
-use Rattle.closing_laws.specs.sql_meaning.Scenes.{Scene, Ending, done, failed}
-use Rattle.closing_laws.specs.sql_meaning.Frames.{Setting}
-use Rattle.closing_laws.specs.sql_meaning.Changing.{Did, affected_rows}
-use Rattle.closing_laws.specs.sql_meaning.Running.{most_turns, effect, evaluation}
-use Rattle.closing_laws.specs.sql_meaning.Leading.{StatementsEndWell, EvaluationsEndWell}
-use Rattle.closing_laws.specs.sql_reach.Closing.{closed}
-use Rattle.closing_laws.specs.sql_reach.Defining.{number_of_bytes}
-use Rattle.closing_laws.specs.Laws.{ClosedDoesTheSame}
+use Rattle.name_const_laws.specs.catalog_rules.Checks.{session_scope}
+use Rattle.name_const_laws.specs.sql_meaning.Scenes.{Scene, Ending, done, failed}
+use Rattle.name_const_laws.specs.sql_meaning.Frames.{Setting}
+use Rattle.name_const_laws.specs.sql_meaning.Changing.{Did, affected_rows}
+use Rattle.name_const_laws.specs.sql_meaning.Running.{most_turns, effect, evaluation}
+use Rattle.name_const_laws.specs.sql_meaning.Leading.{StatementsEndWell, EvaluationsEndWell}
+use Rattle.name_const_laws.specs.sql_reach.Closing.{closed}
+use Rattle.name_const_laws.specs.sql_reach.Defining.{number_of_bytes}
+use Rattle.name_const_laws.specs.Laws.{ClosedDoesTheSame}
 use Rattle.session_model.specs.proc_model.Talk.{Left, Refusal, Told}
 use Rattle.session_model.specs.proc_model.Procedures.{scope_of, called}
 use Rattle.session_model.specs.Sessions.{Session, Shared}

@@ -12,12 +12,12 @@ use Rattle.sql_tree.specs.Well.{IsWell, is_whole, is_well_step}
 use Rattle.sql_locals.specs.declared.locals.Local.{Local}
 use Rattle.sql_locals.specs.Locals.{has_literal}
 use Rattle.sql_print.specs.StatementSpelling.{spelling}
-use Rattle.closing_laws.specs.catalog_rules.Nodes.{nodes_of}
+use Rattle.name_const_laws.specs.catalog_rules.Nodes.{nodes_of}
 use Rattle.session_model.specs.text_answers.Answers.{IsAnswered, a_statement, text_answer}
-use Rattle.closing_laws.specs.sql_meaning.Running.{is_ill_limit}
-use Rattle.closing_laws.specs.sql_meaning.Within.{steps_of, dos_of, IsStepIn, IsDoFor, StepsAreWell, DosAreWell}
-use Rattle.closing_laws.specs.sql_reach.Closing.{closed}
-use Rattle.closing_laws.specs.Laws.{ClosedIsAllowed, ClosedIsRead, FittedIsShort}
+use Rattle.name_const_laws.specs.sql_meaning.Running.{is_ill_limit}
+use Rattle.name_const_laws.specs.sql_meaning.Within.{steps_of, dos_of, IsStepIn, IsDoFor, StepsAreWell, DosAreWell}
+use Rattle.name_const_laws.specs.sql_reach.Closing.{closed}
+use Rattle.name_const_laws.specs.Laws.{ClosedIsAllowed, ClosedIsRead, FittedIsShort}
 use Rattle.session_model.specs.proc_model.Closing.{most_bytes, is_nameless, closing_refusal}
 use Rattle.session_model.specs.proc_model.Procedures.{is_plain}
 use Rattle.session_replays.specs.Bodies.{is_well_body}

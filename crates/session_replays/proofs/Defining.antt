@@ -18,20 +18,20 @@ use Rattle.sql_tree.specs.Well.{IsWell, is_whole, is_well_step, has_result}
 use Rattle.sql_tree.specs.declared.statements.Target.{Target}
 use Rattle.sql_locals.specs.declared.locals.Local.{Local}
 use Rattle.sql_print.specs.StatementSpelling.{spelling}
-use Rattle.closing_laws.specs.catalog_rules.Bases.{Base, tables_after, defined}
-use Rattle.closing_laws.specs.catalog_rules.Checks.{session_scope, statement_refusal}
-use Rattle.closing_laws.specs.catalog_rules.Creating.{ddl_refusal, catalog_after, goes_with_table, is_function_named, is_procedure_named, is_trigger_named}
-use Rattle.closing_laws.specs.catalog_rules.Objects.{Object, function, procedure, reaction}
-use Rattle.closing_laws.specs.log_entries.declared.entries.Entry.{Entry}
-use Rattle.closing_laws.specs.log_entries.declared.entries.Entry.TheVariants.{Transaction, Definition, LogStart}
-use Rattle.closing_laws.specs.log_entries.Entries.{after, with_tables}
+use Rattle.name_const_laws.specs.catalog_rules.Bases.{Base, tables_after, defined}
+use Rattle.name_const_laws.specs.catalog_rules.Checks.{session_scope, statement_refusal}
+use Rattle.name_const_laws.specs.catalog_rules.Creating.{ddl_refusal, catalog_after, goes_with_table, is_function_named, is_procedure_named, is_trigger_named}
+use Rattle.name_const_laws.specs.catalog_rules.Objects.{Object, function, procedure, reaction}
+use Rattle.name_const_laws.specs.log_entries.declared.entries.Entry.{Entry}
+use Rattle.name_const_laws.specs.log_entries.declared.entries.Entry.TheVariants.{Transaction, Definition, LogStart}
+use Rattle.name_const_laws.specs.log_entries.Entries.{after, with_tables}
 use Rattle.answer_text.specs.declared.answer.Answer.{Answer}
 use Rattle.session_model.specs.text_answers.Answers.{TextAnswer, a_statement, a_syntax_error, too_deep, text_answer, AnswersAreWell}
-use Rattle.closing_laws.specs.sql_meaning.Scenes.{Scene, Ending, done, failed}
-use Rattle.closing_laws.specs.sql_meaning.Frames.{Context}
-use Rattle.closing_laws.specs.sql_meaning.Changing.{Did}
-use Rattle.closing_laws.specs.sql_meaning.Running.{context_after}
-use Rattle.closing_laws.specs.sql_reach.Closing.{closed}
+use Rattle.name_const_laws.specs.sql_meaning.Scenes.{Scene, Ending, done, failed}
+use Rattle.name_const_laws.specs.sql_meaning.Frames.{Context}
+use Rattle.name_const_laws.specs.sql_meaning.Changing.{Did}
+use Rattle.name_const_laws.specs.sql_meaning.Running.{context_after}
+use Rattle.name_const_laws.specs.sql_reach.Closing.{closed}
 use Rattle.session_model.specs.proc_model.Talk.{Left, Refusal, Told}
 use Rattle.session_model.specs.proc_model.Procedures.{scope_of, called}
 use Rattle.session_model.proofs.of_proc_model.Leading.{talk_keeps}

@@ -1,12 +1,12 @@
 -- The DO over some expressions, and their evaluation.
 use Rattle.std.proofs.Common.{◌≡◌, List, refl}
 use Rattle.val_types.specs.declared.value.Value.{Value}
-use Rattle.closing_laws.specs.catalog_rules.Nodes.{no_sight, nodes_of_trees}
-use Rattle.closing_laws.specs.sql_meaning.Scenes.{Scene, Ending, done, failed, then_do, pure, undone_from}
-use Rattle.closing_laws.specs.sql_meaning.Frames.{only_locals}
-use Rattle.closing_laws.specs.sql_meaning.Values.{values}
-use Rattle.closing_laws.specs.sql_meaning.Changing.{affected_rows}
-use Rattle.closing_laws.specs.sql_meaning.Running.{effect, evaluation, world_of}
+use Rattle.name_const_laws.specs.catalog_rules.Nodes.{no_sight, nodes_of_trees}
+use Rattle.name_const_laws.specs.sql_meaning.Scenes.{Scene, Ending, done, failed, then_do, pure, undone_from}
+use Rattle.name_const_laws.specs.sql_meaning.Frames.{only_locals}
+use Rattle.name_const_laws.specs.sql_meaning.Values.{values}
+use Rattle.name_const_laws.specs.sql_meaning.Changing.{affected_rows}
+use Rattle.name_const_laws.specs.sql_meaning.Running.{effect, evaluation, world_of}
 use Rattle.session_replays.specs.Again.{without_values, SetsRunAsDos}
 
 -- where the values are there, or an error is

@@ -1,8 +1,8 @@
 -- Items that are not warned follow, and under MIXED and ROW none is warned.
 use Rattle.std.proofs.Common.{◌≡◌, inl, inr, Bool, true, false, List, [], ◌∷◌, refl, ◌∙◌, ap}
 use Rattle.std.specs.Prelude.{◌&&◌, not}
-use Rattle.closing_laws.specs.log_entries.declared.entries.Entry.TheVariants.{Transaction, Definition, LogStart}
-use Rattle.closing_laws.specs.sql_reach.Reasons.{Reason}
+use Rattle.name_const_laws.specs.log_entries.declared.entries.Entry.TheVariants.{Transaction, Definition, LogStart}
+use Rattle.name_const_laws.specs.sql_reach.Reasons.{Reason}
 use Rattle.independence_laws.specs.Laws.{SafeIsFollowed, RandIsFollowed}
 use Rattle.session_model.specs.Formats.{is_unsafe}
 use Rattle.session_model.specs.Machine.{Whole}

@@ -3,10 +3,10 @@ use Rattle.std.proofs.Common.{◌≡◌, ℕ, zero, suc, List, [], ◌∷◌, �
 use Rattle.std.proofs.lemmas.List.{append-nil, append_assoc}
 use Rattle.std.specs.Option.{option_and_then}
 use Rattle.val_types.specs.declared.change.Change.{Change}
-use Rattle.closing_laws.specs.catalog_rules.Bases.{Base}
-use Rattle.closing_laws.specs.log_entries.declared.entries.Entry.{Entry}
-use Rattle.closing_laws.specs.log_entries.declared.entries.Entry.TheVariants.{Definition}
-use Rattle.closing_laws.specs.log_entries.Entries.{after}
+use Rattle.name_const_laws.specs.catalog_rules.Bases.{Base}
+use Rattle.name_const_laws.specs.log_entries.declared.entries.Entry.{Entry}
+use Rattle.name_const_laws.specs.log_entries.declared.entries.Entry.TheVariants.{Definition}
+use Rattle.name_const_laws.specs.log_entries.Entries.{after}
 use Rattle.session_model.specs.Machine.{Whole}
 use Rattle.session_model.specs.Holding.{changes_of, define, changes_in}
 use Rattle.session_replays.specs.Again.{Gives, AllGive, EntriesGive}

@@ -3,16 +3,16 @@ use Rattle.std.proofs.Common.{◌≡◌, ℕ, ◌⊎◌, inl, inr, Bool, true, f
 use Rattle.val_types.specs.declared.change.Change.{Change}
 use Rattle.session_model.specs.proc_model.Talk.{Left}
 use Rattle.sql_tree.specs.Statement.{Statement}
-use Rattle.closing_laws.specs.catalog_rules.Objects.{Object}
-use Rattle.closing_laws.specs.log_entries.declared.entries.Entry.{Entry}
-use Rattle.closing_laws.specs.sql_meaning.Scenes.{Scene, Ending, done, failed}
-use Rattle.closing_laws.specs.sql_meaning.Frames.{Context}
-use Rattle.closing_laws.specs.sql_meaning.Changing.{Did}
-use Rattle.closing_laws.specs.sql_meaning.Running.{effect, context_after}
+use Rattle.name_const_laws.specs.catalog_rules.Objects.{Object}
+use Rattle.name_const_laws.specs.log_entries.declared.entries.Entry.{Entry}
+use Rattle.name_const_laws.specs.sql_meaning.Scenes.{Scene, Ending, done, failed}
+use Rattle.name_const_laws.specs.sql_meaning.Frames.{Context}
+use Rattle.name_const_laws.specs.sql_meaning.Changing.{Did}
+use Rattle.name_const_laws.specs.sql_meaning.Running.{effect, context_after}
 use Rattle.independence_laws.specs.session_ctx.declared.session.SessionVars.{SessionVars}
 use Rattle.session_model.specs.Sessions.{Open, Session, Shared, tables_with}
-use Rattle.closing_laws.specs.sql_reach.Carrying.{carried}
-use Rattle.closing_laws.specs.sql_reach.Defining.{number_of_bytes}
+use Rattle.name_const_laws.specs.sql_reach.Carrying.{carried}
+use Rattle.name_const_laws.specs.sql_reach.Defining.{number_of_bytes}
 use Rattle.session_model.specs.Running.{Known, Call, Turn, Given, is_other, items_of, keep, made_behind, with_counters, scene_for, takes_too_much, undone, settle, ended, given_by, is_warned, item_of, with_context, setting_of}
 use Rattle.session_model.specs.declared.format.Format.{Format}
 use Rattle.session_model.specs.Machine.{Whole, whole}

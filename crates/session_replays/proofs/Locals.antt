@@ -23,15 +23,15 @@ use Rattle.sql_tree.specs.declared.statements.Target.{Target}
 use Rattle.sql_locals.specs.Locals.{find_from, find_local, set_local}
 use Rattle.sql_locals.specs.Types.{column_type, has_size}
 use Rattle.sql_locals.specs.declared.locals.Local.{Local}
-use Rattle.closing_laws.specs.catalog_rules.Bodies.{declared_types, types_in_steps, types_in_branches, types_in_otherwise}
-use Rattle.closing_laws.specs.catalog_rules.Checks.{statement_refusal}
-use Rattle.closing_laws.specs.catalog_rules.Creating.{program_types}
-use Rattle.closing_laws.specs.catalog_rules.Names.{first_made, is_among, same_name}
-use Rattle.closing_laws.specs.catalog_rules.Objects.{Object, table, function, procedure, reaction, as_procedure, procedure_in, name_of, parameters_of, result_of, body_of}
-use Rattle.closing_laws.specs.sql_meaning.Running.{most_nested, most_turns}
-use Rattle.closing_laws.specs.sql_meaning.Within.{listed, branch_steps, else_listed, do_one, do_part, do_presets, do_conditions, values_assigned}
-use Rattle.closing_laws.specs.sql_reach.Closing.{closed}
-use Rattle.closing_laws.specs.Laws.{is_short, holds_short}
+use Rattle.name_const_laws.specs.catalog_rules.Bodies.{declared_types, types_in_steps, types_in_branches, types_in_otherwise}
+use Rattle.name_const_laws.specs.catalog_rules.Checks.{statement_refusal}
+use Rattle.name_const_laws.specs.catalog_rules.Creating.{program_types}
+use Rattle.name_const_laws.specs.catalog_rules.Names.{first_made, is_among, same_name}
+use Rattle.name_const_laws.specs.catalog_rules.Objects.{Object, table, function, procedure, reaction, as_procedure, procedure_in, name_of, parameters_of, result_of, body_of}
+use Rattle.name_const_laws.specs.sql_meaning.Running.{most_nested, most_turns}
+use Rattle.name_const_laws.specs.sql_meaning.Within.{listed, branch_steps, else_listed, do_one, do_part, do_presets, do_conditions, values_assigned}
+use Rattle.name_const_laws.specs.sql_reach.Closing.{closed}
+use Rattle.name_const_laws.specs.Laws.{is_short, holds_short}
 use Rattle.session_model.specs.proc_model.Closing.{closing_refusal}
 use Rattle.session_model.specs.proc_model.Talk.{Left, Refusal, Effect, Told, Talk, ends, runs, evaluates, assigns, and_then, Steps, brought}
 use Rattle.session_model.specs.proc_model.Procedures.{Held, Ending, done, failed, Action, unless_failed, ◌>>=◌, pure, fail, answered, let_through, carried_on, then_try, all_tried, turn_spent, spend_turn, heard_with, heard_as, run_closed, evaluate_with, World, checked_values, first_value, value_of, holds_here, local_of, add_local, preset_value, declare, add_parameter, misfit, local_refusal, assignment_refusal, assign_one, assignments_of, assign_all, set_step, is_plain, note, plain_step, other_step, argument_values, scope_of, call_step, turns, step, steps, step_of_branches, steps_otherwise, procedure_body, free_procedure, started, call_at, begins, came, called}

@@ -1,6 +1,6 @@
 -- The base and the lock behind the end of a transaction, and where changes are dropped.
 use Rattle.std.proofs.Common.{◌≡◌, ℕ, Bool, true, false, List, [], ◌∷◌, take, None, refl, sym, ◌∙◌, cond}
-use Rattle.closing_laws.specs.sql_meaning.Frames.{Context}
+use Rattle.name_const_laws.specs.sql_meaning.Frames.{Context}
 use Rattle.session_model.specs.Sessions.{Save, Shared}
 use Rattle.session_model.specs.Running.{Call, is_other, released, commit_shared}
 use Rattle.session_model.specs.Commands.{dropped, changes_cut}

@@ -6,11 +6,11 @@ use Rattle.std.specs.Option.{option_map, option_and_then}
 use Rattle.val_types.specs.declared.change.Change.{Change}
 use Rattle.table_rules.specs.Tables.{Table}
 use Rattle.table_rules.specs.Stored.{all_applied}
-use Rattle.closing_laws.specs.catalog_rules.Bases.{Base}
-use Rattle.closing_laws.specs.log_entries.declared.entries.Entry.{Entry}
-use Rattle.closing_laws.specs.log_entries.declared.entries.Entry.TheVariants.{Transaction, Definition, LogStart}
-use Rattle.closing_laws.specs.log_entries.Entries.{entry_applied, after, with_tables}
-use Rattle.closing_laws.specs.sql_meaning.Scenes.{Scene}
+use Rattle.name_const_laws.specs.catalog_rules.Bases.{Base}
+use Rattle.name_const_laws.specs.log_entries.declared.entries.Entry.{Entry}
+use Rattle.name_const_laws.specs.log_entries.declared.entries.Entry.TheVariants.{Transaction, Definition, LogStart}
+use Rattle.name_const_laws.specs.log_entries.Entries.{entry_applied, after, with_tables}
+use Rattle.name_const_laws.specs.sql_meaning.Scenes.{Scene}
 use Rattle.session_model.specs.Machine.{Whole}
 use Rattle.session_model.specs.Holding.{changes_of, define, changes_in}
 use Rattle.session_replays.specs.Again.{AllGive, EntryGives, EntriesGive}

@@ -13,19 +13,19 @@ use Rattle.sql_tree.specs.Well.{IsWell, is_whole, is_well_step}
 use Rattle.sql_tree.specs.declared.statements.Target.{Target}
 use Rattle.sql_syntax.specs.Texts.{reads}
 use Rattle.sql_print.specs.StatementSpelling.{spelling}
-use Rattle.closing_laws.specs.catalog_rules.Bodies.{has_code}
-use Rattle.closing_laws.specs.catalog_rules.Checks.{session_scope, statement_refusal, statement_codes, node_codes, check_order}
-use Rattle.closing_laws.specs.catalog_rules.Nodes.{Node, no_sight, nodes_of_tree, nodes_of_trees, nodes_of_assignments}
-use Rattle.closing_laws.specs.catalog_rules.Objects.{Object}
-use Rattle.closing_laws.specs.log_entries.declared.entries.Entry.{Entry}
-use Rattle.closing_laws.specs.log_entries.declared.entries.Entry.TheVariants.{Transaction, Definition, LogStart}
+use Rattle.name_const_laws.specs.catalog_rules.Bodies.{has_code}
+use Rattle.name_const_laws.specs.catalog_rules.Checks.{session_scope, statement_refusal, statement_codes, node_codes, check_order}
+use Rattle.name_const_laws.specs.catalog_rules.Nodes.{Node, no_sight, nodes_of_tree, nodes_of_trees, nodes_of_assignments}
+use Rattle.name_const_laws.specs.catalog_rules.Objects.{Object}
+use Rattle.name_const_laws.specs.log_entries.declared.entries.Entry.{Entry}
+use Rattle.name_const_laws.specs.log_entries.declared.entries.Entry.TheVariants.{Transaction, Definition, LogStart}
 use Rattle.answer_text.specs.declared.answer.Answer.{Answer}
 use Rattle.session_model.specs.text_answers.Answers.{a_statement, text_answer, AnswersAreWell, IsAnswered}
-use Rattle.closing_laws.specs.sql_meaning.Scenes.{Scene, Ending, done, failed}
-use Rattle.closing_laws.specs.sql_meaning.Frames.{Context}
-use Rattle.closing_laws.specs.sql_meaning.Changing.{Did}
-use Rattle.closing_laws.specs.sql_meaning.Running.{context_after}
-use Rattle.closing_laws.specs.sql_meaning.Within.{values_assigned}
+use Rattle.name_const_laws.specs.sql_meaning.Scenes.{Scene, Ending, done, failed}
+use Rattle.name_const_laws.specs.sql_meaning.Frames.{Context}
+use Rattle.name_const_laws.specs.sql_meaning.Changing.{Did}
+use Rattle.name_const_laws.specs.sql_meaning.Running.{context_after}
+use Rattle.name_const_laws.specs.sql_meaning.Within.{values_assigned}
 use Rattle.session_model.specs.proc_model.Talk.{Left}
 use Rattle.session_model.specs.proc_model.Procedures.{assignments_of, is_plain}
 use Rattle.independence_laws.specs.session_ctx.declared.session.SessionVars.{SessionVars}

@@ -9,10 +9,10 @@ use Rattle.sql_tree.specs.Statement.{Statement, evaluate}
 use Rattle.sql_tree.specs.Tree.{Trees}
 use Rattle.sql_locals.specs.declared.locals.Local.{Local}
 use Rattle.sql_print.specs.StatementSpelling.{spelling}
-use Rattle.closing_laws.specs.catalog_rules.Checks.{session_scope, statement_refusal}
-use Rattle.closing_laws.specs.sql_meaning.Changing.{Did}
-use Rattle.closing_laws.specs.sql_meaning.Running.{most_turns}
-use Rattle.closing_laws.specs.sql_reach.Closing.{closed}
+use Rattle.name_const_laws.specs.catalog_rules.Checks.{session_scope, statement_refusal}
+use Rattle.name_const_laws.specs.sql_meaning.Changing.{Did}
+use Rattle.name_const_laws.specs.sql_meaning.Running.{most_turns}
+use Rattle.name_const_laws.specs.sql_reach.Closing.{closed}
 use Rattle.session_model.specs.proc_model.Talk.{Left, Refusal, Told}
 use Rattle.session_model.specs.proc_model.Procedures.{plain_refusal, scope_of, called}
 use Rattle.session_model.specs.Running.{Call, Turn, Given, items_of, lock_check, statement_run, values_run}

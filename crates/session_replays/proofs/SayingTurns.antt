@@ -11,13 +11,13 @@ use Rattle.sql_tree.specs.Statement.{Statement, create_table, create_function, c
 use Rattle.sql_tree.specs.Tree.{Trees, no_tree, tree}
 use Rattle.sql_tree.specs.Well.{IsWell}
 use Rattle.sql_print.specs.StatementSpelling.{spelling}
-use Rattle.closing_laws.specs.catalog_rules.Bases.{Base, defined}
-use Rattle.closing_laws.specs.catalog_rules.Checks.{session_scope, statement_refusal}
-use Rattle.closing_laws.specs.catalog_rules.Creating.{ddl_refusal}
-use Rattle.closing_laws.specs.catalog_rules.Objects.{Object}
+use Rattle.name_const_laws.specs.catalog_rules.Bases.{Base, defined}
+use Rattle.name_const_laws.specs.catalog_rules.Checks.{session_scope, statement_refusal}
+use Rattle.name_const_laws.specs.catalog_rules.Creating.{ddl_refusal}
+use Rattle.name_const_laws.specs.catalog_rules.Objects.{Object}
 use Rattle.answer_text.specs.declared.answer.Answer.{Answer}
 use Rattle.session_model.specs.text_answers.Answers.{TextAnswer, a_statement, a_syntax_error, too_deep, text_answer}
-use Rattle.closing_laws.specs.sql_meaning.Frames.{Context}
+use Rattle.name_const_laws.specs.sql_meaning.Frames.{Context}
 use Rattle.session_model.specs.Answers.{refused}
 use Rattle.session_model.specs.Sessions.{Save, Open, Session, Shared}
 use Rattle.session_model.specs.Running.{Call, Turn, Given, full, items_of, commit_entries, commit_open, lock_refusal, writing_refusal}

@@ -11,14 +11,14 @@ use Rattle.sql_tree.specs.declared.statements.SqlType.TheVariants as types
 use Rattle.sql_locals.specs.Types.{has_size}
 use Rattle.table_rules.specs.Tables.{Table}
 use Rattle.table_rules.specs.Stored.{all_applied}
-use Rattle.closing_laws.specs.catalog_rules.Bases.{Base, tables_after}
-use Rattle.closing_laws.specs.catalog_rules.Bodies.{has_code, body_codes, of_procedure}
-use Rattle.closing_laws.specs.catalog_rules.Creating.{Check, first_refusal, is_ill_type, program_types, is_past_program_limits, parameter_names, ddl_refusal, catalog_after, goes_with_table, is_function_named, is_procedure_named, is_trigger_named}
-use Rattle.closing_laws.specs.catalog_rules.Objects.{Object, procedure_in, name_of, body_of, count_of_programs}
+use Rattle.name_const_laws.specs.catalog_rules.Bases.{Base, tables_after}
+use Rattle.name_const_laws.specs.catalog_rules.Bodies.{has_code, body_codes, of_procedure}
+use Rattle.name_const_laws.specs.catalog_rules.Creating.{Check, first_refusal, is_ill_type, program_types, is_past_program_limits, parameter_names, ddl_refusal, catalog_after, goes_with_table, is_function_named, is_procedure_named, is_trigger_named}
+use Rattle.name_const_laws.specs.catalog_rules.Objects.{Object, procedure_in, name_of, body_of, count_of_programs}
 use Rattle.std.specs.Prelude.{is_some, flat_map}
-use Rattle.closing_laws.specs.log_entries.declared.entries.Entry.{Entry}
-use Rattle.closing_laws.specs.log_entries.declared.entries.Entry.TheVariants.{Transaction, Definition, LogStart}
-use Rattle.closing_laws.specs.log_entries.Entries.{after, with_tables}
+use Rattle.name_const_laws.specs.log_entries.declared.entries.Entry.{Entry}
+use Rattle.name_const_laws.specs.log_entries.declared.entries.Entry.TheVariants.{Transaction, Definition, LogStart}
+use Rattle.name_const_laws.specs.log_entries.Entries.{after, with_tables}
 use Rattle.session_model.specs.Machine.{Whole}
 use Rattle.session_model.specs.Holding.{changes_of, define}
 use Rattle.session_replays.specs.Sizes.{has_sizes}

@@ -6,12 +6,12 @@ use Rattle.val_types.specs.declared.value.Value.{Value}
 use Rattle.sql_tree.specs.Tree.{Trees, no_tree, tree}
 use Rattle.sql_tree.specs.Statement.{Statement, evaluate}
 use Rattle.sql_locals.specs.declared.locals.Local.{Local}
-use Rattle.closing_laws.specs.sql_meaning.Scenes.{Scene, Ending, done, failed}
-use Rattle.closing_laws.specs.sql_meaning.Changing.{Did}
-use Rattle.closing_laws.specs.sql_meaning.Leading.{scene_after}
-use Rattle.closing_laws.specs.sql_meaning.Running.{most_nested, most_turns, effect, evaluation, context_after}
-use Rattle.closing_laws.specs.sql_meaning.Turns.{StatementsSpendTurns, EvaluationsSpendTurns}
-use Rattle.closing_laws.specs.sql_reach.Defining.{number_of_bytes}
+use Rattle.name_const_laws.specs.sql_meaning.Scenes.{Scene, Ending, done, failed}
+use Rattle.name_const_laws.specs.sql_meaning.Changing.{Did}
+use Rattle.name_const_laws.specs.sql_meaning.Leading.{scene_after}
+use Rattle.name_const_laws.specs.sql_meaning.Running.{most_nested, most_turns, effect, evaluation, context_after}
+use Rattle.name_const_laws.specs.sql_meaning.Turns.{StatementsSpendTurns, EvaluationsSpendTurns}
+use Rattle.name_const_laws.specs.sql_reach.Defining.{number_of_bytes}
 use Rattle.session_model.specs.proc_model.Talk.{Left, Refusal, Told}
 use Rattle.session_model.specs.Sessions.{Session, Shared}
 use Rattle.session_model.specs.Running.{Call, Turn, Given, Fuel, full, is_other, keep, takes_too_much, made_behind, with_counters, with_context, undone, item_of, settle, ended, given_by, is_warned, scene_for, setting_of, statement_run, values_run}

@@ -4,9 +4,9 @@ use Rattle.val_types.specs.declared.change.Change.{Change}
 use Rattle.val_types.specs.declared.value.Value.{Value}
 use Rattle.sql_tree.specs.Tree.{Trees, no_tree, tree}
 use Rattle.sql_tree.specs.Statement.{Statement, evaluate}
-use Rattle.closing_laws.specs.sql_meaning.Scenes.{Scene, Ending, done, failed}
-use Rattle.closing_laws.specs.sql_meaning.Frames.{Context}
-use Rattle.closing_laws.specs.sql_meaning.Running.{context_after}
+use Rattle.name_const_laws.specs.sql_meaning.Scenes.{Scene, Ending, done, failed}
+use Rattle.name_const_laws.specs.sql_meaning.Frames.{Context}
+use Rattle.name_const_laws.specs.sql_meaning.Running.{context_after}
 use Rattle.session_model.specs.proc_model.Talk.{Left}
 use Rattle.session_model.specs.Sessions.{Open, Session, Shared}
 use Rattle.session_model.specs.Running.{Call, Turn, Given, full, is_other, keep, kept_shared, takes_too_much, made_behind, with_counters, with_context, undone, settle, ended, given_by, is_warned, item_of, scene_for}

@@ -3,11 +3,11 @@ use Rattle.std.proofs.Common.{◌≡◌, ◌≢◌, ◌<◌, ℕ, ◌⊎◌, inl
 use Rattle.std.proofs.lemmas.List.{get_or-set_same, get_or-set_other}
 use Rattle.std.proofs.lemmas.Bool.{eqb-true, eqb-false}
 use Rattle.std.specs.Prelude.{slice_index_or, slice_set, replicate}
-use Rattle.closing_laws.specs.catalog_rules.Bases.{Base, empty_base}
+use Rattle.name_const_laws.specs.catalog_rules.Bases.{Base, empty_base}
 use Rattle.answer_text.specs.declared.answer.Answer.{Answer}
 use Rattle.session_model.specs.text_answers.Answers.{text_answer}
-use Rattle.closing_laws.specs.sql_meaning.Leading.{StatementsEndWell, EvaluationsEndWell}
-use Rattle.closing_laws.specs.Laws.{ClosedDoesTheSame}
+use Rattle.name_const_laws.specs.sql_meaning.Leading.{StatementsEndWell, EvaluationsEndWell}
+use Rattle.name_const_laws.specs.Laws.{ClosedDoesTheSame}
 use Rattle.session_model.specs.Sessions.{Open, Session, Shared}
 use Rattle.session_model.specs.Running.{Call, Turn, is_other, items_of}
 use Rattle.session_model.specs.declared.format.Format.{Format}

@@ -4,22 +4,22 @@ use Rattle.std.specs.Prelude.{is_some}
 use Rattle.std.specs.List.{list_all}
 use Rattle.std.specs.Option.{option_map}
 use Rattle.val_types.specs.declared.value.Value.{Value}
-use Rattle.closing_laws.specs.catalog_rules.Bases.{Base, defined}
-use Rattle.closing_laws.specs.catalog_rules.Creating.{ddl_refusal}
-use Rattle.closing_laws.specs.catalog_rules.Checks.{session_scope, statement_refusal}
-use Rattle.closing_laws.specs.catalog_rules.Objects.{Object}
+use Rattle.name_const_laws.specs.catalog_rules.Bases.{Base, defined}
+use Rattle.name_const_laws.specs.catalog_rules.Creating.{ddl_refusal}
+use Rattle.name_const_laws.specs.catalog_rules.Checks.{session_scope, statement_refusal}
+use Rattle.name_const_laws.specs.catalog_rules.Objects.{Object}
 use Rattle.sql_print.specs.StatementSpelling.{spelling}
 use Rattle.sql_tree.specs.Statement.{Statement, create_table, create_function, create_procedure, create_trigger, drop_table, drop_function, drop_procedure, drop_trigger, truncate, insert_into, replace_into, update_rows, delete_rows, select, evaluate, set_all, call_procedure, begin, commit, rollback, savepoint, rollback_to, release_savepoint, block, if_steps, while_steps, return_value}
 use Rattle.sql_tree.specs.Tree.{Tree, Trees}
 use Rattle.sql_tree.specs.declared.statements.Target.{Target}
 use Rattle.answer_text.specs.declared.answer.Answer.{Answer}
 use Rattle.session_model.specs.text_answers.Answers.{TextAnswer, a_statement, a_syntax_error, too_deep, text_answer}
-use Rattle.closing_laws.specs.sql_meaning.Frames.{Context}
-use Rattle.closing_laws.specs.sql_meaning.Leading.{StatementsEndWell, EvaluationsEndWell}
+use Rattle.name_const_laws.specs.sql_meaning.Frames.{Context}
+use Rattle.name_const_laws.specs.sql_meaning.Leading.{StatementsEndWell, EvaluationsEndWell}
 use Rattle.session_model.specs.proc_model.Procedures.{assignments_of}
 use Rattle.session_model.specs.Answers.{ok, refused, refused_at}
 use Rattle.session_model.specs.Sessions.{Save, Open, Session, Shared}
-use Rattle.closing_laws.specs.Laws.{ClosedDoesTheSame}
+use Rattle.name_const_laws.specs.Laws.{ClosedDoesTheSame}
 use Rattle.port_traits.specs.declared.identity.Identity.{Identity}
 use Rattle.port_traits.specs.declared.identity.Draw.{Draw}
 use Rattle.session_model.specs.Running.{Call, Turn, Given, is_other, released, items_of, commit_shared, commit_entries, commit_open, full, fitted_run, lock_refusal, writing_refusal}

@@ -5,17 +5,17 @@ use Rattle.val_types.specs.declared.value.Value.{Value}
 use Rattle.sql_tree.specs.Tree.{Trees}
 use Rattle.sql_tree.specs.Statement.{evaluate}
 use Rattle.sql_locals.specs.declared.locals.Local.{Local}
-use Rattle.closing_laws.specs.catalog_rules.Bases.{Base}
-use Rattle.closing_laws.specs.log_entries.declared.entries.Entry.{Entry}
-use Rattle.closing_laws.specs.log_entries.declared.entries.Entry.TheVariants.{Transaction, Definition, LogStart}
-use Rattle.closing_laws.specs.log_entries.Entries.{entry_applied}
-use Rattle.closing_laws.specs.sql_meaning.Scenes.{Scene, Ending, done, failed}
-use Rattle.closing_laws.specs.sql_meaning.Frames.{Setting}
-use Rattle.closing_laws.specs.sql_meaning.Changing.{Did, affected_rows}
-use Rattle.closing_laws.specs.sql_meaning.Running.{most_nested, most_turns, effect, evaluation}
+use Rattle.name_const_laws.specs.catalog_rules.Bases.{Base}
+use Rattle.name_const_laws.specs.log_entries.declared.entries.Entry.{Entry}
+use Rattle.name_const_laws.specs.log_entries.declared.entries.Entry.TheVariants.{Transaction, Definition, LogStart}
+use Rattle.name_const_laws.specs.log_entries.Entries.{entry_applied}
+use Rattle.name_const_laws.specs.sql_meaning.Scenes.{Scene, Ending, done, failed}
+use Rattle.name_const_laws.specs.sql_meaning.Frames.{Setting}
+use Rattle.name_const_laws.specs.sql_meaning.Changing.{Did, affected_rows}
+use Rattle.name_const_laws.specs.sql_meaning.Running.{most_nested, most_turns, effect, evaluation}
 use Rattle.session_model.specs.Sessions.{tables_with}
-use Rattle.closing_laws.specs.sql_reach.Carrying.{carried}
-use Rattle.closing_laws.specs.sql_reach.Defining.{number_of_bytes}
+use Rattle.name_const_laws.specs.sql_reach.Carrying.{carried}
+use Rattle.name_const_laws.specs.sql_reach.Defining.{number_of_bytes}
 use Rattle.session_model.specs.Running.{Began, setting_of}
 use Rattle.session_model.specs.Machine.{Whole}
 use Rattle.session_model.specs.Holding.{changes_of, define}

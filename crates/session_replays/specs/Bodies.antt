@@ -7,11 +7,11 @@ use Rattle.port_traits.specs.declared.identity.Draw.{Draw}
 use Rattle.sql_tree.specs.Statement.{Statement}
 use Rattle.sql_tree.specs.Depth.{depth_of}
 use Rattle.sql_tree.specs.Well.{IsWell, is_well_step}
-use Rattle.closing_laws.specs.catalog_rules.Bases.{Base}
-use Rattle.closing_laws.specs.catalog_rules.Objects.{Object, table, function, procedure, reaction, body_of, trigger_body}
-use Rattle.closing_laws.specs.log_entries.declared.entries.Entry.{Entry}
-use Rattle.closing_laws.specs.log_entries.declared.entries.Entry.TheVariants.{Transaction, Definition, LogStart}
-use Rattle.closing_laws.specs.log_entries.Entries.{after}
+use Rattle.name_const_laws.specs.catalog_rules.Bases.{Base}
+use Rattle.name_const_laws.specs.catalog_rules.Objects.{Object, table, function, procedure, reaction, body_of, trigger_body}
+use Rattle.name_const_laws.specs.log_entries.declared.entries.Entry.{Entry}
+use Rattle.name_const_laws.specs.log_entries.declared.entries.Entry.TheVariants.{Transaction, Definition, LogStart}
+use Rattle.name_const_laws.specs.log_entries.Entries.{after}
 use Rattle.session_model.specs.Sessions.{State}
 use Rattle.session_model.specs.Machine.{Whole, whole, Machine, machine_after, step}
 use Rattle.session_model.specs.Holding.{Beginning, Holds, changes_of, define}

@@ -1,7 +1,7 @@
 -- Which committed items do the same at every replica.
 use Rattle.std.specs.Prelude.{◌≡◌, ◌⊎◌, true, false, List, [], ◌∷◌}
-use Rattle.closing_laws.specs.log_entries.declared.entries.Entry.{Entry}
-use Rattle.closing_laws.specs.log_entries.declared.entries.Entry.TheVariants.{Transaction, Definition, LogStart}
+use Rattle.name_const_laws.specs.log_entries.declared.entries.Entry.{Entry}
+use Rattle.name_const_laws.specs.log_entries.declared.entries.Entry.TheVariants.{Transaction, Definition, LogStart}
 use Rattle.independence_laws.specs.Followed.{is_followed, is_unsafe_by_rand_alone}
 use Rattle.session_model.specs.Machine.{Whole}
 use Rattle.session_model.specs.Holding.{EntriesIn, is_warned}

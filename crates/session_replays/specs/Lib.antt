@@ -10,6 +10,6 @@ pub mod Worked
 pub use Rattle.independence_laws.specs as independence_laws
 pub use Rattle.session_model.specs.proc_model as proc_model
 pub use Rattle.session_model.specs as session_model
-pub use Rattle.closing_laws.specs.sql_meaning as sql_meaning
-pub use Rattle.closing_laws.specs.sql_reach as sql_reach
+pub use Rattle.name_const_laws.specs.sql_meaning as sql_meaning
+pub use Rattle.name_const_laws.specs.sql_reach as sql_reach
 pub use Rattle.session_model.specs.text_answers as text_answers

@@ -2,11 +2,11 @@
 use Rattle.std.specs.Prelude.{◌≡◌, List, [], ◌∷◌, Option, Some, None}
 use Rattle.std.specs.Option.{option_map, option_and_then}
 use Rattle.val_types.specs.declared.change.Change.{Change}
-use Rattle.closing_laws.specs.catalog_rules.Bases.{Base}
-use Rattle.closing_laws.specs.log_entries.declared.entries.Entry.{Entry}
-use Rattle.closing_laws.specs.log_entries.declared.entries.Entry.TheVariants.{Transaction, Definition, LogStart}
-use Rattle.closing_laws.specs.log_entries.Entries.{with_tables}
-use Rattle.closing_laws.specs.sql_meaning.Scenes.{Scene, Ending, done, failed}
+use Rattle.name_const_laws.specs.catalog_rules.Bases.{Base}
+use Rattle.name_const_laws.specs.log_entries.declared.entries.Entry.{Entry}
+use Rattle.name_const_laws.specs.log_entries.declared.entries.Entry.TheVariants.{Transaction, Definition, LogStart}
+use Rattle.name_const_laws.specs.log_entries.Entries.{with_tables}
+use Rattle.name_const_laws.specs.sql_meaning.Scenes.{Scene, Ending, done, failed}
 use Rattle.session_model.specs.Sessions.{tables_with}
 use Rattle.session_model.specs.Machine.{Whole, Machine}
 use Rattle.session_model.specs.Holding.{Beginning, define}

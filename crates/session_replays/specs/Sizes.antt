@@ -2,8 +2,8 @@
 use Rattle.std.specs.Prelude.{Bool, true, List, IsTrue}
 use Rattle.std.specs.List.{list_all}
 use Rattle.sql_locals.specs.Types.{has_size}
-use Rattle.closing_laws.specs.catalog_rules.Creating.{program_types}
-use Rattle.closing_laws.specs.catalog_rules.Objects.{Object, table, function, procedure, reaction}
+use Rattle.name_const_laws.specs.catalog_rules.Creating.{program_types}
+use Rattle.name_const_laws.specs.catalog_rules.Objects.{Object, table, function, procedure, reaction}
 
 -- a procedure whose VARCHARs have at most 65,535 bytes, as every one has that CREATE PROCEDURE made
 abbrev pub has_sizes : Object → Bool

@@ -1,8 +1,8 @@
 -- What the text of an item says of its statement.
 use Rattle.std.specs.Prelude.{◌≡◌, ◌≤◌, ◌^◌, true, List, [], ◌∷◌, length, None}
-use Rattle.closing_laws.specs.catalog_rules.Checks.{session_scope, statement_refusal}
-use Rattle.closing_laws.specs.log_entries.declared.entries.Entry.{Entry}
-use Rattle.closing_laws.specs.log_entries.declared.entries.Entry.TheVariants.{Transaction, Definition, LogStart}
+use Rattle.name_const_laws.specs.catalog_rules.Checks.{session_scope, statement_refusal}
+use Rattle.name_const_laws.specs.log_entries.declared.entries.Entry.{Entry}
+use Rattle.name_const_laws.specs.log_entries.declared.entries.Entry.TheVariants.{Transaction, Definition, LogStart}
 use Rattle.session_model.specs.text_answers.Answers.{a_statement, text_answer}
 use Rattle.session_model.specs.proc_model.Procedures.{is_plain}
 use Rattle.session_model.specs.Machine.{Whole}

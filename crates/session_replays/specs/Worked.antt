@@ -3,8 +3,8 @@ use Rattle.std.specs.Prelude.{ℕ, ◌+◌, List, [], ◌∷◌, ◌++◌, map, 
 use Rattle.std.specs.Option.{option_map}
 use Rattle.val_types.specs.declared.value.Value.{Value}
 use Rattle.table_rules.specs.Tables.{Table}
-use Rattle.closing_laws.specs.catalog_rules.Bases.{Base, empty_base}
-use Rattle.closing_laws.specs.log_entries.declared.entries.Entry.{Entry}
+use Rattle.name_const_laws.specs.catalog_rules.Bases.{Base, empty_base}
+use Rattle.name_const_laws.specs.log_entries.declared.entries.Entry.{Entry}
 use Rattle.session_model.specs.Sessions.{State}
 use Rattle.session_model.specs.Machine.{Whole, whole, first_place, first_state, step, Step}
 use Rattle.session_model.specs.Worked.{root, draw_of, Spoken}

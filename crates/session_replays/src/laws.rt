@@ -5,12 +5,12 @@ ghost use Rattle.session_replays.specs.Followed.{MixedIsUnwarned, RowsAreUnwarne
 ghost use Rattle.session_replays.specs.Replaying.{ReplaysBegin, ReplaysGoOn, ReplaysOpen};
 ghost use Rattle.session_replays.specs.Rerun.{RunsAgain};
 
-use closing_laws::sql_meaning::{parts_are_well, statements_end_well, turns_never_rise};
-use closing_laws::sql_text::prints_are_read;
-use closing_laws::{
+use independence_laws::statements_are_followed;
+use name_const_laws::sql_meaning::{parts_are_well, statements_end_well, turns_never_rise};
+use name_const_laws::sql_text::prints_are_read;
+use name_const_laws::{
     closed_does_the_same, closed_is_allowed, closed_is_read, fitted_values_are_short,
 };
-use independence_laws::statements_are_followed;
 use session_model::runs_hold;
 use session_model::text_answers::{answers_are_well, texts_are_answered};
 

@@ -6,13 +6,13 @@ use Rattle.session_model.specs.Sessions.{Session, Shared}
 use Rattle.sql_tree.specs.StatementView.{view}
 use Rattle.sql_tree.specs.declared.statements.Stmt.{Stmt}
 use Rattle.sql_tree.specs.declared.statements.Stmt.{the_lemmas}
-use Rattle.session_transactions.specs.catalog_rules.Checks.{session_scope, statement_refusal}
-use Rattle.session_transactions.specs.sql_reach.Reach.{is_definition}
-use Rattle.session_transactions.specs.text_answers.Answers.{TextAnswer, a_statement}
+use Rattle.session_transaction.specs.catalog_rules.Checks.{session_scope, statement_refusal}
+use Rattle.session_transaction.specs.sql_reach.Reach.{is_definition}
+use Rattle.session_transaction.specs.text_answers.Answers.{TextAnswer, a_statement}
 use Rattle.session_model.specs.Running.{Call, full, lock_refusal, statement_run}
 use Rattle.session_model.specs.Commands.{code_answer, definition_turn, given_turn, plain_turn, unless_refused}
 use Rattle.session_model.specs.Machine.{statement_turn, text_turn}
-use Rattle.session_transactions.specs.log_entries.declared.entries.Item.{Item}
+use Rattle.session_transaction.specs.log_entries.declared.entries.Item.{Item}
 use Rattle.source_node.specs.Other.{is_call, is_of_transaction, is_set, other_turn}
 
 pub other_is : (call : Call Item) (text : List ℕ) (s : Statement) (shared : Shared) (session : Session Item) → is_of_transaction s ≡ false → is_set s ≡ false → is_call s ≡ false

@@ -7,33 +7,33 @@ use Rattle.val_types.specs.declared.refusal.SqlRefusal.TheVariants.{Sql}
 use Rattle.port_traits.specs.declared.identity.Draw.{Draw}
 use Rattle.port_traits.specs.declared.identity.Identity.{Identity}
 use Rattle.answer_text.specs.declared.answer.Answer.{Answer}
-use Rattle.session_transactions.specs.log_entries.declared.entries.Item.{Item}
+use Rattle.session_transaction.specs.log_entries.declared.entries.Item.{Item}
 use Rattle.sql_tree.specs.Statement.{Statement, evaluate}
 use Rattle.sql_tree.specs.Tree.{Trees, no_tree, tree}
 use Rattle.sql_tree.specs.View.{view_trees}
 use Rattle.sql_tree.specs.declared.expressions.Expr.{Expr}
-use Rattle.session_transactions.specs.sql_meaning.Changing.{Did}
-use Rattle.session_transactions.specs.sql_meaning.Running.{most_nested}
-use Rattle.session_transactions.specs.prog_run.declared.meter.Meter.{Meter}
-use Rattle.session_transactions.specs.prog_run.declared.meter.Outcome.{Outcome}
-use Rattle.session_transactions.specs.prog_run.Runs.{Spends, outcome_of}
-use Rattle.session_transactions.specs.node_answers.Telling.{told_answer}
-use Rattle.session_transactions.specs.proc_model.Talk.{brought}
-use Rattle.session_transactions.specs.proc_model.Procedures as procedures
-use Rattle.session_transactions.specs.proc_parts.Calls.{left_of}
+use Rattle.session_transaction.specs.sql_meaning.Changing.{Did}
+use Rattle.session_transaction.specs.sql_meaning.Running.{most_nested}
+use Rattle.session_transaction.specs.prog_run.declared.meter.Meter.{Meter}
+use Rattle.session_transaction.specs.prog_run.declared.meter.Outcome.{Outcome}
+use Rattle.session_transaction.specs.prog_run.Runs.{Spends, outcome_of}
+use Rattle.session_transaction.specs.answer_making.Telling.{told_answer}
+use Rattle.session_transaction.specs.proc_model.Talk.{brought}
+use Rattle.session_transaction.specs.proc_model.Procedures as procedures
+use Rattle.session_transaction.specs.proc_parts.Calls.{left_of}
 use Rattle.session_model.specs.Answers.{ok, ok_warned, refused, showing, with_warning}
 use Rattle.session_model.specs.Sessions.{Session, Shared}
 use Rattle.session_model.specs.Running.{Call, Fuel, Given, Turn, did_answer, expressions_run, full, given_answer, statement_run}
 use Rattle.session_model.specs.Commands.{given_turn}
 use Rattle.session_model.specs.Calling.{Reached, arguments_run, called_by, called_with, came_to, steps_of}
-use Rattle.session_transactions.specs.session_steps.Calls.{call_of}
-use Rattle.session_transactions.specs.session_desk.Desk.{shared_of}
-use Rattle.session_transactions.specs.session_steps.Ran.{fuel_at, full_meter, told_given, told_of}
-use Rattle.session_calls.specs.Stepping.{Stood}
-use Rattle.session_transactions.specs.session_steps.Turned.{EndsWith, IsTurn, Moves, giving}
-use Rattle.session_transactions.specs.session_steps.declared.keeping.Kept.{Kept}
-use Rattle.session_transactions.specs.session_desk.declared.desk.Desk.{Desk}
-use Rattle.session_calls.proofs.Counting.{Counts, values_count}
+use Rattle.session_transaction.specs.session_statement.Calls.{call_of}
+use Rattle.session_transaction.specs.session_shared.Desk.{shared_of}
+use Rattle.session_transaction.specs.session_statement.Ran.{fuel_at, full_meter, told_given, told_of}
+use Rattle.session_call.specs.Stepping.{Stood}
+use Rattle.session_transaction.specs.session_statement.Turned.{EndsWith, IsTurn, Moves, giving}
+use Rattle.session_transaction.specs.session_statement.declared.keeping.Kept.{Kept}
+use Rattle.session_transaction.specs.session_shared.declared.desk.Desk.{Desk}
+use Rattle.session_call.proofs.Counting.{Counts, values_count}
 
 -- ---- a change, a SELECT or a DO
 

@@ -9,36 +9,36 @@ use Rattle.auto_inc.specs.declared.counters.Counter.{Counter}
 use Rattle.answer_text.specs.declared.answer.Answer.{Answer}
 use Rattle.table_rules.specs.Tables.{Table}
 use Rattle.table_rules.proofs.Equations.{applied_none}
-use Rattle.session_transactions.specs.catalog_rules.Bases.{Base, defined}
-use Rattle.session_transactions.specs.catalog_rules.Creating.{ddl_refusal, first_refusal, table_checks}
-use Rattle.session_transactions.specs.catalog_objects.Keys.{objects_of}
+use Rattle.session_transaction.specs.catalog_rules.Bases.{Base, defined}
+use Rattle.session_transaction.specs.catalog_rules.Creating.{ddl_refusal, first_refusal, table_checks}
+use Rattle.session_transaction.specs.catalog_objects.Keys.{objects_of}
 use Rattle.sql_tree.specs.Statement.{Statement, create_table}
 use Rattle.sql_tree.specs.declared.statements.CreateTable.{CreateTable}
-use Rattle.session_transactions.specs.catalog_rules.Objects.{Object}
-use Rattle.session_transactions.specs.sql_meaning.Frames.{Context}
-use Rattle.session_transactions.specs.sql_reach.Defining.{counters_after}
-use Rattle.session_transactions.specs.log_entries.declared.entries.Item.{Item}
-use Rattle.session_transactions.specs.log_entries.declared.entries.Entry.{Entry}
-use Rattle.session_transactions.specs.log_entries.declared.entries.Entry.TheVariants.{Definition}
-use Rattle.session_transactions.specs.log_model.Log.{LogPlace, behind}
-use Rattle.session_transactions.specs.logged_items.Items.{item_by_text}
-use Rattle.session_transactions.specs.logged_items.Logged.{Encodes, in_log}
-use Rattle.session_transactions.specs.prog_run.declared.meter.Outcome.{Outcome}
-use Rattle.session_transactions.specs.prog_run.Contents.{Contents, base_of, committed_tables, without_changes}
-use Rattle.session_transactions.specs.prog_run.Runs.{Makes}
-use Rattle.session_transactions.specs.proc_model.Procedures.{plain_refusal}
-use Rattle.session_transactions.specs.proc_model.Talk.{Refusal}
+use Rattle.session_transaction.specs.catalog_rules.Objects.{Object}
+use Rattle.session_transaction.specs.sql_meaning.Frames.{Context}
+use Rattle.session_transaction.specs.sql_reach.Defining.{counters_after}
+use Rattle.session_transaction.specs.log_entries.declared.entries.Item.{Item}
+use Rattle.session_transaction.specs.log_entries.declared.entries.Entry.{Entry}
+use Rattle.session_transaction.specs.log_entries.declared.entries.Entry.TheVariants.{Definition}
+use Rattle.session_transaction.specs.log_model.Log.{LogPlace, behind}
+use Rattle.session_transaction.specs.binlog_items.Items.{item_by_text}
+use Rattle.session_transaction.specs.binlog_items.Logged.{Encodes, in_log}
+use Rattle.session_transaction.specs.prog_run.declared.meter.Outcome.{Outcome}
+use Rattle.session_transaction.specs.prog_run.Contents.{Contents, base_of, committed_tables, without_changes}
+use Rattle.session_transaction.specs.prog_run.Runs.{Makes}
+use Rattle.session_transaction.specs.proc_model.Procedures.{plain_refusal}
+use Rattle.session_transaction.specs.proc_model.Talk.{Refusal}
 use Rattle.session_model.specs.Answers.{ok, refused, refused_as}
 use Rattle.session_model.specs.Sessions.{Session, Shared}
 use Rattle.session_model.specs.Running.{Turn, commit_entries, commit_open, commit_shared, counted_in, held_by, is_full, is_other, items_of, transaction_of, writing_refusal}
 use Rattle.session_model.specs.Commands.{define_turn, definition_turn, made_turn, unless_answered, with_answer}
-use Rattle.session_transactions.specs.session_desk.declared.desk.Desk.{Desk}
-use Rattle.session_transactions.specs.session_steps.Calls.{call_of}
-use Rattle.session_transactions.specs.session_desk.Desk.{has_any, shared_by, shared_of}
-use Rattle.session_transactions.specs.session_desk.Logging.{Logs}
-use Rattle.session_transactions.specs.session_steps.Turned.{IsTurn, Moves, behind_turn, not_begun}
-use Rattle.session_transactions.proofs.of_session_desk.Logging.{definition_place, log_on, logs_from, one_logged, same_entry}
-use Rattle.session_transactions.proofs.of_session_steps.Turns.{turn_is}
+use Rattle.session_transaction.specs.session_shared.declared.desk.Desk.{Desk}
+use Rattle.session_transaction.specs.session_statement.Calls.{call_of}
+use Rattle.session_transaction.specs.session_shared.Desk.{has_any, shared_by, shared_of}
+use Rattle.session_transaction.specs.session_shared.Logging.{Logs}
+use Rattle.session_transaction.specs.session_statement.Turned.{IsTurn, Moves, behind_turn, not_begun}
+use Rattle.session_transaction.proofs.of_session_shared.Logging.{definition_place, log_on, logs_from, one_logged, same_entry}
+use Rattle.session_transaction.proofs.of_session_statement.Turns.{turn_is}
 
 pub none_if : (cs : List Change) → has_any cs ≡ false → cs ≡ []
 none_if [] e = refl

@@ -4,20 +4,20 @@ use Rattle.std.proofs.lemmas.List.{map-append}
 use Rattle.port_traits.specs.declared.identity.Draw.{Draw}
 use Rattle.port_traits.specs.declared.identity.Identity.{Identity}
 use Rattle.answer_text.specs.declared.answer.Answer.{Answer}
-use Rattle.session_transactions.specs.catalog_rules.Bases.{empty_base}
-use Rattle.session_transactions.specs.log_entries.declared.entries.Item.{Item}
-use Rattle.session_transactions.specs.log_entries.declared.entries.Entry.{Entry}
-use Rattle.session_transactions.specs.log_model.Log.{LogPlace, counted_all, head, log}
-use Rattle.session_transactions.proofs.of_log_model.Growing.{goes_on}
-use Rattle.session_transactions.specs.entry_groups.Entries.{CanLogAll}
-use Rattle.session_transactions.specs.logged_items.Logged.{in_log}
+use Rattle.session_transaction.specs.catalog_rules.Bases.{empty_base}
+use Rattle.session_transaction.specs.log_entries.declared.entries.Item.{Item}
+use Rattle.session_transaction.specs.log_entries.declared.entries.Entry.{Entry}
+use Rattle.session_transaction.specs.log_model.Log.{LogPlace, counted_all, head, log}
+use Rattle.session_transaction.proofs.of_log_model.Growing.{goes_on}
+use Rattle.session_transaction.specs.log_entry_laws.Entries.{CanLogAll}
+use Rattle.session_transaction.specs.binlog_items.Logged.{in_log}
 use Rattle.session_model.specs.Sessions.{Shared, State}
 use Rattle.session_model.specs.Holding.{Holds, with_nothing}
 use Rattle.session_model.specs.Machine.{Machine, Step, StepsAreKept, Whole, kept, kept_entry, kept_step, log_of, machine_after, nowhere, opened, step, whole}
-use Rattle.session_transactions.specs.session_desk.Desk.{shared_of}
+use Rattle.session_transaction.specs.session_shared.Desk.{shared_of}
 use Rattle.source_node.specs.Standing.{Kept, Stands, no_session, state_of}
-use Rattle.session_transactions.specs.session_desk.Logging.{Logs, logged}
-use Rattle.session_transactions.proofs.of_session_desk.Logging.{logged_is}
+use Rattle.session_transaction.specs.session_shared.Logging.{Logs, logged}
+use Rattle.session_transaction.proofs.of_session_shared.Logging.{logged_is}
 
 -- ---- a step
 

@@ -1,9 +1,9 @@
 -- Statements on transactions, SET and CALL, and those that are none of them.
 use Rattle.std.specs.Prelude.{ℕ, Bool, true, false, if◌then◌else◌, List}
-use Rattle.session_transactions.specs.log_entries.declared.entries.Item.{Item}
+use Rattle.session_transaction.specs.log_entries.declared.entries.Item.{Item}
 use Rattle.answer_text.specs.declared.answer.Answer.{Answer}
 use Rattle.sql_tree.specs.Statement.{Statement, begin, commit, rollback, savepoint, rollback_to, release_savepoint, set_all, call_procedure}
-use Rattle.session_transactions.specs.sql_reach.Reach.{is_definition}
+use Rattle.session_transaction.specs.sql_reach.Reach.{is_definition}
 use Rattle.session_model.specs.Sessions.{Session, Shared}
 use Rattle.session_model.specs.Running.{Call, Turn}
 use Rattle.session_model.specs.Commands.{definition_turn, plain_turn}

@@ -1,11 +1,11 @@
 -- What a node keeps, and the runs of the machine for which it stands.
 use Rattle.std.specs.Prelude.{◌≡◌, List, Option, None}
 use Rattle.port_traits.specs.declared.identity.Identity.{Identity}
-use Rattle.session_transactions.specs.log_entries.declared.entries.Item.{Item}
+use Rattle.session_transaction.specs.log_entries.declared.entries.Item.{Item}
 use Rattle.session_model.specs.Sessions.{Session, State}
 use Rattle.session_model.specs.Machine.{Machine, kept_state, log_of}
-use Rattle.session_transactions.specs.session_desk.declared.desk.Desk.{Desk}
-use Rattle.session_transactions.specs.session_desk.Desk.{shared_of}
+use Rattle.session_transaction.specs.session_shared.declared.desk.Desk.{Desk}
+use Rattle.session_transaction.specs.session_shared.Desk.{shared_of}
 
 -- who the node is, what its sessions share with the log, and each session by its number
 pub record Kept : Type 0 where

@@ -1,17 +1,17 @@
 //! A command of a session: a text, whatever it is.
 ghost use Rattle.std.specs.Prelude.{◌≡◌, ◌≤◌, ◌^◌, Some, length, IfOk};
 ghost use Rattle.session_model.specs.Machine.{command, text_turn};
-ghost use Rattle.session_transactions.specs.session_steps.Calls.{called};
-ghost use Rattle.session_transactions.specs.session_desk.Desk.{shared_of};
-ghost use Rattle.session_transactions.specs.session_desk.Logging.{Logs};
-ghost use Rattle.session_transactions.specs.session_steps.Turned.{IsTurn};
-ghost use Rattle.session_transactions.specs.text_answers.Answers.{text_answer};
+ghost use Rattle.session_transaction.specs.session_statement.Calls.{called};
+ghost use Rattle.session_transaction.specs.session_shared.Desk.{shared_of};
+ghost use Rattle.session_transaction.specs.session_shared.Logging.{Logs};
+ghost use Rattle.session_transaction.specs.session_statement.Turned.{IsTurn};
+ghost use Rattle.session_transaction.specs.text_answers.Answers.{text_answer};
 
 use crate::statements::run;
 use crate::working::{at_work, count};
 use answer_text::Answer;
-use session_transactions::node_answers::{NodeFault, refused, refused_at, statement_of};
-use session_transactions::session_desk::{Call, Desk, Session};
+use session_transaction::answer_making::{NodeFault, refused, refused_at, statement_of};
+use session_transaction::session_shared::{Call, Desk, Session};
 use sql_parse::ParseRefusal;
 use std::alloc::Global;
 

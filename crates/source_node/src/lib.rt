@@ -9,9 +9,9 @@
 //! - `statements`: which command a statement is; `calling`, `definitions`, `plain`: commands, one function each
 //! - `writing`: what refuses statements before they run
 //!
-//! What its sessions share and how one statement runs on it, also of a procedure, stands in `session_steps`, SET in
-//! `session_sets`, BEGIN, COMMIT, ROLLBACK and savepoints in `session_transactions`; items and the bytes of entries are made in
-//! `logged_items`, which also cuts the bytes of the log that are served. The definitions in specs/ say for which runs a node
+//! What its sessions share and how one statement runs on it, also of a procedure, stands in `session_statement`, SET in
+//! `session_set`, BEGIN, COMMIT, ROLLBACK and savepoints in `session_transaction`; items and the bytes of entries are made in
+//! `binlog_items`, which also cuts the bytes of the log that are served. The definitions in specs/ say for which runs a node
 //! stands (`Standing`), and what commands leave by their parts (`Other`).
 //!
 //! # Proved

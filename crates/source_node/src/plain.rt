@@ -1,17 +1,17 @@
 //! Changes, SELECT and DO.
 ghost use Rattle.std.specs.Prelude.{◌≡◌, false, IfOk};
 ghost use Rattle.sql_tree.specs.StatementView.{view};
-ghost use Rattle.session_transactions.specs.sql_reach.Reach.{is_definition};
+ghost use Rattle.session_transaction.specs.sql_reach.Reach.{is_definition};
 ghost use Rattle.session_model.specs.Running.{full, statement_run};
 ghost use Rattle.session_model.specs.Commands.{given_turn};
-ghost use Rattle.session_transactions.specs.session_steps.Calls.{called};
-ghost use Rattle.session_transactions.specs.session_desk.Desk.{shared_of};
-ghost use Rattle.session_transactions.specs.session_steps.Turned.{IsTurn};
+ghost use Rattle.session_transaction.specs.session_statement.Calls.{called};
+ghost use Rattle.session_transaction.specs.session_shared.Desk.{shared_of};
+ghost use Rattle.session_transaction.specs.session_statement.Turned.{IsTurn};
 
 use answer_text::Answer;
-use session_transactions::node_answers::{NodeFault, refused, told, with_warning};
-use session_transactions::session_desk::{Call, Desk, Session};
-use session_transactions::session_steps::{full, run_with_text};
+use session_transaction::answer_making::{NodeFault, refused, told, with_warning};
+use session_transaction::session_shared::{Call, Desk, Session};
+use session_transaction::session_statement::{full, run_with_text};
 use sql_tree::Stmt;
 use std::alloc::Global;
 use val_types::SqlRefusal;

@@ -1,18 +1,18 @@
 //! The source.
 ghost use Rattle.std.specs.Prelude.{◌≡◌, ◌<◌, ◌≤◌, ◌^◌, length, map, replicate, IfOk};
-ghost use Rattle.session_transactions.specs.entry_groups.Entries.{CanLogAll};
+ghost use Rattle.session_transaction.specs.log_entry_laws.Entries.{CanLogAll};
 ghost use Rattle.session_model.specs.Holding.{Holds, with_nothing};
 ghost use Rattle.session_model.specs.Machine.{Machine, kept, kept_entry, log_bytes, machine_after, opened, step, whole};
 ghost use Rattle.source_node.specs.Standing.{no_session, state_of, Stands};
-ghost use Rattle.session_transactions.specs.session_desk.Logging.{Logs};
+ghost use Rattle.session_transaction.specs.session_shared.Logging.{Logs};
 
 use crate::command::run_command;
 use answer_text::Answer;
 use port_traits::{Draw, Identity};
 use session_model::steps_are_kept;
-use session_transactions::logged_items::{encode_start, served_bytes};
-use session_transactions::node_answers::NodeFault;
-use session_transactions::session_desk::{Call, Desk, Session};
+use session_transaction::answer_making::NodeFault;
+use session_transaction::binlog_items::{encode_start, served_bytes};
+use session_transaction::session_shared::{Call, Desk, Session};
 use std::alloc::Global;
 use std::marker::Model;
 use val_types::{Bytes, NoMemory};

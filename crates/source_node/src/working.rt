@@ -2,13 +2,13 @@
 ghost use Rattle.std.specs.Prelude.{◌≡◌, IfOk};
 ghost use Rattle.session_model.specs.Counting.{counted};
 ghost use Rattle.session_model.specs.Machine.{at_work};
-ghost use Rattle.session_transactions.specs.session_steps.Calls.{called};
+ghost use Rattle.session_transaction.specs.session_statement.Calls.{called};
 
 use answer_text::Answer;
 use session_ctx::SessionVars;
 use session_model::Format;
-use session_transactions::node_answers::row_count_after;
-use session_transactions::session_desk::{Call, Session};
+use session_transaction::answer_making::row_count_after;
+use session_transaction::session_shared::{Call, Session};
 use std::alloc::Global;
 use val_types::NoMemory;
 

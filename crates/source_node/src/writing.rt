@@ -2,20 +2,20 @@
 ghost use Rattle.std.specs.Prelude.{◌≡◌, false};
 ghost use Rattle.sql_tree.specs.Statement.{create_function, create_procedure, create_table, create_trigger};
 ghost use Rattle.sql_tree.specs.StatementView.{view, view_program, view_trigger};
-ghost use Rattle.session_transactions.specs.catalog_objects.Keys.{objects_of};
-ghost use Rattle.session_transactions.specs.catalog_rules.Checks.{session_scope, statement_refusal};
-ghost use Rattle.session_transactions.specs.catalog_rules.Creating.{ddl_refusal};
-ghost use Rattle.session_transactions.specs.sql_reach.Reach.{is_definition};
+ghost use Rattle.session_transaction.specs.catalog_objects.Keys.{objects_of};
+ghost use Rattle.session_transaction.specs.catalog_rules.Checks.{session_scope, statement_refusal};
+ghost use Rattle.session_transaction.specs.catalog_rules.Creating.{ddl_refusal};
+ghost use Rattle.session_transaction.specs.sql_reach.Reach.{is_definition};
 ghost use Rattle.session_model.specs.Running.{writing_refusal};
-ghost use Rattle.session_transactions.specs.session_desk.Desk.{shared_of};
+ghost use Rattle.session_transaction.specs.session_shared.Desk.{shared_of};
 
 use answer_text::Answer;
 use catalog::Catalog;
-use session_transactions::program_creation::{
+use session_transaction::catalog_create_program::{
     function_refusal, procedure_refusal, trigger_refusal,
 };
-use session_transactions::session_desk::{Desk, checked, refused_as};
-use session_transactions::table_creation::table_refusal;
+use session_transaction::catalog_create_table::table_refusal;
+use session_transaction::session_shared::{Desk, checked, refused_as};
 use sql_locals::Locals;
 use sql_tree::{CreateTable, Routine, Stmt, TriggerDef};
 use std::alloc::Global;

@@ -22,7 +22,7 @@ use Rattle.session_ctx.specs.sql_meaning.Scenes.{Scene, Ending, Action, done, fa
 use Rattle.session_ctx.specs.sql_meaning.Values.{holds, found_or, value_of_arms, first_known_of, value_at}
 use Rattle.val_types.specs.declared.refusal.SqlRefusal.{SqlRefusal}
 use Rattle.val_types.specs.declared.refusal.SqlRefusal.TheVariants.{Sql, NoMemory}
-use Rattle.sql_stage.specs.Stage.{EndsAs}
+use Rattle.exec_state.specs.Stage.{EndsAs}
 use Rattle.sql_evaluation.proofs.Steps.{stage_on_twice}
 use Rattle.sql_evaluation.specs.declared.world.View.{View as Shown}
 use Rattle.sql_evaluation.specs.declared.world.Around.{Around}

@@ -13,7 +13,7 @@ use Rattle.sql_tree.specs.Tree.{Tree, Trees}
 use Rattle.sql_tree.specs.BuiltIns.{all_arguments, about, on_none, on_one, on_three, on_many}
 use Rattle.session_ctx.specs.sql_meaning.Scenes.{Scene, done, failed, answered}
 use Rattle.session_ctx.specs.sql_meaning.Values.{session_value, values}
-use Rattle.sql_stage.specs.Stage.{EndsAs}
+use Rattle.exec_state.specs.Stage.{EndsAs}
 use Rattle.sql_evaluation.specs.declared.world.View.{View as Shown}
 use Rattle.sql_evaluation.specs.declared.world.Around.{Around}
 use Rattle.sql_evaluation.specs.Seen.{value_in, world_of, frame_of}

@@ -14,7 +14,7 @@ use Rattle.sql_tree.specs.View.{view_aggregate, view_aggregates, aggregate_befor
 use Rattle.value_rules.specs.Selecting.{first_value, aggregate_value}
 use Rattle.session_ctx.specs.sql_meaning.Scenes.{Scene, Ending, done, failed, then_do, pure, answered, ◌>>=◌}
 use Rattle.session_ctx.specs.sql_meaning.Values.{formed, functions_of}
-use Rattle.sql_stage.specs.Stage.{EndsAs}
+use Rattle.exec_state.specs.Stage.{EndsAs}
 use Rattle.sql_evaluation.specs.declared.world.View.{View as Shown}
 use Rattle.sql_evaluation.specs.declared.world.Around.{Around}
 use Rattle.sql_evaluation.specs.Seen.{argument_in, arguments_in, argument_rows_in, aggregated_in, function_in, column_at, put_before, formed_values, seen, with_row, Inside}

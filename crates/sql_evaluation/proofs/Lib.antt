@@ -7,4 +7,4 @@ pub mod Branching
 pub mod Scanning
 pub mod Forming
 -- the crates below that this one speaks of, passed on
-pub use Rattle.sql_stage.proofs.of_dml_rows as of_dml_rows
+pub use Rattle.exec_state.proofs.of_dml_rows as of_dml_rows

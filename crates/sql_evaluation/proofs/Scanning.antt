@@ -24,7 +24,7 @@ use Rattle.value_rules.specs.Selecting.{by_items, in_order, put_in_order, first_
 use Rattle.session_ctx.specs.sql_meaning.Scenes.{Scene, Ending, Action, done, failed, then_do, pure, each, kept_by, table_now, ◌>>=◌}
 use Rattle.session_ctx.specs.sql_meaning.Frames.{sees, limited}
 use Rattle.session_ctx.specs.sql_meaning.Values.{is_kept, order_values, shown_rows, sorted, directions, only_value}
-use Rattle.sql_stage.specs.Stage.{EndsAs}
+use Rattle.exec_state.specs.Stage.{EndsAs}
 use Rattle.sql_evaluation.specs.declared.world.View.{View as Shown}
 use Rattle.sql_evaluation.specs.declared.world.Around.{Around}
 use Rattle.sql_evaluation.specs.Seen.{value_in, values_in, holds_in, kept_in, where_in, keyed_in, ordered_in, order_in, items_in, shown_in, rows_in, alone_in, from_in, aggregated_in, seen, with_row, Inside, Anywhere, world_of, frame_of}

@@ -4,9 +4,9 @@ use Rattle.val_types.specs.declared.value.Value.{Value}
 use Rattle.val_types.specs.declared.refusal.SqlRefusal.{SqlRefusal}
 use Rattle.sql_tree.specs.Tree.{Tree}
 use Rattle.session_ctx.specs.sql_meaning.Scenes.{Scene, Action, done}
-use Rattle.sql_stage.specs.declared.stage.Stage.{Stage}
-use Rattle.sql_stage.specs.Stage.{EndsAs, LeadsOn}
-use Rattle.sql_stage.proofs.Leading.{stage_stays, stage_on}
+use Rattle.exec_state.specs.declared.stage.Stage.{Stage}
+use Rattle.exec_state.specs.Stage.{EndsAs, LeadsOn}
+use Rattle.exec_state.proofs.Leading.{stage_stays, stage_on}
 use Rattle.sql_evaluation.specs.declared.world.View.{View as Shown}
 use Rattle.sql_evaluation.specs.declared.world.Around.{Around}
 use Rattle.sql_evaluation.specs.Seen.{value_in, Stands, Anywhere, world_of, running_of}

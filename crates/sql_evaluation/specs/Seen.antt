@@ -20,11 +20,11 @@ use Rattle.value_rules.specs.Selecting.{by_items, aggregate_value}
 use Rattle.std.specs.Ordering.{is_lt}
 use Rattle.val_types.specs.declared.ops.Agg.{Agg}
 use Rattle.session_ctx.specs.sql_meaning.Running.{level_of}
-use Rattle.sql_stage.specs.declared.stage.Stage.{Stage}
-use Rattle.sql_stage.specs.declared.running.Running.{Running as UnderWay}
-use Rattle.sql_stage.specs.UnderWay.{under_way}
+use Rattle.exec_state.specs.declared.stage.Stage.{Stage}
+use Rattle.exec_state.specs.declared.running.Running.{Running as UnderWay}
+use Rattle.exec_state.specs.UnderWay.{under_way}
 use Rattle.catalog_objects.specs.Keys.{objects_of}
-use Rattle.sql_stage.specs.Stage.{scene_of, EndsAs, LeadsOn}
+use Rattle.exec_state.specs.Stage.{scene_of, EndsAs, LeadsOn}
 use Rattle.sql_evaluation.specs.declared.world.View.{View as Shown}
 use Rattle.sql_evaluation.specs.declared.world.Around.{Around}
 

@@ -4,14 +4,14 @@ ghost use Rattle.val_types.specs.Answers.{Gives};
 ghost use Rattle.val_types.specs.declared.value.Value.TheVariants.{Null};
 ghost use Rattle.sql_tree.specs.View.{view_aggregate, view_aggregates};
 ghost use Rattle.session_ctx.specs.sql_meaning.Values.{functions_of};
-ghost use Rattle.sql_stage.specs.Stage.{EndsAs, LeadsOn, scene_of};
+ghost use Rattle.exec_state.specs.Stage.{EndsAs, LeadsOn, scene_of};
 ghost use Rattle.sql_evaluation.specs.Seen.{Evaluates, LeadsAlways, aggregated_in, argument_in, argument_rows_in, arguments_in, column_at, formed_values, function_in};
 
 use crate::views::{Views, seeing};
 use crate::world::Around;
+use exec_state::Stage;
 use select_rows::aggregate;
 use sharing::Shared;
-use sql_stage::Stage;
 use sql_tree::{Aggregate, Expr};
 use std::alloc::Global;
 use val_types::{Agg, Duplicate, List, NoMemory, Row, SqlRefusal, TableDef, Value};

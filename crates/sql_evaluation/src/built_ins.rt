@@ -4,7 +4,7 @@ ghost use Rattle.val_types.specs.declared.ops.Func.{Func};
 ghost use Rattle.sql_tree.specs.BuiltIns.{about, all_arguments, on_many, on_one, on_three, on_two};
 ghost use Rattle.sql_tree.specs.View.{view_tree, view_trees};
 ghost use Rattle.session_ctx.specs.sql_meaning.Values.{session_value};
-ghost use Rattle.sql_stage.specs.Stage.{EndsAs, LeadsOn, scene_of};
+ghost use Rattle.exec_state.specs.Stage.{EndsAs, LeadsOn, scene_of};
 ghost use Rattle.sql_evaluation.specs.Seen.{Evaluates, LeadsAlways, value_in, world_of};
 
 use crate::choices::{first_known, first_of_two, if_value};
@@ -15,8 +15,8 @@ use crate::session_values::{
 use crate::value_lists::values;
 use crate::views::Views;
 use crate::world::Around;
+use exec_state::Stage;
 use expr_ops::{value_of_many, value_of_one, value_of_three};
-use sql_stage::Stage;
 use sql_tree::Expr;
 use std::alloc::Global;
 use val_types::{Func0, Func1, Func2, Func3, FuncN, List, SqlRefusal, Value};

@@ -6,14 +6,14 @@ ghost use Rattle.val_types.specs.declared.ops.FuncN.{FuncN};
 ghost use Rattle.sql_tree.specs.Tree.{choice};
 ghost use Rattle.sql_tree.specs.BuiltIns.{on_many, on_three, on_two};
 ghost use Rattle.sql_tree.specs.View.{view_arms, view_part, view_tree, view_trees};
-ghost use Rattle.sql_stage.specs.Stage.{EndsAs, LeadsOn, scene_of};
+ghost use Rattle.exec_state.specs.Stage.{EndsAs, LeadsOn, scene_of};
 ghost use Rattle.sql_evaluation.specs.Seen.{Evaluates, LeadsAlways, holds_in, is_true, part_in, value_in};
 
 use crate::lookup::standing;
 use crate::views::Views;
 use crate::world::Around;
+use exec_state::Stage;
 use expr_ops::truth;
-use sql_stage::Stage;
 use sql_tree::{Arm, Expr};
 use val_types::{Boxed, List, SqlError, SqlRefusal, Value};
 

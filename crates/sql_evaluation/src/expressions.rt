@@ -1,7 +1,7 @@
 //! The value of an expression.
 ghost use Rattle.std.specs.Prelude.{◌≡◌, ◌<◌};
 ghost use Rattle.sql_tree.specs.View.{view_tree};
-ghost use Rattle.sql_stage.specs.Stage.{EndsAs, LeadsOn, scene_of};
+ghost use Rattle.exec_state.specs.Stage.{EndsAs, LeadsOn, scene_of};
 ghost use Rattle.sql_evaluation.specs.Seen.{Calls, CallsLead, value_in};
 
 use crate::built_ins::{of_many, of_none, of_one, of_three, of_two};
@@ -13,7 +13,7 @@ use crate::queries::{exists_value, subquery_value};
 use crate::session_values::{capped, system_variable, user_variable};
 use crate::views::Views;
 use crate::world::Around;
-use sql_stage::{Running, Stage};
+use exec_state::{Running, Stage};
 use sql_tree::Expr;
 use std::alloc::Global;
 use val_types::{Bytes, List, SqlRefusal, Value};

@@ -2,14 +2,14 @@
 ghost use Rattle.std.specs.Prelude.{◌≡◌};
 ghost use Rattle.sql_tree.specs.Tree.{call, floor_rand};
 ghost use Rattle.sql_tree.specs.View.{view_tree, view_trees};
-ghost use Rattle.sql_stage.specs.Stage.{EndsAs, LeadsOn, scene_of};
+ghost use Rattle.exec_state.specs.Stage.{EndsAs, LeadsOn, scene_of};
 ghost use Rattle.sql_evaluation.specs.Seen.{Calls, CallsLead, Evaluates, LeadsAlways, value_in};
 
 use crate::value_lists::values;
 use crate::views::Views;
 use crate::world::Around;
+use exec_state::{Running, Stage};
 use expr_ops::floor_rand;
-use sql_stage::{Running, Stage};
 use sql_tree::Expr;
 use std::alloc::Global;
 use val_types::{Bytes, List, SqlRefusal, Value};

@@ -1,7 +1,7 @@
 //! The values of expressions and the rows of SELECTs.
 //!
 //! An expression is evaluated in what is [`Around`] it, with the rows in view ([`Views`]), on a `Stage` of
-//! `sql_stage`, which contracts see as the scene of the definitions in `sql_meaning`. Each kind of expression is a
+//! `exec_state`, which contracts see as the scene of the definitions in `sql_meaning`. Each kind of expression is a
 //! function that takes the evaluation of its parts as a closure; [`value`] ties them in one cycle of two. What a call
 //! of a stored function does is handed in (`run`), so that programs stand above this crate, as changes do.
 //!
@@ -24,7 +24,7 @@
 //! - [`rows_of_query`] and each kind of expression by itself the same, for every evaluation that is handed in
 //!
 //! # Only tested
-//! That statements run with ample memory, in `repl_tests` and the stored runs of the programs.
+//! That statements run with ample memory, in `test_scripts` and the stored runs of the programs.
 #![tactic(auto, using(crate::proofs::Steps::steps))]
 
 mod aggregates;
@@ -44,6 +44,7 @@ mod world;
 // What is its own, and the crates below that it speaks of, passed on: who stands above names them through it.
 pub use built_ins::{of_many, of_none, of_one, of_three, of_two};
 pub use choices::{case_value, first_known, first_of_two, if_value};
+pub use exec_state;
 pub use expressions::value;
 pub use functions::{call_value, floor_rand_value};
 pub use lookup::copied;
@@ -55,7 +56,6 @@ pub use session_values::{
     unix_timestamp, user, user_variable, uuid,
 };
 pub use sorting::{count_of, cut};
-pub use sql_stage;
 pub use value_lists::values;
 pub use views::{Views, seeing};
 pub use world::{Around, View};

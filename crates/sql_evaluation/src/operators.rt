@@ -3,14 +3,14 @@ ghost use Rattle.std.specs.Prelude.{◌≡◌, Some, false};
 ghost use Rattle.sql_tree.specs.View.{view_tree, view_trees};
 ghost use Rattle.sql_tree.specs.Tree.{unary, binary, is_in};
 ghost use Rattle.session_ctx.specs.sql_meaning.Values.{membership};
-ghost use Rattle.sql_stage.specs.Stage.{EndsAs, LeadsOn, scene_of};
+ghost use Rattle.exec_state.specs.Stage.{EndsAs, LeadsOn, scene_of};
 ghost use Rattle.sql_evaluation.specs.Seen.{Evaluates, LeadsAlways, behind_left, compared_in, found_in, value_in};
 
 use crate::lookup::standing;
 use crate::views::Views;
 use crate::world::Around;
+use exec_state::Stage;
 use expr_ops::{binary, compare, decided, unary, value_of_truth};
-use sql_stage::Stage;
 use sql_tree::Expr;
 use std::cmp::Ordering;
 use val_types::{BinOp, List, SqlRefusal, UnOp, Value};

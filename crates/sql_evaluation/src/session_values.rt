@@ -8,12 +8,12 @@ ghost use Rattle.session_ctx.specs.log_entries.Variables.{variable_value};
 ghost use Rattle.session_ctx.specs.sql_meaning.Scenes.{needed, next_uuid};
 ghost use Rattle.session_ctx.specs.sql_meaning.Frames.{capped};
 ghost use Rattle.session_ctx.specs.sql_meaning.Values.{session_value, system_value};
-ghost use Rattle.sql_stage.specs.Stage.{EndsAs, LeadsOn, scene_of};
+ghost use Rattle.exec_state.specs.Stage.{EndsAs, LeadsOn, scene_of};
 ghost use Rattle.sql_evaluation.specs.Seen.{Anywhere, is_capped, world_of};
 
 use crate::world::Around;
+use exec_state::Stage;
 use expr_ops::time_text;
-use sql_stage::Stage;
 use std::alloc::Global;
 use val_types::{Bytes, Duplicate, SqlRefusal, TEXT_TOO_LONG, Value};
 

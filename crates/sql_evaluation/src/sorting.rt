@@ -4,15 +4,15 @@ ghost use Rattle.value_rules.specs.Selecting.{cut, in_order};
 ghost use Rattle.sql_tree.specs.View.{view_orders};
 ghost use Rattle.session_ctx.specs.sql_meaning.Frames.{count_value, limited, number_or_none};
 ghost use Rattle.session_ctx.specs.sql_meaning.Values.{directions, sorted};
-ghost use Rattle.sql_stage.specs.Stage.{EndsAs, LeadsOn, scene_of};
+ghost use Rattle.exec_state.specs.Stage.{EndsAs, LeadsOn, scene_of};
 ghost use Rattle.sql_evaluation.specs.Seen.{Evaluates, LeadsAlways, comes_before, order_in};
 
 use crate::views::Views;
 use crate::world::Around;
+use exec_state::Stage;
 use select_rows::compare;
 use sharing::Shared;
 use sql_locals::Locals;
-use sql_stage::Stage;
 use sql_tree::{Count, Expr, Limit, OrderItem};
 use std::alloc::Global;
 use val_types::{List, NoMemory, Row, SqlRefusal, Value};

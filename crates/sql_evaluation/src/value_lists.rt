@@ -1,11 +1,11 @@
 //! The values of lists of expressions.
 ghost use Rattle.sql_tree.specs.View.{view_trees};
-ghost use Rattle.sql_stage.specs.Stage.{EndsAs, LeadsOn, scene_of};
+ghost use Rattle.exec_state.specs.Stage.{EndsAs, LeadsOn, scene_of};
 ghost use Rattle.sql_evaluation.specs.Seen.{Evaluates, LeadsAlways, values_in};
 
 use crate::views::Views;
 use crate::world::Around;
-use sql_stage::Stage;
+use exec_state::Stage;
 use sql_tree::Expr;
 use std::alloc::Global;
 use val_types::{List, SqlRefusal, Value};

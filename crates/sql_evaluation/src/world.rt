@@ -2,10 +2,10 @@
 ghost use Rattle.std.specs.Prelude.{◌≡◌, IfOk};
 
 use catalog_objects::Objects;
+use exec_state::Running;
 use session_ctx::Ctx;
 use sharing::Shared;
 use sql_locals::Locals;
-use sql_stage::Running;
 use val_types::{NoMemory, Row, TableDef};
 
 /// A row with the definition of its table.

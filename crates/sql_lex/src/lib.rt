@@ -43,7 +43,7 @@
 //!
 //! # Only tested
 //! That the definitions are the lexical rules of MySQL is for a reader to judge; tables of texts with
-//! their tokens, worked out by hand, stand in `lex_callers`.
+//! their tokens, worked out by hand, stand in `test_lex`.
 #![tactic(auto)]
 
 mod blanks;

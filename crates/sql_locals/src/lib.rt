@@ -14,7 +14,7 @@
 //! - each local variable holds what a literal can say ([`Locals::hold_literals`])
 //!
 //! # Only tested
-//! That `push` succeeds with ample memory, in `context_callers`.
+//! That `push` succeeds with ample memory, in `test_contexts`.
 #![tactic(auto)]
 
 mod locals;

@@ -22,7 +22,7 @@
 //!   free.
 //!
 //! # Only tested
-//! In `sql_callers`: that parsing succeeds with ample memory, and how a refusal is told.
+//! In `test_sql`: that parsing succeeds with ample memory, and how a refusal is told.
 #![tactic(auto)]
 
 mod parsing;

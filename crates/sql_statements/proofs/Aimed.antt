@@ -8,9 +8,9 @@ use Rattle.table_rules.specs.Stored.{rows_of}
 use Rattle.table_rules.specs.Stores.{place_of, definitions_of}
 use Rattle.changed_rows.proofs.of_dml_rows.Noting.{name_there}
 use Rattle.changed_rows.specs.sql_meaning.Scenes.{done, table_now}
-use Rattle.sql_stage.specs.declared.stage.Stage.{Stage}
-use Rattle.sql_stage.specs.Stage.{scene_of}
-use Rattle.sql_stage.proofs.Snapshots.{not_there, no_definition, found_there}
+use Rattle.exec_state.specs.declared.stage.Stage.{Stage}
+use Rattle.exec_state.specs.Stage.{scene_of}
+use Rattle.exec_state.proofs.Snapshots.{not_there, no_definition, found_there}
 use Rattle.changed_rows.proofs.Places.{stands_on}
 use Rattle.changed_rows.specs.Changed.{StandsAt}
 use Rattle.sql_statements.specs.declared.target.Target.{Target}

@@ -12,7 +12,7 @@ use Rattle.sql_tree.specs.declared.statements.UpdateStmt.{UpdateStmt}
 use Rattle.sql_tree.specs.declared.statements.DeleteStmt.{DeleteStmt}
 use Rattle.changed_rows.specs.sql_meaning.Scenes.{Scene, Ending, Action, done, failed, then_do, pure, each, table_now}
 use Rattle.changed_rows.specs.sql_meaning.Changing.{Did, affected_rows}
-use Rattle.sql_stage.specs.Stage.{EndsAs, EndsAsBy}
+use Rattle.exec_state.specs.Stage.{EndsAs, EndsAsBy}
 use Rattle.changed_rows.specs.sql_evaluation.declared.world.Around.{Around}
 use Rattle.changed_rows.specs.sql_evaluation.declared.world.View.{View as Shown}
 use Rattle.changed_rows.specs.Changed.{updated_in, deleted_in}

@@ -16,7 +16,7 @@ use Rattle.sql_tree.specs.declared.expressions.Expr.{Expr}
 use Rattle.std.proofs.lemmas.List.{drop_all}
 use Rattle.changed_rows.specs.sql_meaning.Scenes.{Scene, Ending, Action, done, failed, then_do, pure, carried_on, table_now, ◌>>=◌}
 use Rattle.changed_rows.specs.sql_meaning.Changing.{Did, Inserting, Manner, did_insert, nothing_inserted}
-use Rattle.sql_stage.specs.Stage.{EndsAs, EndsAsBy}
+use Rattle.exec_state.specs.Stage.{EndsAs, EndsAsBy}
 use Rattle.changed_rows.specs.sql_evaluation.declared.world.Around.{Around}
 use Rattle.changed_rows.specs.sql_evaluation.declared.world.View.{View as Shown}
 use Rattle.changed_rows.specs.sql_evaluation.Seen.{values_in}

@@ -9,7 +9,7 @@ use Rattle.sql_tree.specs.declared.expressions.Count.{Count}
 use Rattle.changed_rows.specs.sql_meaning.Scenes.{Scene, Ending, Action, done, failed, then_do, pure, kept_by, ◌>>=◌}
 use Rattle.changed_rows.specs.sql_meaning.Frames.{sees, limited_to}
 use Rattle.changed_rows.specs.sql_meaning.Values.{is_kept, sorted, directions}
-use Rattle.sql_stage.specs.Stage.{EndsAs}
+use Rattle.exec_state.specs.Stage.{EndsAs}
 use Rattle.changed_rows.specs.sql_evaluation.declared.world.View.{View as Shown}
 use Rattle.changed_rows.specs.sql_evaluation.declared.world.Around.{Around}
 use Rattle.changed_rows.specs.sql_evaluation.Seen.{where_in, keyed_in, ordered_in, world_of, frame_of}

@@ -13,7 +13,7 @@ use Rattle.sql_tree.specs.declared.statements.DeleteStmt.{DeleteStmt}
 use Rattle.changed_rows.specs.sql_meaning.Scenes.{Scene, done, failed}
 use Rattle.changed_rows.specs.sql_meaning.Changing.{Did, Manner, replacing, updating, affected_rows}
 use Rattle.changed_rows.specs.sql_meaning.Running.{manner_of, perform, rows_shown}
-use Rattle.sql_stage.specs.Stage.{EndsAsBy}
+use Rattle.exec_state.specs.Stage.{EndsAsBy}
 use Rattle.changed_rows.specs.sql_evaluation.declared.world.Around.{Around}
 use Rattle.changed_rows.specs.sql_evaluation.declared.world.View.{View as Seen}
 use Rattle.changed_rows.specs.sql_evaluation.Seen.{values_in, frame_of, world_of}

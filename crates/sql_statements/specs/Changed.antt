@@ -16,8 +16,8 @@ use Rattle.sql_tree.specs.declared.statements.DeleteStmt.{DeleteStmt}
 use Rattle.changed_rows.specs.sql_meaning.Scenes.{Action, ◌>>=◌, pure, done, failed, each, counted, carried_on, table_now}
 use Rattle.changed_rows.specs.sql_meaning.Running.{rows_shown}
 use Rattle.changed_rows.specs.sql_meaning.Changing.{Did, affected_rows, Inserting, Manner, chosen_rows, update_table, delete_from_table, insert_supply, insert_into_table}
-use Rattle.sql_stage.specs.declared.stage.Stage.{Stage}
-use Rattle.sql_stage.specs.Stage.{scene_of}
+use Rattle.exec_state.specs.declared.stage.Stage.{Stage}
+use Rattle.exec_state.specs.Stage.{scene_of}
 use Rattle.changed_rows.specs.sql_evaluation.declared.world.View.{View as Shown}
 use Rattle.changed_rows.specs.sql_evaluation.declared.world.Around.{Around}
 use Rattle.changed_rows.specs.sql_evaluation.Seen.{frame_of, values_in, world_of}

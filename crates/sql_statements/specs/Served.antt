@@ -8,9 +8,9 @@ use Rattle.val_types.specs.declared.definitions.TableDef.{TableDef}
 use Rattle.sql_tree.specs.declared.statements.Time.{Time}
 use Rattle.sql_tree.specs.declared.statements.Cause.{Cause}
 use Rattle.changed_rows.specs.sql_meaning.Frames.{Below}
-use Rattle.sql_stage.specs.declared.stage.Stage.{Stage}
-use Rattle.sql_stage.specs.declared.running.Running.{Running as UnderWay}
-use Rattle.sql_stage.specs.Stage.{EndsAs, EndsAsBy, scene_of}
+use Rattle.exec_state.specs.declared.stage.Stage.{Stage}
+use Rattle.exec_state.specs.declared.running.Running.{Running as UnderWay}
+use Rattle.exec_state.specs.Stage.{EndsAs, EndsAsBy, scene_of}
 use Rattle.changed_rows.specs.sql_evaluation.Seen.{running_of}
 use Rattle.changed_rows.specs.Firing.{left_of}
 

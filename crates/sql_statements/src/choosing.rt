@@ -2,14 +2,14 @@
 ghost use Rattle.std.specs.Prelude.{◌≡◌};
 ghost use Rattle.sql_tree.specs.View.{view_orders, view_part};
 ghost use Rattle.changed_rows.specs.sql_meaning.Frames.{limited_to};
-ghost use Rattle.sql_stage.specs.Stage.{EndsAs, LeadsOn, scene_of};
+ghost use Rattle.exec_state.specs.Stage.{EndsAs, LeadsOn, scene_of};
 ghost use Rattle.changed_rows.specs.sql_evaluation.Seen.{Evaluates, LeadsAlways, where_in};
 ghost use Rattle.sql_statements.specs.Changed.{chosen_in};
 
 use changed_rows::sql_evaluation::{Around, Views, count_of, cut, kept_rows, ordered_rows};
+use exec_state::Stage;
 use sharing::Shared;
 use sql_locals::Locals;
-use sql_stage::Stage;
 use sql_tree::{Count, Expr, OrderItem};
 use std::alloc::Global;
 use val_types::{List, Row, SqlRefusal, TableDef, Value};
@@ -25,7 +25,7 @@ fn limited_to(locals: &Locals, limit: &Option<Count>, rows: List<Shared<Row>>) -
 }
 
 /// The rows that WHERE keeps, all where there is none.
-#[tactic(auto, using(sql_stage::proofs::Leading::leading))]
+#[tactic(auto, using(exec_state::proofs::Leading::leading))]
 fn where_rows<V: Fn(&mut Stage, &Expr, &Views) -> Result<Value, SqlRefusal>>(
     alloc: Global,
     evaluate: &V,
@@ -51,7 +51,7 @@ fn where_rows<V: Fn(&mut Stage, &Expr, &Views) -> Result<Value, SqlRefusal>>(
 }
 
 /// The rows that WHERE keeps, in the order of ORDER BY, up to LIMIT.
-#[tactic(auto, using(sql_stage::proofs::Leading::leading, crate::proofs::Picked::choosing))]
+#[tactic(auto, using(exec_state::proofs::Leading::leading, crate::proofs::Picked::choosing))]
 pub fn chosen_rows<V: Fn(&mut Stage, &Expr, &Views) -> Result<Value, SqlRefusal>>(
     alloc: Global,
     evaluate: &V,

@@ -1,6 +1,6 @@
 //! DELETE.
 ghost use Rattle.std.specs.Prelude.{◌≡◌};
-ghost use Rattle.sql_stage.specs.Stage.{EndsAs, EndsAsBy, LeadsOn, scene_of};
+ghost use Rattle.exec_state.specs.Stage.{EndsAs, EndsAsBy, LeadsOn, scene_of};
 ghost use Rattle.changed_rows.specs.sql_evaluation.Seen.{Evaluates, LeadsAlways, world_of};
 ghost use Rattle.changed_rows.specs.Changed.{StandsAt};
 ghost use Rattle.sql_statements.specs.Changed.{delete_in, deletes_in};
@@ -11,14 +11,14 @@ use crate::did::{Did, affecting};
 use crate::target::{find_target, rows_there};
 use changed_rows::sql_evaluation::{Around, Views};
 use changed_rows::{ChangedTable, Executor, delete_row};
+use exec_state::Stage;
 use sharing::Shared;
-use sql_stage::Stage;
 use sql_tree::{DeleteStmt, Expr};
 use std::alloc::Global;
 use val_types::{Row, SqlRefusal, Value};
 
 /// Deletes rows one after the other; how many they are.
-#[tactic(auto, using(sql_stage::proofs::Leading::leading, crate::proofs::Aimed::standing, crate::proofs::Changes::deleting_rows))]
+#[tactic(auto, using(exec_state::proofs::Leading::leading, crate::proofs::Aimed::standing, crate::proofs::Changes::deleting_rows))]
 fn delete_each<E: Executor>(
     table: &ChangedTable<'_, E>,
     stage: &mut Stage,
@@ -36,7 +36,7 @@ fn delete_each<E: Executor>(
 }
 
 /// DELETE: the rows that it deletes are chosen before the first is deleted.
-#[tactic(auto, using(sql_stage::proofs::Leading::leading, crate::proofs::Aimed::standing, crate::proofs::Changes::delete))]
+#[tactic(auto, using(exec_state::proofs::Leading::leading, crate::proofs::Aimed::standing, crate::proofs::Changes::delete))]
 pub(crate) fn delete<V: Fn(&mut Stage, &Expr, &Views) -> Result<Value, SqlRefusal>, E: Executor>(
     alloc: Global,
     evaluate: &V,

@@ -5,8 +5,8 @@ ghost use Rattle.sql_statements.specs.Served.{CallsBelow, FiresBelow};
 
 use changed_rows::Executor;
 use changed_rows::sql_evaluation::{Around, Views, value};
+use exec_state::{Running, Stage};
 use sharing::Shared;
-use sql_stage::{Running, Stage};
 use sql_tree::{Cause, Expr, Time};
 use std::alloc::Global;
 use val_types::{Bytes, List, Row, SqlRefusal, TableDef, Value};

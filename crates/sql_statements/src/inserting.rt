@@ -2,7 +2,7 @@
 ghost use Rattle.std.specs.Prelude.{◌≡◌, []};
 ghost use Rattle.sql_tree.specs.StatementView.{view_rows, view_supply};
 ghost use Rattle.changed_rows.specs.sql_meaning.Changing.{nothing_inserted};
-ghost use Rattle.sql_stage.specs.Stage.{EndsAsBy, LeadsOn, scene_of};
+ghost use Rattle.exec_state.specs.Stage.{EndsAsBy, LeadsOn, scene_of};
 ghost use Rattle.changed_rows.specs.sql_evaluation.Seen.{Evaluates, LeadsAlways, world_of};
 ghost use Rattle.changed_rows.specs.Changed.{StandsAt, inserting_of, manner_of};
 ghost use Rattle.sql_statements.specs.Changed.{insert_in, lists_in, rows_in, supply_in};
@@ -14,8 +14,8 @@ use crate::target::find_target;
 use auto_inc::StmtSeq;
 use changed_rows::sql_evaluation::{Around, Views, rows_of_query, values};
 use changed_rows::{ChangedTable, Executor, Inserting, Insertion, Manner, insert_row};
+use exec_state::Stage;
 use sharing::Shared;
-use sql_stage::Stage;
 use sql_tree::{Expr, Source};
 use std::alloc::Global;
 use val_types::{Bytes, Duplicate, List, Row, SqlRefusal, Value};
@@ -32,7 +32,7 @@ fn nothing_yet() -> Inserting
 }
 
 /// Inserts the rows of VALUES: each list is evaluated behind the insert of the one before.
-#[tactic(auto, using(sql_stage::proofs::Leading::leading, crate::proofs::Aimed::standing, crate::proofs::Inserts::listing))]
+#[tactic(auto, using(exec_state::proofs::Leading::leading, crate::proofs::Aimed::standing, crate::proofs::Inserts::listing))]
 fn insert_lists<V: Fn(&mut Stage, &Expr, &Views) -> Result<Value, SqlRefusal>, E: Executor>(
     evaluate: &V,
     table: &ChangedTable<'_, E>,
@@ -59,7 +59,7 @@ fn insert_lists<V: Fn(&mut Stage, &Expr, &Views) -> Result<Value, SqlRefusal>, E
 }
 
 /// Inserts rows that were read before.
-#[tactic(auto, using(sql_stage::proofs::Leading::leading, crate::proofs::Aimed::standing, crate::proofs::Inserts::reading))]
+#[tactic(auto, using(exec_state::proofs::Leading::leading, crate::proofs::Aimed::standing, crate::proofs::Inserts::reading))]
 fn insert_rows<E: Executor>(
     table: &ChangedTable<'_, E>,
     insertion: &Insertion<'_>,
@@ -80,7 +80,7 @@ fn insert_rows<E: Executor>(
 }
 
 /// Inserts the rows of VALUES, or those of a SELECT, which are all read before the first is inserted.
-#[tactic(auto, using(sql_stage::proofs::Leading::leading, crate::proofs::Aimed::standing, crate::proofs::Inserts::supplying))]
+#[tactic(auto, using(exec_state::proofs::Leading::leading, crate::proofs::Aimed::standing, crate::proofs::Inserts::supplying))]
 fn insert_all<V: Fn(&mut Stage, &Expr, &Views) -> Result<Value, SqlRefusal>, E: Executor>(
     evaluate: &V,
     table: &ChangedTable<'_, E>,
@@ -110,7 +110,7 @@ fn insert_all<V: Fn(&mut Stage, &Expr, &Views) -> Result<Value, SqlRefusal>, E: 
 }
 
 /// INSERT and REPLACE: the rows of a source put into the columns that are named, all where none are.
-#[tactic(auto, using(sql_stage::proofs::Leading::leading, crate::proofs::Aimed::standing, crate::proofs::Inserts::insert))]
+#[tactic(auto, using(exec_state::proofs::Leading::leading, crate::proofs::Aimed::standing, crate::proofs::Inserts::insert))]
 pub(crate) fn insert<V: Fn(&mut Stage, &Expr, &Views) -> Result<Value, SqlRefusal>, E: Executor>(
     alloc: Global,
     evaluate: &V,

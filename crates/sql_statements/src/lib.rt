@@ -1,6 +1,6 @@
 //! What a whole statement does: INSERT, REPLACE, UPDATE, DELETE, SELECT and DO.
 //!
-//! [`perform`] does a statement on a `Stage` of `sql_stage`, which contracts see as the scene of the definitions in
+//! [`perform`] does a statement on a `Stage` of `exec_state`, which contracts see as the scene of the definitions in
 //! `sql_meaning`. The table is looked up by its name once, and neither rows nor definitions are copied but for the rows
 //! that are stored. One row of a change is `changed_rows`, the value of an expression `sql_evaluation`; what stored
 //! functions and triggers do is handed in. Checks of names stand before a statement, and an error's changes are taken
@@ -26,7 +26,7 @@
 //!   no counter is lower, no turn came back (`leads`)
 //!
 //! # Only tested
-//! That statements run with ample memory, in `repl_tests` and the stored runs of the programs.
+//! That statements run with ample memory, in `test_scripts` and the stored runs of the programs.
 #![tactic(auto)]
 
 mod choosing;
@@ -43,5 +43,5 @@ mod updating;
 pub use changed_rows;
 pub use changed_rows::session_ctx;
 pub use did::Did;
+pub use exec_state;
 pub use performing::perform;
-pub use sql_stage;

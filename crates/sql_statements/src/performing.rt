@@ -3,7 +3,7 @@ ghost use Rattle.std.specs.Prelude.{◌≡◌, []};
 ghost use Rattle.sql_tree.specs.StatementView.{view, view_sets};
 ghost use Rattle.sql_tree.specs.View.{view_query, view_tree, view_trees};
 ghost use Rattle.changed_rows.specs.sql_meaning.Running.{manner_of, perform};
-ghost use Rattle.sql_stage.specs.Stage.{EndsAs, EndsAsBy, LeadsOn, scene_of};
+ghost use Rattle.exec_state.specs.Stage.{EndsAs, EndsAsBy, LeadsOn, scene_of};
 ghost use Rattle.changed_rows.specs.sql_evaluation.Seen.{Calls, CallsLead, Evaluates, LeadsAlways, frame_of, value_in, world_of};
 ghost use Rattle.changed_rows.specs.Changed.{manner_of as way_of};
 ghost use Rattle.changed_rows.specs.Firing.{Fires, FiresLead};
@@ -17,8 +17,8 @@ use crate::inserting::insert;
 use crate::updating::update;
 use changed_rows::Manner;
 use changed_rows::sql_evaluation::{Around, Views, rows_of_query, value, values};
+use exec_state::{Running, Stage};
 use sharing::Shared;
-use sql_stage::{Running, Stage};
 use sql_tree::{Cause, ColumnSet, Expr, Select, Stmt, Time};
 use std::alloc::Global;
 use val_types::{Bytes, List, Row, SqlRefusal, TableDef, Value};
@@ -37,7 +37,7 @@ fn manner(ignore: bool, sets: &List<ColumnSet>) -> Manner<'_>
 }
 
 /// SELECT.
-#[tactic(auto, using(sql_stage::proofs::Leading::leading, crate::proofs::Shown::selecting))]
+#[tactic(auto, using(exec_state::proofs::Leading::leading, crate::proofs::Shown::selecting))]
 fn select<V: Fn(&mut Stage, &Expr, &Views) -> Result<Value, SqlRefusal>>(
     alloc: Global,
     evaluate: &V,
@@ -57,7 +57,7 @@ fn select<V: Fn(&mut Stage, &Expr, &Views) -> Result<Value, SqlRefusal>>(
 }
 
 /// DO: the values are evaluated and dropped.
-#[tactic(auto, using(sql_stage::proofs::Leading::leading, crate::proofs::Shown::doing))]
+#[tactic(auto, using(exec_state::proofs::Leading::leading, crate::proofs::Shown::doing))]
 fn evaluate_all<V: Fn(&mut Stage, &Expr, &Views) -> Result<Value, SqlRefusal>>(
     alloc: Global,
     evaluate: &V,
@@ -81,7 +81,7 @@ fn evaluate_all<V: Fn(&mut Stage, &Expr, &Views) -> Result<Value, SqlRefusal>>(
 /// `run` calls a stored function, `fire` fires the trigger of an event; `levels` bounds how deep an expression is
 /// evaluated, and past them memory is short. `forced` is the value that an INSERT or REPLACE generates first. The checks
 /// of names stand before it, and an error's changes are taken back behind it.
-#[tactic(auto, using(sql_stage::proofs::Leading::leading))]
+#[tactic(auto, using(exec_state::proofs::Leading::leading))]
 pub fn perform<
     F: Fn(&mut Stage, &Running<'_>, &Bytes, List<Value>) -> Result<Value, SqlRefusal>,
     T: Fn(

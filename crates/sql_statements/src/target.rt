@@ -1,11 +1,11 @@
 //! The table that a statement changes, looked up once by its name.
 ghost use Rattle.std.specs.Prelude.{◌≡◌, IfOk};
 ghost use Rattle.changed_rows.specs.sql_meaning.Scenes.{done, table_now};
-ghost use Rattle.sql_stage.specs.Stage.{scene_of};
+ghost use Rattle.exec_state.specs.Stage.{scene_of};
 ghost use Rattle.sql_statements.specs.Changed.{IsTarget, TargetFound};
 
+use exec_state::Stage;
 use sharing::Shared;
-use sql_stage::Stage;
 use val_types::{Bytes, List, NoMemory, Row, SqlError, SqlRefusal, TableDef};
 
 /// A name that is no table's.

@@ -1,7 +1,7 @@
 //! UPDATE.
 ghost use Rattle.std.specs.Prelude.{◌≡◌};
 ghost use Rattle.sql_tree.specs.StatementView.{view_sets};
-ghost use Rattle.sql_stage.specs.Stage.{EndsAs, EndsAsBy, LeadsOn, scene_of};
+ghost use Rattle.exec_state.specs.Stage.{EndsAs, EndsAsBy, LeadsOn, scene_of};
 ghost use Rattle.changed_rows.specs.sql_evaluation.Seen.{Evaluates, LeadsAlways, world_of};
 ghost use Rattle.changed_rows.specs.Changed.{StandsAt};
 ghost use Rattle.sql_statements.specs.Changed.{update_in, updates_in};
@@ -12,14 +12,14 @@ use crate::did::{Did, affecting};
 use crate::target::{find_target, rows_there};
 use changed_rows::sql_evaluation::{Around, Views};
 use changed_rows::{ChangedTable, Executor, update_row};
+use exec_state::Stage;
 use sharing::Shared;
-use sql_stage::Stage;
 use sql_tree::{ColumnSet, Expr, UpdateStmt};
 use std::alloc::Global;
 use val_types::{List, Row, SqlRefusal, Value};
 
 /// Updates rows one after the other; how many of them that changes.
-#[tactic(auto, using(sql_stage::proofs::Leading::leading, crate::proofs::Aimed::standing, crate::proofs::Changes::updating))]
+#[tactic(auto, using(exec_state::proofs::Leading::leading, crate::proofs::Aimed::standing, crate::proofs::Changes::updating))]
 fn update_each<E: Executor>(
     table: &ChangedTable<'_, E>,
     stage: &mut Stage,
@@ -43,7 +43,7 @@ fn update_each<E: Executor>(
 }
 
 /// UPDATE: the rows that it changes are chosen before the first is changed.
-#[tactic(auto, using(sql_stage::proofs::Leading::leading, crate::proofs::Aimed::standing, crate::proofs::Changes::update))]
+#[tactic(auto, using(exec_state::proofs::Leading::leading, crate::proofs::Aimed::standing, crate::proofs::Changes::update))]
 pub(crate) fn update<V: Fn(&mut Stage, &Expr, &Views) -> Result<Value, SqlRefusal>, E: Executor>(
     alloc: Global,
     evaluate: &V,

@@ -6,9 +6,9 @@ use Rattle.auto_inc.specs.declared.counters.Counter.{Counter}
 use Rattle.auto_inc.specs.Counting.{value_for, tables_of}
 use Rattle.table_rules.specs.Stores.{Store}
 use Rattle.table_rules.specs.Leads.{Leads}
-use Rattle.sql_stage.specs.declared.stage.Stage.{Stage}
-use Rattle.sql_stage.specs.Stage.{LeadsOn}
-use Rattle.sql_stage.proofs.Leading.{rows_led, counters_led, names_led, turns_led}
+use Rattle.exec_state.specs.declared.stage.Stage.{Stage}
+use Rattle.exec_state.specs.Stage.{LeadsOn}
+use Rattle.exec_state.proofs.Leading.{rows_led, counters_led, names_led, turns_led}
 use Rattle.stage_undo.specs.Back.{StandsBack}
 
 -- a stage with the rows and changes of an earlier one leads on from that

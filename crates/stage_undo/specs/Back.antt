@@ -1,6 +1,6 @@
 -- A stage whose rows and changes are those of an earlier one.
 use Rattle.std.specs.Prelude.{◌≡◌}
-use Rattle.sql_stage.specs.declared.stage.Stage.{Stage}
+use Rattle.exec_state.specs.declared.stage.Stage.{Stage}
 
 -- the rows and changes of an earlier stage, with all else as it was used since
 pub record StandsBack (start now back : Stage) : Type 0 where

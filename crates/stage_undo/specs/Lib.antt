@@ -1,3 +1,3 @@
 pub mod Back
 -- the crates below that this one speaks of, passed on
-pub use Rattle.sql_stage.specs.dml_rows as dml_rows
+pub use Rattle.exec_state.specs.dml_rows as dml_rows

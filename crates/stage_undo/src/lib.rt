@@ -16,6 +16,6 @@
 mod taking_back;
 
 // What is its own, and the crates below that it speaks of, passed on: who stands above names them through it.
-pub use sql_stage;
-pub use sql_stage::dml_rows;
+pub use exec_state;
+pub use exec_state::dml_rows;
 pub use taking_back::take_back_at_error;

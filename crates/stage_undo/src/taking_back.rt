@@ -1,12 +1,12 @@
 //! Changes taken back where an error came.
 ghost use Rattle.std.specs.Prelude.{◌≡◌, true, drop, length, OnErr, OnOk};
 ghost use Rattle.table_rules.specs.Stores.{can_take_back};
-ghost use Rattle.sql_stage.specs.Stage.{LeadsOn};
-ghost use Rattle.sql_stage.specs.declared.stage.Stage.{Stage as Staged};
+ghost use Rattle.exec_state.specs.Stage.{LeadsOn};
+ghost use Rattle.exec_state.specs.declared.stage.Stage.{Stage as Staged};
 ghost use Rattle.stage_undo.specs.Back.{StandsBack};
 
-use sql_stage::Stage;
-use sql_stage::dml_rows::take_back_to;
+use exec_state::Stage;
+use exec_state::dml_rows::take_back_to;
 use val_types::SqlRefusal;
 
 /// Takes back the changes that were made since a mark.

@@ -22,7 +22,7 @@
 //!   there, and no other, or wants memory
 //!
 //! # Only tested
-//! That names are put with ample memory, in `reach_callers` and where a source runs statements.
+//! That names are put with ample memory, in `test_reach` and where a source runs statements.
 #![tactic(auto)]
 
 mod expressions;

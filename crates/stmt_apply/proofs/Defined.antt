@@ -10,11 +10,11 @@ use Rattle.sql_tree.specs.Statement.{Statement}
 use Rattle.log_groups.specs.catalog_rules.Bases.{Base, defined}
 use Rattle.log_groups.specs.catalog_rules.Creating.{ddl_refusal}
 use Rattle.row_apply.specs.catalog_objects.Keys.{objects_of}
-use Rattle.applier_laws.specs.sql_reach.Defining.{counters_after}
-use Rattle.applier_laws.specs.sql_reach.Reach.{is_definition}
-use Rattle.applier_laws.specs.text_answers.Answers.{TextAnswer, text_answer}
-use Rattle.applier_model.specs.Groups.{Applied, define_allowed, define_if}
-use Rattle.applier_model.specs.Texts.{statement_by, statement_in, most_text}
+use Rattle.apply_laws.specs.sql_reach.Defining.{counters_after}
+use Rattle.apply_laws.specs.sql_reach.Reach.{is_definition}
+use Rattle.apply_laws.specs.text_answers.Answers.{TextAnswer, text_answer}
+use Rattle.apply_model.specs.Groups.{Applied, define_allowed, define_if}
+use Rattle.apply_model.specs.Texts.{statement_by, statement_in, most_text}
 use Rattle.row_apply.specs.prog_run.Contents.{Contents, base_of}
 use Rattle.row_apply.specs.prog_run.Runs.{Defines, Makes}
 use Rattle.row_apply.specs.prog_run.declared.meter.Outcome.{Outcome}

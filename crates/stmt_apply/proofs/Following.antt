@@ -8,13 +8,13 @@ use Rattle.log_groups.specs.log_entries.declared.entries.Entry.{Entry}
 use Rattle.log_groups.specs.log_entries.Entries.{entry_applied}
 use Rattle.log_groups.specs.log_model.Groups.{Group}
 use Rattle.log_groups.specs.log_model.Log.{LogPlace}
-use Rattle.applier_laws.specs.entry_groups.Entries.{group_of_entry}
-use Rattle.node_answers.specs.session_model.Machine.{Whole, kept_entry}
-use Rattle.node_answers.specs.session_model.Holding.{changes_of, define}
-use Rattle.applier_laws.specs.Following.{CanFollow}
-use Rattle.applier_laws.specs.Laws.{EntryIsCarried}
-use Rattle.applier_model.specs.Groups.{Applied, group_carried}
-use Rattle.applier_model.specs.Stops.{Differs}
+use Rattle.apply_laws.specs.log_entry_laws.Entries.{group_of_entry}
+use Rattle.answer_making.specs.session_model.Machine.{Whole, kept_entry}
+use Rattle.answer_making.specs.session_model.Holding.{changes_of, define}
+use Rattle.apply_laws.specs.Following.{CanFollow}
+use Rattle.apply_laws.specs.Laws.{EntryIsCarried}
+use Rattle.apply_model.specs.Groups.{Applied, group_carried}
+use Rattle.apply_model.specs.Stops.{Differs}
 use Rattle.row_apply.specs.prog_run.Contents.{Contents, base_of}
 use Rattle.row_apply.specs.Ends.{Ends}
 use Rattle.row_apply.specs.declared.stop.Stop.{Stop}

@@ -15,12 +15,12 @@ use Rattle.port_traits.specs.declared.identity.Draw.{Draw}
 use Rattle.log_groups.specs.catalog_rules.Objects.{Object as Tree}
 use Rattle.row_apply.specs.catalog_objects.declared.object.Object.{Object}
 use Rattle.row_apply.specs.catalog_objects.Keys.{objects_of}
-use Rattle.applier_model.specs.Stops.{Differs, stop_at}
-use Rattle.applier_model.specs.Rows.{Store, carry_change}
-use Rattle.applier_laws.specs.row_events.Sizes.{bounded}
-use Rattle.applier_laws.specs.transaction_sizes.Sizes.{changes_size}
-use Rattle.applier_model.specs.Texts.{Applier, Needs, Progress, carried_of, carry_text, no_needs, stops_at}
-use Rattle.applier_model.specs.Groups.{Applied, Going, and_then, applied_by, carry_changes, carry_rows, event_carried, first_place, going_from, is_too_large, item_ended, items_carried, rows_ended, store_of, text_ended, with_bytes, with_needs, with_store}
+use Rattle.apply_model.specs.Stops.{Differs, stop_at}
+use Rattle.apply_model.specs.Rows.{Store, carry_change}
+use Rattle.apply_laws.specs.row_events.Sizes.{bounded}
+use Rattle.apply_laws.specs.binlog_sizes.Sizes.{changes_size}
+use Rattle.apply_model.specs.Texts.{Applier, Needs, Progress, carried_of, carry_text, no_needs, stops_at}
+use Rattle.apply_model.specs.Groups.{Applied, Going, and_then, applied_by, carry_changes, carry_rows, event_carried, first_place, going_from, is_too_large, item_ended, items_carried, rows_ended, store_of, text_ended, with_bytes, with_needs, with_store}
 use Rattle.row_apply.specs.prog_run.Contents.{Contents, base_of}
 use Rattle.row_apply.specs.Changes.{change_carried}
 use Rattle.row_apply.specs.Ends.{Ends, progress_in}

@@ -8,11 +8,11 @@ use Rattle.val_types.specs.declared.refusal.SqlRefusal.TheVariants.{Sql, NoMemor
 use Rattle.port_traits.specs.declared.identity.Identity.{Identity}
 use Rattle.port_traits.specs.declared.identity.Draw.{Draw}
 use Rattle.sql_tree.specs.Statement.{Statement, create_table, create_function, create_procedure, create_trigger, drop_table, drop_function, drop_procedure, drop_trigger, truncate, insert_into, replace_into, update_rows, delete_rows, select, evaluate, set_all, call_procedure, begin, commit, rollback, savepoint, rollback_to, release_savepoint, block, if_steps, while_steps, return_value}
-use Rattle.applier_laws.specs.sql_meaning.Frames.{Context}
-use Rattle.applier_laws.specs.sql_meaning.Leading.{EndsWell, Leads}
-use Rattle.applier_laws.proofs.of_sql_meaning.LedBodies.{statements_end}
-use Rattle.applier_laws.specs.sql_reach.Reach.{is_definition}
-use Rattle.applier_model.specs.Texts.{Applier, Progress, allowed, checked, ended_as, may_stand, run_in}
+use Rattle.apply_laws.specs.sql_meaning.Frames.{Context}
+use Rattle.apply_laws.specs.sql_meaning.Leading.{EndsWell, Leads}
+use Rattle.apply_laws.proofs.of_sql_meaning.LedBodies.{statements_end}
+use Rattle.apply_laws.specs.sql_reach.Reach.{is_definition}
+use Rattle.apply_model.specs.Texts.{Applier, Progress, allowed, checked, ended_as, may_stand, run_in}
 use Rattle.row_apply.specs.prog_run.declared.meter.Meter.{Meter}
 use Rattle.row_apply.specs.prog_run.declared.meter.Outcome.{Outcome}
 use Rattle.row_apply.specs.prog_run.Contents.{Contents}

@@ -15,9 +15,9 @@ use Rattle.sql_tree.specs.Statement.{Statement}
 use Rattle.log_groups.specs.catalog_rules.Bases.{definitions_in}
 use Rattle.row_apply.specs.catalog_objects.declared.object.Object.{Object}
 use Rattle.row_apply.specs.catalog_objects.Keys.{objects_of}
-use Rattle.applier_laws.specs.sql_meaning.Frames.{Context}
-use Rattle.applier_laws.specs.sql_meaning.Leading.{EndsWell, Leads}
-use Rattle.applier_laws.proofs.of_sql_meaning.LedBodies.{statements_end}
+use Rattle.apply_laws.specs.sql_meaning.Frames.{Context}
+use Rattle.apply_laws.specs.sql_meaning.Leading.{EndsWell, Leads}
+use Rattle.apply_laws.proofs.of_sql_meaning.LedBodies.{statements_end}
 use Rattle.row_apply.specs.prog_run.declared.meter.Meter.{Meter}
 use Rattle.row_apply.specs.prog_run.declared.meter.Outcome.{Outcome}
 use Rattle.row_apply.specs.prog_run.Contents.{Contents, IsTogether, committed_tables, counted_names, without_changes}

@@ -2,9 +2,9 @@
 use Rattle.std.specs.Prelude.{◌≡◌, ◌++◌, drop, length}
 use Rattle.port_traits.specs.declared.identity.Identity.{Identity}
 use Rattle.port_traits.specs.declared.identity.Draw.{Draw}
-use Rattle.applier_laws.specs.sql_meaning.Running.{most_nested, most_turns}
-use Rattle.applier_model.specs.Texts.{Applier}
-use Rattle.applier_model.specs.Groups.{Applied, applier_of}
+use Rattle.apply_laws.specs.sql_meaning.Running.{most_nested, most_turns}
+use Rattle.apply_model.specs.Texts.{Applier}
+use Rattle.apply_model.specs.Groups.{Applied, applier_of}
 use Rattle.row_apply.specs.prog_run.declared.meter.Meter.{Meter}
 use Rattle.row_apply.specs.prog_run.Contents.{Contents, base_of}
 

@@ -3,7 +3,7 @@ use Rattle.std.specs.Prelude.{◌≤◌, [], Option, None, IfSome}
 use Rattle.event_codec.specs.declared.event.Step.{Step}
 use Rattle.event_codec.specs.Event.{Body, query, rotate, int_var, rand, user_var, format_description, xid, table_map, rows}
 use Rattle.log_groups.specs.log_entries.declared.carried.Carried.{Carried}
-use Rattle.applier_model.specs.Texts.{Needs}
+use Rattle.apply_model.specs.Texts.{Needs}
 
 -- nothing stands there
 abbrev pub no_text : Carried

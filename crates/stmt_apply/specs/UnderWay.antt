@@ -2,11 +2,11 @@
 use Rattle.std.specs.Prelude.{◌≡◌, ℕ, List, map, Result, Ok, Err}
 use Rattle.event_codec.specs.Event.{Query, map_of}
 use Rattle.log_groups.specs.log_model.Events.{Placed}
-use Rattle.applier_laws.specs.row_events.Sizes.{bounded}
-use Rattle.applier_laws.specs.transaction_sizes.Sizes.{changes_size}
-use Rattle.applier_model.specs.Stops.{Differs}
-use Rattle.applier_model.specs.Texts.{Applier, carried_of, carry_text, stops_at}
-use Rattle.applier_model.specs.Groups.{Going, Applied, and_then, applied_by, going_from, items_carried, store_of, text_ended}
+use Rattle.apply_laws.specs.row_events.Sizes.{bounded}
+use Rattle.apply_laws.specs.binlog_sizes.Sizes.{changes_size}
+use Rattle.apply_model.specs.Stops.{Differs}
+use Rattle.apply_model.specs.Texts.{Applier, carried_of, carry_text, stops_at}
+use Rattle.apply_model.specs.Groups.{Going, Applied, and_then, applied_by, going_from, items_carried, store_of, text_ended}
 use Rattle.row_apply.specs.prog_run.Contents.{Contents, base_of}
 use Rattle.row_apply.specs.Ends.{progress_in}
 use Rattle.row_apply.specs.declared.stop.Stop.{Stop}

@@ -1,9 +1,9 @@
 //! A CREATE, DROP or TRUNCATE of a log.
 ghost use Rattle.std.specs.Prelude.{◌≡◌, [], true, Ok, OnErr};
 ghost use Rattle.sql_tree.specs.StatementView.{view};
-ghost use Rattle.applier_laws.specs.sql_reach.Reach.{is_definition};
-ghost use Rattle.applier_model.specs.Groups.{define_allowed};
-ghost use Rattle.applier_model.specs.Texts.{statement_in, stops_at};
+ghost use Rattle.apply_laws.specs.sql_reach.Reach.{is_definition};
+ghost use Rattle.apply_model.specs.Groups.{define_allowed};
+ghost use Rattle.apply_model.specs.Texts.{statement_in, stops_at};
 ghost use Rattle.row_apply.specs.prog_run.Contents.{base_of};
 ghost use Rattle.row_apply.specs.Ends.{Ends};
 ghost use Rattle.stmt_apply.specs.Applying.{applied_in};
@@ -12,7 +12,7 @@ ghost use Rattle.stmt_apply.specs.Ending.{EndsBy};
 use crate::needs::nothing_carried;
 use crate::reading::statement_in;
 use crate::text::{NOT_ALLOWED, full};
-use applier_laws::session_ctx::{Ctx, from_carried};
+use apply_laws::session_ctx::{Ctx, from_carried};
 use event_codec::QueryView;
 use port_traits::{Draw, Identity};
 use row_apply::prog_run::{Work, is_definition, run_stmt};

@@ -5,11 +5,11 @@ ghost use Rattle.log_groups.specs.log_entries.declared.entries.Entry.{Entry};
 ghost use Rattle.log_groups.specs.log_entries.Entries.{entry_applied};
 ghost use Rattle.log_groups.specs.Views.{group_seen};
 ghost use Rattle.log_groups.specs.log_model.Log.{LogPlace};
-ghost use Rattle.applier_laws.specs.entry_groups.Entries.{group_of_entry};
-ghost use Rattle.node_answers.specs.session_model.Machine.{Whole, kept_entry};
-ghost use Rattle.node_answers.specs.session_model.Holding.{changes_of, define};
-ghost use Rattle.applier_laws.specs.Following.{CanFollow};
-ghost use Rattle.applier_model.specs.Groups.{group_carried};
+ghost use Rattle.apply_laws.specs.log_entry_laws.Entries.{group_of_entry};
+ghost use Rattle.answer_making.specs.session_model.Machine.{Whole, kept_entry};
+ghost use Rattle.answer_making.specs.session_model.Holding.{changes_of, define};
+ghost use Rattle.apply_laws.specs.Following.{CanFollow};
+ghost use Rattle.apply_model.specs.Groups.{group_carried};
 ghost use Rattle.row_apply.specs.prog_run.Contents.{base_of};
 ghost use Rattle.row_apply.specs.Ends.{Ends};
 ghost use Rattle.stmt_apply.specs.Applying.{applied_in};
@@ -17,7 +17,7 @@ ghost use Rattle.stmt_apply.specs.Following.{Leaves};
 
 use crate::definition::apply_definition;
 use crate::transaction::apply_transaction;
-use applier_laws::entry_is_carried;
+use apply_laws::entry_is_carried;
 use log_groups::{Form, Group};
 use port_traits::{Draw, Identity};
 use row_apply::Stop;
@@ -25,7 +25,7 @@ use row_apply::prog_run::Work;
 use std::alloc::Global;
 
 /// A group, by its form.
-#[tactic(auto, unfolding(applier_model::specs::Groups::group_carried))]
+#[tactic(auto, unfolding(apply_model::specs::Groups::group_carried))]
 fn apply_form(
     alloc: Global,
     work: &mut Work,

@@ -3,7 +3,7 @@
 //! [`apply_group`] carries out a group on the rows and the catalog of a [`Work`](row_apply::prog_run::Work): a transaction, whose rows are
 //! put as they are, with no trigger, and whose texts are run with what they carry, or a CREATE, DROP or TRUNCATE. It does all of
 //! it or nothing. A replica stands on it, which reads groups by `log_groups` and commits them; the definition is
-//! `applier_model`'s. One change of a row, and [`Stop`](row_apply::Stop), why a group is not carried out, stand in `row_apply`.
+//! `apply_model`'s. One change of a row, and [`Stop`](row_apply::Stop), why a group is not carried out, stand in `row_apply`.
 //!
 //! - `group`: [`apply_group`]
 //! - `definition`: a CREATE, DROP or TRUNCATE
@@ -19,12 +19,12 @@
 //!   error's number, its table and its key; or memory is short (`ends`)
 //! - a group that is read from an entry which can follow on the base that stands there leaves just the base that the entry makes;
 //!   it never stops there, whatever identity, draw and counters the replica has; or memory is short (`follows`, by the law
-//!   `applier_laws::entry_is_carried`)
+//!   `apply_laws::entry_is_carried`)
 //! - where it stops, and where memory is short, rows, counters, catalog and changes are as before (`err`)
 //! - [`checked`] gives just the error of the first of the catalog's checks of a statement
 //!
 //! # Only tested
-//! That groups are carried out with ample memory, where a replica applies them (`repl_tests`).
+//! That groups are carried out with ample memory, where a replica applies them (`test_scripts`).
 #![tactic(auto)]
 
 mod definition;
@@ -36,9 +36,9 @@ mod transaction;
 mod under_way;
 
 // What is its own, and the crates below that it speaks of, passed on: who stands above names them through it.
+pub use answer_making;
+pub use answer_making::sql_parse;
 pub use group::apply_group;
-pub use node_answers;
-pub use node_answers::sql_parse;
 pub use row_apply;
 pub use row_apply::prog_run;
 pub use text::checked;

@@ -1,13 +1,13 @@
 //! What stands in the log before a text for it.
 ghost use Rattle.std.specs.Prelude.{◌≡◌, ◌≤◌, IfOk, IfSome, OnErr, OnOk, Some};
 ghost use Rattle.log_groups.specs.log_entries.Variables.{variable_set};
-ghost use Rattle.applier_laws.specs.session_ctx.Carrying.{context_carried};
+ghost use Rattle.apply_laws.specs.session_ctx.Carrying.{context_carried};
 ghost use Rattle.event_codec.specs.Event.{query_of, value_of};
-ghost use Rattle.applier_model.specs.Texts.{carried_of, increment_of, offset_of};
-ghost use Rattle.applier_model.specs.Groups.{with_number};
+ghost use Rattle.apply_model.specs.Texts.{carried_of, increment_of, offset_of};
+ghost use Rattle.apply_model.specs.Groups.{with_number};
 ghost use Rattle.stmt_apply.specs.Needing.{Counts, needs_of, no_text};
 
-use applier_laws::session_ctx::{Ctx, from_carried};
+use apply_laws::session_ctx::{Ctx, from_carried};
 use event_codec::{IntVarKind, QueryView, Step, UserVarView, VarValue};
 use log_groups::log_entries::{Carried, Vars};
 use port_traits::{Draw, Identity};
@@ -24,7 +24,7 @@ pub(crate) struct Needs {
 
 impl Model for Needs {
     ghost use Rattle.log_groups.specs.log_entries.declared.carried.Carried.{Carried as Parts};
-    ghost use Rattle.applier_laws.specs.session_ctx.Carrying.{IsCarriedInBounds};
+    ghost use Rattle.apply_laws.specs.session_ctx.Carrying.{IsCarriedInBounds};
 
     ghost Value = { Parts };
 

@@ -1,10 +1,10 @@
 //! The statement that a text of a log is.
 ghost use Rattle.std.specs.Prelude.{◌≡◌, IfErr, IfOk, Ok};
 ghost use Rattle.sql_tree.specs.StatementView.{view};
-ghost use Rattle.applier_model.specs.Texts.{statement_in};
+ghost use Rattle.apply_model.specs.Texts.{statement_in};
 ghost use Rattle.stmt_apply.specs.Ending.{IsRefusal};
 
-use node_answers::statement_of;
+use answer_making::statement_of;
 use sql_parse::ParseRefusal;
 use sql_tree::Stmt;
 use std::alloc::Global;

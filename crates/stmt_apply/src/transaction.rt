@@ -3,9 +3,9 @@ ghost use Rattle.std.specs.Prelude.{◌≡◌, ◌≤◌, [], drop, length, reve
 ghost use Rattle.event_codec.specs.Event.{body_of, map_of, query_of, rows_of, size_of};
 ghost use Rattle.log_groups.specs.log_model.Groups.{find};
 ghost use Rattle.log_groups.specs.Views.{part_of, parts};
-ghost use Rattle.applier_model.specs.Groups.{Going, carry_changes, carry_rows, event_carried, with_bytes};
-ghost use Rattle.applier_laws.specs.row_events.Sizes.{bounded};
-ghost use Rattle.applier_laws.specs.transaction_sizes.Sizes.{changes_size};
+ghost use Rattle.apply_model.specs.Groups.{Going, carry_changes, carry_rows, event_carried, with_bytes};
+ghost use Rattle.apply_laws.specs.row_events.Sizes.{bounded};
+ghost use Rattle.apply_laws.specs.binlog_sizes.Sizes.{changes_size};
 ghost use Rattle.row_apply.specs.Ends.{Ends, Stays, progress_in};
 ghost use Rattle.stmt_apply.specs.Applying.{applied_in, applier_in};
 ghost use Rattle.stmt_apply.specs.Needing.{Counts, MayStand};
@@ -13,7 +13,7 @@ ghost use Rattle.stmt_apply.specs.UnderWay.{ComesTo, Goes, Stands, items_from, t
 
 use crate::text::run_text;
 use crate::under_way::{UnderWay, find_map};
-use applier_laws::transaction_sizes::changes_size;
+use apply_laws::binlog_sizes::changes_size;
 use event_codec::{Event, MapView, QueryView, RowsView};
 use log_groups::row_image::rows_of;
 use log_groups::{Items, Part};

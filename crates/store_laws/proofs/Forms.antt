@@ -30,7 +30,7 @@ use Rattle.catalog_laws.specs.catalog_rules.Bases.{definitions_in}
 use Rattle.catalog_laws.specs.catalog_rules.Objects.{Object, table, function, procedure, reaction}
 use Rattle.catalog_laws.specs.catalog_rules.Defined.{written_table, written_columns, written_type}
 use Rattle.catalog_laws.specs.catalog_rules.Creating.{Check, first_refusal, ddl_refusal, table_checks, is_ill_type}
-use Rattle.catalog_laws.specs.catalog_statements.Stated.{IsMade, StatementIsThatOfMaking}
+use Rattle.catalog_laws.specs.catalog_show_create.Stated.{IsMade, StatementIsThatOfMaking}
 use Rattle.catalog_laws.specs.Making.{IsMadeWell}
 use Rattle.store_model.specs.Bodies.{IsValue, IsRow, IsChange}
 

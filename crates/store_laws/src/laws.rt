@@ -1,7 +1,7 @@
 //! Laws of stores: each function proves one, and does nothing.
 ghost use Rattle.store_laws.specs.Laws.{ChangesHaveForms, HeldIsMadeAgain, RecordsKeepIt};
 
-use catalog_laws::catalog_statements::statement_is_that_of_making;
+use catalog_laws::catalog_show_create::statement_is_that_of_making;
 use catalog_laws::{still_made_again, tables_have_names};
 use store_model::images_stand;
 use table_rules::{changes_turn_back, definitions_stay};

@@ -9,10 +9,10 @@ use Rattle.sql_reach.specs.catalog_rules.Bases.{Base, defined}
 use Rattle.sql_tree.specs.Statement.{Statement}
 use Rattle.sql_reach.specs.Reach.{is_definition}
 use Rattle.text_answers.specs.Answers.{a_statement, text_answer}
-use Rattle.transaction_sizes.specs.log_entries.declared.entries.Item.{Item}
-use Rattle.transaction_sizes.specs.log_entries.declared.entries.Entry.{Entry}
-use Rattle.transaction_sizes.specs.log_entries.declared.entries.Entry.TheVariants.{Transaction, Definition, LogStart}
-use Rattle.transaction_sizes.specs.log_model.Log.{LogPlace, behind}
+use Rattle.binlog_sizes.specs.log_entries.declared.entries.Item.{Item}
+use Rattle.binlog_sizes.specs.log_entries.declared.entries.Entry.{Entry}
+use Rattle.binlog_sizes.specs.log_entries.declared.entries.Entry.TheVariants.{Transaction, Definition, LogStart}
+use Rattle.binlog_sizes.specs.log_model.Log.{LogPlace, behind}
 use Rattle.store_model.specs.declared.record.Head.{Head}
 use Rattle.store_model.specs.declared.record.Record.TheVariants as records
 use Rattle.store_model.specs.Held.{LogEnd, Held, last_end, with_last_end, most_committed, most_logs, latest_end, latest_old_end, is_next_commit, committed, begins_log, log_begun, next_applied, carried_out, changed, definition_in, defined_by, where_so, applied}

@@ -9,7 +9,7 @@ use Rattle.val_types.specs.declared.change.Change.{Change}
 use Rattle.val_types.specs.declared.change.Change.TheVariants.{Insert, Update, Delete}
 use Rattle.byte_fields.specs.Field.{number_bytes}
 use Rattle.byte_fields.proofs.FieldLaws.{field_width}
-use Rattle.transaction_sizes.specs.Sizes.{value_size, values_size, row_size, change_size, changes_size}
+use Rattle.binlog_sizes.specs.Sizes.{value_size, values_size, row_size, change_size, changes_size}
 use Rattle.store_model.specs.Bodies.{text_bytes, value_bytes, row_bytes, change_bytes, changes_bytes}
 
 text_size : (width : ℕ) (text : List ℕ) → length (text_bytes width text) ≡ width + length text

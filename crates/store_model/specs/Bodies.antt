@@ -7,7 +7,7 @@ use Rattle.val_types.specs.declared.value.Value.TheVariants.{Null, Int, Text}
 use Rattle.val_types.specs.declared.change.Change.{Change}
 use Rattle.val_types.specs.declared.change.Change.TheVariants.{Insert, Update, Delete}
 use Rattle.byte_fields.specs.Field.{number_bytes}
-use Rattle.transaction_sizes.specs.log_model.Images.{Read, and_then}
+use Rattle.binlog_sizes.specs.log_model.Images.{Read, and_then}
 use Rattle.store_model.specs.declared.record.Kind.{Kind}
 use Rattle.store_model.specs.declared.record.Kind.TheVariants.{Source, Replica}
 use Rattle.store_model.specs.declared.record.Head.{Head}

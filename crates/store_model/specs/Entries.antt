@@ -6,11 +6,11 @@ use Rattle.sql_reach.specs.Reach.{is_definition}
 use Rattle.sql_tree.specs.Statement.{Statement}
 use Rattle.sql_reach.specs.catalog_rules.Bases.{Base, defined}
 use Rattle.text_answers.specs.Answers.{a_statement, text_answer}
-use Rattle.transaction_sizes.specs.log_entries.declared.entries.Item.{Item}
-use Rattle.transaction_sizes.specs.log_entries.declared.entries.Entry.{Entry}
-use Rattle.transaction_sizes.specs.log_entries.declared.entries.Entry.TheVariants.{Transaction, Definition, LogStart}
-use Rattle.transaction_sizes.specs.log_entries.Entries.{entry_applied}
-use Rattle.transaction_sizes.specs.log_model.Log.{LogPlace, behind, counted}
+use Rattle.binlog_sizes.specs.log_entries.declared.entries.Item.{Item}
+use Rattle.binlog_sizes.specs.log_entries.declared.entries.Entry.{Entry}
+use Rattle.binlog_sizes.specs.log_entries.declared.entries.Entry.TheVariants.{Transaction, Definition, LogStart}
+use Rattle.binlog_sizes.specs.log_entries.Entries.{entry_applied}
+use Rattle.binlog_sizes.specs.log_model.Log.{LogPlace, behind, counted}
 use Rattle.store_model.specs.declared.record.Head.{Head}
 use Rattle.store_model.specs.declared.record.Record.{Record}
 use Rattle.store_model.specs.declared.record.Record.TheVariants as records

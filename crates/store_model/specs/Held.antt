@@ -7,8 +7,8 @@ use Rattle.sql_tree.specs.Statement.{Statement}
 use Rattle.sql_reach.specs.catalog_rules.Bases.{Base, empty_base, defined}
 use Rattle.sql_reach.specs.Reach.{is_definition}
 use Rattle.text_answers.specs.Answers.{TextAnswer, a_statement, a_syntax_error, too_deep, text_answer}
-use Rattle.transaction_sizes.specs.log_entries.Entries.{with_tables}
-use Rattle.transaction_sizes.specs.log_model.Log.{LogPlace}
+use Rattle.binlog_sizes.specs.log_entries.Entries.{with_tables}
+use Rattle.binlog_sizes.specs.log_model.Log.{LogPlace}
 use Rattle.store_model.specs.declared.record.Kind.{Kind}
 use Rattle.store_model.specs.declared.record.Head.{Head}
 use Rattle.store_model.specs.declared.record.Record.{Record}

@@ -3,11 +3,11 @@ use Rattle.std.specs.Prelude.{◌≡◌, ◌⊎◌, ◌↔◌, ◌<◌, ℕ, ◌
 use Rattle.val_types.specs.declared.value.Value.{Value}
 use Rattle.val_types.specs.declared.change.Change.{Change}
 use Rattle.sql_reach.specs.catalog_rules.Bases.{Base}
-use Rattle.transaction_sizes.specs.log_entries.declared.entries.Item.{Item}
-use Rattle.transaction_sizes.specs.log_entries.declared.entries.Entry.{Entry}
-use Rattle.transaction_sizes.specs.log_entries.declared.entries.Entry.TheVariants.{Transaction, Definition, LogStart}
-use Rattle.transaction_sizes.specs.log_model.Log.{behind}
-use Rattle.transaction_sizes.specs.Sizes.{row_size, changes_size}
+use Rattle.binlog_sizes.specs.log_entries.declared.entries.Item.{Item}
+use Rattle.binlog_sizes.specs.log_entries.declared.entries.Entry.{Entry}
+use Rattle.binlog_sizes.specs.log_entries.declared.entries.Entry.TheVariants.{Transaction, Definition, LogStart}
+use Rattle.binlog_sizes.specs.log_model.Log.{behind}
+use Rattle.binlog_sizes.specs.Sizes.{row_size, changes_size}
 use Rattle.disk_model.specs.Story.{Image}
 use Rattle.gate_journal.specs.Records.{records, with_last}
 use Rattle.store_model.specs.declared.record.Kind.{Kind}

@@ -16,8 +16,8 @@ use Rattle.sql_reach.specs.catalog_rules.Defined.{definition_of, written_table}
 use Rattle.sql_reach.specs.catalog_rules.Creating.{ddl_refusal}
 use Rattle.text_answers.specs.Answers.{TextAnswer, a_statement, a_syntax_error, too_deep, text_answer}
 use Rattle.byte_fields.specs.Field.{number_at, number_bytes}
-use Rattle.transaction_sizes.specs.log_model.Images.{Read, and_then}
-use Rattle.transaction_sizes.specs.log_model.Log.{LogPlace}
+use Rattle.binlog_sizes.specs.log_model.Images.{Read, and_then}
+use Rattle.binlog_sizes.specs.log_model.Log.{LogPlace}
 use Rattle.store_model.specs.declared.record.Kind.{Kind}
 use Rattle.store_model.specs.declared.record.Kind.TheVariants.{Source, Replica}
 use Rattle.store_model.specs.Reading.{read_as, to_the_end, number_of, text_behind, all_behind, row_in}

@@ -2,7 +2,7 @@
 ghost use Rattle.std.specs.Prelude.{List, Option};
 ghost use Rattle.val_types.specs.declared.change.Change.{Change};
 ghost use Rattle.sql_reach.specs.catalog_rules.Bases.{Base};
-ghost use Rattle.transaction_sizes.specs.log_entries.declared.entries.Item.{Item};
+ghost use Rattle.binlog_sizes.specs.log_entries.declared.entries.Item.{Item};
 ghost use Rattle.store_model.specs.Laws.{
   BodiesAreRead,
   ChangesAreCounted,

@@ -3,7 +3,7 @@ use Rattle.std.proofs.Common.{◌≡◌, ℕ, ap, subst, sym, Result, Ok, Err}
 use Rattle.val_types.specs.declared.refusal.SqlRefusal.{SqlRefusal}
 use Rattle.val_types.specs.declared.refusal.SqlRefusal.TheVariants.{Sql}
 use Rattle.sql_statements.specs.sql_meaning.Scenes.{Scene, Ending, Action, failed, then_do, ◌>>=◌}
-use Rattle.sql_stage.specs.Stage.{EndsAs, EndsAsBy}
+use Rattle.exec_state.specs.Stage.{EndsAs, EndsAsBy}
 use Rattle.sql_evaluation.specs.Seen.{Anywhere}
 
 -- what stands behind an answer

@@ -21,8 +21,8 @@ use Rattle.sql_statements.specs.sql_meaning.Frames.{World}
 use Rattle.sql_statements.specs.sql_meaning.Values.{value}
 use Rattle.sql_statements.specs.sql_meaning.Changing.{fitted, put_at}
 use Rattle.sql_statements.specs.sql_meaning.Running.{Body, Ended, also_running, assign_local, assign_new, assign_one, body_checked, frame_of, goes_on, with_new_row}
-use Rattle.sql_stage.specs.declared.running.Running.{Running as Chain}
-use Rattle.sql_stage.specs.Stage.{EndsAs, EndsAsBy}
+use Rattle.exec_state.specs.declared.running.Running.{Running as Chain}
+use Rattle.exec_state.specs.Stage.{EndsAs, EndsAsBy}
 use Rattle.sql_evaluation.specs.declared.world.Around.{Around}
 use Rattle.sql_evaluation.specs.declared.world.View.{View as Shown}
 use Rattle.sql_evaluation.specs.Seen.{Anywhere, running_of, view_of, world_of}

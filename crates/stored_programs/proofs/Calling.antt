@@ -20,7 +20,7 @@ use Rattle.sql_statements.specs.sql_meaning.Scenes.{Scene, Ending, Action, done,
 use Rattle.sql_statements.specs.sql_meaning.Frames.{View}
 use Rattle.sql_statements.specs.sql_meaning.Changing.{fitted}
 use Rattle.sql_statements.specs.sql_meaning.Running.{Body, Ended, fitted_result, function_body, local_for, row_left, seen_as, step}
-use Rattle.sql_stage.specs.Stage.{EndsAs}
+use Rattle.exec_state.specs.Stage.{EndsAs}
 use Rattle.sql_evaluation.specs.declared.world.Around.{Around}
 use Rattle.sql_evaluation.specs.declared.world.View.{View as Shown}
 use Rattle.sql_evaluation.specs.Seen.{Anywhere, world_of}

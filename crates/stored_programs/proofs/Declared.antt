@@ -13,7 +13,7 @@ use Rattle.sql_tree.specs.declared.statements.SqlType.{SqlType}
 use Rattle.sql_locals.specs.Types.{column_type}
 use Rattle.sql_statements.specs.sql_meaning.Scenes.{Scene, Ending, Action, done, failed, then_do, carried_on}
 use Rattle.sql_statements.specs.sql_meaning.Running.{Body, declare, declare_name}
-use Rattle.sql_stage.specs.Stage.{EndsAs, EndsAsBy}
+use Rattle.exec_state.specs.Stage.{EndsAs, EndsAsBy}
 use Rattle.sql_evaluation.specs.declared.world.Around.{Around}
 use Rattle.sql_evaluation.specs.Seen.{world_of}
 use Rattle.sql_evaluation.proofs.Branching.{rest_is}

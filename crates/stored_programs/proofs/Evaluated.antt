@@ -18,9 +18,9 @@ use Rattle.sql_statements.specs.sql_meaning.Scenes.{Scene, Ending, Action, done,
 use Rattle.sql_statements.specs.sql_meaning.Frames.{Running, World}
 use Rattle.sql_statements.specs.sql_meaning.Values.{value, holds}
 use Rattle.sql_statements.specs.sql_meaning.Running.{Body, also_running, checked, frame_of, scope_of, tables_named}
-use Rattle.sql_stage.specs.Stage.{EndsAs}
-use Rattle.sql_stage.specs.declared.running.Running.{Running as Chain, Statement, Expression, the_lemmas}
-use Rattle.sql_stage.specs.UnderWay.{under_way}
+use Rattle.exec_state.specs.Stage.{EndsAs}
+use Rattle.exec_state.specs.declared.running.Running.{Running as Chain, Statement, Expression, the_lemmas}
+use Rattle.exec_state.specs.UnderWay.{under_way}
 use Rattle.sql_evaluation.specs.declared.world.Around.{Around}
 use Rattle.sql_evaluation.specs.Seen.{Anywhere, running_of, setting_of, world_of}
 use Rattle.stored_programs.specs.Bodies.{world_with}

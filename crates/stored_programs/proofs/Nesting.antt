@@ -16,9 +16,9 @@ use Rattle.sql_statements.specs.catalog_rules.Objects.{function_in, parameters_o
 use Rattle.sql_statements.specs.sql_meaning.Scenes.{Scene, Action, done, failed, then_do, pure, fail, needed}
 use Rattle.sql_statements.specs.sql_meaning.Frames.{Setting, Running, Below, World}
 use Rattle.sql_statements.specs.sql_meaning.Running.{call_function, fire_trigger, function_body, in_function, level_of, run_trigger, start_function}
-use Rattle.sql_stage.specs.Stage.{EndsAs, EndsAsBy}
-use Rattle.sql_stage.specs.declared.running.Running.{Running as Chain, Function, the_lemmas}
-use Rattle.sql_stage.specs.UnderWay.{under_way}
+use Rattle.exec_state.specs.Stage.{EndsAs, EndsAsBy}
+use Rattle.exec_state.specs.declared.running.Running.{Running as Chain, Function, the_lemmas}
+use Rattle.exec_state.specs.UnderWay.{under_way}
 use Rattle.sql_evaluation.specs.declared.world.Around.{Around}
 use Rattle.sql_evaluation.specs.Seen.{running_of, setting_of, world_of}
 use Rattle.changed_rows.specs.Firing.{left_of}

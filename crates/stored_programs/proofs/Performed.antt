@@ -9,8 +9,8 @@ use Rattle.sql_statements.specs.sql_meaning.Scenes.{Scene, Ending, done, failed,
 use Rattle.sql_statements.specs.sql_meaning.Frames.{World}
 use Rattle.sql_statements.specs.sql_meaning.Changing.{Did}
 use Rattle.sql_statements.specs.sql_meaning.Running.{Body, also_running, body_checked, body_perform, frame_of, goes_on, perform}
-use Rattle.sql_stage.specs.declared.running.Running.{Running as Chain}
-use Rattle.sql_stage.specs.Stage.{EndsAsBy}
+use Rattle.exec_state.specs.declared.running.Running.{Running as Chain}
+use Rattle.exec_state.specs.Stage.{EndsAsBy}
 use Rattle.sql_statements.specs.declared.did.Did.{Did as Done}
 use Rattle.sql_statements.specs.Did.{did_of}
 use Rattle.sql_evaluation.specs.declared.world.Around.{Around}

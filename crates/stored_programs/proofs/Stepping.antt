@@ -16,9 +16,9 @@ use Rattle.sql_tree.specs.declared.statements.Stmt.TheFolds.{fold_out-Branch}
 use Rattle.sql_statements.specs.sql_meaning.Scenes.{Scene, Ending, Action, done, failed, then_do, pure, fail, spend_turn, turn_spent, ◌>>=◌}
 use Rattle.sql_statements.specs.sql_meaning.Values.{holds}
 use Rattle.sql_statements.specs.sql_meaning.Running.{Body, Ended, body_perform, body_value, goes_on, leaves_block, steps, turns, unless_returned}
-use Rattle.sql_stage.specs.Stage.{EndsAs, EndsAsBy, LeadsOn, scene_of}
-use Rattle.sql_stage.specs.declared.stage.Stage.{Stage}
-use Rattle.sql_stage.proofs.Leading.{turns_led}
+use Rattle.exec_state.specs.Stage.{EndsAs, EndsAsBy, LeadsOn, scene_of}
+use Rattle.exec_state.specs.declared.stage.Stage.{Stage}
+use Rattle.exec_state.proofs.Leading.{turns_led}
 use Rattle.sql_evaluation.specs.declared.world.Around.{Around}
 use Rattle.sql_evaluation.specs.Seen.{world_of}
 use Rattle.sql_evaluation.proofs.Branching.{rest_is}

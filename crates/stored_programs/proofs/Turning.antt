@@ -8,8 +8,8 @@ use Rattle.table_rules.specs.Leads.{Leads}
 use Rattle.table_rules.specs.Stores.{Store}
 use Rattle.table_rules.proofs.Leading.{leads_nowhere}
 use Rattle.sql_statements.specs.sql_meaning.Scenes.{Scene, done, failed, spend_turn, turn_spent}
-use Rattle.sql_stage.specs.declared.stage.Stage.{Stage}
-use Rattle.sql_stage.specs.Stage.{LeadsOn}
+use Rattle.exec_state.specs.declared.stage.Stage.{Stage}
+use Rattle.exec_state.specs.Stage.{LeadsOn}
 
 as_low : (n : ℕ) → n ≤ n
 as_low n = omega arith

@@ -9,8 +9,8 @@ use Rattle.sql_statements.specs.sql_meaning.Scenes.{Scene, Action, ◌>>=◌, ne
 use Rattle.sql_statements.specs.sql_meaning.Changing.{put_at}
 use Rattle.sql_statements.specs.sql_meaning.Frames.{World, View}
 use Rattle.sql_statements.specs.sql_meaning.Running.{Body, Ended}
-use Rattle.sql_stage.specs.Stage.{EndsAsBy}
-use Rattle.sql_stage.specs.declared.running.Running.{Running as UnderWay}
+use Rattle.exec_state.specs.Stage.{EndsAsBy}
+use Rattle.exec_state.specs.declared.running.Running.{Running as UnderWay}
 use Rattle.sql_evaluation.specs.declared.world.Around.{Around}
 use Rattle.sql_evaluation.specs.declared.world.View.{View as Shown}
 use Rattle.sql_evaluation.specs.Seen.{view_of, world_of, running_of}

@@ -4,7 +4,7 @@ ghost use Rattle.sql_tree.specs.Statement.{set_all};
 ghost use Rattle.sql_tree.specs.StatementView.{view, view_assignments};
 ghost use Rattle.sql_statements.specs.sql_meaning.Changing.{put_at};
 ghost use Rattle.sql_statements.specs.sql_meaning.Running.{assign_local, assign_new, assign_one};
-ghost use Rattle.sql_stage.specs.Stage.{EndsAs, EndsAsBy, LeadsOn, scene_of};
+ghost use Rattle.exec_state.specs.Stage.{EndsAs, EndsAsBy, LeadsOn, scene_of};
 ghost use Rattle.sql_evaluation.specs.Seen.{Anywhere, Calls, CallsLead};
 ghost use Rattle.stored_programs.specs.Bodies.{AnywhereBy, body_of, body_then, ended_at, put_in_column, world_with};
 ghost use Rattle.stored_programs.specs.Steps.{all_assigned, assigned_values, step_in, values_to_set};
@@ -12,9 +12,9 @@ ghost use Rattle.stored_programs.specs.Steps.{all_assigned, assigned_values, ste
 use crate::body::{Body, fit, take_first};
 use crate::evaluating::{check_statement_here, value_here, with_statement};
 use changed_rows::place_of;
+use exec_state::{Running, Stage};
 use sharing::Shared;
 use sql_evaluation::{Around, View};
-use sql_stage::{Running, Stage};
 use sql_tree::{Assignment, Stmt, Target};
 use std::alloc::Global;
 use val_types::{Bytes, Duplicate, List, Row, SqlError, SqlRefusal, TableDef, Value, type_fits};
@@ -148,7 +148,7 @@ fn assign_all(
 }
 
 /// The values of assignments, left to right.
-#[tactic(auto, using(crate::proofs::Assigned::evaluations, sql_stage::proofs::Leading::leading))]
+#[tactic(auto, using(crate::proofs::Assigned::evaluations, exec_state::proofs::Leading::leading))]
 fn assigned_values<
     'a,
     F: Fn(&mut Stage, &Running<'_>, &Bytes, List<Value>) -> Result<Value, SqlRefusal>,
@@ -176,7 +176,7 @@ fn assigned_values<
 }
 
 /// The values of a SET, behind its checks.
-#[tactic(auto, using(crate::proofs::Assigned::checked_values, sql_stage::proofs::Leading::leading))]
+#[tactic(auto, using(crate::proofs::Assigned::checked_values, exec_state::proofs::Leading::leading))]
 fn set_values<F: Fn(&mut Stage, &Running<'_>, &Bytes, List<Value>) -> Result<Value, SqlRefusal>>(
     alloc: Global,
     run: &F,
@@ -198,7 +198,7 @@ fn set_values<F: Fn(&mut Stage, &Running<'_>, &Bytes, List<Value>) -> Result<Val
 }
 
 /// SET: the values first, then the assignments.
-#[tactic(auto, using(crate::proofs::Assigned::setting, sql_stage::proofs::Leading::leading))]
+#[tactic(auto, using(crate::proofs::Assigned::setting, exec_state::proofs::Leading::leading))]
 pub(crate) fn set_step<
     F: Fn(&mut Stage, &Running<'_>, &Bytes, List<Value>) -> Result<Value, SqlRefusal>,
 >(

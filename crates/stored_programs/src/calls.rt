@@ -3,18 +3,18 @@ ghost use Rattle.std.specs.Prelude.{◌≡◌, ◌<◌, ◌-◌};
 ghost use Rattle.std.specs.Option.{option_copied};
 ghost use Rattle.sql_tree.specs.StatementView.{view_program, view_trigger};
 ghost use Rattle.sql_statements.specs.sql_meaning.Running.{function_body, in_function};
-ghost use Rattle.sql_stage.specs.Stage.{EndsAs, EndsAsBy, LeadsOn, scene_of};
+ghost use Rattle.exec_state.specs.Stage.{EndsAs, EndsAsBy, LeadsOn, scene_of};
 ghost use Rattle.sql_evaluation.specs.Seen.{running_of, setting_of, world_of};
 ghost use Rattle.changed_rows.specs.Firing.{left_of};
 ghost use Rattle.stored_programs.specs.Steps.{triggered_in};
 
 use crate::programs::{function_body, trigger_body};
+use exec_body_checks::is_called;
+use exec_state::{Running, Stage};
 use sharing::Shared;
 use sql_evaluation::Around;
-use sql_stage::{Running, Stage};
 use sql_tree::{Cause, Routine, Time, TriggerDef};
 use std::alloc::Global;
-use step_checks::is_called;
 use val_types::{Bytes, List, Row, SqlError, SqlRefusal, TableDef, Value};
 
 /// A name that is no function's.
@@ -82,7 +82,7 @@ fn run_function(
 /// A call of a function: 1305 where there is none, 1318 for another number of arguments, 1424 where it is under way
 /// already, 30003 where it would be nested too deep; then its value, or the error of its body.
 #[cycle(nesting)]
-#[tactic(auto, using(crate::proofs::Nesting::calls, sql_stage::proofs::Leading::leading))]
+#[tactic(auto, using(crate::proofs::Nesting::calls, exec_state::proofs::Leading::leading))]
 pub fn call_function(
     alloc: Global,
     around: &Around<'_>,
@@ -146,7 +146,7 @@ fn run_trigger(
 /// An event of a row of a table, before or after it: the row that its trigger leaves to be stored, None where it is as it
 /// was given, as where there is no trigger; 30003 where the trigger would be nested too deep.
 #[cycle(nesting)]
-#[tactic(auto, using(crate::proofs::Nesting::events, sql_stage::proofs::Leading::leading))]
+#[tactic(auto, using(crate::proofs::Nesting::events, exec_state::proofs::Leading::leading))]
 pub fn fire_trigger(
     alloc: Global,
     around: &Around<'_>,

@@ -3,16 +3,16 @@ ghost use Rattle.std.specs.Prelude.{◌≡◌};
 ghost use Rattle.sql_tree.specs.StatementView.{view_declaration, view_declarations};
 ghost use Rattle.sql_statements.specs.sql_meaning.Scenes.{carried_on};
 ghost use Rattle.sql_statements.specs.sql_meaning.Running.{declare_name};
-ghost use Rattle.sql_stage.specs.Stage.{EndsAsBy, LeadsOn, scene_of};
+ghost use Rattle.exec_state.specs.Stage.{EndsAsBy, LeadsOn, scene_of};
 ghost use Rattle.sql_evaluation.specs.Seen.{Calls, CallsLead};
 ghost use Rattle.stored_programs.specs.Bodies.{AnywhereBy, body_of, body_then};
 ghost use Rattle.stored_programs.specs.Steps.{all_declared_in, declared_in};
 
 use crate::body::{Body, written_type};
 use crate::evaluating::preset_value;
+use exec_state::{Running, Stage};
 use sql_evaluation::Around;
 use sql_locals::Local;
-use sql_stage::{Running, Stage};
 use sql_tree::{Declaration, SqlType};
 use std::alloc::Global;
 use val_types::{Bytes, Duplicate, List, SqlRefusal, Value, type_fits};
@@ -54,7 +54,7 @@ fn declare_names(
 }
 
 /// One DECLARE: its DEFAULT is evaluated once.
-#[tactic(auto, using(sql_stage::proofs::Leading::leading))]
+#[tactic(auto, using(exec_state::proofs::Leading::leading))]
 fn declare<F: Fn(&mut Stage, &Running<'_>, &Bytes, List<Value>) -> Result<Value, SqlRefusal>>(
     alloc: Global,
     run: &F,
@@ -74,7 +74,7 @@ fn declare<F: Fn(&mut Stage, &Running<'_>, &Bytes, List<Value>) -> Result<Value,
 }
 
 /// The DECLAREs of a block, each behind the one before.
-#[tactic(auto, using(crate::proofs::Declared::all_declared, sql_stage::proofs::Leading::leading))]
+#[tactic(auto, using(crate::proofs::Declared::all_declared, exec_state::proofs::Leading::leading))]
 pub(crate) fn declare_all<
     F: Fn(&mut Stage, &Running<'_>, &Bytes, List<Value>) -> Result<Value, SqlRefusal>,
 >(

@@ -6,18 +6,18 @@ ghost use Rattle.sql_statements.specs.catalog_rules.Checks.{expression_refusal};
 ghost use Rattle.sql_statements.specs.catalog_rules.Nodes.{no_sight, nodes_of, nodes_of_tree};
 ghost use Rattle.sql_statements.specs.sql_meaning.Running.{body_checked, checked, frame_of, scope_of, tables_named};
 ghost use Rattle.sql_statements.specs.sql_meaning.Values.{value};
-ghost use Rattle.sql_stage.specs.Stage.{EndsAs, LeadsOn, scene_of};
+ghost use Rattle.exec_state.specs.Stage.{EndsAs, LeadsOn, scene_of};
 ghost use Rattle.sql_evaluation.specs.Seen.{Anywhere, Calls, CallsLead, running_of, setting_of, world_of};
 ghost use Rattle.stored_programs.specs.Bodies.{body_of, world_with};
 ghost use Rattle.stored_programs.specs.Steps.{holds_in_body, preset_in_body, value_in_body};
 
 use crate::body::{Body, row_in};
+use exec_body_checks::{check_expression, check_statement};
+use exec_state::{Running, Stage};
 use expr_ops::holds;
 use sql_evaluation::{Around, Views, value};
-use sql_stage::{Running, Stage};
 use sql_tree::{Expr, Stmt};
 use std::alloc::Global;
-use step_checks::{check_expression, check_statement};
 use val_types::{Bytes, List, SqlRefusal, Value};
 
 /// More levels than an expression has that was read.
@@ -105,7 +105,7 @@ pub(crate) fn value_here<
 }
 
 /// The value of a condition, a DEFAULT or a RETURN.
-#[tactic(auto, using(crate::proofs::Evaluated::evaluating, sql_stage::proofs::Leading::leading))]
+#[tactic(auto, using(crate::proofs::Evaluated::evaluating, exec_state::proofs::Leading::leading))]
 pub(crate) fn body_value<
     F: Fn(&mut Stage, &Running<'_>, &Bytes, List<Value>) -> Result<Value, SqlRefusal>,
 >(
@@ -128,7 +128,7 @@ pub(crate) fn body_value<
 }
 
 /// Whether a condition holds; unknown does not.
-#[tactic(auto, using(crate::proofs::Evaluated::conditions, sql_stage::proofs::Leading::leading))]
+#[tactic(auto, using(crate::proofs::Evaluated::conditions, exec_state::proofs::Leading::leading))]
 pub(crate) fn condition_holds<
     F: Fn(&mut Stage, &Running<'_>, &Bytes, List<Value>) -> Result<Value, SqlRefusal>,
 >(
@@ -150,7 +150,7 @@ pub(crate) fn condition_holds<
 }
 
 /// The DEFAULT of a DECLARE, NULL where there is none.
-#[tactic(auto, using(crate::proofs::Evaluated::presets, sql_stage::proofs::Leading::leading))]
+#[tactic(auto, using(crate::proofs::Evaluated::presets, exec_state::proofs::Leading::leading))]
 pub(crate) fn preset_value<
     F: Fn(&mut Stage, &Running<'_>, &Bytes, List<Value>) -> Result<Value, SqlRefusal>,
 >(

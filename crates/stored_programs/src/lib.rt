@@ -27,7 +27,7 @@
 //! Memory is short, too, where a type is past the range of columns, which CREATE keeps out of every program.
 //!
 //! # Only tested
-//! That programs run with ample memory, in `repl_tests` and the stored runs of the programs.
+//! That programs run with ample memory, in `test_scripts` and the stored runs of the programs.
 #![tactic(auto)]
 
 mod assigning;
@@ -42,7 +42,7 @@ mod turns;
 
 // What is its own, and the crates below that it speaks of, passed on: who stands above names them through it.
 pub use calls::{call_function, fire_trigger};
+pub use exec_body_checks;
 pub use sql_evaluation;
 pub use sql_statements;
 pub use sql_statements::session_ctx;
-pub use step_checks;

@@ -2,7 +2,7 @@
 ghost use Rattle.std.specs.Prelude.{◌≡◌, None};
 ghost use Rattle.sql_tree.specs.StatementView.{view};
 ghost use Rattle.sql_statements.specs.sql_meaning.Running.{body_perform, frame_of, perform};
-ghost use Rattle.sql_stage.specs.Stage.{EndsAsBy, LeadsOn, scene_of};
+ghost use Rattle.exec_state.specs.Stage.{EndsAsBy, LeadsOn, scene_of};
 ghost use Rattle.sql_evaluation.specs.Seen.{Calls, CallsLead, world_of};
 ghost use Rattle.changed_rows.specs.Firing.{Fires, FiresLead};
 ghost use Rattle.sql_statements.specs.Did.{did_of};
@@ -10,9 +10,9 @@ ghost use Rattle.stored_programs.specs.Bodies.{body_of, ended_at, world_with};
 
 use crate::body::{Body, row_in};
 use crate::evaluating::{LEVELS, check_statement_here, with_statement};
+use exec_state::{Running, Stage};
 use sharing::Shared;
 use sql_evaluation::Around;
-use sql_stage::{Running, Stage};
 use sql_statements::{Did, perform};
 use sql_tree::{Cause, Stmt, Time};
 use std::alloc::Global;
@@ -63,7 +63,7 @@ fn perform_here<
 }
 
 /// A change or DO.
-#[tactic(auto, using(crate::proofs::Performed::performing, sql_stage::proofs::Leading::leading))]
+#[tactic(auto, using(crate::proofs::Performed::performing, exec_state::proofs::Leading::leading))]
 pub(crate) fn perform_step<
     F: Fn(&mut Stage, &Running<'_>, &Bytes, List<Value>) -> Result<Value, SqlRefusal>,
     T: Fn(

@@ -4,7 +4,7 @@ ghost use Rattle.std.specs.Option.{option_copied};
 ghost use Rattle.val_types.specs.declared.value.Value.{Value as SqlValue};
 ghost use Rattle.sql_tree.specs.StatementView.{view_program, view_trigger};
 ghost use Rattle.sql_statements.specs.sql_meaning.Running.{fitted_result, function_body, local_for};
-ghost use Rattle.sql_stage.specs.Stage.{EndsAs, EndsAsBy, LeadsOn, scene_of};
+ghost use Rattle.exec_state.specs.Stage.{EndsAs, EndsAsBy, LeadsOn, scene_of};
 ghost use Rattle.sql_evaluation.specs.Seen.{Anywhere, Calls, CallsLead, world_of};
 ghost use Rattle.changed_rows.specs.Firing.{Fires, FiresLead, left_of};
 ghost use Rattle.stored_programs.specs.Bodies.{view_in};
@@ -12,10 +12,10 @@ ghost use Rattle.stored_programs.specs.Steps.{locals_for, row_of_view, triggered
 
 use crate::body::{Body, fit, given_row, old_row, take_first, written_type};
 use crate::steps::step;
+use exec_state::{Running, Stage};
 use sharing::Shared;
 use sql_evaluation::{Around, View};
 use sql_locals::{Local, Locals};
-use sql_stage::{Running, Stage};
 use sql_tree::{Cause, Parameter, Routine, SqlType, Time, TriggerDef};
 use std::alloc::{AllocError, Global};
 use val_types::{
@@ -67,7 +67,7 @@ fn fit_result(returns: Option<SqlType>, value: Value) -> Result<Value, SqlRefusa
 }
 
 /// The body of a function, with the values of its arguments: its value.
-#[tactic(auto, using(crate::proofs::Calling::functions, sql_stage::proofs::Leading::leading))]
+#[tactic(auto, using(crate::proofs::Calling::functions, exec_state::proofs::Leading::leading))]
 pub(crate) fn function_body<
     F: Fn(&mut Stage, &Running<'_>, &Bytes, List<Value>) -> Result<Value, SqlRefusal>,
     T: Fn(
@@ -135,7 +135,7 @@ fn left(alloc: Global, given: Option<&Row>, left: &Option<View>) -> Result<Optio
 }
 
 /// The body of a trigger on an event of a row: the row that is left to be stored, None where it is as it was given.
-#[tactic(auto, using(crate::proofs::Calling::triggers, sql_stage::proofs::Leading::leading))]
+#[tactic(auto, using(crate::proofs::Calling::triggers, exec_state::proofs::Leading::leading))]
 pub(crate) fn trigger_body<
     F: Fn(&mut Stage, &Running<'_>, &Bytes, List<Value>) -> Result<Value, SqlRefusal>,
     T: Fn(

@@ -3,7 +3,7 @@ ghost use Rattle.std.specs.Prelude.{◌≡◌};
 ghost use Rattle.sql_tree.specs.Statement.{block, if_steps, return_value, while_steps};
 ghost use Rattle.sql_tree.specs.StatementView.{view, view_branches, view_declarations, view_otherwise, view_statements};
 ghost use Rattle.sql_tree.specs.View.{view_tree};
-ghost use Rattle.sql_stage.specs.Stage.{EndsAsBy, LeadsOn, scene_of};
+ghost use Rattle.exec_state.specs.Stage.{EndsAsBy, LeadsOn, scene_of};
 ghost use Rattle.sql_evaluation.specs.Seen.{Calls, CallsLead};
 ghost use Rattle.changed_rows.specs.Firing.{Fires, FiresLead};
 ghost use Rattle.stored_programs.specs.Bodies.{body_of, ended_at};
@@ -15,9 +15,9 @@ use crate::declaring::declare_all;
 use crate::evaluating::{body_value, condition_holds};
 use crate::performing::perform_step;
 use crate::turns::spend_turn;
+use exec_state::{Running, Stage};
 use sharing::Shared;
 use sql_evaluation::Around;
-use sql_stage::{Running, Stage};
 use sql_tree::{Branch, Cause, Declaration, Expr, Stmt, Time};
 use std::alloc::Global;
 use val_types::{Bytes, List, Row, SqlRefusal, TableDef, Value};
@@ -37,7 +37,7 @@ fn is_other(s: &Stmt) -> bool
 }
 
 /// RETURN.
-#[tactic(auto, using(crate::proofs::Stepping::returning, sql_stage::proofs::Leading::leading))]
+#[tactic(auto, using(crate::proofs::Stepping::returning, exec_state::proofs::Leading::leading))]
 fn return_step<F: Fn(&mut Stage, &Running<'_>, &Bytes, List<Value>) -> Result<Value, SqlRefusal>>(
     alloc: Global,
     run: &F,
@@ -58,7 +58,7 @@ fn return_step<F: Fn(&mut Stage, &Running<'_>, &Bytes, List<Value>) -> Result<Va
 
 /// A step of a body; the value is that of a RETURN. The last arm has no statement left.
 #[cycle(step)]
-#[tactic(auto, using(crate::proofs::Stepping::others, sql_stage::proofs::Leading::leading))]
+#[tactic(auto, using(crate::proofs::Stepping::others, exec_state::proofs::Leading::leading))]
 pub(crate) fn step<
     F: Fn(&mut Stage, &Running<'_>, &Bytes, List<Value>) -> Result<Value, SqlRefusal>,
     T: Fn(
@@ -113,7 +113,7 @@ pub(crate) fn step<
 
 /// Steps, one after the other, up to a RETURN.
 #[cycle(step)]
-#[tactic(auto, using(crate::proofs::Stepping::stepping, sql_stage::proofs::Leading::leading))]
+#[tactic(auto, using(crate::proofs::Stepping::stepping, exec_state::proofs::Leading::leading))]
 fn steps<
     F: Fn(&mut Stage, &Running<'_>, &Bytes, List<Value>) -> Result<Value, SqlRefusal>,
     T: Fn(
@@ -153,7 +153,7 @@ fn steps<
 
 /// A block: its locals end with it.
 #[cycle(step)]
-#[tactic(auto, using(crate::proofs::Stepping::blocks, sql_stage::proofs::Leading::leading))]
+#[tactic(auto, using(crate::proofs::Stepping::blocks, exec_state::proofs::Leading::leading))]
 fn block_step<
     F: Fn(&mut Stage, &Running<'_>, &Bytes, List<Value>) -> Result<Value, SqlRefusal>,
     T: Fn(
@@ -193,7 +193,7 @@ fn block_step<
 
 /// The steps behind the first condition that holds; None where none does.
 #[cycle(step)]
-#[tactic(auto, using(crate::proofs::Stepping::branching, sql_stage::proofs::Leading::leading))]
+#[tactic(auto, using(crate::proofs::Stepping::branching, exec_state::proofs::Leading::leading))]
 fn taken_branch<
     F: Fn(&mut Stage, &Running<'_>, &Bytes, List<Value>) -> Result<Value, SqlRefusal>,
     T: Fn(
@@ -234,7 +234,7 @@ fn taken_branch<
 
 /// The steps behind ELSE, if there is one.
 #[cycle(step)]
-#[tactic(auto, using(crate::proofs::Stepping::elses, sql_stage::proofs::Leading::leading))]
+#[tactic(auto, using(crate::proofs::Stepping::elses, exec_state::proofs::Leading::leading))]
 fn otherwise_step<
     F: Fn(&mut Stage, &Running<'_>, &Bytes, List<Value>) -> Result<Value, SqlRefusal>,
     T: Fn(
@@ -272,7 +272,7 @@ fn otherwise_step<
 
 /// WHILE.
 #[cycle(step)]
-#[tactic(auto, using(crate::proofs::Stepping::looping, sql_stage::proofs::Leading::leading))]
+#[tactic(auto, using(crate::proofs::Stepping::looping, exec_state::proofs::Leading::leading))]
 fn while_step<
     F: Fn(&mut Stage, &Running<'_>, &Bytes, List<Value>) -> Result<Value, SqlRefusal>,
     T: Fn(

@@ -10,7 +10,7 @@
 //! - [`Undo::pop`] takes the last change out, None just for the empty list; [`Undo::clear`] empties it
 //!
 //! # Only tested
-//! That calls succeed with ample memory, in `row_callers`.
+//! That calls succeed with ample memory, in `test_rows`.
 #![tactic(auto)]
 
 mod undo;

@@ -32,7 +32,7 @@
 //! - [`carried`] is exactly what the definition says, for every statement, catalog and context, or memory is short.
 //!
 //! # Only tested
-//! That [`carried`] succeeds with ample memory, in `reach_callers`.
+//! That [`carried`] succeeds with ample memory, in `test_reach`.
 #![tactic(auto)]
 
 mod carrying;

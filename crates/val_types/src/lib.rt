@@ -31,7 +31,7 @@
 //! - the worked texts, orders, fittings and keys
 //!
 //! # Only tested
-//! That calls succeed with ample memory, in `list_callers`.
+//! That calls succeed with ample memory, in `test_values`.
 #![tactic(auto)]
 
 mod boxed;

@@ -1,6 +1,6 @@
 use Rattle.std.proofs.Common.{◌+◌, drop, arith}
-use Rattle.transaction_sizes.specs.log_model.Items.{item_events}
-use Rattle.transaction_sizes.proofs.of_row_events.GoingOn.{goes, next}
+use Rattle.binlog_sizes.specs.log_model.Items.{item_events}
+use Rattle.binlog_sizes.proofs.of_row_events.GoingOn.{goes, next}
 use Rattle.binlog_cache.proofs.Parts.{events_of, item_first, is_carried}
 use Rattle.binlog_cache.proofs.encoding.put_items.Goals as goal
 

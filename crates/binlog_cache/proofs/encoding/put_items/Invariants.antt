@@ -1,6 +1,6 @@
 use Rattle.std.proofs.Common.{drop}
-use Rattle.transaction_sizes.specs.log_model.Items.{AreCarried}
-use Rattle.transaction_sizes.specs.row_events.Writing.{GoesOn}
+use Rattle.binlog_sizes.specs.log_model.Items.{AreCarried}
+use Rattle.binlog_sizes.specs.row_events.Writing.{GoesOn}
 use Rattle.binlog_cache.specs.Sums.{items_of}
 use Rattle.binlog_cache.proofs.Parts.{events_of}
 use Rattle.binlog_cache.proofs.encoding.put_items.Given as goal

@@ -1,7 +1,7 @@
 use Rattle.std.proofs.Common.{◌∙◌}
 use Rattle.sql_tree.specs.StatementView.{view}
-use Rattle.catalog_statements.specs.catalog_objects.Keys.{objects_of}
-use Rattle.program_creation.proofs.RefusedFirst.{ddl_is}
+use Rattle.catalog_show_create.specs.catalog_objects.Keys.{objects_of}
+use Rattle.catalog_create_program.proofs.RefusedFirst.{ddl_is}
 use Rattle.catalog.proofs.refusing.removal_refusal.Goals as goal
 
 pub returns : goal.returns

@@ -1,5 +1,5 @@
 use Rattle.sql_print.specs.StatementSpelling.{spelling}
-use Rattle.catalog_statements.specs.catalog_rules.Bases.{creation_of}
+use Rattle.catalog_show_create.specs.catalog_rules.Bases.{creation_of}
 use Rattle.catalog_laws.proofs.laws.creations_are_read.Goals as goal
 
 pub returns : goal.returns

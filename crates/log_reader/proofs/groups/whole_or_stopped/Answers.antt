@@ -2,7 +2,7 @@ use Rattle.std.proofs.Common.{◌≤◌, ◌+◌, sym, arith, subst, length}
 use Rattle.log_groups.specs.Growing.{IsSettled}
 use Rattle.log_groups.specs.Views.{group_seen}
 use Rattle.log_groups.specs.log_model.Groups.{Next}
-use Rattle.log_groups.proofs.of_whole_groups.Lying.{group_lies}
+use Rattle.log_groups.proofs.of_log_group_laws.Lying.{group_lies}
 use Rattle.log_reader.proofs.groups.whole_or_stopped.Goals as goal
 
 pub returns-in-Group : goal.returns-in-Group

@@ -5,8 +5,8 @@ use Rattle.sql_tree.specs.declared.expressions.Expr.{Expr}
 use Rattle.sql_tree.specs.declared.expressions.Arm.{Arm}
 use Rattle.sql_tree.specs.declared.expressions.Aggregate.{Aggregate}
 use Rattle.sql_tree.specs.declared.expressions.OrderItem.{OrderItem}
-use Rattle.closed_names.specs.closed_length.Closed.{closed_tree, closed_trees, closed_arms, closed_aggregates, closed_orders}
-use Rattle.closed_names.specs.closed_length.Items.{closed_arm, closed_aggregate, closed_item}
+use Rattle.name_const_names.specs.name_const_length.Closed.{closed_tree, closed_trees, closed_arms, closed_aggregates, closed_orders}
+use Rattle.name_const_names.specs.name_const_length.Items.{closed_arm, closed_aggregate, closed_item}
 use Rattle.name_const.proofs.Listing.{all-made, trees-items, arms-items, aggregates-items, orders-items}
 use Rattle.name_const.proofs.expressions.+close.Goals as goal
 

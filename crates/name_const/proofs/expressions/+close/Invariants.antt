@@ -1,7 +1,7 @@
 use Rattle.std.proofs.Common.{◌≡◌, ◌+◌, ◌*◌, map, take}
 use Rattle.sql_tree.specs.View.{view_tree, view_arm, view_aggregate, view_order}
-use Rattle.closed_names.specs.closed_length.Closed.{closed_tree}
-use Rattle.closed_names.specs.closed_length.Items.{closed_arm, closed_aggregate, closed_item}
+use Rattle.name_const_names.specs.name_const_length.Closed.{closed_tree}
+use Rattle.name_const_names.specs.name_const_length.Items.{closed_arm, closed_aggregate, closed_item}
 use Rattle.name_const.proofs.expressions.+close.Given as goal
 
 -- Each measure is ten times the depth of what is closed, and a number that falls where a function

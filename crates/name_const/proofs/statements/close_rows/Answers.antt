@@ -2,7 +2,7 @@ use Rattle.std.proofs.Common.{◌∙◌, List, ap}
 use Rattle.sql_tree.specs.View.{view_trees}
 use Rattle.sql_tree.specs.StatementView.{view_rows}
 use Rattle.sql_tree.specs.declared.expressions.Expr.{Expr}
-use Rattle.closed_names.specs.closed_length.Closed.{closed_trees, closed_rows}
+use Rattle.name_const_names.specs.name_const_length.Closed.{closed_trees, closed_rows}
 use Rattle.name_const.proofs.Listing.{all-made}
 use Rattle.name_const.proofs.statements.close_rows.Goals as goal
 

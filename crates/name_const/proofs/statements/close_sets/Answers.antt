@@ -2,7 +2,7 @@ use Rattle.std.proofs.Common.{◌∙◌, List, ap}
 use Rattle.sql_tree.specs.StatementView.{view_set}
 use Rattle.sql_tree.specs.StatementView.{view_sets}
 use Rattle.sql_tree.specs.declared.statements.ColumnSet.{ColumnSet}
-use Rattle.closed_names.specs.closed_length.Closed.{closed_set, closed_sets}
+use Rattle.name_const_names.specs.name_const_length.Closed.{closed_set, closed_sets}
 use Rattle.name_const.proofs.Listing.{all-made}
 use Rattle.name_const.proofs.statements.close_sets.Goals as goal
 

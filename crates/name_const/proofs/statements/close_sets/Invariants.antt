@@ -1,6 +1,6 @@
 use Rattle.std.proofs.Common.{◌≡◌, map, take}
 use Rattle.sql_tree.specs.StatementView.{view_set}
-use Rattle.closed_names.specs.closed_length.Closed.{closed_set}
+use Rattle.name_const_names.specs.name_const_length.Closed.{closed_set}
 use Rattle.name_const.proofs.statements.close_sets.Given as goal
 
 abbrev pub invariant-loop-set : goal.invariant-loop-set

@@ -1,7 +1,7 @@
 use Rattle.std.proofs.Common.{◌≡◌, ◌++◌, [], length, map}
 use Rattle.event_codec.specs.Event.{map_of}
 use Rattle.log_reader.specs.log_model.Events.{events_from}
-use Rattle.log_reader.specs.whole_logs.Printed.{lines_from}
+use Rattle.log_reader.specs.log_file_model.Printed.{lines_from}
 use Rattle.print_log.proofs.lines.put_lines.Given as goal
 
 abbrev pub invariant-loop-event : goal.invariant-loop-event

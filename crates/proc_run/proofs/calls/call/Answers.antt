@@ -1,6 +1,6 @@
 use Rattle.proc_parts.specs.catalog_objects.Keys.{objects_of}
-use Rattle.sql_stage.specs.declared.running.Running.{Nothing}
-use Rattle.sql_stage.specs.UnderWay.{under_way}
+use Rattle.exec_state.specs.declared.running.Running.{Nothing}
+use Rattle.exec_state.specs.UnderWay.{under_way}
 use Rattle.proc_parts.specs.Calls.{held_of, left_of}
 use Rattle.proc_run.proofs.Answering.{call_comes, nobody_runs}
 use Rattle.proc_run.proofs.calls.call.Goals as goal

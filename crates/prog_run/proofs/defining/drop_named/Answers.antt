@@ -3,7 +3,7 @@ use Rattle.sql_tree.specs.Statement.{Statement, drop_table}
 use Rattle.sql_tree.specs.StatementView.{view}
 use Rattle.statement_names.specs.catalog_rules.Creating.{ddl_refusal, catalog_after}
 use Rattle.catalog.specs.catalog_objects.Keys.{objects_of}
-use Rattle.sql_stage.specs.declared.stage.Stage.{Stage}
+use Rattle.exec_state.specs.declared.stage.Stage.{Stage}
 use Rattle.prog_run.proofs.Defined.{dropped_on, refused_by, refused_with}
 use Rattle.prog_run.proofs.defining.drop_named.Goals as goal
 

@@ -1,5 +1,5 @@
 use Rattle.std.proofs.Common.{refl}
-use Rattle.sql_stage.specs.declared.stage.Stage.{Stage}
+use Rattle.exec_state.specs.declared.stage.Stage.{Stage}
 use Rattle.prog_run.proofs.Defined.{cleared_on}
 use Rattle.prog_run.proofs.defining.empty.Goals as goal
 

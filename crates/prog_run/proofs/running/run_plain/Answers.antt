@@ -3,7 +3,7 @@ use Rattle.std.specs.Prelude.{OnErr}
 use Rattle.sql_tree.specs.StatementView.{view}
 use Rattle.catalog.specs.catalog_objects.declared.object.Object.{Object}
 use Rattle.catalog.specs.catalog_objects.Keys.{objects_of}
-use Rattle.sql_stage.specs.declared.stage.Stage.{Stage}
+use Rattle.exec_state.specs.declared.stage.Stage.{Stage}
 use Rattle.prog_run.specs.Contents.{Contents}
 use Rattle.prog_run.specs.declared.meter.Meter.{Meter}
 use Rattle.prog_run.specs.Runs.{moment, contents_of, LeavesAll, Runs, Comes}

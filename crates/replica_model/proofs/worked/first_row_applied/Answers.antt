@@ -3,10 +3,10 @@ use Rattle.sql_grammar.specs.Reader.{steps}
 use Rattle.sql_syntax.specs.Tokens.{kind}
 use Rattle.sql_syntax.specs.Expressions.{nested}
 use Rattle.sql_syntax.specs.Programs.{inner, created_within}
-use Rattle.applier_model.specs.text_answers.Answers.{tokens_from, text_answer}
+use Rattle.apply_model.specs.text_answers.Answers.{tokens_from, text_answer}
 use Rattle.table_rules.specs.Stored.{all_applied}
-use Rattle.whole_logs.specs.catalog_rules.Checks.{statement_refusal}
-use Rattle.whole_logs.specs.catalog_rules.Creating.{ddl_refusal}
+use Rattle.log_file_model.specs.catalog_rules.Checks.{statement_refusal}
+use Rattle.log_file_model.specs.catalog_rules.Creating.{ddl_refusal}
 use Rattle.byte_fields.specs.Unroll.{all_from}
 use Rattle.byte_fields.specs.Field.{number_at, number_bytes}
 use Rattle.byte_fields.specs.LengthEncoded.{lenenc_at, lenenc_bytes}
@@ -18,7 +18,7 @@ use Rattle.event_codec.specs.Writing.{size, event_bytes, header_bytes, query_byt
 use Rattle.session_model.specs.log_model.Events.{walk}
 use Rattle.session_model.specs.log_model.Groups.{group_at}
 use Rattle.session_model.specs.log_model.Images.{row_at, changes_at, row_bytes}
-use Rattle.applier_model.specs.Groups.{group_carried}
+use Rattle.apply_model.specs.Groups.{group_carried}
 use Rattle.replica_model.specs.Replica.{want}
 use Rattle.replica_model.specs.Applying.{apply}
 use Rattle.replica_model.specs.Worked.{served}

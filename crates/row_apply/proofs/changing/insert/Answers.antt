@@ -3,7 +3,7 @@ use Rattle.val_types.specs.declared.change.Change.TheVariants.{Insert}
 use Rattle.auto_inc.specs.declared.counters.Counter.{Counter}
 use Rattle.table_rules.specs.Tables.{Table}
 use Rattle.table_rules.specs.Stored.{fits_table, table_named}
-use Rattle.applier_model.specs.Rows.{counters_moved}
+use Rattle.apply_model.specs.Rows.{counters_moved}
 use Rattle.prog_run.specs.Contents.{Contents}
 use Rattle.row_apply.specs.Changes.{raised_to}
 use Rattle.row_apply.specs.Ends.{progress_in}

@@ -1,6 +1,6 @@
 use Rattle.std.proofs.Common.{◌≡◌, drop}
-use Rattle.applier_model.specs.log_model.Images.{types_of as types_in}
-use Rattle.applier_model.specs.Rows.{are_same_types}
+use Rattle.apply_model.specs.log_model.Images.{types_of as types_in}
+use Rattle.apply_model.specs.Rows.{are_same_types}
 use Rattle.row_apply.proofs.Alike.{kinds_of}
 use Rattle.row_apply.proofs.columns.are_same_types.Given as goal
 

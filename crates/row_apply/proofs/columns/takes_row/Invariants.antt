@@ -1,5 +1,5 @@
 use Rattle.std.proofs.Common.{◌≡◌, drop}
-use Rattle.applier_model.specs.Rows.{takes_row}
+use Rattle.apply_model.specs.Rows.{takes_row}
 use Rattle.row_apply.proofs.columns.takes_row.Given as goal
 
 abbrev pub invariant-loop-column : goal.invariant-loop-column

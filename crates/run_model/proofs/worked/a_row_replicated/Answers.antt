@@ -6,8 +6,8 @@ use Rattle.sql_syntax.specs.Expressions.{nested}
 use Rattle.sql_syntax.specs.Programs.{inner, created_within}
 use Rattle.session_replays.specs.text_answers.Answers.{tokens_from, text_answer}
 use Rattle.table_rules.specs.Stored.{all_applied}
-use Rattle.entry_groups.specs.catalog_rules.Checks.{statement_refusal}
-use Rattle.entry_groups.specs.catalog_rules.Creating.{ddl_refusal}
+use Rattle.log_entry_laws.specs.catalog_rules.Checks.{statement_refusal}
+use Rattle.log_entry_laws.specs.catalog_rules.Creating.{ddl_refusal}
 use Rattle.session_replays.specs.sql_meaning.Running.{effect, evaluation, level_of}
 use Rattle.session_replays.specs.sql_reach.Carrying.{carried}
 use Rattle.session_replays.specs.sql_reach.Reach.{writes}
@@ -20,11 +20,11 @@ use Rattle.event_codec.specs.Columns.{columns_at}
 use Rattle.event_codec.specs.Parts.{text}
 use Rattle.event_codec.specs.Reading.{reading}
 use Rattle.event_codec.specs.Writing.{size, event_bytes, header_bytes, query_bytes, names_bytes, table_map_bytes, rows_bytes, format_description_bytes, layout_bytes}
-use Rattle.entry_groups.specs.log_model.Events.{walk}
-use Rattle.entry_groups.specs.log_model.Groups.{group_at}
-use Rattle.entry_groups.specs.log_model.Images.{row_at, changes_at, row_bytes}
+use Rattle.log_entry_laws.specs.log_model.Events.{walk}
+use Rattle.log_entry_laws.specs.log_model.Groups.{group_at}
+use Rattle.log_entry_laws.specs.log_model.Images.{row_at, changes_at, row_bytes}
 use Rattle.session_replays.specs.session_model.Machine.{step}
-use Rattle.replica_model.specs.applier_model.Groups.{group_carried}
+use Rattle.replica_model.specs.apply_model.Groups.{group_carried}
 use Rattle.replica_model.specs.Replica.{want}
 use Rattle.replica_model.specs.Applying.{apply}
 use Rattle.replica_model.specs.Selecting.{select_answer}

@@ -6,8 +6,8 @@ use Rattle.sql_syntax.specs.Expressions.{nested}
 use Rattle.sql_syntax.specs.Programs.{inner, created_within}
 use Rattle.session_replays.specs.text_answers.Answers.{tokens_from, text_answer}
 use Rattle.table_rules.specs.Stored.{all_applied}
-use Rattle.entry_groups.specs.catalog_rules.Checks.{statement_refusal}
-use Rattle.entry_groups.specs.catalog_rules.Creating.{ddl_refusal}
+use Rattle.log_entry_laws.specs.catalog_rules.Checks.{statement_refusal}
+use Rattle.log_entry_laws.specs.catalog_rules.Creating.{ddl_refusal}
 use Rattle.session_replays.specs.sql_meaning.Running.{effect, evaluation, level_of}
 use Rattle.session_replays.specs.sql_reach.Carrying.{carried}
 use Rattle.session_replays.specs.sql_reach.Reach.{writes}

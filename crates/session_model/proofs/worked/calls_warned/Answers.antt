@@ -18,7 +18,7 @@ use Rattle.proc_model.specs.sql_reach.Reasons.{reasons}
 use Rattle.byte_fields.specs.Field.{number_bytes}
 use Rattle.byte_fields.specs.LengthEncoded.{lenenc_bytes}
 use Rattle.event_codec.specs.Writing.{query_bytes, names_bytes, table_map_bytes, rows_bytes, size}
-use Rattle.transaction_sizes.specs.log_model.Images.{row_bytes}
+use Rattle.binlog_sizes.specs.log_model.Images.{row_bytes}
 use Rattle.session_model.specs.Machine.{step}
 use Rattle.session_model.proofs.worked.calls_warned.Goals as goal
 

@@ -6,15 +6,15 @@ use Rattle.sql_syntax.specs.Expressions.{nested}
 use Rattle.sql_syntax.specs.Programs.{inner, created_within}
 use Rattle.session_model.specs.text_answers.Answers.{tokens_from, text_answer}
 use Rattle.table_rules.specs.Stored.{all_applied}
-use Rattle.closing_laws.specs.catalog_rules.Checks.{expression_refusal, statement_refusal}
-use Rattle.closing_laws.specs.catalog_rules.Creating.{ddl_refusal}
-use Rattle.closing_laws.specs.sql_meaning.Running.{effect, evaluation, level_of}
-use Rattle.closing_laws.specs.sql_reach.Closing.{closed}
+use Rattle.name_const_laws.specs.catalog_rules.Checks.{expression_refusal, statement_refusal}
+use Rattle.name_const_laws.specs.catalog_rules.Creating.{ddl_refusal}
+use Rattle.name_const_laws.specs.sql_meaning.Running.{effect, evaluation, level_of}
+use Rattle.name_const_laws.specs.sql_reach.Closing.{closed}
 use Rattle.session_model.specs.proc_model.Closing.{closing_refusal}
 use Rattle.session_model.specs.proc_model.Procedures.{call_at, called}
-use Rattle.closing_laws.specs.sql_reach.Carrying.{carried}
-use Rattle.closing_laws.specs.sql_reach.Reach.{writes}
-use Rattle.closing_laws.specs.sql_reach.Reasons.{reasons}
+use Rattle.name_const_laws.specs.sql_reach.Carrying.{carried}
+use Rattle.name_const_laws.specs.sql_reach.Reach.{writes}
+use Rattle.name_const_laws.specs.sql_reach.Reasons.{reasons}
 use Rattle.byte_fields.specs.Field.{number_bytes}
 use Rattle.byte_fields.specs.LengthEncoded.{lenenc_bytes}
 use Rattle.event_codec.specs.Writing.{query_bytes, names_bytes, table_map_bytes, rows_bytes, size}

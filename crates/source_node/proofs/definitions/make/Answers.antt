@@ -1,11 +1,11 @@
 use Rattle.std.proofs.Common.{rules, ◌≡◌, ℕ, ◌+◌, ◌<◌, ◌++◌, length, refl, sym, ap, ◌∙◌, subst, arith}
-use Rattle.session_transactions.specs.log_entries.declared.entries.Item.{Item}
-use Rattle.session_transactions.specs.log_entries.declared.entries.Entry.TheVariants.{Definition}
-use Rattle.session_transactions.specs.logged_items.Items.{item_by_text}
-use Rattle.session_transactions.specs.logged_items.Logged.{Encodes}
+use Rattle.session_transaction.specs.log_entries.declared.entries.Item.{Item}
+use Rattle.session_transaction.specs.log_entries.declared.entries.Entry.TheVariants.{Definition}
+use Rattle.session_transaction.specs.binlog_items.Items.{item_by_text}
+use Rattle.session_transaction.specs.binlog_items.Logged.{Encodes}
 use Rattle.session_model.specs.Sessions.{Session}
 use Rattle.sql_tree.specs.StatementView.{view}
-use Rattle.session_transactions.specs.session_desk.Desk.{shared_of}
+use Rattle.session_transaction.specs.session_shared.Desk.{shared_of}
 use Rattle.source_node.proofs.Making.{made_now, none_if, writing_few}
 use Rattle.source_node.proofs.definitions.make.Goals as goal
 

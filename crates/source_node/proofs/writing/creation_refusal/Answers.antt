@@ -1,6 +1,6 @@
 use Rattle.std.proofs.Common.{ap, ◌∙◌}
-use Rattle.session_transactions.specs.catalog_objects.Keys.{objects_of}
-use Rattle.session_transactions.specs.catalog_rules.Creating.{first_refusal, table_checks}
+use Rattle.session_transaction.specs.catalog_objects.Keys.{objects_of}
+use Rattle.session_transaction.specs.catalog_rules.Creating.{first_refusal, table_checks}
 use Rattle.source_node.proofs.Making.{creation_checks}
 use Rattle.source_node.proofs.writing.creation_refusal.Goals as goal
 

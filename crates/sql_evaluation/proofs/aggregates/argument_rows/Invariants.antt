@@ -1,6 +1,6 @@
 use Rattle.std.proofs.Common.{◌≡◌, drop}
 use Rattle.sql_tree.specs.View.{view_aggregates}
-use Rattle.sql_stage.specs.Stage.{LeadsOn, scene_of}
+use Rattle.exec_state.specs.Stage.{LeadsOn, scene_of}
 use Rattle.sql_evaluation.specs.Seen.{argument_rows_in, Inside}
 use Rattle.sql_evaluation.proofs.Forming.{argued_left}
 use Rattle.sql_evaluation.proofs.aggregates.argument_rows.Given as goal

@@ -1,6 +1,6 @@
 use Rattle.std.proofs.Common.{arith}
 use Rattle.std.proofs.lemmas.Result.{err_from_is_err_and}
-use Rattle.sql_stage.specs.Stage.{scene_of}
+use Rattle.exec_state.specs.Stage.{scene_of}
 use Rattle.sql_evaluation.proofs.Forming.{arguments_fail_ends}
 use Rattle.sql_evaluation.proofs.aggregates.argument_values.Goals as goal
 

@@ -1,7 +1,7 @@
 use Rattle.std.proofs.Common.{◌≡◌, drop}
 use Rattle.sql_tree.specs.Tree.{choice}
 use Rattle.sql_tree.specs.View.{view_arms, view_part}
-use Rattle.sql_stage.specs.Stage.{LeadsOn, scene_of}
+use Rattle.exec_state.specs.Stage.{LeadsOn, scene_of}
 use Rattle.sql_evaluation.specs.Seen.{value_in}
 use Rattle.sql_evaluation.proofs.Branching.{arms_left}
 use Rattle.sql_evaluation.proofs.choices.case_value.Given as goal

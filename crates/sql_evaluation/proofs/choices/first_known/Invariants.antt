@@ -2,7 +2,7 @@ use Rattle.std.proofs.Common.{◌≡◌, drop}
 use Rattle.val_types.specs.declared.ops.FuncN.{FuncN}
 use Rattle.sql_tree.specs.BuiltIns.{on_many}
 use Rattle.sql_tree.specs.View.{view_trees}
-use Rattle.sql_stage.specs.Stage.{LeadsOn, scene_of}
+use Rattle.exec_state.specs.Stage.{LeadsOn, scene_of}
 use Rattle.sql_evaluation.specs.Seen.{value_in}
 use Rattle.sql_evaluation.proofs.Branching.{known_left}
 use Rattle.sql_evaluation.proofs.choices.first_known.Given as goal

@@ -1,7 +1,7 @@
 use Rattle.std.proofs.Common.{◌≡◌, refl, ap, ◌∙◌}
 use Rattle.sql_tree.specs.BuiltIns.{on_one, on_two, on_three}
 use Rattle.sql_tree.specs.View.{view_tree}
-use Rattle.sql_stage.specs.Stage.{scene_of}
+use Rattle.exec_state.specs.Stage.{scene_of}
 use Rattle.sql_evaluation.proofs.Steps.{value_as}
 use Rattle.sql_evaluation.proofs.Viewed.{view_one, view_two, view_three}
 use Rattle.sql_evaluation.proofs.expressions.+fn-value-evaluate+value.Goals as goal

@@ -1,6 +1,6 @@
 use Rattle.std.proofs.Common.{◌≡◌, drop, Some, false}
 use Rattle.sql_tree.specs.View.{view_trees}
-use Rattle.sql_stage.specs.Stage.{LeadsOn, scene_of}
+use Rattle.exec_state.specs.Stage.{LeadsOn, scene_of}
 use Rattle.sql_evaluation.specs.Seen.{found_in}
 use Rattle.sql_evaluation.proofs.Branching.{found_left}
 use Rattle.sql_evaluation.proofs.operators.found_among.Given as goal

@@ -1,6 +1,6 @@
 use Rattle.std.proofs.Common.{◌≡◌, drop}
 use Rattle.sql_tree.specs.View.{view_tree}
-use Rattle.sql_stage.specs.Stage.{LeadsOn, scene_of}
+use Rattle.exec_state.specs.Stage.{LeadsOn, scene_of}
 use Rattle.sql_evaluation.specs.Seen.{kept_in, Inside}
 use Rattle.sql_evaluation.proofs.Scanning.{kept_left}
 use Rattle.sql_evaluation.proofs.queries.kept_rows.Given as goal

@@ -1,6 +1,6 @@
 use Rattle.std.proofs.Common.{◌≡◌, drop}
 use Rattle.sql_tree.specs.View.{view_orders}
-use Rattle.sql_stage.specs.Stage.{LeadsOn, scene_of}
+use Rattle.exec_state.specs.Stage.{LeadsOn, scene_of}
 use Rattle.sql_evaluation.specs.Seen.{keyed_in, Inside}
 use Rattle.sql_evaluation.proofs.Scanning.{keyed_left}
 use Rattle.sql_evaluation.proofs.queries.keyed_rows.Given as goal

@@ -1,4 +1,4 @@
-use Rattle.sql_stage.specs.Stage.{scene_of}
+use Rattle.exec_state.specs.Stage.{scene_of}
 use Rattle.sql_evaluation.proofs.Scanning.{no_order_given}
 use Rattle.sql_evaluation.proofs.queries.ordered_rows.Goals as goal
 

@@ -5,7 +5,7 @@ use Rattle.table_rules.specs.Tables.{Table}
 use Rattle.sql_tree.specs.declared.expressions.FromClause.{out-FromClause}
 use Rattle.sql_tree.specs.View.{view_selected}
 use Rattle.session_ctx.specs.sql_meaning.Scenes.{done, table_now}
-use Rattle.sql_stage.specs.Stage.{EndsAs, scene_of}
+use Rattle.exec_state.specs.Stage.{EndsAs, scene_of}
 use Rattle.sql_evaluation.specs.Seen.{shown_in}
 use Rattle.sql_evaluation.proofs.Scanning.{from_done, from_not_kept_at, from_not_ordered_at}
 use Rattle.sql_evaluation.proofs.queries.rows_from.Goals as goal

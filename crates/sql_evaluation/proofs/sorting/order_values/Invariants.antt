@@ -1,6 +1,6 @@
 use Rattle.std.proofs.Common.{◌≡◌, drop}
 use Rattle.sql_tree.specs.View.{view_orders}
-use Rattle.sql_stage.specs.Stage.{LeadsOn, scene_of}
+use Rattle.exec_state.specs.Stage.{LeadsOn, scene_of}
 use Rattle.sql_evaluation.specs.Seen.{order_in}
 use Rattle.sql_evaluation.proofs.Scanning.{order_left}
 use Rattle.sql_evaluation.proofs.sorting.order_values.Given as goal

@@ -1,6 +1,6 @@
 use Rattle.std.proofs.Common.{◌≡◌, drop}
 use Rattle.sql_tree.specs.View.{view_trees}
-use Rattle.sql_stage.specs.Stage.{LeadsOn, scene_of}
+use Rattle.exec_state.specs.Stage.{LeadsOn, scene_of}
 use Rattle.sql_evaluation.specs.Seen.{values_in, world_of, frame_of}
 use Rattle.sql_evaluation.proofs.Loops.{values_behind}
 use Rattle.sql_evaluation.proofs.value_lists.values.Given as goal

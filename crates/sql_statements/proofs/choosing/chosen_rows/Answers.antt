@@ -1,5 +1,5 @@
 use Rattle.sql_tree.specs.View.{view_orders, view_part}
-use Rattle.sql_stage.specs.Stage.{scene_of}
+use Rattle.exec_state.specs.Stage.{scene_of}
 use Rattle.sql_statements.proofs.Picked.{chosen_done}
 use Rattle.sql_statements.proofs.choosing.chosen_rows.Goals as goal
 

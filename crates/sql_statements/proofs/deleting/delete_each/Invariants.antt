@@ -1,5 +1,5 @@
 use Rattle.std.proofs.Common.{◌≡◌, length, drop}
-use Rattle.sql_stage.specs.Stage.{LeadsOn, scene_of}
+use Rattle.exec_state.specs.Stage.{LeadsOn, scene_of}
 use Rattle.changed_rows.specs.Changed.{StandsAt}
 use Rattle.sql_statements.specs.Changed.{deletes_in}
 use Rattle.sql_statements.proofs.Changes.{deletes_left}

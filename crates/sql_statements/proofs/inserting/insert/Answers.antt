@@ -7,7 +7,7 @@ use Rattle.changed_rows.specs.catalog_rules.Checks.{given_columns}
 use Rattle.changed_rows.specs.catalog_rules.Defined.{places_of}
 use Rattle.changed_rows.specs.catalog_rules.Objects.{columns_of}
 use Rattle.sql_tree.specs.StatementView.{view_supply}
-use Rattle.sql_stage.specs.Stage.{scene_of}
+use Rattle.exec_state.specs.Stage.{scene_of}
 use Rattle.changed_rows.specs.Changed.{inserting_of, manner_of}
 use Rattle.sql_statements.proofs.Inserts.{insert_done, insert_not_all}
 use Rattle.sql_statements.proofs.inserting.insert.Goals as goal

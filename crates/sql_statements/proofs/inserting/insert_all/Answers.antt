@@ -3,7 +3,7 @@ use Rattle.std.proofs.lemmas.Result.{err_from_is_err_and}
 use Rattle.sql_tree.specs.Statement.{rows_of}
 use Rattle.sql_tree.specs.StatementView.{view_supply}
 use Rattle.sql_tree.specs.View.{view_query}
-use Rattle.sql_stage.specs.Stage.{scene_of}
+use Rattle.exec_state.specs.Stage.{scene_of}
 use Rattle.changed_rows.specs.Changed.{manner_of}
 use Rattle.sql_statements.proofs.Inserts.{supply_not_read, supply_rows}
 use Rattle.sql_statements.proofs.inserting.insert_all.Goals as goal

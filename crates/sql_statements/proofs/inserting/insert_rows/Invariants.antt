@@ -1,6 +1,6 @@
 use Rattle.std.proofs.Common.{◌≡◌, drop}
 use Rattle.changed_rows.specs.sql_meaning.Changing.{nothing_inserted}
-use Rattle.sql_stage.specs.Stage.{LeadsOn, scene_of}
+use Rattle.exec_state.specs.Stage.{LeadsOn, scene_of}
 use Rattle.changed_rows.specs.Changed.{StandsAt, inserting_of, manner_of}
 use Rattle.sql_statements.specs.Changed.{rows_in}
 use Rattle.sql_statements.proofs.inserting.insert_rows.Given as goal

@@ -2,7 +2,7 @@ use Rattle.std.proofs.Common.{◌≡◌, ap, ◌∙◌}
 use Rattle.sql_tree.specs.Statement.{evaluate, select}
 use Rattle.sql_tree.specs.StatementView.{view, view_delete, view_insert, view_replace, view_update}
 use Rattle.sql_tree.specs.View.{view_query, view_trees}
-use Rattle.sql_stage.specs.Stage.{scene_of}
+use Rattle.exec_state.specs.Stage.{scene_of}
 use Rattle.changed_rows.specs.Changed.{manner_of}
 use Rattle.sql_statements.proofs.Viewed.{delete_seen, do_seen, insert_seen, replace_seen, select_seen, update_seen}
 use Rattle.sql_statements.proofs.Shown.{deletes, does, inserts, replaces, selects, updates}

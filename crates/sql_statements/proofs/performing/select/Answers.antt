@@ -1,5 +1,5 @@
 use Rattle.sql_tree.specs.View.{view_query}
-use Rattle.sql_stage.specs.Stage.{scene_of}
+use Rattle.exec_state.specs.Stage.{scene_of}
 use Rattle.sql_statements.proofs.Shown.{select_done}
 use Rattle.sql_statements.proofs.performing.select.Goals as goal
 

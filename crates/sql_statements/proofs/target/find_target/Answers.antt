@@ -1,7 +1,7 @@
 use Rattle.std.proofs.Common.{Some, sym, ap, ◌∙◌}
 use Rattle.val_types.specs.declared.definitions.TableDef.{TableDef}
-use Rattle.sql_stage.specs.Stage.{scene_of}
-use Rattle.sql_stage.proofs.Snapshots.{not_there, no_definition}
+use Rattle.exec_state.specs.Stage.{scene_of}
+use Rattle.exec_state.proofs.Snapshots.{not_there, no_definition}
 use Rattle.sql_statements.proofs.Aimed.{found_so}
 use Rattle.sql_statements.proofs.target.find_target.Goals as goal
 

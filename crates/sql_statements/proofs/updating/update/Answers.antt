@@ -1,6 +1,6 @@
 use Rattle.std.proofs.lemmas.Result.{err_from_is_err_and}
 use Rattle.table_rules.specs.Tables.{Table}
-use Rattle.sql_stage.specs.Stage.{scene_of}
+use Rattle.exec_state.specs.Stage.{scene_of}
 use Rattle.sql_statements.proofs.Changes.{update_done, update_not_all, update_not_chosen}
 use Rattle.sql_statements.proofs.updating.update.Goals as goal
 

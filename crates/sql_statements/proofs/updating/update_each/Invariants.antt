@@ -1,6 +1,6 @@
 use Rattle.std.proofs.Common.{◌≡◌, drop}
 use Rattle.sql_tree.specs.StatementView.{view_sets}
-use Rattle.sql_stage.specs.Stage.{LeadsOn, scene_of}
+use Rattle.exec_state.specs.Stage.{LeadsOn, scene_of}
 use Rattle.changed_rows.specs.Changed.{StandsAt}
 use Rattle.sql_statements.specs.Changed.{updates_in}
 use Rattle.sql_statements.proofs.Changes.{updates_left}

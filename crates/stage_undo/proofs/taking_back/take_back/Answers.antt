@@ -1,5 +1,5 @@
 use Rattle.std.proofs.Common.{refl}
-use Rattle.sql_stage.specs.declared.stage.Stage.{Stage}
+use Rattle.exec_state.specs.declared.stage.Stage.{Stage}
 use Rattle.stage_undo.proofs.TakenBack.{taken_back_to}
 use Rattle.stage_undo.proofs.taking_back.take_back.Goals as goal
 

@@ -2,7 +2,7 @@ use Rattle.std.proofs.Common.{sym}
 use Rattle.sql_tree.specs.StatementView.{view}
 use Rattle.row_apply.specs.catalog_objects.Keys.{objects_of}
 use Rattle.log_groups.specs.catalog_rules.Checks.{session_scope, statement_refusal}
-use Rattle.applier_model.specs.Texts.{may_stand}
+use Rattle.apply_model.specs.Texts.{may_stand}
 use Rattle.row_apply.specs.Ends.{progress_in}
 use Rattle.stmt_apply.specs.Applying.{applier_in}
 use Rattle.stmt_apply.proofs.Ran.{runs_on}

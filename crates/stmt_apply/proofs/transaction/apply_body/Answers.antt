@@ -1,7 +1,7 @@
 use Rattle.log_groups.specs.log_entries.Variables.{variable_set}
 use Rattle.event_codec.specs.Event.{value_of}
-use Rattle.applier_model.specs.Texts.{Needs}
-use Rattle.applier_model.specs.Groups.{with_number}
+use Rattle.apply_model.specs.Texts.{Needs}
+use Rattle.apply_model.specs.Groups.{with_number}
 use Rattle.std.proofs.Common.{Some}
 use Rattle.stmt_apply.proofs.Going.{mapped, needed}
 use Rattle.stmt_apply.proofs.transaction.apply_body.Goals as goal

@@ -1,8 +1,8 @@
 use Rattle.std.proofs.Common.{◌≡◌, ◌+◌, ap, ◌∙◌}
 use Rattle.std.proofs.Common.{ℕ}
 use Rattle.event_codec.specs.Event.{size_of}
-use Rattle.applier_model.specs.Groups.{with_bytes}
-use Rattle.applier_laws.specs.row_events.Sizes.{bounded}
+use Rattle.apply_model.specs.Groups.{with_bytes}
+use Rattle.apply_laws.specs.row_events.Sizes.{bounded}
 use Rattle.stmt_apply.proofs.Going.{counted}
 use Rattle.stmt_apply.proofs.transaction.apply_event.Goals as goal
 

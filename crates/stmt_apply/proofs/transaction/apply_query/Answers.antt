@@ -1,8 +1,8 @@
 use Rattle.std.proofs.Common.{◌≡◌, ℕ, List, ap, drop, length, ◌∙◌}
 use Rattle.val_types.specs.declared.change.Change.{Change}
 use Rattle.event_codec.specs.Event.{query_of}
-use Rattle.applier_laws.specs.row_events.Sizes.{bounded}
-use Rattle.applier_laws.specs.transaction_sizes.Sizes.{changes_size}
+use Rattle.apply_laws.specs.row_events.Sizes.{bounded}
+use Rattle.apply_laws.specs.binlog_sizes.Sizes.{changes_size}
 use Rattle.row_apply.specs.Ends.{progress_in}
 use Rattle.stmt_apply.specs.Applying.{applier_in}
 use Rattle.stmt_apply.proofs.Going.{text_run, text_stands}

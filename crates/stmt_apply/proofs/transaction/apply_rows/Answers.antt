@@ -4,9 +4,9 @@ use Rattle.std.proofs.Common.{List, map}
 use Rattle.event_codec.specs.declared.event.MapView.{MapView}
 use Rattle.log_groups.specs.log_model.Groups.{find}
 use Rattle.event_codec.specs.Event.{map_of, rows_of}
-use Rattle.applier_laws.specs.row_events.Sizes.{bounded}
-use Rattle.applier_laws.specs.transaction_sizes.Sizes.{changes_size}
-use Rattle.applier_model.specs.Groups.{carry_changes}
+use Rattle.apply_laws.specs.row_events.Sizes.{bounded}
+use Rattle.apply_laws.specs.binlog_sizes.Sizes.{changes_size}
+use Rattle.apply_model.specs.Groups.{carry_changes}
 use Rattle.row_apply.specs.Ends.{progress_in}
 use Rattle.stmt_apply.proofs.Going.{rows_ended_so, rows_stand}
 use Rattle.stmt_apply.proofs.transaction.apply_rows.Goals as goal

@@ -1,6 +1,6 @@
 use Rattle.std.proofs.Common.{◌≡◌, length, reverse}
 use Rattle.event_codec.specs.Event.{map_of}
-use Rattle.applier_model.specs.Groups.{carry_changes}
+use Rattle.apply_model.specs.Groups.{carry_changes}
 use Rattle.row_apply.specs.Ends.{Stays, progress_in}
 use Rattle.stmt_apply.proofs.transaction.carry_changes.Given as goal
 

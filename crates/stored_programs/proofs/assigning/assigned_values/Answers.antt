@@ -1,8 +1,8 @@
 use Rattle.std.proofs.Common.{arith}
 use Rattle.std.proofs.lemmas.Result.{err_from_is_err_and}
 use Rattle.sql_tree.specs.StatementView.{view_assignments}
-use Rattle.sql_stage.specs.Stage.{scene_of}
-use Rattle.sql_stage.proofs.Leading.{stage_on}
+use Rattle.exec_state.specs.Stage.{scene_of}
+use Rattle.exec_state.proofs.Leading.{stage_on}
 use Rattle.stored_programs.specs.Bodies.{body_of, world_with}
 use Rattle.stored_programs.specs.Steps.{assigned_values}
 use Rattle.stored_programs.proofs.Assigned.{values_fail, values_more}

@@ -1,6 +1,6 @@
 use Rattle.std.proofs.Common.{◌≡◌, drop}
 use Rattle.sql_tree.specs.StatementView.{view_assignments}
-use Rattle.sql_stage.specs.Stage.{LeadsOn, scene_of}
+use Rattle.exec_state.specs.Stage.{LeadsOn, scene_of}
 use Rattle.stored_programs.specs.Bodies.{body_of, world_with}
 use Rattle.stored_programs.specs.Steps.{assigned_values}
 use Rattle.stored_programs.proofs.Assigned.{values_left}

@@ -1,6 +1,6 @@
 use Rattle.std.proofs.lemmas.Result.{err_from_is_err_and}
 use Rattle.sql_tree.specs.StatementView.{view, view_assignments}
-use Rattle.sql_stage.specs.Stage.{scene_of}
+use Rattle.exec_state.specs.Stage.{scene_of}
 use Rattle.stored_programs.proofs.Assigned.{set_not_assigned}
 use Rattle.stored_programs.proofs.assigning.set_step.Goals as goal
 

@@ -1,6 +1,6 @@
 use Rattle.std.proofs.lemmas.Result.{err_from_is_err_and}
 use Rattle.sql_tree.specs.StatementView.{view, view_assignments}
-use Rattle.sql_stage.specs.Stage.{scene_of}
+use Rattle.exec_state.specs.Stage.{scene_of}
 use Rattle.stored_programs.specs.Bodies.{body_of}
 use Rattle.stored_programs.proofs.Assigned.{values_end_so, values_refused}
 use Rattle.stored_programs.proofs.assigning.set_values.Goals as goal

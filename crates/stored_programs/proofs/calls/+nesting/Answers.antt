@@ -5,7 +5,7 @@ use Rattle.val_types.specs.declared.definitions.TableDef.{TableDef}
 use Rattle.sql_tree.specs.StatementView.{view_program, view_trigger}
 use Rattle.sql_statements.specs.catalog_objects.Keys.{objects_of}
 use Rattle.sql_statements.specs.catalog_rules.Objects.{trigger_for}
-use Rattle.sql_stage.specs.Stage.{scene_of}
+use Rattle.exec_state.specs.Stage.{scene_of}
 use Rattle.sql_evaluation.specs.Seen.{running_of}
 use Rattle.stored_programs.proofs.Nesting.{call_ends, call_miscounted, call_too_deep, call_under_way, counted_is, event_ends}
 use Rattle.stored_programs.proofs.calls.+nesting.Goals as goal

@@ -1,6 +1,6 @@
 use Rattle.std.proofs.lemmas.Result.{err_from_is_err_and}
 use Rattle.sql_tree.specs.StatementView.{view_declaration}
-use Rattle.sql_stage.specs.Stage.{scene_of}
+use Rattle.exec_state.specs.Stage.{scene_of}
 use Rattle.stored_programs.proofs.Declared.{declare_ends, declare_not_preset}
 use Rattle.stored_programs.proofs.declaring.declare.Goals as goal
 

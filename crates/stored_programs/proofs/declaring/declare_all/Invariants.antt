@@ -1,6 +1,6 @@
 use Rattle.std.proofs.Common.{◌≡◌, drop}
 use Rattle.sql_tree.specs.StatementView.{view_declarations}
-use Rattle.sql_stage.specs.Stage.{LeadsOn, scene_of}
+use Rattle.exec_state.specs.Stage.{LeadsOn, scene_of}
 use Rattle.stored_programs.specs.Bodies.{body_of}
 use Rattle.stored_programs.specs.Steps.{all_declared_in}
 use Rattle.stored_programs.proofs.Declared.{declares_left}

@@ -1,6 +1,6 @@
 use Rattle.std.proofs.lemmas.Result.{err_from_is_err_and}
 use Rattle.sql_tree.specs.StatementView.{view}
-use Rattle.sql_stage.specs.Stage.{scene_of}
+use Rattle.exec_state.specs.Stage.{scene_of}
 use Rattle.sql_statements.specs.Did.{did_of}
 use Rattle.stored_programs.specs.Bodies.{body_of}
 use Rattle.stored_programs.proofs.Performed.{performed_not, performed_so}

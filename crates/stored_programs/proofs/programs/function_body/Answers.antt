@@ -1,4 +1,4 @@
-use Rattle.sql_stage.specs.Stage.{scene_of}
+use Rattle.exec_state.specs.Stage.{scene_of}
 use Rattle.stored_programs.specs.Bodies.{body_of}
 use Rattle.stored_programs.proofs.Calling.{function_returns}
 use Rattle.stored_programs.proofs.programs.function_body.Goals as goal

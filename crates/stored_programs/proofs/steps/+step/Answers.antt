@@ -6,8 +6,8 @@ use Rattle.sql_tree.specs.StatementView.{view, view_branches, view_declarations,
 use Rattle.sql_tree.specs.declared.statements.Branch.{Branch}
 use Rattle.sql_tree.specs.declared.statements.Stmt.{Stmt, If}
 use Rattle.sql_tree.specs.View.{view_tree}
-use Rattle.sql_stage.specs.Stage.{scene_of}
-use Rattle.sql_stage.proofs.Leading.{stage_on}
+use Rattle.exec_state.specs.Stage.{scene_of}
+use Rattle.exec_state.proofs.Leading.{stage_on}
 use Rattle.stored_programs.specs.Bodies.{body_of, ended_at}
 use Rattle.stored_programs.specs.Steps.{taken_at}
 use Rattle.stored_programs.proofs.Stepping.{block_done, failed_ends, if_else, if_fails, if_taken, if_view, turns_past, turns_returned, unspent_ends, untested_ends}

@@ -2,7 +2,7 @@ use Rattle.std.proofs.Common.{◌≡◌, ◌+◌, ◌*◌, drop}
 use Rattle.sql_tree.specs.Statement.{while_steps}
 use Rattle.sql_tree.specs.StatementView.{view_branches, view_statements}
 use Rattle.sql_tree.specs.View.{view_tree}
-use Rattle.sql_stage.specs.Stage.{LeadsOn, scene_of}
+use Rattle.exec_state.specs.Stage.{LeadsOn, scene_of}
 use Rattle.stored_programs.specs.Bodies.{body_of}
 use Rattle.stored_programs.specs.Steps.{step_in, steps_in, taken_in}
 use Rattle.stored_programs.proofs.Stepping.{TurnsTo, steps_left, taken_left}

@@ -1,6 +1,6 @@
 use Rattle.std.proofs.Common.{ap, ◌∙◌}
-use Rattle.transaction_sizes.specs.Sizes.{changes_size}
-use Rattle.transaction_sizes.specs.row_events.Sizes.{bounded}
+use Rattle.binlog_sizes.specs.Sizes.{changes_size}
+use Rattle.binlog_sizes.specs.row_events.Sizes.{bounded}
 use Rattle.binlog_cache.proofs.Summing.{counted_more}
 use Rattle.binlog_cache.proofs.cache.Cache.add.Goals as goal
 

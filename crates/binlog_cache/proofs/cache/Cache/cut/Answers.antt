@@ -1,6 +1,6 @@
 use Rattle.std.proofs.Common.{List, take, sym, ap, ◌∙◌}
 use Rattle.std.proofs.lemmas.List.{take-map}
-use Rattle.transaction_sizes.specs.log_entries.declared.entries.Item.{Item}
+use Rattle.binlog_sizes.specs.log_entries.declared.entries.Item.{Item}
 use Rattle.binlog_cache.specs.declared.kept.Kept.{Kept}
 use Rattle.binlog_cache.proofs.Summing.{counted_front}
 use Rattle.binlog_cache.proofs.cache.Cache.cut.Goals as goal

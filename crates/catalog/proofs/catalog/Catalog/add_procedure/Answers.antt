@@ -2,10 +2,10 @@ use Rattle.std.proofs.Common.{◌≡◌, None, rules, subst, sym}
 use Rattle.sql_tree.specs.Statement.{create_procedure}
 use Rattle.sql_tree.specs.StatementView.{view_program}
 use Rattle.sql_tree.specs.declared.statements.Routine.{Routine}
-use Rattle.catalog_statements.specs.catalog_rules.Creating.{ddl_refusal}
-use Rattle.catalog_statements.specs.catalog_objects.declared.object.Object.TheVariants as kinds
-use Rattle.catalog_statements.specs.catalog_objects.Keys.{objects_of}
-use Rattle.catalog_statements.specs.catalog_objects.Lookups.{is_free}
+use Rattle.catalog_show_create.specs.catalog_rules.Creating.{ddl_refusal}
+use Rattle.catalog_show_create.specs.catalog_objects.declared.object.Object.TheVariants as kinds
+use Rattle.catalog_show_create.specs.catalog_objects.Keys.{objects_of}
+use Rattle.catalog_show_create.specs.catalog_objects.Lookups.{is_free}
 use Rattle.catalog.proofs.Programs.{new_procedure}
 use Rattle.catalog.proofs.catalog.Catalog.add_procedure.Goals as goal
 

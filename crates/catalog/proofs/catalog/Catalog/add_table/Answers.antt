@@ -1,11 +1,11 @@
 use Rattle.std.proofs.Common.{◌≡◌, None, rules, subst, sym}
 use Rattle.sql_tree.specs.Statement.{create_table}
 use Rattle.val_types.specs.declared.definitions.TableDef.{TableDef}
-use Rattle.catalog_statements.specs.catalog_rules.Creating.{ddl_refusal}
-use Rattle.catalog_statements.specs.catalog_rules.Defined.{definition_of}
-use Rattle.catalog_statements.specs.catalog_objects.declared.object.Object.TheVariants as kinds
-use Rattle.catalog_statements.specs.catalog_objects.Keys.{objects_of}
-use Rattle.catalog_statements.specs.catalog_objects.Lookups.{is_free}
+use Rattle.catalog_show_create.specs.catalog_rules.Creating.{ddl_refusal}
+use Rattle.catalog_show_create.specs.catalog_rules.Defined.{definition_of}
+use Rattle.catalog_show_create.specs.catalog_objects.declared.object.Object.TheVariants as kinds
+use Rattle.catalog_show_create.specs.catalog_objects.Keys.{objects_of}
+use Rattle.catalog_show_create.specs.catalog_objects.Lookups.{is_free}
 use Rattle.catalog.proofs.Added.{is_new, is_small}
 use Rattle.catalog.proofs.catalog.Catalog.add_table.Goals as goal
 

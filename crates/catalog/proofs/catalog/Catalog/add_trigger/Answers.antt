@@ -2,10 +2,10 @@ use Rattle.std.proofs.Common.{◌≡◌, None, rules, subst, sym}
 use Rattle.sql_tree.specs.Statement.{create_trigger}
 use Rattle.sql_tree.specs.StatementView.{view_trigger}
 use Rattle.sql_tree.specs.declared.statements.TriggerDef.{TriggerDef}
-use Rattle.catalog_statements.specs.catalog_rules.Creating.{ddl_refusal}
-use Rattle.catalog_statements.specs.catalog_objects.declared.object.Object.TheVariants as kinds
-use Rattle.catalog_statements.specs.catalog_objects.Keys.{objects_of}
-use Rattle.catalog_statements.specs.catalog_objects.Lookups.{is_free, is_event_free}
+use Rattle.catalog_show_create.specs.catalog_rules.Creating.{ddl_refusal}
+use Rattle.catalog_show_create.specs.catalog_objects.declared.object.Object.TheVariants as kinds
+use Rattle.catalog_show_create.specs.catalog_objects.Keys.{objects_of}
+use Rattle.catalog_show_create.specs.catalog_objects.Lookups.{is_free, is_event_free}
 use Rattle.catalog.proofs.Programs.{new_trigger, new_event}
 use Rattle.catalog.proofs.catalog.Catalog.add_trigger.Goals as goal
 

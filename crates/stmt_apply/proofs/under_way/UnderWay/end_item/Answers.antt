@@ -1,5 +1,5 @@
 use Rattle.std.proofs.Common.{◌≡◌, false, rules}
-use Rattle.applier_model.specs.Groups.{is_too_large}
+use Rattle.apply_model.specs.Groups.{is_too_large}
 use Rattle.stmt_apply.proofs.Going.{ended_well}
 use Rattle.stmt_apply.proofs.under_way.UnderWay.end_item.Goals as goal
 

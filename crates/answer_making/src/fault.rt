@@ -1,0 +1,22 @@
+//! Why a node gives no answer.
+
+use std::alloc::AllocError;
+use thiserror::Error;
+
+/// Why a node gives no answer: memory is short. A node that keeps files will have their faults here, too.
+#[derive(Clone, Copy, PartialEq, Eq, Debug, Error)]
+pub enum NodeFault {
+    #[error("out of memory")]
+    NoMemory,
+}
+
+impl From<AllocError> for NodeFault {
+    ghost use Rattle.std.specs.Prelude.{◌≡◌};
+    ghost use Rattle.answer_making.specs.declared.fault.NodeFault.TheVariants.{NoMemory};
+
+    ghost from_gives = { λ _ e. e ≡ NoMemory };
+
+    fn from(_e: AllocError) -> NodeFault {
+        NodeFault::NoMemory
+    }
+}

@@ -1,0 +1,28 @@
+//! What a text is.
+ghost use Rattle.std.specs.Prelude.{◌≡◌, ◌≤◌, length, IfErr, IfOk};
+ghost use Rattle.sql_tree.specs.StatementView.{view};
+ghost use Rattle.session_model.specs.text_answers.Answers.{a_statement, text_answer};
+ghost use Rattle.answer_making.specs.ReadTexts.{IsRefusedText};
+
+use session_model::text_answers::texts_are_answered;
+use sql_parse::{ParseRefusal, parse};
+use sql_tree::Stmt;
+use std::alloc::Global;
+use val_types::NoMemory;
+
+/// A value on the heap. Where there is no memory, it is dropped.
+fn boxed<T: Drop>(alloc: Global, value: T) -> Result<Box<T>, NoMemory>
+    ensures { IfOk result (λ b. b.value ≡ value) }
+{
+    Ok(Box::new(alloc, value)?)
+}
+
+/// The statement that a text is, or why it is none.
+pub fn statement_of(alloc: Global, text: &[u8]) -> Result<Box<Stmt>, ParseRefusal>
+    requires { length text.now ≤ 4294967295 }
+    ensures statement { IfOk result (λ s. text_answer text.now ≡ a_statement (view s.value)) }
+    ensures refused { IfErr result (IsRefusedText (text_answer text.now)) }
+{
+    texts_are_answered();
+    Ok(boxed(alloc, parse(alloc, text)?)?)
+}

@@ -1,5 +1,0 @@
-use Rattle.applier_laws.proofs.Bases.{bases_hold}
-use Rattle.applier_laws.proofs.laws.bases_hold.Goals as goal
-
-pub returns : goal.returns
-returns c = bases_hold

@@ -1,5 +1,0 @@
-use Rattle.applier_laws.proofs.Following.{entries_of_runs_follow}
-use Rattle.applier_laws.proofs.laws.entries_of_runs_follow.Goals as goal
-
-pub returns : goal.returns
-returns c = entries_of_runs_follow

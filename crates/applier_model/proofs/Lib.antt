@@ -1,2 +1,0 @@
--- the crates below that this one speaks of, passed on
-pub use Rattle.transaction_sizes.proofs.of_row_image as of_row_image

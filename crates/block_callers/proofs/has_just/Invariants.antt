@@ -1,6 +1,0 @@
-use Rattle.block_list.specs.Spots.{IsSpot}
-use Rattle.block_callers.proofs.has_just.Given as goal
-
--- the spot is one of the set
-abbrev pub invariant-loop-number : goal.invariant-loop-number
-invariant-loop-number l = IsSpot l.set.blocks l.spot

@@ -1,5 +1,0 @@
-use Rattle.catalog_statements.proofs.Made.{is_that_of_making}
-use Rattle.catalog_statements.proofs.laws.statement_is_that_of_making.Goals as goal
-
-pub returns : goal.returns
-returns c = is_that_of_making

@@ -1,2 +1,0 @@
--- the crates below that this one speaks of, passed on
-pub use Rattle.closed_length.proofs.of_sql_meaning as of_sql_meaning

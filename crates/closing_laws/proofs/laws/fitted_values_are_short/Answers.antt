@@ -1,5 +1,0 @@
-use Rattle.closing_laws.proofs.Whole.{fitted_short}
-use Rattle.closing_laws.proofs.laws.fitted_values_are_short.Goals as goal
-
-pub returns : goal.returns
-returns c = fitted_short

@@ -1,5 +1,0 @@
-use Rattle.entry_groups.proofs.EntryLaws.{can_on, can_both}
-use Rattle.entry_groups.proofs.laws.entries_can_log_on.Goals as goal
-
-pub returns : goal.returns
-returns c = (can_on, can_both)

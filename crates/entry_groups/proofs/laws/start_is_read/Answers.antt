@@ -1,5 +1,0 @@
-use Rattle.log_model.proofs.Growing.{start_read}
-use Rattle.entry_groups.proofs.laws.start_is_read.Goals as goal
-
-pub returns : goal.returns
-returns c = start_read

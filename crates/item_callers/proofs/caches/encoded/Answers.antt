@@ -1,9 +1,0 @@
-use Rattle.std.proofs.Common.{arith}
-use Rattle.item_callers.proofs.Written.{can_carry, all_can}
-use Rattle.item_callers.proofs.caches.encoded.Goals as goal
-
-pub encode-requires-clause-carried : goal.encode-requires-clause-carried
-encode-requires-clause-carried c = rw c.requires ((omega arith, can_carry), tt)
-
-pub encode-requires-clause-events : goal.encode-requires-clause-events
-encode-requires-clause-events c = rw c.requires all_can

@@ -1,6 +1,0 @@
-use Rattle.std.proofs.Common.{◌≡◌, ◌+◌, drop}
-use Rattle.list_callers.specs.Rows.{widths}
-use Rattle.list_callers.proofs.width.Given as goal
-
-abbrev pub invariant-loop-row : goal.invariant-loop-row
-invariant-loop-row l = l.all + widths (drop l.row-index l.row-items) ≡ widths l.rows

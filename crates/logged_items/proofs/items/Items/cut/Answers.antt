@@ -1,5 +1,0 @@
-use Rattle.logged_items.proofs.Encoding.{logged_front}
-use Rattle.logged_items.proofs.items.Items.cut.Goals as goal
-
-pub invariant_of-self : goal.invariant_of-self
-invariant_of-self c = rw c.cut.ensures (logged_front c.args.mark c.self.inside.cache c.self.invariant)

@@ -1,7 +1,0 @@
-use Rattle.std.proofs.Common.{drop}
-use Rattle.logged_items.specs.Logged.{AreValues}
-use Rattle.logged_items.proofs.texts.have_widths.Given as goal
-
--- with those that are left, all fit
-abbrev pub invariant-loop-place : goal.invariant-loop-place
-invariant-loop-place l = AreValues (drop l.place l.vars) → AreValues l.vars

@@ -1,9 +1,0 @@
--- The kind of stored program that a kind of the code stands for.
-use Rattle.table_creation.specs.catalog_rules.Bodies.{Kind, of_function, of_procedure, of_trigger}
-use Rattle.program_creation.specs.declared.kinds.Kind.{Kind as Given}
-use Rattle.program_creation.specs.declared.kinds.Kind.TheVariants as kinds
-
-abbrev pub kind_of : Given → Kind
-kind_of kinds.Function = of_function
-kind_of kinds.Procedure = of_procedure
-kind_of (kinds.Trigger writes_new) = of_trigger writes_new

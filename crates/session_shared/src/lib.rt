@@ -1,0 +1,39 @@
+//! What all sessions of a source share, with the log, and what a session keeps.
+//!
+//! - `desk`: [`Desk`], what all sessions share, with the log
+//! - `session`, `saves`: [`Session`] and [`Open`], what a session keeps: its variables, how its statements are logged, its
+//!   open transaction with its items; savepoints
+//! - `formats`: [`how_logged`], whether what a statement changed is logged by its rows, and whether the statement is warned
+//! - `call`: [`Call`], what a command has round it
+//! - `checking`: what refuses a statement before it runs: [`checked`], [`lock_check`], [`step_check`]
+//!
+//! The definitions in specs/ say what the code's parts stand for (`Desk`), what is logged (`Logging`), and what an item more
+//! and going back to a savepoint make of a transaction (`Saving`).
+//!
+//! # Proved
+//! - [`Desk`] and [`Open`] are the machine's: each of their calls says what is shared, or what the transaction has, behind it.
+//! - [`Desk::commit`] logs just the entry of its transaction, which can be logged there, or memory is short, and then the desk is
+//!   as before; no other call of [`Desk`] changes the log. [`Open::save`] leaves its transaction as before where memory is short.
+//! - [`how_logged`] says what the machine says of a statement's reasons in each format, exactly.
+//! - [`checked`], [`lock_check`] and [`step_check`] refuse just what the machine's checks refuse, with the same error.
+//!
+//! # Only tested
+//! Nothing here: that calls succeed with ample memory is tested where scripts run.
+#![tactic(auto)]
+
+mod call;
+mod checking;
+mod desk;
+mod formats;
+mod saves;
+mod session;
+
+// What is its own, and the crates below that it speaks of, passed on: who stands above names them through it.
+pub use binlog_items;
+pub use call::Call;
+pub use checking::{Refusal, checked, lock_check, refused_as, step_check};
+pub use desk::Desk;
+pub use formats::{HowLogged, how_logged};
+pub use saves::Save;
+pub use session::{Open, Session};
+pub use session_model;

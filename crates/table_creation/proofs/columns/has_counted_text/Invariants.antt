@@ -1,8 +1,0 @@
-use Rattle.std.proofs.Common.{◌≡◌, drop, ◌&&◌}
-use Rattle.std.specs.List.{list_any}
-use Rattle.sql_tree.specs.declared.statements.Column.{Column}
-use Rattle.catalog_checks.specs.catalog_rules.Creating.{is_varchar}
-use Rattle.table_creation.proofs.columns.has_counted_text.Given as goal
-
-abbrev pub invariant-loop-column : goal.invariant-loop-column
-invariant-loop-column l = list_any (λ (c : Column). c.auto_increment && is_varchar c.kind) (drop l.column-index l.columns) ≡ list_any (λ (c : Column). c.auto_increment && is_varchar c.kind) l.columns

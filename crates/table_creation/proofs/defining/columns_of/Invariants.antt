@@ -1,9 +1,0 @@
-use Rattle.std.proofs.Common.{◌≡◌, map, drop, take, false}
-use Rattle.std.specs.List.{list_any}
-use Rattle.sql_tree.specs.declared.statements.Column.{Column}
-use Rattle.catalog_checks.specs.catalog_rules.Defined.{defined_column}
-use Rattle.catalog_checks.specs.catalog_rules.Creating.{is_ill_type}
-use Rattle.table_creation.proofs.defining.columns_of.Given as goal
-
-abbrev pub invariant-loop-column : goal.invariant-loop-column
-invariant-loop-column l = (l.all ≡ map defined_column (take l.column-index l.columns)) × (list_any (λ (c : Column). is_ill_type c.kind) (drop l.column-index l.columns) ≡ false)

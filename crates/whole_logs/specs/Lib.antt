@@ -1,8 +1,0 @@
-pub mod Walk
-pub mod Passing
-pub mod Printed
-pub mod Worked
--- the crates below that this one speaks of, passed on
-pub use Rattle.whole_groups.specs.catalog_rules as catalog_rules
-pub use Rattle.whole_groups.specs.log_entries as log_entries
-pub use Rattle.log_print.specs as log_print
