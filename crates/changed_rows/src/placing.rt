@@ -1,7 +1,7 @@
 //! A row put into its table, and what is done with those in its way.
 #![tactic(auto, using(crate::proofs::Places::standing, crate::proofs::Inserts::placing))]
 
-ghost use Rattle.std.specs.Prelude.{◌≡◌, ◌+◌, ◌*◌, [], IfOk, IfSome};
+ghost use Rattle.std.specs.Prelude.{◌≡◌, ◌≤◌, ◌+◌, ◌*◌, [], IfOk, IfSome};
 ghost use Rattle.table_rules.specs.Stored.{has_key_in_way, key_tests};
 ghost use Rattle.sql_tree.specs.StatementView.{view_sets};
 ghost use Rattle.sql_evaluation.specs.sql_meaning.Changing.{clear_way, replacing, update_row, updating};
@@ -69,6 +69,7 @@ fn clear_key<E: Executor>(
     requires serves { E.serves table.now.executor.now (world_of table.now.around.now).below }
     requires stands { StandsAt table.now.at table.now.definition.now stage.old }
     ensures gives { EndsAs result (scene_of stage.new) (cleared_by table.now.around.now table.now.definition.now (has_key_in_way table.now.definition.now row.now which) (scene_of stage.old)) }
+    ensures one { IfOk result (λ count. count ≤ 1) }
     ensures leads { LeadsOn stage.old stage.new }
 {
     match row_on_key(table.alloc, stage, table.at, table.definition, row, which)? {
@@ -98,10 +99,7 @@ fn clear_way<E: Executor>(
     };
     for which in 0..keys {
         let more = clear_key(table, stage, row, which)?;
-        let Some(sum) = deleted.checked_add(more) else {
-            return Err(SqlRefusal::NoMemory);
-        };
-        deleted = sum;
+        deleted += more;
     }
     Ok(deleted)
 }

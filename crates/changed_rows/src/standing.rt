@@ -1,7 +1,7 @@
 //! The table at a place, as the definitions' actions by its name.
 #![tactic(auto, using(crate::proofs::Places::standing))]
 
-ghost use Rattle.std.specs.Prelude.{◌≡◌};
+ghost use Rattle.std.specs.Prelude.{◌≡◌, ◌≤◌, IfOk};
 ghost use Rattle.sql_evaluation.specs.sql_meaning.Changing.{put_in_place, store_update, take_out};
 ghost use Rattle.sql_evaluation.specs.sql_meaning.Scenes.{make};
 ghost use Rattle.val_types.specs.declared.change.Change.TheVariants as changes;
@@ -76,6 +76,7 @@ pub(crate) fn store_update(
 ) -> Result<u64, SqlRefusal>
     requires stands { StandsAt at definition.now stage.old }
     ensures gives { EndsAs result (scene_of stage.new) (store_update definition.now old.now new.now (scene_of stage.old)) }
+    ensures one { IfOk result (λ count. count ≤ 1) }
     ensures leads { LeadsOn stage.old stage.new }
 {
     if key_cmp(new, old).is_eq() {

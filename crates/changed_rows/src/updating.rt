@@ -1,5 +1,5 @@
 //! One row updated.
-ghost use Rattle.std.specs.Prelude.{◌≡◌, []};
+ghost use Rattle.std.specs.Prelude.{◌≡◌, ◌≤◌, [], IfOk};
 ghost use Rattle.sql_tree.specs.StatementView.{view_set, view_sets};
 ghost use Rattle.exec_state.specs.Stage.{EndsAs, LeadsOn, scene_of};
 ghost use Rattle.sql_evaluation.specs.sql_meaning.Changing.{assign_column};
@@ -34,6 +34,7 @@ pub fn update_row<E: Executor>(
     requires serves { E.serves table.now.executor.now (world_of table.now.around.now).below }
     requires stands { StandsAt table.now.at table.now.definition.now stage.old }
     ensures gives { EndsAs result (scene_of stage.new) (updated_in table.now.around.now table.now.definition.now (view_sets sets.now) old.now (scene_of stage.old)) }
+    ensures one { IfOk result (λ count. count ≤ 1) }
     ensures leads { LeadsOn stage.old stage.new }
 {
     let assigned = assigned_row(table, stage, sets, old)?;
@@ -112,6 +113,7 @@ fn store_left<E: Executor>(
     requires serves { E.serves table.now.executor.now (world_of table.now.around.now).below }
     requires stands { StandsAt table.now.at table.now.definition.now stage.old }
     ensures gives { EndsAs result (scene_of stage.new) (stored_in table.now.around.now table.now.definition.now old.now left.now (scene_of stage.old)) }
+    ensures one { IfOk result (λ count. count ≤ 1) }
     ensures leads { LeadsOn stage.old stage.new }
 {
     none_missing(table.definition.get(), left.get(), None)?;

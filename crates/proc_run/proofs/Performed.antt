@@ -9,7 +9,7 @@ use Rattle.proc_parts.specs.declared.runner.RunRefusal.TheVariants.{Sql}
 use Rattle.proc_parts.specs.declared.world.World.{World}
 use Rattle.proc_parts.specs.Calls.{EndsBy}
 use Rattle.proc_parts.specs.Parts.{plain_at, step_at}
-use Rattle.proc_run.specs.Steps.{has_form}
+use Rattle.proc_run.specs.Steps.{has_form, is_leaf}
 
 module _ (w : World) (locals : List Local) (held : Held) where
   plain_is : (s : Statement) → is_plain s ≡ true → step_at w locals s held ≡ plain_at w locals s held
@@ -71,6 +71,38 @@ module _ (w : World) (locals : List Local) (held : Held) where
   other_is (if_steps bs o) is = cc
   other_is (while_steps c ss) is = cc
   other_is (return_value e) is = refl
+
+-- ---- which function a statement is handed to
+
+-- a change, a SELECT or a DO holds no other statement
+pub plain_leaf : (s : Statement) → is_plain s ≡ true → is_leaf s ≡ true
+plain_leaf (create_table t) is = refl
+plain_leaf (create_function p) is = refl
+plain_leaf (create_procedure p) is = refl
+plain_leaf (create_trigger t) is = refl
+plain_leaf (drop_table n) is = refl
+plain_leaf (drop_function n) is = refl
+plain_leaf (drop_procedure n) is = refl
+plain_leaf (drop_trigger n) is = refl
+plain_leaf (truncate n) is = refl
+plain_leaf (insert_into ignore t cs from us) is = refl
+plain_leaf (replace_into t cs from) is = refl
+plain_leaf (update_rows t ss w os l) is = refl
+plain_leaf (delete_rows t w os l) is = refl
+plain_leaf (select q) is = refl
+plain_leaf (evaluate ts) is = refl
+plain_leaf (set_all as') is = refl
+plain_leaf (call_procedure n ts) is = refl
+plain_leaf begin is = refl
+plain_leaf commit is = refl
+plain_leaf rollback is = refl
+plain_leaf (savepoint n) is = refl
+plain_leaf (rollback_to n) is = refl
+plain_leaf (release_savepoint n) is = refl
+plain_leaf (block ds ss) is = cc
+plain_leaf (if_steps bs o) is = cc
+plain_leaf (while_steps c ss) is = cc
+plain_leaf (return_value e) is = refl
 
 module _ {S : Type 0} (rules : Rules S) (faults : S → ℕ) (w : World) (locals : List Local) where
   pub step_plain : {A : Type 0} (view' : A → List Local) (s : Statement) (r : Result A RunRefusal) (held held' : Held) (before after : S) → is_plain s ≡ true

@@ -1,5 +1,5 @@
 -- The parts of procedures that hold statements.
-use Rattle.std.specs.Prelude.{ℕ, Bool, true, List}
+use Rattle.std.specs.Prelude.{ℕ, Bool, true, false, List}
 use Rattle.val_types.specs.declared.value.Value.{Value}
 use Rattle.sql_tree.specs.Statement.{block, if_steps, while_steps, set_all, call_procedure}
 use Rattle.sql_tree.specs.Statement.{Statement, Statements, Branches, Otherwise, Program}
@@ -24,6 +24,18 @@ body_at w p vs = procedure_body (world_of w) p vs
 -- turns of a loop whose condition a DO asks, of which there are at most so many
 unfoldable pub turns_at : ℕ → World → Statement → Statements → List Local → Action (List Local)
 turns_at n w q ss locals = turns n (λ now. holds_at w now q) (λ now. steps_at w now ss) locals
+
+-- whether a statement holds no others
+abbrev pub is_leaf : Statement → Bool
+is_leaf (block ds ss) = false
+is_leaf (if_steps bs o) = false
+is_leaf (while_steps c ss) = false
+is_leaf s = true
+
+-- whether it is an IF
+abbrev pub is_if : Statement → Bool
+is_if (if_steps bs o) = true
+is_if s = false
 
 -- whether a procedure may hold a statement
 abbrev pub has_form : Statement → Bool

@@ -6,7 +6,7 @@ ghost use Rattle.sql_tree.specs.View.{view_tree};
 ghost use Rattle.proc_parts.specs.proc_model.Procedures.{is_plain};
 ghost use Rattle.proc_parts.specs.Calls.{Calls, CallsMove, EndsBy, Moves, always, held_of, world_of};
 ghost use Rattle.proc_parts.specs.Parts.{step_at};
-ghost use Rattle.proc_run.specs.Steps.{has_form, otherwise_at, steps_at};
+ghost use Rattle.proc_run.specs.Steps.{has_form, is_if, is_leaf, otherwise_at, steps_at};
 
 use proc_parts::{
     Held, RunRefusal, Runner, World, call_step, condition_holds, declare_all, plain_step, set_step,
@@ -71,6 +71,7 @@ fn leaf_step<R: Runner, F: Fn(&mut R, &mut Held, &Bytes, List<Value>) -> Result<
     locals: &mut Locals,
     s: &Stmt,
 ) -> Result<(), RunRefusal>
+    requires leaf { is_leaf (view s.now) ≡ true }
     requires callable { F.IsAlwaysCallable call.now }
     requires calls { Calls R.rules R.faults (F.post call.now) (world_of world.now) }
     requires moved { CallsMove R.faults (F.post call.now) }
@@ -91,13 +92,13 @@ fn leaf_step<R: Runner, F: Fn(&mut R, &mut Held, &Bytes, List<Value>) -> Result<
         Stmt::Call { name, arguments } => {
             call_step(alloc, call, world, r, held, locals, s, name, arguments)
         }
-        _ => Err(RunRefusal::NoMemory),
+        _ => unreachable!(),
     }
 }
 
 /// A statement of a procedure. Most are plain, and go first.
 #[cycle(step)]
-#[tactic(auto, using(proc_parts::proofs::Behind::moving))]
+#[tactic(auto, using(proc_parts::proofs::Behind::moving, crate::proofs::Performed::plain_leaf))]
 pub(crate) fn step<
     R: Runner,
     F: Fn(&mut R, &mut Held, &Bytes, List<Value>) -> Result<(), RunRefusal>,
@@ -224,6 +225,7 @@ fn if_step<R: Runner, F: Fn(&mut R, &mut Held, &Bytes, List<Value>) -> Result<()
     locals: &mut Locals,
     s: &Stmt,
 ) -> Result<(), RunRefusal>
+    requires if_steps { is_if (view s.now) ≡ true }
     requires callable { F.IsAlwaysCallable call.now }
     requires calls { Calls R.rules R.faults (F.post call.now) (world_of world.now) }
     requires moved { CallsMove R.faults (F.post call.now) }
@@ -231,7 +233,7 @@ fn if_step<R: Runner, F: Fn(&mut R, &mut Held, &Bytes, List<Value>) -> Result<()
     ensures moves { Moves (R.faults r.old) (R.faults r.new) held.old.turns held.new.turns }
 {
     let Stmt::If { arms, otherwise } = s else {
-        return Err(RunRefusal::NoMemory);
+        unreachable!()
     };
     for arm in arms.as_slice() {
         if condition_holds(alloc, r, held, world, locals, &arm.condition)? {

@@ -34,10 +34,7 @@ fn update_each<E: Executor>(
     let mut count = 0u64;
     for row in rows {
         let more = update_row(table, stage, sets, row)?;
-        count = match count.checked_add(more) {
-            Some(count) => count,
-            None => return Err(SqlRefusal::NoMemory),
-        };
+        count += more;
     }
     Ok(count)
 }

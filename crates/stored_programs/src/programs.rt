@@ -1,5 +1,5 @@
 //! Whole bodies of functions and triggers.
-ghost use Rattle.std.specs.Prelude.{◌≡◌, true, IfOk, List, Option};
+ghost use Rattle.std.specs.Prelude.{◌≡◌, true, is_some, IfOk, List, Option};
 ghost use Rattle.std.specs.Option.{option_copied};
 ghost use Rattle.val_types.specs.declared.value.Value.{Value as SqlValue};
 ghost use Rattle.sql_tree.specs.StatementView.{view_program, view_trigger};
@@ -17,7 +17,7 @@ use sharing::Shared;
 use sql_evaluation::{Around, View};
 use sql_locals::{Local, Locals};
 use sql_tree::{Cause, Parameter, Routine, SqlType, Time, TriggerDef};
-use std::alloc::{AllocError, Global};
+use std::alloc::Global;
 use val_types::{
     Bytes, Duplicate, List, NoMemory, Row, SqlError, SqlRefusal, TableDef, Value, key_cmp,
 };
@@ -118,6 +118,7 @@ fn is_same(a: &Row, b: &Row) -> bool
 /// The row that a trigger leaves, None where it is the one that it was given.
 #[tactic(auto, using(crate::proofs::Calling::leaving))]
 fn left(alloc: Global, given: Option<&Row>, left: &Option<View>) -> Result<Option<Row>, NoMemory>
+    requires { is_some left.now ≡ is_some given }
     ensures { IfOk result (λ row. left_of (option_copied given.entry) row ≡ row_of_view (view_in left.now)) }
 {
     match (given, left) {
@@ -129,8 +130,8 @@ fn left(alloc: Global, given: Option<&Row>, left: &Option<View>) -> Result<Optio
                 Ok(Some(view.row.get().duplicate(alloc)?))
             }
         }
-        (None, Some(view)) => Ok(Some(view.row.get().duplicate(alloc)?)),
-        (Some(_), None) => Err(AllocError),
+        (None, Some(_)) => unreachable!(),
+        (Some(_), None) => unreachable!(),
     }
 }
 

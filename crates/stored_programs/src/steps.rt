@@ -107,7 +107,7 @@ pub(crate) fn step<
         }
         Stmt::Return(e) => return_step(alloc, run, around, stage, body, e),
         Stmt::Set(assignments) => set_step(alloc, run, around, stage, body, s, assignments),
-        _ => Err(SqlRefusal::NoMemory),
+        _ => unreachable!(),
     }
 }
 
