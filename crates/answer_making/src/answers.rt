@@ -4,7 +4,7 @@ ghost use Rattle.session_model.specs.Answers.{end_warned, ok, refused, refused_a
 ghost use Rattle.answer_making.specs.Telling.{told_answer};
 
 use answer_text::{Answer, End};
-use prog_run::Outcome;
+use prog_work::Outcome;
 use sharing::Shared;
 use std::alloc::Global;
 use val_types::{Duplicate, List, NoMemory, Row, SqlError};

@@ -26,8 +26,8 @@ pub use answers::{
     ok, refused, refused_at, refused_by, row_count_after, showing, told, with_warning,
 };
 pub use fault::NodeFault;
-pub use prog_run;
-pub use prog_run::{catalog, catalog_create_program, catalog_create_table};
+pub use prog_work;
+pub use prog_work::{catalog, catalog_create_program, catalog_create_table};
 pub use reading::statement_of;
 pub use session_model;
 pub use session_model::session_ctx;

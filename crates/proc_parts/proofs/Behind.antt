@@ -7,7 +7,7 @@ use Rattle.fault_counts.specs.Causes.{Rose}
 use Rattle.sql_tree.specs.Tree.{Trees}
 use Rattle.sql_tree.specs.Statement.{Statement}
 use Rattle.sql_locals.specs.declared.locals.Local.{Local}
-use Rattle.prog_run.specs.declared.meter.Meter.{Meter}
+use Rattle.prog_run.specs.prog_work.declared.meter.Meter.{Meter}
 use Rattle.name_const.specs.proc_model.Talk.{Effect, Talk, Rules, Led}
 use Rattle.name_const.specs.proc_model.Procedures.{Held, Ending, done, failed, Action, ◌>>=◌, unless_failed, answered, let_through, run_closed, evaluate_with, left_at}
 use Rattle.name_const.proofs.of_proc_model.Leading.{led_then}

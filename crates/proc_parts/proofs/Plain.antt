@@ -9,7 +9,7 @@ use Rattle.sql_tree.specs.StatementView.{view}
 use Rattle.sql_tree.specs.declared.statements.Stmt.{Stmt}
 use Rattle.name_const.specs.sql_reach.Closing.{closed}
 use Rattle.name_const.specs.Refusing.{Closes}
-use Rattle.prog_run.specs.declared.meter.Outcome.{Outcome}
+use Rattle.prog_run.specs.prog_work.declared.meter.Outcome.{Outcome}
 use Rattle.name_const.specs.proc_model.Closing.{closing_refusal}
 use Rattle.name_const.specs.proc_model.Procedures.{Held, Action, done, ◌>>=◌, pure, let_through, note, noted, run_closed}
 use Rattle.proc_parts.specs.declared.runner.RunRefusal.{RunRefusal}

@@ -7,8 +7,8 @@ use Rattle.val_types.specs.declared.refusal.SqlRefusal.TheVariants as sql
 use Rattle.fault_counts.specs.Causes.{Rose}
 use Rattle.name_const.specs.catalog_objects.Keys.{objects_of}
 use Rattle.prog_run.specs.sql_evaluation.Seen.{running_of}
-use Rattle.prog_run.specs.declared.meter.Meter.{Meter}
-use Rattle.prog_run.specs.declared.meter.Outcome.{Outcome}
+use Rattle.prog_run.specs.prog_work.declared.meter.Meter.{Meter}
+use Rattle.prog_run.specs.prog_work.declared.meter.Outcome.{Outcome}
 use Rattle.name_const.specs.proc_model.Talk.{Left, Refusal, Effect, Told, Talk, Rules, Led}
 use Rattle.name_const.specs.proc_model.Procedures.{Held, Ending, done, failed, World, call_at}
 use Rattle.sql_tree.specs.Statement.{Statement, evaluate}

@@ -19,7 +19,7 @@ use Rattle.statement_names.specs.sql_meaning.Scenes.{Scene, Ending, done, failed
 use Rattle.statement_names.specs.sql_meaning.Frames.{Setting, World, Frame, only_locals}
 use Rattle.statement_names.specs.sql_meaning.Values.{values, rows_of_query}
 use Rattle.statement_names.specs.sql_meaning.Changing.{put_at, asked_place, asks, none_missing, before_row, after_row, delete_row, update_row, Inserting, nothing_inserted, Manner, refusing, ignoring, replacing, updating, generated_next, Counted, type_at, generate_at, given_value, count_row, put_row, clear_way, passed_by, updating_frame, settle, place_row, left_out_row, insert_row, insert_supply, insert_into_table, chosen_rows, Did, did_insert, affected_rows}
-use Rattle.prog_run.specs.Together.{Counts}
+use Rattle.prog_run.specs.Runs.{Counts}
 use Rattle.statement_names.specs.sql_meaning.Running.{manner_of, rows_shown, perform, world_of, forced_for, uses_forced, effect}
 
 -- what an action gives, where it gives something

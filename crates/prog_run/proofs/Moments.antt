@@ -9,8 +9,8 @@ use Rattle.port_traits.specs.declared.identity.Draw.{Draw}
 use Rattle.sql_tree.specs.Tree.{Trees}
 use Rattle.sql_tree.specs.Statement.{Statement, evaluate}
 use Rattle.sql_locals.specs.declared.locals.Local.{Local}
-use Rattle.catalog.specs.catalog_objects.declared.object.Object.{Object}
-use Rattle.catalog.specs.catalog_objects.Keys.{objects_of}
+use Rattle.prog_work.specs.catalog_objects.declared.object.Object.{Object}
+use Rattle.prog_work.specs.catalog_objects.Keys.{objects_of}
 use Rattle.statement_names.specs.sql_meaning.Scenes.{Scene, Ending, done, failed}
 use Rattle.statement_names.specs.sql_meaning.Frames.{Context, Setting}
 use Rattle.statement_names.specs.sql_meaning.Changing.{Did}
@@ -20,10 +20,11 @@ use Rattle.exec_state.specs.Stage.{scene_of, LeadsOn}
 use Rattle.exec_state.proofs.Leading.{rows_led, counters_led, names_led}
 use Rattle.stage_undo.specs.Back.{IsBack}
 use Rattle.statement_names.specs.sql_reach.Defining.{number_of_bytes}
-use Rattle.prog_run.specs.declared.meter.Meter.{Meter}
-use Rattle.prog_run.specs.declared.meter.Outcome.{Outcome}
-use Rattle.prog_run.specs.Runs.{moment, scene_at, setting_at, Runs, Evaluated, LeavesAll, contents_of, Comes, Gives}
-use Rattle.prog_run.specs.Together.{AreTogether}
+use Rattle.prog_work.specs.declared.meter.Meter.{Meter}
+use Rattle.prog_work.specs.declared.meter.Outcome.{Outcome}
+use Rattle.prog_work.specs.Contents.{contents_of}
+use Rattle.prog_run.specs.Runs.{moment, scene_at, setting_at, Runs, Evaluated, LeavesAll, Comes, Gives}
+use Rattle.prog_work.specs.Together.{AreTogether}
 
 -- what holds stays where a stage leads on
 pub together_on : (objects : List Object) (a b : Stage) → AreTogether objects a.tables a.undo a.counters → LeadsOn a b → AreTogether objects b.tables b.undo b.counters

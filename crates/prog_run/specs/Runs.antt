@@ -1,5 +1,5 @@
 -- How a statement that a session or an applier runs ends.
-use Rattle.std.specs.Prelude.{◌≡◌, ◌≤◌, ℕ, List, [], Option, Some, None, Result, Ok, Err, ℤ}
+use Rattle.std.specs.Prelude.{◌≡◌, ℕ, List, [], Option, None, Result, Ok, Err, ℤ, pos, int_le, IfSome, IsTrue}
 use Rattle.val_types.specs.declared.value.Value.{Value}
 use Rattle.val_types.specs.declared.refusal.SqlRefusal.{SqlRefusal}
 use Rattle.val_types.specs.declared.refusal.SqlRefusal.TheVariants.{Sql, NoMemory}
@@ -7,20 +7,18 @@ use Rattle.port_traits.specs.declared.identity.Draw.{Draw}
 use Rattle.sql_tree.specs.Tree.{Trees}
 use Rattle.sql_tree.specs.Statement.{Statement, evaluate}
 use Rattle.sql_locals.specs.declared.locals.Local.{Local}
-use Rattle.statement_names.specs.catalog_rules.Bases.{defined}
-use Rattle.statement_names.specs.catalog_rules.Creating.{ddl_refusal}
-use Rattle.catalog.specs.catalog_objects.declared.object.Object.{Object}
-use Rattle.catalog.specs.catalog_objects.Keys.{objects_of}
+use Rattle.prog_work.specs.catalog_objects.Keys.{objects_of}
 use Rattle.statement_names.specs.sql_meaning.Scenes.{Scene, Ending, done, failed}
 use Rattle.statement_names.specs.sql_meaning.Frames.{Context, Setting}
 use Rattle.statement_names.specs.sql_meaning.Changing.{Did}
 use Rattle.statement_names.specs.sql_meaning.Running.{effect, evaluation, context_after}
 use Rattle.exec_state.specs.declared.stage.Stage.{Stage}
 use Rattle.exec_state.specs.Stage.{NoneLower, scene_of}
-use Rattle.statement_names.specs.sql_reach.Defining.{counters_after, number_of_bytes}
-use Rattle.prog_run.specs.declared.meter.Meter.{Meter}
-use Rattle.prog_run.specs.declared.meter.Outcome.{Outcome}
-use Rattle.prog_run.specs.Contents.{Contents, base_of}
+use Rattle.statement_names.specs.sql_reach.Defining.{number_of_bytes}
+use Rattle.prog_work.specs.declared.meter.Meter.{Meter}
+use Rattle.prog_work.specs.declared.meter.Outcome.{Outcome}
+use Rattle.prog_work.specs.Contents.{Contents}
+use Rattle.prog_work.specs.Outcomes.{outcome_of}
 
 -- Where a statement begins or ends: what is worked on, the context of its session, and what is left to its command.
 pub record Moment : Type 0 where
@@ -53,12 +51,9 @@ effect_at draw s m = effect (setting_at draw m) m.meter.depth [] s (scene_at m)
 abbrev pub evaluation_at : Draw → List Local → Trees → Moment → Ending (List Value)
 evaluation_at draw locals ts m = evaluation (setting_at draw m) m.meter.depth locals ts (scene_at m)
 
--- what a caller is told of what a statement came to
-abbrev pub outcome_of : Did → Outcome
-outcome_of did = record { affected = did.affected; rows = did.shown; first = did.first }
-
-abbrev pub outcome_of_none : Outcome
-outcome_of_none = record { affected = 0; rows = None; first = None }
+-- a value that is there is not below 0
+abbrev pub Counts : Option ℤ → Type 0
+Counts v = IfSome v (λ id. IsTrue (int_le (pos 0) id))
 
 -- ---- changes, SELECT and DO
 
@@ -88,10 +83,6 @@ Evaluated draw locals ts (Err NoMemory) before after = Unit {0}
 
 -- ---- the same on a stage
 
--- what is worked on: a stage under a catalog
-abbrev pub contents_of : List Object → Stage → Contents
-contents_of objects stage = record { objects = objects; tables = stage.tables.tables; changes = stage.undo; counters = stage.counters }
-
 -- what a statement came to, with the stage and the context behind it
 pub record Came (setting : Setting) (nesting : ℕ) (s : Statement) (told : Outcome) (before after : Stage) (later : Context) : Type 0 where
   pub did : Did
@@ -115,28 +106,3 @@ pub record LeavesAll (before after : Contents) : Type 0 where
   pub tables : after.tables ≡ before.tables
   pub changes : after.changes ≡ before.changes
   pub counters : NoneLower before.counters after.counters
-
--- as many programs may run one inside the other as before, and no turn came back
-pub record Spends (before after : Meter) : Type 0 where
-  pub depth : after.depth ≡ before.depth
-  pub turns : after.turns ≤ before.turns
-
--- ---- CREATE, DROP and TRUNCATE
-
--- what refuses a definition: the first of the catalog's checks that is not met
-abbrev pub definition_refusal : Statement → Contents → Option ℕ
-definition_refusal s c = ddl_refusal (objects_of c.objects) s
-
--- a definition made: the base behind it, and its counters
-pub record Makes (s : Statement) (told : Outcome) (before after : Contents) : Type 0 where
-  pub allowed : definition_refusal s before ≡ None
-  pub base : defined s (base_of before) ≡ Some (base_of after)
-  pub counters : after.counters ≡ counters_after s before.counters
-  pub changes : after.changes ≡ before.changes
-  pub outcome : told ≡ outcome_of_none
-
--- it is made, or refused, which changes nothing, as wanting memory does
-abbrev pub Defines : Statement → Result Outcome SqlRefusal → Contents → Contents → Type 0
-Defines s (Ok told) before after = Makes s told before after
-Defines s (Err (Sql code)) before after = (definition_refusal s before ≡ Some code) × (after ≡ before)
-Defines s (Err NoMemory) before after = after ≡ before

@@ -1,13 +1,13 @@
 //! What a statement sees of the context, and what it leaves there.
 ghost use Rattle.std.specs.Prelude.{◌≡◌, None, IfSome};
 ghost use Rattle.sql_tree.specs.StatementView.{view};
-ghost use Rattle.catalog.specs.catalog_objects.Keys.{objects_of};
+ghost use Rattle.prog_work.specs.catalog_objects.Keys.{objects_of};
 ghost use Rattle.statement_names.specs.sql_meaning.Running.{context_after, forced_for, uses_forced};
 ghost use Rattle.stored_programs.specs.sql_evaluation.Seen.{setting_of};
-ghost use Rattle.prog_run.specs.Together.{Counts};
+ghost use Rattle.prog_run.specs.Runs.{Counts};
 
-use catalog::catalog_objects::Objects;
 use exec_state::Running;
+use prog_work::catalog_objects::Objects;
 use session_ctx::Ctx;
 use sql_locals::Locals;
 use sql_tree::Stmt;

@@ -3,15 +3,15 @@ ghost use Rattle.std.specs.Prelude.{◌≡◌, [], true, false, OnErr};
 ghost use Rattle.sql_tree.specs.View.{view_trees};
 ghost use Rattle.sql_tree.specs.StatementView.{view};
 ghost use Rattle.statement_names.specs.sql_reach.Reach.{is_definition};
-ghost use Rattle.prog_run.specs.Runs.{Defines, Evaluated, LeavesAll, Runs, Spends, moment};
+ghost use Rattle.prog_work.specs.Defining.{Defines};
+ghost use Rattle.prog_work.specs.Outcomes.{Spends};
+ghost use Rattle.prog_run.specs.Runs.{Evaluated, LeavesAll, Runs, moment};
 
-use crate::defining::{define, is_definition};
-use crate::meter::{Meter, Outcome};
 use crate::number::number_of_bytes;
 use crate::staged::{evaluate_on, run_on};
-use crate::work::Work;
 use exec_state::Stage;
 use port_traits::Draw;
+use prog_work::{Meter, Outcome, Work, is_definition};
 use session_ctx::Ctx;
 use sql_locals::Locals;
 use sql_tree::{Expr, Stmt};
@@ -51,17 +51,19 @@ fn run_plain(
 {
     let uuid = number_of_bytes(&draw.uuid);
     let depth = meter.depth;
-    begin(&mut work.stage, context, meter);
+    let mut apart = work.take_apart();
+    begin(&mut apart.stage, context, meter);
     let result = run_on(
         alloc,
-        work.catalog.objects(),
-        &mut work.stage,
+        apart.catalog.objects(),
+        &mut apart.stage,
         statement,
         context,
         uuid,
         depth,
     );
-    end(&work.stage, meter);
+    end(&apart.stage, meter);
+    work.put_together(apart);
     result
 }
 
@@ -82,7 +84,7 @@ pub fn run_stmt(
     ensures spends { Spends meter.old meter.new }
 {
     if is_definition(statement) {
-        define(alloc, work, statement)
+        work.define(statement)
     } else {
         run_plain(alloc, work, statement, context, draw, meter)
     }
@@ -106,17 +108,19 @@ pub fn eval_list(
 {
     let uuid = number_of_bytes(&draw.uuid);
     let depth = meter.depth;
-    begin(&mut work.stage, context, meter);
+    let mut apart = work.take_apart();
+    begin(&mut apart.stage, context, meter);
     let result = evaluate_on(
         alloc,
-        work.catalog.objects(),
-        &mut work.stage,
+        apart.catalog.objects(),
+        &mut apart.stage,
         expressions,
         locals,
         context,
         uuid,
         depth,
     );
-    end(&work.stage, meter);
+    end(&apart.stage, meter);
+    work.put_together(apart);
     result
 }

@@ -2,7 +2,7 @@
 ghost use Rattle.std.specs.Prelude.{[], OnErr};
 ghost use Rattle.sql_tree.specs.View.{view_trees};
 ghost use Rattle.sql_tree.specs.StatementView.{view};
-ghost use Rattle.catalog.specs.catalog_objects.Keys.{objects_of};
+ghost use Rattle.prog_work.specs.catalog_objects.Keys.{objects_of};
 ghost use Rattle.statement_names.specs.sql_meaning.Running.{effect, evaluation};
 ghost use Rattle.exec_state.specs.Stage.{EndsAs, EndsAsBy, LeadsOn, scene_of};
 ghost use Rattle.stored_programs.specs.sql_statements.Did.{did_of};
@@ -10,11 +10,11 @@ ghost use Rattle.stage_undo.specs.Back.{IsBack};
 ghost use Rattle.prog_run.specs.Runs.{Comes, Gives};
 
 use crate::context::{around, forced_for, settle};
-use crate::meter::Outcome;
 use crate::under_way::{expressions_alone, nothing, tables_alone};
 use crate::undoing::{undo_failed, undo_unknown};
-use catalog::catalog_objects::Objects;
 use exec_state::Stage;
+use prog_work::Outcome;
+use prog_work::catalog_objects::Objects;
 use session_ctx::Ctx;
 use sql_locals::Locals;
 use sql_tree::{Expr, Stmt};

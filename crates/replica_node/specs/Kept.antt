@@ -1,7 +1,7 @@
 -- What a replica node is, as its contracts see it.
 use Rattle.std.specs.Prelude.{ℕ}
 use Rattle.port_traits.specs.declared.identity.Identity.{Identity}
-use Rattle.prog_run.specs.Contents.{Contents, base_of}
+use Rattle.prog_run.specs.prog_work.Contents.{Contents, base_of}
 use Rattle.relay_log.specs.Reaching.{Fetched}
 use Rattle.replica_model.specs.Replica.{Replica}
 

@@ -1,7 +1,7 @@
 //! Groups carried out, one after the other.
 ghost use Rattle.std.specs.Prelude.{◌≡◌, ◌-◌, ℕ, [], length, IfOk, OnErr};
 ghost use Rattle.log_groups.specs.Views.{group_seen};
-ghost use Rattle.prog_run.specs.Contents.{base_of};
+ghost use Rattle.prog_run.specs.prog_work.Contents.{base_of};
 ghost use Rattle.relay_log.specs.apply_model.Groups.{group_carried};
 ghost use Rattle.replica_model.specs.Applying.{Going as Under, apply, by_next, next_at};
 ghost use Rattle.replica_node.specs.Kept.{replica_of};

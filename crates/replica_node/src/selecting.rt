@@ -1,7 +1,7 @@
 //! A text of a reader: a SELECT, in a session of its own that has no number.
 ghost use Rattle.std.specs.Prelude.{◌≡◌, ◌≤◌, ◌^◌, [], false, length, IfOk};
 ghost use Rattle.sql_tree.specs.StatementView.{view};
-ghost use Rattle.prog_run.specs.Contents.{base_of};
+ghost use Rattle.prog_run.specs.prog_work.Contents.{base_of};
 ghost use Rattle.unsafe_rules.specs.sql_reach.Reach.{is_definition};
 ghost use Rattle.row_apply.specs.Ends.{Stays};
 ghost use Rattle.replica_model.specs.Selecting.{select_answer, select_checked, select_run};

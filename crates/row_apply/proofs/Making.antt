@@ -1,7 +1,7 @@
 -- A change of a transaction under way, made or refused.
 use Rattle.std.proofs.Common.{◌≡◌, ℕ, List, [], ◌∷◌, ◌++◌, Bool, true, false, Option, Some, None, Result, Ok, Err, refl, sym, ap, ◌∙◌}
-use Rattle.std.specs.Prelude.{is_ok, unwrap_or, if◌then◌else◌}
-use Rattle.std.specs.Option.{option_map_or}
+use Rattle.std.specs.Prelude.{IsSome, is_ok, unwrap_or, if◌then◌else◌}
+use Rattle.std.specs.Option.{option_and_then, option_map_or}
 use Rattle.val_types.specs.declared.value.Value.{Value}
 use Rattle.val_types.specs.declared.change.Change.{Change}
 use Rattle.val_types.specs.declared.change.Change.TheVariants.{Insert, Update, Delete}
@@ -10,10 +10,10 @@ use Rattle.val_types.specs.Keys.{primary_key}
 use Rattle.auto_inc.specs.declared.counters.Counter.{Counter}
 use Rattle.table_rules.specs.Tables.{Table}
 use Rattle.table_rules.specs.Changes.{applied, AreKept}
-use Rattle.table_rules.specs.Stored.{table_named, row_at, fits_table, insertion, replacement, deletion, carried_out, key_taken, Obstacle}
+use Rattle.table_rules.specs.Stored.{table_named, row_at, row_of_key, rows_beside, key_in_way, fits_table, insertion, insertion_in, replacement, replacement_in, deletion, carried_out, key_taken, row_absent, unless_taken, where_found, Obstacle}
 use Rattle.table_rules.proofs.Equations.{deletion_by_row}
-use Rattle.prog_run.specs.dml_rows.Noted.{changes_of}
-use Rattle.prog_run.proofs.of_dml_rows.Noting.{carried, inserted, replaced}
+use Rattle.prog_work.specs.dml_rows.Noted.{changes_of}
+use Rattle.prog_work.proofs.of_dml_rows.Noting.{carried, inserted, replaced}
 use Rattle.event_codec.specs.Event.{Map}
 use Rattle.apply_model.specs.Stops.{Differs}
 use Rattle.apply_model.specs.Rows.{Refusal, Store, change_if, change_refusal, counters_moved, matches, storing_refusal, table_refusal}
@@ -34,6 +34,13 @@ there m c (Some t) e = (t, refl)
 -- a change that its table takes has a table
 pub table_there : (m : Map) (c : Change) (ts : List Table) → table_code m ts c ≡ None → (t : Table) × (table_named (table_of c) ts ≡ Some t)
 table_there m c ts e = there m c (table_named (table_of c) ts) e
+
+takes_by : (m : Map) (c : Change) (o : Option Table) → option_map_or (λ (t : Table). code_in m c t.definition) o (Some 1146) ≡ None → IsSome o
+takes_by m c None e = cc
+takes_by m c (Some t) e = refl
+
+pub takes_there : (m : Map) (c : Change) (ts : List Table) → table_code m ts c ≡ None → IsSome (table_named (table_of c) ts)
+takes_there m c ts e = takes_by m c (table_named (table_of c) ts) e
 
 taken_when : (b : Bool) (x : Option Refusal) → (if b then no_code else Some 30010) ≡ None → (if b then x else Some (30010, [])) ≡ x
 taken_when true x e = refl
@@ -110,6 +117,47 @@ rows_refuse place m c p code row key t is takes own e =
 
 not_ok : (step : Result Change Obstacle) (which : ℕ) → step ≡ Err (key_taken which) → is_ok step ≡ false
 not_ok step which e = ap is_ok e
+
+-- ---- what is there is not absent
+
+not_absent : (o : Option ℕ) (c : Change) → unless_taken o c ≡ Err row_absent → ⊥
+not_absent None c e = cc
+not_absent (Some which) c e = cc
+
+-- a row is put into a table that is there
+pub insertion_there : (name : List ℕ) (row : List Value) (ts : List Table) → IsSome (table_named name ts) → insertion name row ts ≡ Err row_absent → ⊥
+unfolding insertion
+insertion_there name row ts there absent = by_name (table_named name ts) there absent
+  where
+    by_name : (o : Option Table) → IsSome o → where_found o (insertion_in name row) ≡ Err row_absent → ⊥
+    by_name None is e = cc
+    by_name (Some t) is e = not_absent (key_in_way t.definition row t.rows) (Insert name row) e
+
+-- a row that is there is replaced
+pub replacement_there : (name : List ℕ) (key row : List Value) (ts : List Table) → IsSome (row_at name key ts) → replacement name key row ts ≡ Err row_absent → ⊥
+unfolding replacement
+replacement_there name key row ts there absent = by_name (table_named name ts) there absent
+  where
+    by_row : (t : Table) (o : Option (List Value)) → IsSome o
+        → where_found o (λ before. unless_taken (key_in_way t.definition row (rows_beside t.definition key t.rows)) (Update name before row)) ≡ Err row_absent → ⊥
+    by_row t None is e = cc
+    by_row t (Some before) is e = not_absent (key_in_way t.definition row (rows_beside t.definition key t.rows)) (Update name before row) e
+
+    by_name : (o : Option Table) → IsSome (option_and_then (λ (t : Table). row_of_key t.definition key t.rows) o) → where_found o (replacement_in name key row) ≡ Err row_absent → ⊥
+    by_name None is e = cc
+    by_name (Some t) is e = by_row t (row_of_key t.definition key t.rows) is e
+
+-- a row that is there is taken out
+pub deletion_there : (name : List ℕ) (key row : List Value) (ts : List Table) (obstacle : Obstacle) → row_at name key ts ≡ Some row → deletion name key ts ≡ Err obstacle → ⊥
+deletion_there name key row ts obstacle at in_way =
+    let made : deletion name key ts ≡ Ok (Delete name row) = deletion_by_row name key ts (Some row) at in cc
+
+row_is_there : (o : Option (List Value)) (row : List Value) → is_row o row ≡ true → IsSome o
+row_is_there None row e = cc
+row_is_there (Some found) row e = refl
+
+pub row_there : (name : List ℕ) (key row : List Value) (ts : List Table) → is_row (row_at name key ts) row ≡ true → IsSome (row_at name key ts)
+row_there name key row ts e = row_is_there (row_at name key ts) row e
 
 -- ---- a row put in
 

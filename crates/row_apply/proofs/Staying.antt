@@ -2,8 +2,8 @@
 use Rattle.std.proofs.Common.{◌≡◌, List, refl, ap, ◌∙◌}
 use Rattle.auto_inc.specs.declared.counters.Counter.{Counter}
 use Rattle.auto_inc.specs.Counting.{tables_of}
-use Rattle.prog_run.specs.Contents.{Contents, committed_tables}
-use Rattle.prog_run.specs.Carrying.{ChangesRows}
+use Rattle.prog_work.specs.Contents.{Contents, committed_tables}
+use Rattle.prog_work.specs.Carrying.{ChangesRows}
 use Rattle.row_apply.specs.Ends.{Stays}
 
 pub stays_same : (c : Contents) → Stays c c

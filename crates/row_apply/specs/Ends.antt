@@ -3,7 +3,7 @@ use Rattle.std.specs.Prelude.{◌≡◌, Result, Ok, Err}
 use Rattle.auto_inc.specs.Counting.{tables_of}
 use Rattle.apply_model.specs.Stops.{Differs}
 use Rattle.apply_model.specs.Texts.{Progress}
-use Rattle.prog_run.specs.Contents.{Contents, committed_tables}
+use Rattle.prog_work.specs.Contents.{Contents, committed_tables}
 use Rattle.row_apply.specs.declared.stop.Stop.{Stop}
 use Rattle.row_apply.specs.declared.stop.Stop.TheVariants as stop
 

@@ -1,10 +1,10 @@
 //! One change of a row, made to the tables as it is.
-ghost use Rattle.std.specs.Prelude.{◌≡◌, List as Items, None, Some};
+ghost use Rattle.std.specs.Prelude.{◌≡◌, List as Items, None, Some, IsSome};
 ghost use Rattle.val_types.specs.declared.change.Change.TheVariants.{Delete, Insert, Update};
 ghost use Rattle.val_types.specs.declared.value.Value.{Value as Content};
 ghost use Rattle.val_types.specs.Changes.{table_of};
 ghost use Rattle.auto_inc.specs.Counting.{tables_of};
-ghost use Rattle.table_rules.specs.Stored.{row_at};
+ghost use Rattle.table_rules.specs.Stored.{row_at, table_named};
 ghost use Rattle.event_codec.specs.Event.{map_of, Map};
 ghost use Rattle.row_apply.specs.Changes.{change_carried, raised_to, table_code};
 ghost use Rattle.row_apply.specs.Ends.{Ends, Stays, progress_in};
@@ -13,7 +13,7 @@ ghost use Rattle.row_apply.specs.declared.stop.Stop.TheVariants.{Differs};
 use crate::stop::Stop;
 use crate::table::{auto_value, is_there, key_in, table_refusal};
 use event_codec::MapView;
-use prog_run::Work;
+use prog_work::Work;
 use row_store::RowRefusal;
 use std::alloc::Global;
 use val_types::{Bytes, Change, Row, SqlError};
@@ -60,6 +60,7 @@ fn raise(work: &mut Work, table: &Bytes, value: Option<i64>)
 /// A row put into a table that takes it, with the counter that it raises: 1062.
 #[tactic(auto, using(crate::proofs::Staying::staying))]
 fn insert(alloc: Global, work: &mut Work, pos: u64, table: Bytes, row: Row) -> Result<(), Stop>
+    requires { IsSome (table_named table work.old.tables) }
     ensures ends { (m : Map) → table_code m work.old.tables (Insert table row) ≡ None → Ends result (progress_in work.new) (change_carried pos m (Insert table row) (progress_in work.old)) }
     ensures rest { Stays work.old work.new }
 {
@@ -74,7 +75,7 @@ fn insert(alloc: Global, work: &mut Work, pos: u64, table: Bytes, row: Row) -> R
             Ok(())
         }
         Err(RowRefusal::Taken { .. }) => Err(differs(pos, KEY_TAKEN, table, key)),
-        Err(RowRefusal::Absent) => Err(Stop::NoMemory),
+        Err(RowRefusal::Absent) => unreachable!(),
         Err(RowRefusal::NoMemory) => Err(Stop::NoMemory),
     }
 }
@@ -89,6 +90,7 @@ fn replace(
     key: Row,
     after: Row,
 ) -> Result<(), Stop>
+    requires { IsSome (row_at table key work.old.tables) }
     ensures ends { (m : Map) → (before : Items Content) → table_code m work.old.tables (Update table before after) ≡ None → row_at table key work.old.tables ≡ Some before
         → Ends result (progress_in work.new) (change_carried pos m (Update table before after) (progress_in work.old)) }
     ensures rest { Stays work.old work.new }
@@ -101,7 +103,7 @@ fn replace(
     match work.update_row(&table, &key, after) {
         Ok(()) => Ok(()),
         Err(RowRefusal::Taken { .. }) => Err(differs(pos, KEY_TAKEN, table, put)),
-        Err(RowRefusal::Absent) => Err(Stop::NoMemory),
+        Err(RowRefusal::Absent) => unreachable!(),
         Err(RowRefusal::NoMemory) => Err(Stop::NoMemory),
     }
 }
@@ -140,12 +142,15 @@ fn delete(alloc: Global, work: &mut Work, pos: u64, table: Bytes, row: Row) -> R
     }
     match work.delete_row(&table, &key) {
         Ok(()) => Ok(()),
-        Err(_) => Err(Stop::NoMemory),
+        Err(RowRefusal::NoMemory) => Err(Stop::NoMemory),
+        Err(RowRefusal::Absent) => unreachable!(),
+        Err(RowRefusal::Taken { .. }) => unreachable!(),
     }
 }
 
-/// A change that its table takes.
+/// A change that its table takes, which is there.
 fn make(alloc: Global, work: &mut Work, pos: u64, change: Change) -> Result<(), Stop>
+    requires { IsSome (table_named (table_of change) work.old.tables) }
     ensures ends { (m : Map) → table_code m work.old.tables change ≡ None → Ends result (progress_in work.new) (change_carried pos m change (progress_in work.old)) }
     ensures rest { Stays work.old work.new }
 {

@@ -1,6 +1,6 @@
 //! What an applier does with one change of a row.
 //!
-//! [`carry_change`] carries out a change as a log has it on the rows and the counters of a [`Work`](prog_run::Work): its row is
+//! [`carry_change`] carries out a change as a log has it on the rows and the counters of a [`Work`](prog_work::Work): its row is
 //! put as it is, with no trigger, or what is there differs from what the change says, and it stops. `stmt_apply` stands on it,
 //! which carries out whole groups; the definition is `apply_model`'s.
 //!
@@ -28,5 +28,5 @@ mod table;
 
 // What is its own, and the crates below that it speaks of, passed on: who stands above names them through it.
 pub use changing::carry_change;
-pub use prog_run;
+pub use prog_work;
 pub use stop::{Stop, stop_at};

@@ -15,7 +15,7 @@ use Rattle.apply_laws.specs.Following.{CanFollow}
 use Rattle.apply_laws.specs.Laws.{EntryIsCarried}
 use Rattle.apply_model.specs.Groups.{Applied, group_carried}
 use Rattle.apply_model.specs.Stops.{Differs}
-use Rattle.row_apply.specs.prog_run.Contents.{Contents, base_of}
+use Rattle.row_apply.specs.prog_work.Contents.{Contents, base_of}
 use Rattle.row_apply.specs.Ends.{Ends}
 use Rattle.row_apply.specs.declared.stop.Stop.{Stop}
 use Rattle.row_apply.specs.declared.stop.Stop.TheVariants as stop

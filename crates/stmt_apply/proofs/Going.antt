@@ -21,7 +21,7 @@ use Rattle.apply_laws.specs.row_events.Sizes.{bounded}
 use Rattle.apply_laws.specs.binlog_sizes.Sizes.{changes_size}
 use Rattle.apply_model.specs.Texts.{Applier, Needs, Progress, carried_of, carry_text, no_needs, stops_at}
 use Rattle.apply_model.specs.Groups.{Applied, Going, and_then, applied_by, carry_changes, carry_rows, event_carried, first_place, going_from, is_too_large, item_ended, items_carried, rows_ended, store_of, text_ended, with_bytes, with_needs, with_store}
-use Rattle.row_apply.specs.prog_run.Contents.{Contents, base_of}
+use Rattle.row_apply.specs.prog_work.Contents.{Contents, base_of}
 use Rattle.row_apply.specs.Changes.{change_carried}
 use Rattle.row_apply.specs.Ends.{Ends, progress_in}
 use Rattle.row_apply.specs.declared.stop.Stop.{Stop}

@@ -13,10 +13,10 @@ use Rattle.apply_laws.specs.sql_meaning.Leading.{EndsWell, Leads}
 use Rattle.apply_laws.proofs.of_sql_meaning.LedBodies.{statements_end}
 use Rattle.apply_laws.specs.sql_reach.Reach.{is_definition}
 use Rattle.apply_model.specs.Texts.{Applier, Progress, allowed, checked, ended_as, may_stand, run_in}
-use Rattle.row_apply.specs.prog_run.declared.meter.Meter.{Meter}
-use Rattle.row_apply.specs.prog_run.declared.meter.Outcome.{Outcome}
-use Rattle.row_apply.specs.prog_run.Contents.{Contents}
-use Rattle.row_apply.specs.prog_run.Runs.{Runs, moment, scene_at, setting_at}
+use Rattle.row_apply.specs.prog_work.declared.meter.Meter.{Meter}
+use Rattle.row_apply.specs.prog_work.declared.meter.Outcome.{Outcome}
+use Rattle.row_apply.specs.prog_work.Contents.{Contents}
+use Rattle.prog_run.specs.Runs.{Runs, moment, scene_at, setting_at}
 use Rattle.row_apply.specs.Ends.{progress_in}
 use Rattle.stmt_apply.specs.Applying.{Adds, applier_in, full_meter}
 use Rattle.stmt_apply.specs.Ending.{EndsBy, IsRefusal}

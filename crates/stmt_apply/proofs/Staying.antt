@@ -18,11 +18,11 @@ use Rattle.row_apply.specs.catalog_objects.Keys.{objects_of}
 use Rattle.apply_laws.specs.sql_meaning.Frames.{Context}
 use Rattle.apply_laws.specs.sql_meaning.Leading.{EndsWell, Leads}
 use Rattle.apply_laws.proofs.of_sql_meaning.LedBodies.{statements_end}
-use Rattle.row_apply.specs.prog_run.declared.meter.Meter.{Meter}
-use Rattle.row_apply.specs.prog_run.declared.meter.Outcome.{Outcome}
-use Rattle.row_apply.specs.prog_run.Contents.{Contents, IsTogether, committed_tables, counted_names, without_changes}
-use Rattle.row_apply.specs.prog_run.Carrying.{given_up}
-use Rattle.row_apply.specs.prog_run.Runs.{LeavesAll, Runs, moment, scene_at, setting_at}
+use Rattle.row_apply.specs.prog_work.declared.meter.Meter.{Meter}
+use Rattle.row_apply.specs.prog_work.declared.meter.Outcome.{Outcome}
+use Rattle.row_apply.specs.prog_work.Contents.{Contents, IsTogether, committed_tables, counted_names, without_changes}
+use Rattle.row_apply.specs.prog_work.Carrying.{given_up}
+use Rattle.prog_run.specs.Runs.{LeavesAll, Runs, moment, scene_at, setting_at}
 use Rattle.row_apply.specs.Ends.{Stays}
 
 -- ---- a statement was run

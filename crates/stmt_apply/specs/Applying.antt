@@ -5,8 +5,8 @@ use Rattle.port_traits.specs.declared.identity.Draw.{Draw}
 use Rattle.apply_laws.specs.sql_meaning.Running.{most_nested, most_turns}
 use Rattle.apply_model.specs.Texts.{Applier}
 use Rattle.apply_model.specs.Groups.{Applied, applier_of}
-use Rattle.row_apply.specs.prog_run.declared.meter.Meter.{Meter}
-use Rattle.row_apply.specs.prog_run.Contents.{Contents, base_of}
+use Rattle.row_apply.specs.prog_work.declared.meter.Meter.{Meter}
+use Rattle.row_apply.specs.prog_work.Contents.{Contents, base_of}
 
 -- who applies: a replica with a draw, and the catalog that is there
 abbrev pub applier_in : Identity → Draw → Contents → Applier

@@ -4,5 +4,5 @@ pub mod Following
 pub mod Needing
 pub mod UnderWay
 -- the crates below that this one speaks of, passed on
-pub use Rattle.row_apply.specs.prog_run as prog_run
+pub use Rattle.prog_run.specs as prog_run
 pub use Rattle.row_apply.specs as row_apply

@@ -7,7 +7,7 @@ use Rattle.apply_laws.specs.binlog_sizes.Sizes.{changes_size}
 use Rattle.apply_model.specs.Stops.{Differs}
 use Rattle.apply_model.specs.Texts.{Applier, carried_of, carry_text, stops_at}
 use Rattle.apply_model.specs.Groups.{Going, Applied, and_then, applied_by, going_from, items_carried, store_of, text_ended}
-use Rattle.row_apply.specs.prog_run.Contents.{Contents, base_of}
+use Rattle.row_apply.specs.prog_work.Contents.{Contents, base_of}
 use Rattle.row_apply.specs.Ends.{progress_in}
 use Rattle.row_apply.specs.declared.stop.Stop.{Stop}
 use Rattle.row_apply.specs.declared.stop.Stop.TheVariants as stop

@@ -10,7 +10,7 @@ ghost use Rattle.answer_making.specs.session_model.Machine.{Whole, kept_entry};
 ghost use Rattle.answer_making.specs.session_model.Holding.{changes_of, define};
 ghost use Rattle.apply_laws.specs.Following.{CanFollow};
 ghost use Rattle.apply_model.specs.Groups.{group_carried};
-ghost use Rattle.row_apply.specs.prog_run.Contents.{base_of};
+ghost use Rattle.row_apply.specs.prog_work.Contents.{base_of};
 ghost use Rattle.row_apply.specs.Ends.{Ends};
 ghost use Rattle.stmt_apply.specs.Applying.{applied_in};
 ghost use Rattle.stmt_apply.specs.Following.{Leaves};
@@ -20,8 +20,8 @@ use crate::transaction::apply_transaction;
 use apply_laws::entry_is_carried;
 use log_groups::{Form, Group};
 use port_traits::{Draw, Identity};
+use prog_run::Work;
 use row_apply::Stop;
-use row_apply::prog_run::Work;
 use std::alloc::Global;
 
 /// A group, by its form.

@@ -1,6 +1,6 @@
 //! What an applier does with a group of a log.
 //!
-//! [`apply_group`] carries out a group on the rows and the catalog of a [`Work`](row_apply::prog_run::Work): a transaction, whose rows are
+//! [`apply_group`] carries out a group on the rows and the catalog of a [`Work`](prog_run::Work): a transaction, whose rows are
 //! put as they are, with no trigger, and whose texts are run with what they carry, or a CREATE, DROP or TRUNCATE. It does all of
 //! it or nothing. A replica stands on it, which reads groups by `log_groups` and commits them; the definition is
 //! `apply_model`'s. One change of a row, and [`Stop`](row_apply::Stop), why a group is not carried out, stand in `row_apply`.
@@ -39,6 +39,6 @@ mod under_way;
 pub use answer_making;
 pub use answer_making::sql_parse;
 pub use group::apply_group;
+pub use prog_run;
 pub use row_apply;
-pub use row_apply::prog_run;
 pub use text::checked;

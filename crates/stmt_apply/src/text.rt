@@ -17,7 +17,7 @@ use crate::reading::statement_in;
 use apply_laws::session_ctx::Ctx;
 use event_codec::QueryView;
 use port_traits::{Draw, Identity};
-use row_apply::prog_run::{Meter, Work, run_stmt};
+use prog_run::{Meter, Work, run_stmt};
 use sql_locals::Locals;
 use sql_tree::Stmt;
 use std::alloc::Global;

@@ -18,7 +18,7 @@ use event_codec::{Event, MapView, QueryView, RowsView};
 use log_groups::row_image::rows_of;
 use log_groups::{Items, Part};
 use port_traits::{Draw, Identity};
-use row_apply::prog_run::Work;
+use prog_run::Work;
 use row_apply::{Stop, carry_change, stop_at};
 use std::alloc::Global;
 use val_types::{Change, Duplicate, List, NoMemory, SqlRefusal};

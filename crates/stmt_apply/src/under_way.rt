@@ -4,7 +4,7 @@ ghost use Rattle.std.specs.Option.{option_map};
 ghost use Rattle.event_codec.specs.Event.{map_of};
 ghost use Rattle.log_groups.specs.log_model.Groups.{find};
 ghost use Rattle.apply_model.specs.Groups.{Going, is_too_large, item_ended, rows_ended};
-ghost use Rattle.row_apply.specs.prog_run.Contents.{Contents};
+ghost use Rattle.row_apply.specs.prog_work.Contents.{Contents};
 ghost use Rattle.stmt_apply.specs.Needing.{no_text};
 ghost use Rattle.stmt_apply.specs.UnderWay.{Goes, Stands};
 

@@ -4,10 +4,10 @@ use Rattle.auto_inc.specs.declared.counters.Counter.{Counter}
 use Rattle.table_rules.specs.Tables.{Table}
 use Rattle.table_rules.specs.Stored.{fits_table, table_named}
 use Rattle.apply_model.specs.Rows.{counters_moved}
-use Rattle.prog_run.specs.Contents.{Contents}
+use Rattle.prog_work.specs.Contents.{Contents}
 use Rattle.row_apply.specs.Changes.{raised_to}
 use Rattle.row_apply.specs.Ends.{progress_in}
-use Rattle.row_apply.proofs.Making.{gone_to, insert_made, insert_taken_stops}
+use Rattle.row_apply.proofs.Making.{gone_to, insert_made, insert_taken_stops, insertion_there}
 use Rattle.row_apply.proofs.changing.insert.Goals as goal
 
 pub returns-in-Ok-clause-ends : goal.returns-in-Ok-clause-ends
@@ -28,3 +28,8 @@ returns-in-Err-Taken-clause-ends c = λ m takes.
     rw c.differs-in-Err-Taken.ensures
     (insert_taken_stops c.args.pos m c.args.table c.args.row c.in_ok-key.key (progress_in c.args.work.now) c.in-Err-Taken.field-0-0 takes
     (λ t is. c.in_ok-key.ensures t (ap (λ (ts : List Table). table_named c.args.table ts) c.tables.ensures ∙ is)) fits stored.0)
+
+pub unreachable-requires : goal.unreachable-requires
+unreachable-requires c =
+    let stored = rw c.in-Err-Absent.field-0-is at c.in-Err-Absent.ensures.stored in
+    insertion_there c.args.table c.args.row c.args.work.now.tables c.requires stored.0

@@ -2,7 +2,7 @@ use Rattle.std.proofs.Common.{◌≡◌, List, true, false, ap, ◌∙◌, rules
 use Rattle.table_rules.specs.Tables.{Table}
 use Rattle.table_rules.specs.Stored.{fits_table, table_named}
 use Rattle.row_apply.specs.Ends.{progress_in}
-use Rattle.row_apply.proofs.Making.{update_made, update_taken_stops, update_unfit_stops}
+use Rattle.row_apply.proofs.Making.{replacement_there, update_made, update_taken_stops, update_unfit_stops}
 use Rattle.row_apply.proofs.changing.replace.Goals as goal
 
 pub returns-then-not-fits-clause-ends : goal.returns-then-not-fits-clause-ends
@@ -26,3 +26,8 @@ returns-in-Ok-clause-ends c = λ m before takes there.
     let new = c.update_row.new.self in
     update_made c.args.pos m c.args.table c.args.key before c.args.after old.tables new.tables old.counters new.counters old.changes new.changes takes there
     c.in-Ok.ensures.stored c.in-Ok.ensures.rest.counters c.in-Ok.ensures.noted
+
+pub unreachable-requires : goal.unreachable-requires
+unreachable-requires c =
+    let stored = rw c.in-Err-Absent.field-0-is at c.in-Err-Absent.ensures.stored in
+    replacement_there c.args.table c.args.key c.args.after c.args.work.now.tables c.requires stored.0

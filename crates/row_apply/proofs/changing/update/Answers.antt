@@ -3,7 +3,7 @@ use Rattle.table_rules.specs.Tables.{Table}
 use Rattle.table_rules.specs.Stored.{row_at, table_named}
 use Rattle.row_apply.specs.Changes.{is_row}
 use Rattle.row_apply.specs.Ends.{progress_in}
-use Rattle.row_apply.proofs.Making.{update_absent_stops}
+use Rattle.row_apply.proofs.Making.{row_there, update_absent_stops}
 use Rattle.row_apply.proofs.Refusing.{row_found}
 use Rattle.row_apply.proofs.changing.update.Goals as goal
 
@@ -13,6 +13,11 @@ returns-then-not-is_there-clause-ends c = λ m takes.
     rw c.differs.ensures
     (update_absent_stops c.args.pos m c.args.table c.args.before c.args.after c.in_ok-key.key (progress_in c.args.work.now) c.together.ensures.kept takes
     (λ t is. c.in_ok-key.ensures t (ap (λ (ts : List Table). table_named c.args.table ts) c.tables.ensures ∙ is)) absent)
+
+pub replace-requires : goal.replace-requires
+replace-requires c =
+    let there : is_row (row_at c.args.table c.in_ok-key.key c.args.work.now.tables) c.args.before ≡ true = search rules in
+    row_there c.args.table c.in_ok-key.key c.args.before c.args.work.now.tables there
 
 pub returns-clause-ends : goal.returns-clause-ends
 returns-clause-ends c = λ m takes.

@@ -1,5 +1,5 @@
 use Rattle.log_groups.specs.Views.{group_seen}
-use Rattle.row_apply.specs.prog_run.Contents.{base_of}
+use Rattle.row_apply.specs.prog_work.Contents.{base_of}
 use Rattle.stmt_apply.proofs.Following.{follows}
 use Rattle.stmt_apply.proofs.group.apply_group.Goals as goal
 

@@ -1,0 +1,143 @@
+-- What holds of all that is worked on, and stays where changes are taken back and committed.
+use Rattle.std.proofs.Common.{◌≡◌, ℕ, true, List, [], ◌∷◌, drop, take, Option, Some, None, refl, sym, ap, subst, ◌∙◌}
+use Rattle.std.specs.Prelude.{is_some, unwrap_or}
+use Rattle.std.specs.Option.{option_and_then}
+use Rattle.std.proofs.lemmas.Bool.{and_parts}
+use Rattle.std.proofs.lemmas.List.{take-append-drop}
+use Rattle.val_types.specs.declared.change.Change.{Change}
+use Rattle.val_types.specs.declared.change.Change.TheVariants.{Insert, Update, Delete}
+use Rattle.val_types.specs.Changes.{inverse}
+use Rattle.auto_inc.specs.declared.counters.Counter.{Counter}
+use Rattle.table_rules.specs.Tables.{Table}
+use Rattle.table_rules.specs.Changes.{applied}
+use Rattle.table_rules.specs.Stored.{all_applied, all_inverse}
+use Rattle.table_rules.specs.Stores.{Store, definitions_of, can_take_back, keeps_inverses, IsWhole}
+use Rattle.table_rules.proofs.Equations.{applied_none, applied_front, all_applied_behind}
+use Rattle.table_rules.proofs.Storing.{some_same, all_inverse_front, definitions_kept, turn_back}
+use Rattle.table_rules.proofs.Leading.{all_inverse_both, none_taken_back, last_taken_back}
+use Rattle.catalog.specs.catalog_objects.declared.object.Object.{Object}
+use Rattle.catalog.specs.catalog_objects.Keys.{objects_of}
+use Rattle.sql_reach.specs.catalog_rules.Bases.{definitions_in}
+use Rattle.auto_inc.specs.Counting.{tables_of}
+use Rattle.prog_work.specs.Contents.{counted_names}
+use Rattle.exec_state.specs.dml_rows.Noted.{StaysReversible}
+use Rattle.prog_work.specs.Contents.{IsTogether, without_changes}
+use Rattle.prog_work.specs.Together.{AreTogether}
+
+-- ---- changes one after the other
+
+then_some : {A B : Type 0} (f : A → Option B) (o : Option A) (y : B) → option_and_then f o ≡ Some y → (z : A) × (o ≡ Some z) × (f z ≡ Some y)
+then_some f (Some z) y e = (z, refl, e)
+then_some f None y e = cc
+
+is_its_value : {A : Type 0} (o : Option A) (d : A) → is_some o ≡ true → o ≡ Some (unwrap_or o d)
+is_its_value None d e = cc
+is_its_value (Some a) d e = refl
+
+pub all_definitions : (xs : List Change) (ts after : List Table) → all_applied xs ts ≡ Some after → definitions_of after ≡ definitions_of ts
+all_definitions [] ts after e = ap definitions_of (sym (some_same ts after (sym (applied_none ts) ∙ e)))
+all_definitions (x ∷ xs) ts after e =
+    let mid = then_some (all_applied xs) (applied x ts) after (sym (applied_front x xs ts) ∙ e) in
+    all_definitions xs mid.0 after mid.2 ∙ definitions_kept x ts mid.0 mid.1
+
+inverse_twice : (x : Change) → inverse (inverse x) ≡ x
+inverse_twice (Insert name row) = refl
+inverse_twice (Update name before after) = refl
+inverse_twice (Delete name row) = refl
+
+all_inverse_twice : (xs : List Change) → all_inverse (all_inverse xs) ≡ xs
+all_inverse_twice [] = refl
+all_inverse_twice (x ∷ xs) =
+    ap all_inverse (all_inverse_front x xs)
+    ∙ all_inverse_both (all_inverse xs) (inverse x ∷ [])
+    ∙ ap (λ (c : Change). c ∷ all_inverse (all_inverse xs)) (inverse_twice x)
+    ∙ ap (λ (cs : List Change). x ∷ cs) (all_inverse_twice xs)
+
+-- ---- what can be taken back
+
+pub can_be : (store : Store) (xs : List Change) → can_take_back store xs ≡ true → is_some (all_applied (all_inverse xs) store.tables) ≡ true
+unfolding can_take_back
+can_be store xs can = (and_parts (is_some (all_applied (all_inverse xs) store.tables)) (keeps_inverses store xs) can).0
+
+without_is : (store : Store) (xs : List Change) → can_take_back store xs ≡ true → all_applied (all_inverse xs) store.tables ≡ Some (without_changes xs store.tables)
+without_is store xs can = is_its_value (all_applied (all_inverse xs) store.tables) store.tables (can_be store xs can)
+
+-- what is committed stays what it is where some changes are taken back
+pub value_is : {A : Type 0} (o p : Option A) (d e : A) → o ≡ p → is_some o ≡ true → unwrap_or p e ≡ unwrap_or o d
+value_is None p d e same some = cc
+value_is (Some a) p d e same some = ap (λ (o : Option _). unwrap_or o e) (sym same)
+
+pub still_committed : (store : Store) (xs : List Change) (mark : ℕ) (tables : List Table) → can_take_back store xs ≡ true
+    → all_applied (all_inverse (drop mark xs)) store.tables ≡ Some tables → without_changes (take mark xs) tables ≡ without_changes xs store.tables
+still_committed store xs mark tables can gone =
+    value_is (all_applied (all_inverse xs) store.tables) (all_applied (all_inverse (take mark xs)) tables) store.tables tables
+    (ap (λ (cs : List Change). all_applied (all_inverse cs) store.tables) (sym (take-append-drop mark xs))
+    ∙ ap (λ (cs : List Change). all_applied cs store.tables) (all_inverse_both (take mark xs) (drop mark xs))
+    ∙ all_applied_behind (all_inverse (drop mark xs)) (all_inverse (take mark xs)) store.tables
+    ∙ ap (option_and_then (all_applied (all_inverse (take mark xs)))) gone)
+    (can_be store xs can)
+
+-- ---- what holds of all
+
+pub may_take_back : (objects : List Object) (store : Store) (changes : List Change) (counters : List Counter) (mark : ℕ)
+    → AreTogether objects store changes counters → can_take_back store (drop mark changes) ≡ true
+may_take_back objects store changes counters mark h = last_taken_back store changes mark h.reversible
+
+pub together_back : (objects : List Object) (old new : Store) (changes now : List Change) (counters : List Counter) (mark : ℕ)
+    → AreTogether objects old changes counters → all_applied (all_inverse (drop mark changes)) old.tables ≡ Some new.tables
+    → StaysReversible old changes new now → AreTogether objects new now counters
+together_back objects old new changes now counters mark h gone stays = record {
+  reversible = stays 0 h.reversible;
+  theirs = all_definitions (all_inverse (drop mark changes)) old.tables new.tables gone ∙ h.theirs;
+  counted = h.counted;
+}
+
+pub together_committed : (objects : List Object) (old new : Store) (changes : List Change) (counters : List Counter)
+    → AreTogether objects old changes counters → new.tables ≡ old.tables → AreTogether objects new [] counters
+together_committed objects old new changes counters h tables = record {
+  reversible = none_taken_back new;
+  theirs = ap definitions_of tables ∙ h.theirs;
+  counted = h.counted;
+}
+
+pub together_nothing : AreTogether [] (record { tables = []; kept = [] }) [] []
+together_nothing = record { reversible = none_taken_back _; theirs = refl; counted = refl }
+
+pub are_together : (objects : List Object) (store : Store) (changes : List Change) (counters : List Counter) → AreTogether objects store changes counters → IsWhole store
+    → IsTogether (record { objects = objects; tables = store.tables; changes = changes; counters = counters })
+are_together objects store changes counters h whole =
+    let back = without_is store changes h.reversible in
+    let turned = turn_back (all_inverse changes) store.tables (without_changes changes store.tables) whole.rows back in
+    record {
+      back = back;
+      made = ap (λ (cs : List Change). all_applied cs (without_changes changes store.tables)) (sym (all_inverse_twice changes)) ∙ turned.0;
+      kept = whole.rows;
+      committed = turned.1;
+      theirs = h.theirs;
+      counted = h.counted;
+    }
+
+-- ---- a reader's work
+
+-- the same changes can be taken back from the same tables
+pub same_can_be : (store again : Store) (changes undo : List Change) → can_take_back store undo ≡ true → again ≡ store → changes ≡ drop 0 undo → can_take_back again (drop 0 changes) ≡ true
+same_can_be store again changes undo can tables same = ap (λ (s : Store). can_take_back s changes) tables ∙ ap (can_take_back store) same ∙ can
+
+pub together_read : (objects now : List Object) (store read : Store) (changes : List Change) (counters after : List Counter) → AreTogether objects store changes counters
+    → all_applied (all_inverse changes) store.tables ≡ Some read.tables → now ≡ objects → after ≡ counters → AreTogether now read [] after
+together_read objects now store read changes counters after h gone os cs =
+    subst (λ (o : List Object). AreTogether o read [] after) (sym os)
+    (subst (λ (ct : List Counter). AreTogether objects read [] ct) (sym cs)
+    (record {
+      reversible = none_taken_back read;
+      theirs = all_definitions (all_inverse changes) store.tables read.tables gone ∙ h.theirs;
+      counted = h.counted;
+    }))
+
+pub together_counting : (objects own : List Object) (store other : Store) (changes theirs : List Change) (counters after : List Counter) → AreTogether objects store changes counters
+    → AreTogether own other theirs after → own ≡ objects → AreTogether objects store changes after
+together_counting objects own store other changes theirs counters after h h' os = record {
+  reversible = h.reversible;
+  theirs = h.theirs;
+  counted = subst (λ (o : List Object). tables_of after ≡ counted_names (definitions_in (objects_of o))) os h'.counted;
+}
