@@ -4,7 +4,7 @@ ghost use Rattle.std.specs.List.{list_all};
 ghost use Rattle.script_read.specs.Commands.{command_seen, what_seen};
 ghost use Rattle.script_read.specs.Split.{is_numbered, is_short};
 ghost use Rattle.run_laws.specs.run_model.Asked.{all_asked, asked_by, asked_of};
-ghost use Rattle.script_run.specs.Asking.{GivesAsked, asked_seen, is_fit};
+ghost use Rattle.script_run.specs.Asking.{GivesAsked, asked_seen, is_fit, most_commands};
 
 use answer_text::Status;
 use run_streams::{split_commands, with_status};
@@ -60,7 +60,7 @@ fn all_asked<'a>(alloc: Global, commands: &[Command<'a>]) -> Result<List<Asked<'
 /// carries out.
 pub(crate) fn read_asked(alloc: Global, script: &[u8]) -> Result<List<Asked<'_>>, Status>
     ensures gives { GivesAsked result (asked_of script.now) }
-    ensures count { IfOk result (λ asked. length asked ≤ 13421772) }
+    ensures count { IfOk result (λ asked. length asked ≤ most_commands) }
     ensures fit { IfOk result (λ asked. IsTrue (list_all is_fit asked)) }
 {
     let commands = split_commands(alloc, script)?;

@@ -4,7 +4,7 @@ ghost use Rattle.std.specs.List.{list_all};
 ghost use Rattle.run_laws.specs.run_model.Run.{Both, Names};
 ghost use Rattle.run_streams.specs.Reports.{AllTold, Drawn, DrewUntil, GoesOnDrawing, IsEmpty, StaysHandedOut, Tells};
 ghost use Rattle.run_streams.specs.Stops.{StopsWriting, failed_writes, status_of};
-ghost use Rattle.script_run.specs.Asking.{asked_seen, is_fit};
+ghost use Rattle.script_run.specs.Asking.{asked_seen, is_fit, most_commands};
 ghost use Rattle.script_run.specs.Ran.{Ran};
 ghost use Rattle.script_run.specs.Running.{Ends, Going};
 ghost use Rattle.script_run.specs.Together.{Grew, Lined, Opened, Stopped, Together, Told};
@@ -128,7 +128,7 @@ pub(crate) fn answer_all<K: Sink, E: Env, F: Env>(
     out: &mut K,
 ) -> Result<(), Status>
     requires opened { Opened nodes.old report.old }
-    requires count { length asked.now ≤ 13421772 }
+    requires count { length asked.now ≤ most_commands }
     requires fit { IsTrue (list_all is_fit asked.now) }
     ensures going { OnOk result (Going (map asked_seen asked.now) (length asked.now) report.new (K.written out.old) (K.written out.new) nodes.new) }
     ensures ends { IfErr result (λ status. Ends status (map asked_seen asked.now) report.new (K.written out.old) (K.written out.new)) }
@@ -156,7 +156,7 @@ pub(crate) fn run_commands<K: Sink, E: Env, F: Env>(
     out: &mut K,
 ) -> Result<(), Status>
     requires report { IsEmpty report.old }
-    requires count { length asked.now ≤ 13421772 }
+    requires count { length asked.now ≤ most_commands }
     requires fit { IsTrue (list_all is_fit asked.now) }
     ensures ran { OnOk result (Ran (map asked_seen asked.now) report.new (K.written out.old) (K.written out.new)) }
     ensures ends { IfErr result (λ status. Ends status (map asked_seen asked.now) report.new (K.written out.old) (K.written out.new)) }

@@ -47,9 +47,10 @@
 //!   that was drawn is told (`src_drawn`, `rep_drawn`).
 //! - [`write_log`], by its status (`run`). Done: all commands of the script on the input, which was read whole, were carried out,
 //!   each at a draw that the report tells, and the bytes of the log of the machine behind them were written, in which each session's
-//!   transactions stand in its format. WriteFault: a front of these. BadScript, ReadFault and NoMemory: nothing was written, and BadScript is at the byte at which [`run_script`] would
-//!   have it. No other status comes. A fault comes only where the stream's count of faults rose, or stands at its last value
-//!   (`read_fault`, `write_fault`); the report is true at any status (`source`, `replica`).
+//!   transactions stand in its format. WriteFault: a front of these. BadScript, ReadFault and NoMemory: nothing was written, and
+//!   BadScript is at the byte at which [`run_script`] would have it. No other status comes. A fault comes only where the stream's
+//!   count of faults rose, or stands at its last value (`read_fault`, `write_fault`); the report is true at any status (`source`,
+//!   `replica`).
 //!
 //! # Only tested
 //! In the tests of the program: that calls succeed with ample memory.

@@ -6,7 +6,7 @@ ghost use Rattle.session_model.specs.Machine.{log_of};
 ghost use Rattle.run_laws.specs.run_model.Run.{Both, Names};
 ghost use Rattle.run_streams.specs.Reports.{IsEmpty, StaysHandedOut, Tells};
 ghost use Rattle.run_streams.specs.Stops.{status_of};
-ghost use Rattle.script_run.specs.Asking.{asked_seen, is_fit};
+ghost use Rattle.script_run.specs.Asking.{asked_seen, is_fit, most_commands};
 ghost use Rattle.script_run.specs.Faults.{HasFault};
 ghost use Rattle.script_run.specs.Logged.{LogEndsBy, Logged};
 ghost use Rattle.script_run.specs.Together.{Grew, Opened, Together};
@@ -62,7 +62,7 @@ fn log_of_all<E: Env, F: Env>(
     report: &mut Report,
 ) -> Result<Bytes, Status>
     requires opened { Opened nodes.old report.old }
-    requires count { length asked.now ≤ 13421772 }
+    requires count { length asked.now ≤ most_commands }
     requires fit { IsTrue (list_all is_fit asked.now) }
     ensures logged { IfOk result (λ log. Logged (map asked_seen asked.now) report.new log) }
     ensures short { IfErr result (λ status. status ≡ Status.NoMemory) }
@@ -83,7 +83,7 @@ fn log_commands<E: Env, F: Env>(
     report: &mut Report,
 ) -> Result<Bytes, Status>
     requires report { IsEmpty report.old }
-    requires count { length asked.now ≤ 13421772 }
+    requires count { length asked.now ≤ most_commands }
     requires fit { IsTrue (list_all is_fit asked.now) }
     ensures logged { IfOk result (λ log. Logged (map asked_seen asked.now) report.new log) }
     ensures short { IfErr result (λ status. status ≡ Status.NoMemory) }

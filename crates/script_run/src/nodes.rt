@@ -1,6 +1,7 @@
 //! A source and a replica, and one command over both.
 ghost use Rattle.std.specs.Prelude.{◌≡◌, ◌≤◌, ◌<◌, length, IfOk, IsTrue, OnOk, OnErr};
 ghost use Rattle.port_traits.specs.declared.identity.Draw.{Draw as AnyDraw};
+ghost use Rattle.script_read.specs.Script.{command_limit};
 ghost use Rattle.run_laws.specs.run_model.Asked.{say, select, take_bytes, take_groups};
 ghost use Rattle.run_laws.specs.run_model.Run.{Both, Names, mark_at};
 ghost use Rattle.run_streams.specs.Reports.{GoesOnDrawing, StaysHandedOut};
@@ -54,7 +55,7 @@ impl Nodes {
         report: &mut Report,
     ) -> Result<Bytes, NodeFault>
         requires number { session < 100 }
-        requires length { length text.now ≤ 1048576 }
+        requires length { length text.now ≤ command_limit }
         ensures carried { (names : Names) (b : Both) → Together names self.old b → IfOk result (λ lines.
             CarriedOut names b number (say session text.now) report.old report.new self.new lines) }
         ensures drawn { OnOk result (GoesOnDrawing (E.draws env.old) report.old.src_draws (E.draws env.new) report.new.src_draws) }
@@ -80,7 +81,7 @@ impl Nodes {
         env: &mut F,
         report: &mut Report,
     ) -> Result<Bytes, NodeFault>
-        requires { length text.now ≤ 1048576 }
+        requires { length text.now ≤ command_limit }
         ensures carried { (names : Names) (b : Both) → Together names self.old b → IfOk result (λ lines.
             CarriedOut names b number (select text.now) report.old report.new self.new lines) }
         ensures drawn { OnOk result (GoesOnDrawing (F.draws env.old) report.old.rep_draws (F.draws env.new) report.new.rep_draws) }

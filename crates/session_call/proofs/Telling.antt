@@ -13,9 +13,9 @@ use Rattle.proc_run.specs.sql_meaning.Changing.{Did}
 use Rattle.proc_run.specs.sql_reach.Closing.{closed}
 use Rattle.proc_run.specs.sql_reach.Reach.{is_definition}
 use Rattle.proc_run.specs.catalog_rules.Checks.{Scope}
-use Rattle.answer_making.specs.prog_run.declared.meter.Meter.{Meter}
-use Rattle.answer_making.specs.prog_run.declared.meter.Outcome.{Outcome}
-use Rattle.answer_making.specs.prog_run.Runs.{outcome_of}
+use Rattle.answer_making.specs.prog_work.declared.meter.Meter.{Meter}
+use Rattle.answer_making.specs.prog_work.declared.meter.Outcome.{Outcome}
+use Rattle.answer_making.specs.prog_work.Outcomes.{outcome_of}
 use Rattle.proc_run.specs.proc_model.Talk.{Effect, Left, Refusal, Told}
 use Rattle.proc_run.specs.proc_model.Procedures.{is_plain, scope_of}
 use Rattle.proc_run.specs.proc_parts.Calls as asks

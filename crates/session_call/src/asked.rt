@@ -3,7 +3,7 @@ ghost use Rattle.std.specs.Prelude.{◌≡◌, true};
 ghost use Rattle.fault_counts.specs.Causes.{Rose};
 ghost use Rattle.sql_tree.specs.StatementView.{view};
 ghost use Rattle.proc_run.specs.proc_model.Procedures.{is_plain};
-ghost use Rattle.answer_making.specs.prog_run.Runs.{Spends};
+ghost use Rattle.answer_making.specs.prog_work.Outcomes.{Spends};
 ghost use Rattle.proc_run.specs.proc_parts.Calls.{Tells, effect_of, expressions_of, is_do, left_of, plainly};
 ghost use Rattle.proc_run.specs.proc_parts.declared.runner.RunRefusal.TheVariants.{Sql as Refused};
 ghost use Rattle.answer_making.specs.Telling.{told_answer};
@@ -12,11 +12,11 @@ ghost use Rattle.answer_making.specs.session_model.Counting.{counted};
 ghost use Rattle.session_statement.specs.Calls.{called};
 ghost use Rattle.session_call.specs.Stepping.{Stepped, reached};
 
-use answer_making::prog_run::{Meter, Outcome};
+use answer_making::prog_work::{Meter, Outcome};
 use answer_making::row_count_after;
 use answer_text::End;
 use proc_run::proc_parts::RunRefusal;
-use session_statement::session_shared::{Call, Desk, Refusal, Session, step_check};
+use session_statement::session_shared::{Command, Desk, Refusal, Session, step_check};
 use session_statement::{evaluate_closed, run_printed};
 use sql_locals::Locals;
 use sql_tree::Stmt;
@@ -58,7 +58,7 @@ fn count(session: &mut Session, outcome: &Outcome)
 #[tactic(auto, using(crate::proofs::Telling::running))]
 pub(crate) fn run_step(
     alloc: Global,
-    call: &Call<'_>,
+    command: &Command<'_>,
     desk: &mut Desk,
     session: &mut Session,
     warned: &mut bool,
@@ -66,14 +66,14 @@ pub(crate) fn run_step(
     meter: &mut Meter,
 ) -> Result<Outcome, RunRefusal>
     requires { is_plain (view statement.now) ≡ true }
-    ensures gives { Tells (λ told. Stepped (run_step (called call.now) (left_of meter.old) (view statement.now) (reached desk.old session.old warned.old)) told desk.old desk.new session.new warned.new) (Rose 0 0) effect_of result meter.new }
+    ensures gives { Tells (λ told. Stepped (run_step (called command.now) (left_of meter.old) (view statement.now) (reached desk.old session.old warned.old)) told desk.old desk.new session.new warned.new) (Rose 0 0) effect_of result meter.new }
     ensures spends { Spends meter.old meter.new }
 {
     let locals = Locals::new(alloc);
-    if let Some(refusal) = step_check(desk, call.number, statement, &locals) {
+    if let Some(refusal) = step_check(desk, command.number, statement, &locals) {
         return Err(refusal_of(refusal));
     }
-    let kept = run_printed(alloc, call, desk, session, statement, meter)?;
+    let kept = run_printed(alloc, command, desk, session, statement, meter)?;
     *warned |= kept.warned;
     count(session, &kept.value);
     Ok(kept.value)
@@ -83,7 +83,7 @@ pub(crate) fn run_step(
 #[tactic(auto, using(crate::proofs::Telling::evaluating))]
 pub(crate) fn evaluate_step(
     alloc: Global,
-    call: &Call<'_>,
+    command: &Command<'_>,
     desk: &mut Desk,
     session: &mut Session,
     warned: &mut bool,
@@ -92,18 +92,18 @@ pub(crate) fn evaluate_step(
     meter: &mut Meter,
 ) -> Result<List<Value>, RunRefusal>
     requires { is_do (view statement.now) ≡ true }
-    ensures gives { Tells (λ told. Stepped (evaluate_step (called call.now) (left_of meter.old) locals.now (expressions_of (view statement.now)) (reached desk.old session.old warned.old)) told desk.old desk.new session.new warned.new) (Rose 0 0) plainly result meter.new }
+    ensures gives { Tells (λ told. Stepped (evaluate_step (called command.now) (left_of meter.old) locals.now (expressions_of (view statement.now)) (reached desk.old session.old warned.old)) told desk.old desk.new session.new warned.new) (Rose 0 0) plainly result meter.new }
     ensures spends { Spends meter.old meter.new }
 {
     let Stmt::Do(expressions) = statement else {
         unreachable!()
     };
-    if let Some(refusal) = step_check(desk, call.number, statement, locals) {
+    if let Some(refusal) = step_check(desk, command.number, statement, locals) {
         return Err(refusal_of(refusal));
     }
     let kept = evaluate_closed(
         alloc,
-        call,
+        command,
         desk,
         session,
         statement,

@@ -11,22 +11,27 @@ ghost use Rattle.session_statement.specs.session_shared.declared.desk.Desk.{Desk
 ghost use Rattle.session_statement.specs.Turned.{IsTurn};
 
 use crate::steps::CallSteps;
-use answer_making::prog_run::Meter;
+use answer_making::prog_work::Meter;
 use answer_making::session_model::Format;
 use answer_making::{NodeFault, with_warning};
 use answer_text::Answer;
 use proc_run::CallRefusal;
 use proc_run::session_ctx::SessionVars;
 use session_statement::Kept;
-use session_statement::session_shared::{Call, Desk, Session};
+use session_statement::session_shared::{Command, Desk, Session};
 use std::alloc::Global;
 use std::mem;
 use val_types::{Bytes, Duplicate, List, NoMemory, Value};
 
 /// What stands in the place of a session while its CALL is carried out.
-fn vacant(alloc: Global, call: &Call<'_>) -> Result<Session, NoMemory> {
+fn vacant(alloc: Global, command: &Command<'_>) -> Result<Session, NoMemory> {
     Ok(Session {
-        vars: SessionVars::new(alloc, call.identity, u32::from(call.number), call.draw)?,
+        vars: SessionVars::new(
+            alloc,
+            command.identity,
+            u32::from(command.number),
+            command.draw,
+        )?,
         format: Format::Mixed,
         transaction: None,
     })
@@ -36,23 +41,23 @@ fn vacant(alloc: Global, call: &Call<'_>) -> Result<Session, NoMemory> {
 /// warned from the beginning where the evaluation of its arguments is.
 fn begin(
     alloc: Global,
-    call: &Call<'_>,
+    command: &Command<'_>,
     desk: &mut Desk,
     session: &mut Session,
     warned: bool,
 ) -> Result<CallSteps, NoMemory>
-    ensures call { IfOk result (λ steps. call_by steps ≡ called call.now) }
+    ensures command { IfOk result (λ steps. call_by steps ≡ called command.now) }
     ensures desk { IfOk result (λ steps. steps.desk ≡ desk.old) }
     ensures session { IfOk result (λ steps. steps.session ≡ session.old) }
     ensures warned { IfOk result (λ steps. steps.warned ≡ warned) }
 {
-    let identity = call.identity.duplicate(alloc)?;
-    let aside = vacant(alloc, call)?;
+    let identity = command.identity.duplicate(alloc)?;
+    let aside = vacant(alloc, command)?;
     Ok(CallSteps {
         alloc,
         identity,
-        draw: *call.draw,
-        number: call.number,
+        draw: *command.draw,
+        number: command.number,
         desk: mem::replace(desk, Desk::new(alloc, Bytes::new(alloc))),
         session: mem::replace(session, aside),
         warned,
@@ -75,17 +80,17 @@ fn give_back(steps: CallSteps, desk: &mut Desk, session: &mut Session) -> bool
 /// wants memory.
 pub fn call_steps(
     alloc: Global,
-    call: &Call<'_>,
+    command: &Command<'_>,
     desk: &mut Desk,
     session: &mut Session,
     name: &Bytes,
     arguments: Kept<List<Value>>,
     meter: &mut Meter,
 ) -> Result<Answer, NodeFault>
-    ensures { (old : LeftDesk) → (at : Reached Item) → Stood old desk.old session.old (arguments.warned) at → IfOk result (λ answer. IsTurn old desk.new session.new answer (came_to (brought (steps_of (called call.now)) (carried_out at.shared.base.catalog (left_of meter.old) name.now (arguments.value)) at))) }
+    ensures { (old : LeftDesk) → (at : Reached Item) → Stood old desk.old session.old (arguments.warned) at → IfOk result (λ answer. IsTurn old desk.new session.new answer (came_to (brought (steps_of (called command.now)) (carried_out at.shared.base.catalog (left_of meter.old) name.now (arguments.value)) at))) }
 {
     let catalog = desk.work.catalog().copy()?;
-    let mut steps = begin(alloc, call, desk, session, arguments.warned)?;
+    let mut steps = begin(alloc, command, desk, session, arguments.warned)?;
     let answer = proc_run::call(alloc, &mut steps, &catalog, name, arguments.value, meter);
     let warned = give_back(steps, desk, session);
     match answer {

@@ -2,11 +2,11 @@
 ghost use Rattle.std.specs.Prelude.{ℕ};
 
 use crate::asked::{evaluate_step, run_step};
-use answer_making::prog_run::{Meter, Outcome};
+use answer_making::prog_work::{Meter, Outcome};
 use port_traits::{Draw, Identity};
 use proc_run::proc_model::Ruled;
 use proc_run::proc_parts::{RunRefusal, Runner};
-use session_statement::session_shared::{Call, Desk, Session};
+use session_statement::session_shared::{Command, Desk, Session};
 use sql_locals::Locals;
 use sql_tree::Stmt;
 use std::alloc::Global;
@@ -35,14 +35,14 @@ impl Runner for CallSteps {
     ghost faults = { λ s. 0 };
 
     fn run(&mut self, s: &Stmt, m: &mut Meter) -> Result<Outcome, RunRefusal> {
-        let call = Call {
+        let command = Command {
             identity: &self.identity,
             draw: &self.draw,
             number: self.number,
         };
         run_step(
             self.alloc,
-            &call,
+            &command,
             &mut self.desk,
             &mut self.session,
             &mut self.warned,
@@ -57,14 +57,14 @@ impl Runner for CallSteps {
         locals: &Locals,
         m: &mut Meter,
     ) -> Result<List<Value>, RunRefusal> {
-        let call = Call {
+        let command = Command {
             identity: &self.identity,
             draw: &self.draw,
             number: self.number,
         };
         evaluate_step(
             self.alloc,
-            &call,
+            &command,
             &mut self.desk,
             &mut self.session,
             &mut self.warned,

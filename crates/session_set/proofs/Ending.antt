@@ -6,7 +6,7 @@ use Rattle.answer_text.specs.declared.answer.Answer.{Answer}
 use Rattle.answer_making.specs.log_entries.declared.entries.Item.{Item}
 use Rattle.sql_tree.specs.Tree.{Trees}
 use Rattle.sql_tree.specs.declared.statements.Target.{Target}
-use Rattle.answer_making.specs.prog_run.declared.meter.Meter.{Meter}
+use Rattle.answer_making.specs.prog_work.declared.meter.Meter.{Meter}
 use Rattle.session_statement.specs.proc_parts.Calls.{left_of}
 use Rattle.answer_making.specs.session_model.Answers.{ok_warned, refused}
 use Rattle.answer_making.specs.session_model.Sessions.{Session}

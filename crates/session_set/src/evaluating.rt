@@ -13,8 +13,8 @@ ghost use Rattle.session_statement.specs.Ran.{fuel_at};
 ghost use Rattle.session_statement.specs.Turned.{EndsWith};
 
 use crate::assigning::misfit_of;
-use answer_making::prog_run::Meter;
-use session_statement::session_shared::{Call, Desk, Session};
+use answer_making::prog_work::Meter;
+use session_statement::session_shared::{Command, Desk, Session};
 use session_statement::{Kept, evaluate_unkept, settle};
 use sql_locals::Locals;
 use sql_tree::{Expr, Stmt, Target};
@@ -25,7 +25,7 @@ use val_types::{List, SqlRefusal, Value};
 /// changed is taken back; else it is kept.
 pub(crate) fn fitting_values(
     alloc: Global,
-    call: &Call<'_>,
+    command: &Command<'_>,
     desk: &mut Desk,
     session: &mut Session,
     text: &[u8],
@@ -37,15 +37,15 @@ pub(crate) fn fitting_values(
 ) -> Result<Kept<List<Value>>, SqlRefusal>
     requires is { view statement.now ≡ evaluate (view_trees expressions.now) }
     requires none { locals.now ≡ [] }
-    ensures { EndsWith result (fuel_at meter.new) desk.old desk.new session.new (fitted_run (called call.now) (left_of meter.old) text.now (view_trees expressions.now) (misfit_of (is_open session.old) targets.now) (shared_of desk.old) session.old) }
+    ensures { EndsWith result (fuel_at meter.new) desk.old desk.new session.new (fitted_run (called command.now) (left_of meter.old) text.now (view_trees expressions.now) (misfit_of (is_open session.old) targets.now) (shared_of desk.old) session.old) }
 {
-    match evaluate_unkept(alloc, call, desk, session, expressions, locals, meter) {
+    match evaluate_unkept(alloc, command, desk, session, expressions, locals, meter) {
         Err(refusal) => Err(refusal),
         Ok(evaluated) => {
             let misfit = misfit_of(session, targets, &evaluated.values);
             match settle(
                 alloc,
-                call,
+                command,
                 desk,
                 session,
                 text,

@@ -4,7 +4,6 @@
 //! - `setting`: [`set`], SET with its refusals in order
 //! - `evaluating`: the values of its expressions, kept or taken back
 //! - `assigning`: assignments from left to right, and the first that is refused; `formats`: the variable binlog_format
-//! - `refusing`: [`lock_refusal`], [`TOO_LONG`], [`LONGEST`]: what refuses other commands, too, before they run
 //!
 //! The definitions in specs/ (`Assigning`) say what a SET leaves by its parts; those of SET itself are `session_model`'s.
 //! `source_node` has the other commands, and stands on this crate.
@@ -14,7 +13,6 @@
 //!   checks and by the lock, in this order; else its expressions are evaluated, and all is assigned, with a warning where what
 //!   they changed is logged by its text though that is unsafe, or the first refused assignment is answered, none is made, and
 //!   desk, session and log are as behind any statement that failed; or memory is short.
-//! - [`lock_refusal`] is the machine's answer to a statement that the writer's lock refuses, and none where it may run.
 //!
 //! # Only tested
 //! Nothing here: that calls succeed with ample memory is tested where scripts run.
@@ -23,8 +21,6 @@
 mod assigning;
 mod evaluating;
 mod formats;
-mod refusing;
 mod setting;
 
-pub use refusing::{LONGEST, TOO_LONG, lock_refusal};
 pub use setting::set;

@@ -15,16 +15,15 @@ ghost use Rattle.session_statement.specs.Turned.{IsTurn};
 
 use crate::assigning::{assign_all, taken_apart};
 use crate::evaluating::fitting_values;
-use crate::refusing::{LONGEST, TOO_LONG, lock_refusal};
 use answer_making::{NodeFault, ok, refused, with_warning};
 use answer_text::Answer;
 use session_statement::full;
-use session_statement::session_shared::{Call, Desk, Session};
+use session_statement::session_shared::{COMMAND_LIMIT, Command, Desk, Session, lock_refusal};
 use sql_locals::Locals;
 use sql_print::print;
 use sql_tree::{Assignment, Expr, Stmt, Target};
 use std::alloc::Global;
-use val_types::{Bytes, List, NoMemory, SqlError, SqlRefusal, Value};
+use val_types::{Bytes, List, NoMemory, SqlError, SqlRefusal, TEXT_TOO_LONG, Value};
 
 /// Assigns values, which nothing refuses. The answer shows whether their evaluation is warned.
 fn assign_values(
@@ -45,7 +44,7 @@ fn assign_values(
 #[tactic(auto, using(crate::proofs::Ending::setting))]
 fn set_values(
     alloc: Global,
-    call: &Call<'_>,
+    command: &Command<'_>,
     desk: &mut Desk,
     session: &mut Session,
     text: &Bytes,
@@ -54,13 +53,13 @@ fn set_values(
     expressions: &List<Expr>,
 ) -> Result<Answer, NodeFault>
     requires { view statement.now ≡ evaluate (view_trees expressions.now) }
-    ensures { IfOk result (λ answer. IsTurn desk.old desk.new session.new answer (set_from targets.now (fitted_run (called call.now) full text.now (view_trees expressions.now) (misfit_of (is_open session.old) targets.now) (shared_of desk.old) session.old))) }
+    ensures { IfOk result (λ answer. IsTurn desk.old desk.new session.new answer (set_from targets.now (fitted_run (called command.now) full text.now (view_trees expressions.now) (misfit_of (is_open session.old) targets.now) (shared_of desk.old) session.old))) }
 {
     let locals = Locals::new(alloc);
     let mut meter = full();
     match fitting_values(
         alloc,
-        call,
+        command,
         desk,
         session,
         text.as_slice(),
@@ -80,30 +79,30 @@ fn set_values(
 /// all expressions, then all assignments.
 fn set_taken(
     alloc: Global,
-    call: &Call<'_>,
+    command: &Command<'_>,
     desk: &mut Desk,
     session: &mut Session,
     refusal: Option<SqlError>,
     targets: &List<Target>,
     expressions: List<Expr>,
 ) -> Result<Answer, NodeFault>
-    ensures { IfOk result (λ answer. IsTurn desk.old desk.new session.new answer (set_parts (called call.now) refusal targets.now (view_trees expressions) (shared_of desk.old) session.old)) }
+    ensures { IfOk result (λ answer. IsTurn desk.old desk.new session.new answer (set_parts (called command.now) refusal targets.now (view_trees expressions) (shared_of desk.old) session.old)) }
 {
     let statement = Stmt::Do(expressions);
     let text = print(alloc, &statement)?;
-    if text.len() > LONGEST {
-        return Ok(refused(alloc, TOO_LONG));
+    if text.len() > COMMAND_LIMIT {
+        return Ok(refused(alloc, TEXT_TOO_LONG));
     }
     if let Some(code) = refusal {
         return Ok(refused(alloc, code));
     }
-    if let Some(answer) = lock_refusal(alloc, desk, call.number, &statement) {
+    if let Some(answer) = lock_refusal(alloc, desk, command.number, &statement) {
         return Ok(answer);
     }
     match &statement {
         Stmt::Do(expressions) => set_values(
             alloc,
-            call,
+            command,
             desk,
             session,
             &text,
@@ -119,15 +118,23 @@ fn set_taken(
 /// leaves them, or memory is short.
 pub fn set(
     alloc: Global,
-    call: &Call<'_>,
+    command: &Command<'_>,
     desk: &mut Desk,
     session: &mut Session,
     refusal: Option<SqlError>,
     assignments: List<Assignment>,
 ) -> Result<Answer, NodeFault>
     requires { refusal ≡ statement_refusal ((shared_of desk.old).base.catalog) session_scope (set_all (view_assignments assignments)) }
-    ensures { IfOk result (λ answer. IsTurn desk.old desk.new session.new answer (set_turn (called call.now) (view_assignments assignments) (shared_of desk.old) session.old)) }
+    ensures { IfOk result (λ answer. IsTurn desk.old desk.new session.new answer (set_turn (called command.now) (view_assignments assignments) (shared_of desk.old) session.old)) }
 {
     let (targets, expressions) = taken_apart(alloc, assignments)?;
-    set_taken(alloc, call, desk, session, refusal, &targets, expressions)
+    set_taken(
+        alloc,
+        command,
+        desk,
+        session,
+        refusal,
+        &targets,
+        expressions,
+    )
 }

@@ -7,8 +7,8 @@ use Rattle.val_types.specs.declared.change.Change.{Change}
 use Rattle.table_rules.specs.Tables.{Table}
 use Rattle.table_rules.proofs.Equations.{applied_none}
 use Rattle.session_model.specs.catalog_rules.Bases.{empty_base}
-use Rattle.prog_run.specs.catalog_objects.Keys.{objects_of}
-use Rattle.prog_run.specs.Contents.{Contents, nothing, IsTogether, committed_tables}
+use Rattle.prog_work.specs.catalog_objects.Keys.{objects_of}
+use Rattle.prog_work.specs.Contents.{Contents, nothing, IsTogether, committed_tables}
 use Rattle.session_model.specs.log_entries.declared.entries.Item.{Item}
 use Rattle.session_model.specs.log_entries.declared.entries.Entry.{Entry}
 use Rattle.session_model.specs.log_model.Log.{LogPlace, behind}

@@ -1,10 +1,10 @@
 -- What all sessions share, as the machine has it, and by the parts that commands do to it.
 use Rattle.std.specs.Prelude.{ℕ, Bool, true, false, if◌then◌else◌, List, [], ◌∷◌, drop, length, take, Option}
 use Rattle.val_types.specs.declared.change.Change.{Change}
-use Rattle.prog_run.specs.catalog_objects.Keys.{objects_of}
+use Rattle.prog_work.specs.catalog_objects.Keys.{objects_of}
 use Rattle.session_model.specs.log_model.Log.{LogPlace}
 use Rattle.binlog_items.specs.Logged.{in_log}
-use Rattle.prog_run.specs.Contents.{Contents, committed_tables}
+use Rattle.prog_work.specs.Contents.{Contents, committed_tables}
 use Rattle.session_model.specs.Sessions.{Shared}
 use Rattle.session_model.specs.Running.{is_other}
 use Rattle.session_shared.specs.declared.desk.Desk.{Desk}

@@ -5,7 +5,7 @@ ghost use Rattle.session_model.specs.catalog_rules.Checks.{statement_refusal};
 ghost use Rattle.session_model.specs.proc_model.Procedures.{scope_of};
 ghost use Rattle.session_model.specs.Answers.{refused_as};
 ghost use Rattle.session_model.specs.Calling.{step_check};
-ghost use Rattle.session_model.specs.Running.{lock_check};
+ghost use Rattle.session_model.specs.Running.{lock_check, lock_refusal};
 ghost use Rattle.session_shared.specs.Desk.{shared_of};
 
 use crate::desk::Desk;
@@ -16,6 +16,9 @@ use sql_tree::Stmt;
 use std::alloc::Global;
 use std::marker::Model;
 use val_types::{List, SqlError, SqlRefusal};
+
+/// The greatest length of a command.
+pub const COMMAND_LIMIT: usize = 1_048_576;
 
 /// Why a statement is refused before it runs: its error, and with 1205 the session that writes.
 #[derive(Drop)]
@@ -64,6 +67,17 @@ pub fn lock_check(desk: &Desk, number: u8, statement: &Stmt) -> Option<Refusal>
         desk.writing_check(number)
     } else {
         None
+    }
+}
+
+/// What refuses a statement for the writer's lock, as the answer to it. It takes the number of the session, and gives none
+/// where the statement may run.
+pub fn lock_refusal(alloc: Global, desk: &Desk, number: u8, statement: &Stmt) -> Option<Answer>
+    ensures { result ≡ lock_refusal number (shared_of desk.now) (view statement.now) }
+{
+    match lock_check(desk, number, statement) {
+        None => None,
+        Some(refusal) => Some(refused_as(alloc, refusal)),
     }
 }
 

@@ -11,7 +11,7 @@ ghost use Rattle.session_shared.specs.Logging.{Logs};
 use crate::checking::Refusal;
 use binlog_items::Items;
 use event_codec::Header;
-use prog_run::Work;
+use prog_work::Work;
 use std::alloc::{AllocError, Global};
 use txn_lock::WriterLock;
 use val_types::{Bytes, Change, List, NoMemory, SqlError};

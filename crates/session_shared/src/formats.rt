@@ -1,12 +1,12 @@
 //! How what a statement changed is logged.
 ghost use Rattle.std.specs.Prelude.{◌≡◌};
-ghost use Rattle.prog_run.specs.catalog_objects.Keys.{objects_of};
+ghost use Rattle.prog_work.specs.catalog_objects.Keys.{objects_of};
 ghost use Rattle.sql_tree.specs.StatementView.{view};
 ghost use Rattle.session_model.specs.sql_reach.Reasons.{reasons};
 ghost use Rattle.session_model.specs.Formats.{is_unsafe, logs_rows, warns};
 
 use binlog_items::unsafe_rules::reasons;
-use prog_run::catalog_objects::Objects;
+use prog_work::catalog_objects::Objects;
 use session_model::Format;
 use sql_tree::Stmt;
 

@@ -4,8 +4,9 @@
 //! - `session`, `saves`: [`Session`] and [`Open`], what a session keeps: its variables, how its statements are logged, its
 //!   open transaction with its items; savepoints
 //! - `formats`: [`how_logged`], whether what a statement changed is logged by its rows, and whether the statement is warned
-//! - `call`: [`Call`], what a command has round it
-//! - `checking`: what refuses a statement before it runs: [`checked`], [`lock_check`], [`step_check`]
+//! - `command`: [`Command`], what a command has round it
+//! - `checking`: what refuses a statement before it runs: [`checked`], [`lock_check`], [`lock_refusal`], [`step_check`];
+//!   [`COMMAND_LIMIT`], how long a command may be
 //!
 //! The definitions in specs/ say what the code's parts stand for (`Desk`), what is logged (`Logging`), and what an item more
 //! and going back to a savepoint make of a transaction (`Saving`).
@@ -15,14 +16,15 @@
 //! - [`Desk::commit`] logs just the entry of its transaction, which can be logged there, or memory is short, and then the desk is
 //!   as before; no other call of [`Desk`] changes the log. [`Open::save`] leaves its transaction as before where memory is short.
 //! - [`how_logged`] says what the machine says of a statement's reasons in each format, exactly.
-//! - [`checked`], [`lock_check`] and [`step_check`] refuse just what the machine's checks refuse, with the same error.
+//! - [`checked`], [`lock_check`] and [`step_check`] refuse just what the machine's checks refuse, with the same error;
+//!   [`lock_refusal`] is the machine's answer to a statement that the writer's lock refuses, and none where it may run.
 //!
 //! # Only tested
 //! Nothing here: that calls succeed with ample memory is tested where scripts run.
 #![tactic(auto)]
 
-mod call;
 mod checking;
+mod command;
 mod desk;
 mod formats;
 mod saves;
@@ -30,8 +32,10 @@ mod session;
 
 // What is its own, and the crates below that it speaks of, passed on: who stands above names them through it.
 pub use binlog_items;
-pub use call::Call;
-pub use checking::{Refusal, checked, lock_check, refused_as, step_check};
+pub use checking::{
+    COMMAND_LIMIT, Refusal, checked, lock_check, lock_refusal, refused_as, step_check,
+};
+pub use command::Command;
 pub use desk::Desk;
 pub use formats::{HowLogged, how_logged};
 pub use saves::Save;

@@ -20,9 +20,9 @@ use Rattle.proc_parts.specs.sql_meaning.Frames.{Context}
 use Rattle.proc_parts.specs.sql_meaning.Running.{effect, evaluation}
 use Rattle.proc_parts.specs.sql_meaning.Leading.{EndsWell, Leads, StaysAsItWas}
 use Rattle.proc_parts.proofs.of_sql_meaning.LedBodies.{statements_end, evaluations_end}
-use Rattle.proc_parts.specs.prog_run.declared.meter.Meter.{Meter}
-use Rattle.proc_parts.specs.prog_run.declared.meter.Outcome.{Outcome}
-use Rattle.proc_parts.specs.prog_run.Contents.{Contents, IsTogether, as_committed, committed_tables, without_changes}
+use Rattle.proc_parts.specs.prog_work.declared.meter.Meter.{Meter}
+use Rattle.proc_parts.specs.prog_work.declared.meter.Outcome.{Outcome}
+use Rattle.proc_parts.specs.prog_work.Contents.{Contents, IsTogether, as_committed, committed_tables, without_changes}
 use Rattle.proc_parts.specs.prog_run.Runs.{moment, scene_at, setting_at, effect_at, evaluation_at, Runs, Evaluated}
 use Rattle.session_shared.specs.log_model.Log.{LogPlace}
 use Rattle.proc_parts.specs.Calls.{left_of}

@@ -17,7 +17,7 @@ use Rattle.sql_tree.specs.Statement.{Statement, evaluate}
 use Rattle.val_types.specs.declared.value.Value.{Value}
 use Rattle.session_shared.specs.binlog_items.declared.before.Before.{Before}
 use Rattle.session_shared.specs.binlog_items.Items.{numbers_of}
-use Rattle.proc_parts.specs.prog_run.declared.meter.Outcome.{Outcome}
+use Rattle.proc_parts.specs.prog_work.declared.meter.Outcome.{Outcome}
 use Rattle.proc_parts.specs.proc_model.Talk.{Left}
 use Rattle.session_shared.specs.session_model.Commands.{changes_of_own}
 use Rattle.session_shared.specs.session_model.Formats.{logs_rows, warns}

@@ -20,8 +20,8 @@ use Rattle.proc_parts.specs.sql_meaning.Changing.{Did}
 use Rattle.proc_parts.specs.sql_meaning.Running.{context_after}
 use Rattle.proc_parts.specs.sql_meaning.Leading.{EndsWell, Leads}
 use Rattle.proc_parts.proofs.of_sql_meaning.LedBodies.{statements_end, evaluations_end}
-use Rattle.proc_parts.specs.prog_run.declared.meter.Outcome.{Outcome}
-use Rattle.proc_parts.specs.prog_run.Runs.{outcome_of}
+use Rattle.proc_parts.specs.prog_work.declared.meter.Outcome.{Outcome}
+use Rattle.proc_parts.specs.prog_work.Outcomes.{outcome_of}
 use Rattle.session_shared.specs.binlog_items.Items.{numbers_of}
 use Rattle.proc_parts.specs.sql_reach.Reasons.{reasons}
 use Rattle.session_shared.specs.session_model.Formats.{logs_rows, warns}

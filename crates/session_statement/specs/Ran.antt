@@ -12,9 +12,9 @@ use Rattle.proc_parts.specs.sql_meaning.Scenes.{Scene, Ending, done, failed}
 use Rattle.proc_parts.specs.sql_meaning.Frames.{Context}
 use Rattle.proc_parts.specs.sql_meaning.Changing.{Did}
 use Rattle.proc_parts.specs.sql_meaning.Running.{most_nested, most_turns, effect, evaluation, context_after}
-use Rattle.proc_parts.specs.prog_run.declared.meter.Meter.{Meter}
-use Rattle.proc_parts.specs.prog_run.declared.meter.Outcome.{Outcome}
-use Rattle.proc_parts.specs.prog_run.Runs.{outcome_of}
+use Rattle.proc_parts.specs.prog_work.declared.meter.Meter.{Meter}
+use Rattle.proc_parts.specs.prog_work.declared.meter.Outcome.{Outcome}
+use Rattle.proc_parts.specs.prog_work.Outcomes.{outcome_of}
 use Rattle.proc_parts.specs.proc_model.Talk.{Left}
 use Rattle.session_shared.specs.session_model.Sessions.{Shared}
 use Rattle.session_shared.specs.session_model.Running.{Fuel, Given, fuel_of, is_other, scene_for, setting_of, with_counters}

@@ -14,7 +14,7 @@ use proc_parts::log_entries::Item;
 use proc_parts::name_const::close_stmt;
 use proc_parts::session_ctx::Ctx;
 use session_shared::binlog_items::{Before, Items, item_of};
-use session_shared::{Call, Desk, Open, Session, how_logged};
+use session_shared::{Command, Desk, Open, Session, how_logged};
 use sql_locals::Locals;
 use sql_print::print;
 use sql_tree::Stmt;
@@ -54,29 +54,29 @@ pub(crate) fn start_of(desk: &Desk, number: u8, context: &Ctx) -> Start
 /// Keeps an item outside a transaction, as one by itself.
 fn keep_alone(
     alloc: Global,
-    call: &Call<'_>,
+    command: &Command<'_>,
     desk: &mut Desk,
     session: &Session,
     item: Item,
     mark: u64,
 ) -> Result<bool, NoMemory>
     requires { session.now.transaction ≡ None }
-    ensures { IfOk result (λ kept. IsTurn desk.old desk.new session.now kept (item_kept (called call.now) item mark (shared_of desk.old) session.now)) }
+    ensures { IfOk result (λ kept. IsTurn desk.old desk.new session.now kept (item_kept (called command.now) item mark (shared_of desk.old) session.now)) }
 {
     let mut items = Items::new(alloc);
     items.add(item)?;
     if items.are_too_large() {
-        desk.cut(call.number, mark);
+        desk.cut(command.number, mark);
         return Ok(false);
     }
     let stamp = session.vars.context.stamp();
-    desk.commit(alloc, stamp, call.identity.server_id, &items)?;
+    desk.commit(alloc, stamp, command.identity.server_id, &items)?;
     Ok(true)
 }
 
 /// Keeps an item as the last of an open transaction; the session keeps the lock.
 fn keep_in(
-    call: &Call<'_>,
+    command: &Command<'_>,
     desk: &mut Desk,
     session: &mut Session,
     transaction: Open,
@@ -84,16 +84,16 @@ fn keep_in(
     mark: u64,
 ) -> Result<bool, NoMemory>
     requires { session.old.transaction ≡ None }
-    ensures { IfOk result (λ kept. IsTurn desk.old desk.new session.new kept (item_kept (called call.now) item mark (shared_of desk.old) (record session.old { transaction = Some transaction }))) }
+    ensures { IfOk result (λ kept. IsTurn desk.old desk.new session.new kept (item_kept (called command.now) item mark (shared_of desk.old) (record session.old { transaction = Some transaction }))) }
 {
     let mut open = transaction;
     let added = open.add_item(item);
     session.transaction = Some(open);
     let is_kept = added?;
     if is_kept {
-        desk.take_lock(call.number);
+        desk.take_lock(command.number);
     } else {
-        desk.cut(call.number, mark);
+        desk.cut(command.number, mark);
     }
     Ok(is_kept)
 }
@@ -102,17 +102,17 @@ fn keep_in(
 /// the changes are taken back, and the answer is false.
 fn keep_item(
     alloc: Global,
-    call: &Call<'_>,
+    command: &Command<'_>,
     desk: &mut Desk,
     session: &mut Session,
     item: Item,
     mark: u64,
 ) -> Result<bool, NoMemory>
-    ensures { IfOk result (λ kept. IsTurn desk.old desk.new session.new kept (item_kept (called call.now) item mark (shared_of desk.old) session.old)) }
+    ensures { IfOk result (λ kept. IsTurn desk.old desk.new session.new kept (item_kept (called command.now) item mark (shared_of desk.old) session.old)) }
 {
     match session.transaction.take() {
-        None => keep_alone(alloc, call, desk, session, item, mark),
-        Some(open) => keep_in(call, desk, session, open, item, mark),
+        None => keep_alone(alloc, command, desk, session, item, mark),
+        Some(open) => keep_in(command, desk, session, open, item, mark),
     }
 }
 
@@ -120,7 +120,7 @@ fn keep_item(
 /// 1197: then nothing of it is left but what it used. Gives whether the statement is warned.
 pub(crate) fn keep(
     alloc: Global,
-    call: &Call<'_>,
+    command: &Command<'_>,
     desk: &mut Desk,
     session: &mut Session,
     text: &[u8],
@@ -129,9 +129,9 @@ pub(crate) fn keep(
     first: Option<i64>,
 ) -> Result<bool, SqlRefusal>
     requires { IsTrue (int_le (pos 0) start.before.last_id) }
-    ensures { EndsAs result desk.old desk.new session.new (statement_kept (called call.now) text.now (view statement.now) (start.before) first (start.mark) (shared_of desk.old) session.old) }
+    ensures { EndsAs result desk.old desk.new session.new (statement_kept (called command.now) text.now (view statement.now) (start.before) first (start.mark) (shared_of desk.old) session.old) }
 {
-    let changes = desk.changes_since(alloc, call.number, start.mark)?;
+    let changes = desk.changes_since(alloc, command.number, start.mark)?;
     if changes.len() == 0 {
         return Ok(false);
     }
@@ -149,7 +149,7 @@ pub(crate) fn keep(
         logging.rows,
         changes,
     )?;
-    if keep_item(alloc, call, desk, session, item, start.mark)? {
+    if keep_item(alloc, command, desk, session, item, start.mark)? {
         return Ok(logging.warned);
     }
     session.vars.context.set_last_id(start.before.last_id);
@@ -159,7 +159,7 @@ pub(crate) fn keep(
 /// Keeps what the expressions of a SET changed, or takes it back where an error refuses their values.
 pub fn settle(
     alloc: Global,
-    call: &Call<'_>,
+    command: &Command<'_>,
     desk: &mut Desk,
     session: &mut Session,
     text: &[u8],
@@ -168,20 +168,20 @@ pub fn settle(
     refusal: Option<SqlError>,
 ) -> Result<bool, SqlRefusal>
     requires { IsTrue (int_le (pos 0) start.before.last_id) }
-    ensures { EndsAs result desk.old desk.new session.new (settled (called call.now) refusal text.now (view statement.now) (start.before) (start.mark) (shared_of desk.old) session.old) }
+    ensures { EndsAs result desk.old desk.new session.new (settled (called command.now) refusal text.now (view statement.now) (start.before) (start.mark) (shared_of desk.old) session.old) }
 {
     if let Some(code) = refusal {
-        desk.cut(call.number, start.mark);
+        desk.cut(command.number, start.mark);
         return Err(SqlRefusal::Sql(code));
     }
-    keep(alloc, call, desk, session, text, statement, start, None)
+    keep(alloc, command, desk, session, text, statement, start, None)
 }
 
 /// The same by the canonical text, which is made only where the statement changed something.
 #[tactic(auto, using(crate::proofs::Keeps::nothing_kept))]
 pub(crate) fn keep_printed(
     alloc: Global,
-    call: &Call<'_>,
+    command: &Command<'_>,
     desk: &mut Desk,
     session: &mut Session,
     statement: &Stmt,
@@ -189,15 +189,15 @@ pub(crate) fn keep_printed(
     first: Option<i64>,
 ) -> Result<bool, SqlRefusal>
     requires { IsTrue (int_le (pos 0) start.before.last_id) }
-    ensures { EndsAs result desk.old desk.new session.new (statement_kept (called call.now) (spelling (view statement.now)) (view statement.now) (start.before) first (start.mark) (shared_of desk.old) session.old) }
+    ensures { EndsAs result desk.old desk.new session.new (statement_kept (called command.now) (spelling (view statement.now)) (view statement.now) (start.before) first (start.mark) (shared_of desk.old) session.old) }
 {
-    if !desk.has_changed(call.number, start.mark) {
+    if !desk.has_changed(command.number, start.mark) {
         return Ok(false);
     }
     let text = print(alloc, statement)?;
     keep(
         alloc,
-        call,
+        command,
         desk,
         session,
         text.as_slice(),
@@ -218,7 +218,7 @@ fn closed_over(alloc: Global, statement: &Stmt, locals: &Locals) -> Result<Boxed
 #[tactic(auto, using(crate::proofs::Keeps::nothing_kept))]
 pub(crate) fn keep_closed(
     alloc: Global,
-    call: &Call<'_>,
+    command: &Command<'_>,
     desk: &mut Desk,
     session: &mut Session,
     statement: &Stmt,
@@ -226,11 +226,11 @@ pub(crate) fn keep_closed(
     start: Start,
 ) -> Result<bool, SqlRefusal>
     requires { IsTrue (int_le (pos 0) start.before.last_id) }
-    ensures { EndsAs result desk.old desk.new session.new (statement_kept (called call.now) (spelling (closed (view statement.now) locals.now)) (closed (view statement.now) locals.now) (start.before) None (start.mark) (shared_of desk.old) session.old) }
+    ensures { EndsAs result desk.old desk.new session.new (statement_kept (called command.now) (spelling (closed (view statement.now) locals.now)) (closed (view statement.now) locals.now) (start.before) None (start.mark) (shared_of desk.old) session.old) }
 {
-    if !desk.has_changed(call.number, start.mark) {
+    if !desk.has_changed(command.number, start.mark) {
         return Ok(false);
     }
     let closed = closed_over(alloc, statement, locals)?;
-    keep_printed(alloc, call, desk, session, closed.get(), start, None)
+    keep_printed(alloc, command, desk, session, closed.get(), start, None)
 }

@@ -6,8 +6,8 @@
 //!   [`evaluate_closed`], the same of a procedure; [`evaluate_unkept`], the part that all evaluations have in common
 //!
 //! Desk, session and log stand in `session_shared`. The definitions in specs/ say what a command has round it (`Calls`), how
-//! statements end (`Ran`), what an evaluation gives before it is kept (`Evaluating`), and what turns of the machine of `session_model` leave of desk, session and log (`Turned`,
-//! `Keeping`).
+//! statements end (`Ran`), what an evaluation gives before it is kept (`Evaluating`), and what turns of the machine of
+//! `session_model` leave of desk, session and log (`Turned`, `Keeping`).
 //!
 //! # Proved
 //! - [`run_with_text`] and [`evaluate_with_text`] do just what the machine's statement does: rows, counters, lock, transaction,
@@ -25,6 +25,7 @@ mod stepping;
 
 // What is its own, and the crates below that it speaks of, passed on: who stands above names them through it.
 pub use keeping::{Kept, Start, settle};
+pub use proc_parts::prog_run;
 pub use running::full;
 pub use session_shared;
 pub use session_shared::binlog_items;

@@ -3,7 +3,7 @@ ghost use Rattle.std.specs.Prelude.{◌≡◌, true, false};
 ghost use Rattle.sql_tree.specs.StatementView.{view};
 ghost use Rattle.sql_tree.specs.View.{view_trees};
 ghost use Rattle.proc_parts.specs.sql_reach.Reach.{is_definition};
-ghost use Rattle.proc_parts.specs.prog_run.Runs.{Spends};
+ghost use Rattle.proc_parts.specs.prog_work.Outcomes.{Spends};
 ghost use Rattle.proc_parts.specs.Calls.{left_of};
 ghost use Rattle.session_shared.specs.session_model.Running.{is_other};
 ghost use Rattle.session_shared.specs.Desk.{shared_of};

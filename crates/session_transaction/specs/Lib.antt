@@ -5,7 +5,7 @@ pub use Rattle.answer_making.specs.catalog_rules as catalog_rules
 pub use Rattle.answer_making.specs.log_entries as log_entries
 pub use Rattle.answer_making.specs.log_model as log_model
 pub use Rattle.answer_making.specs.proc_model as proc_model
-pub use Rattle.answer_making.specs.prog_run as prog_run
+pub use Rattle.answer_making.specs.prog_work as prog_work
 pub use Rattle.answer_making.specs.sql_meaning as sql_meaning
 pub use Rattle.answer_making.specs.sql_reach as sql_reach
 pub use Rattle.answer_making.specs.text_answers as text_answers

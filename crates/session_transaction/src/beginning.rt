@@ -8,22 +8,22 @@ ghost use Rattle.session_statement.specs.Turned.{IsTurn};
 use crate::ending::commit_open;
 use answer_making::ok;
 use answer_text::Answer;
-use session_statement::session_shared::{Call, Desk, Open, Session};
+use session_statement::session_shared::{Command, Desk, Open, Session};
 use std::alloc::Global;
 use val_types::NoMemory;
 
 /// BEGIN: commits the open transaction, and opens one.
 pub fn begin(
     alloc: Global,
-    call: &Call<'_>,
+    command: &Command<'_>,
     desk: &mut Desk,
     session: &mut Session,
 ) -> Result<Answer, NoMemory>
-    ensures ok { IfOk result (λ answer. IsTurn desk.old desk.new session.new answer (begin_turn (called call.now) (shared_of desk.old) session.old)) }
+    ensures ok { IfOk result (λ answer. IsTurn desk.old desk.new session.new answer (begin_turn (called command.now) (shared_of desk.old) session.old)) }
     ensures desk { OnErr result (desk.new ≡ desk.old) }
     ensures session { OnErr result (session.new ≡ session.old) }
 {
-    commit_open(alloc, call, desk, session)?;
+    commit_open(alloc, command, desk, session)?;
     session.transaction = Some(Open::new(alloc));
     Ok(ok(alloc, 0))
 }

@@ -10,20 +10,20 @@ ghost use Rattle.session_statement.specs.Turned.{IsTurn, Moves};
 use answer_making::ok;
 use answer_text::Answer;
 use session_ctx::Ctx;
-use session_statement::session_shared::{Call, Desk, Open, Session};
+use session_statement::session_shared::{Command, Desk, Open, Session};
 use std::alloc::Global;
 use val_types::NoMemory;
 
 /// Commits a transaction at the moment of a context, where it has an item.
 fn commit_items(
     alloc: Global,
-    call: &Call<'_>,
+    command: &Command<'_>,
     desk: &mut Desk,
     context: &Ctx,
     transaction: &Option<Open>,
 ) -> Result<(), NoMemory>
-    ensures shared { OnOk result (shared_of desk.new ≡ commit_shared (called call.now) context.now (items_of transaction.now) (shared_of desk.old)) }
-    ensures log { OnOk result (Logs (commit_entries (called call.now) context.now (items_of transaction.now)) desk.old desk.new) }
+    ensures shared { OnOk result (shared_of desk.new ≡ commit_shared (called command.now) context.now (items_of transaction.now) (shared_of desk.old)) }
+    ensures log { OnOk result (Logs (commit_entries (called command.now) context.now (items_of transaction.now)) desk.old desk.new) }
     ensures err { OnErr result (desk.new ≡ desk.old) }
 {
     let Some(open) = transaction else {
@@ -33,52 +33,57 @@ fn commit_items(
     if items.mark() == 0 {
         return Ok(());
     }
-    desk.commit(alloc, context.stamp(), call.identity.server_id, items)
+    desk.commit(alloc, context.stamp(), command.identity.server_id, items)
 }
 
 /// Ends the open transaction of a session, with its changes. Where memory is short, it stays open as it was.
 pub fn commit_open(
     alloc: Global,
-    call: &Call<'_>,
+    command: &Command<'_>,
     desk: &mut Desk,
     session: &mut Session,
 ) -> Result<(), NoMemory>
-    ensures ok { OnOk result (Moves desk.old desk.new session.new (commit_open (called call.now) (shared_of desk.old) session.old)) }
+    ensures ok { OnOk result (Moves desk.old desk.new session.new (commit_open (called command.now) (shared_of desk.old) session.old)) }
     ensures desk { OnErr result (desk.new ≡ desk.old) }
     ensures session { OnErr result (session.new ≡ session.old) }
 {
     commit_items(
         alloc,
-        call,
+        command,
         desk,
         &session.vars.context,
         &session.transaction,
     )?;
     session.transaction = None;
-    desk.release(call.number);
+    desk.release(command.number);
     Ok(())
 }
 
 /// COMMIT.
 pub fn commit(
     alloc: Global,
-    call: &Call<'_>,
+    command: &Command<'_>,
     desk: &mut Desk,
     session: &mut Session,
 ) -> Result<Answer, NoMemory>
-    ensures ok { IfOk result (λ answer. IsTurn desk.old desk.new session.new answer (commit_turn (called call.now) (shared_of desk.old) session.old)) }
+    ensures ok { IfOk result (λ answer. IsTurn desk.old desk.new session.new answer (commit_turn (called command.now) (shared_of desk.old) session.old)) }
     ensures desk { OnErr result (desk.new ≡ desk.old) }
     ensures session { OnErr result (session.new ≡ session.old) }
 {
-    commit_open(alloc, call, desk, session)?;
+    commit_open(alloc, command, desk, session)?;
     Ok(ok(alloc, 0))
 }
 
 /// ROLLBACK.
-pub fn rollback(alloc: Global, call: &Call<'_>, desk: &mut Desk, session: &mut Session) -> Answer
-    ensures { IsTurn desk.old desk.new session.new result (rollback_turn (called call.now) (shared_of desk.old) session.old) }
+pub fn rollback(
+    alloc: Global,
+    command: &Command<'_>,
+    desk: &mut Desk,
+    session: &mut Session,
+) -> Answer
+    ensures { IsTurn desk.old desk.new session.new result (rollback_turn (called command.now) (shared_of desk.old) session.old) }
 {
     session.transaction = None;
-    desk.drop_changes(call.number);
+    desk.drop_changes(command.number);
     ok(alloc, 0)
 }

@@ -24,11 +24,11 @@ mod savepoints;
 // What is its own, and the crates below that it speaks of, passed on: who stands above names them through it.
 pub use answer_making;
 pub use answer_making::{
-    catalog, catalog_create_program, catalog_create_table, prog_run, session_ctx, session_model,
+    catalog, catalog_create_program, catalog_create_table, prog_work, session_ctx, session_model,
     sql_parse,
 };
 pub use beginning::begin;
 pub use ending::{commit, commit_open, rollback};
 pub use savepoints::{release_savepoint, rollback_to, savepoint};
 pub use session_statement;
-pub use session_statement::{binlog_items, session_shared};
+pub use session_statement::{binlog_items, prog_run, session_shared};

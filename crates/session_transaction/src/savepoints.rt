@@ -8,7 +8,7 @@ ghost use Rattle.session_statement.specs.Turned.{IsTurn};
 
 use answer_making::{ok, refused};
 use answer_text::Answer;
-use session_statement::session_shared::{Call, Desk, Session};
+use session_statement::session_shared::{Command, Desk, Session};
 use std::alloc::Global;
 use val_types::{Bytes, NoMemory};
 
@@ -18,15 +18,15 @@ const NO_SUCH_SAVEPOINT: u16 = 1305;
 /// SAVEPOINT: one of the name moves; outside a transaction it does nothing.
 pub fn savepoint(
     alloc: Global,
-    call: &Call<'_>,
+    command: &Command<'_>,
     desk: &Desk,
     session: &mut Session,
     name: &Bytes,
 ) -> Result<Answer, NoMemory>
-    ensures ok { IfOk result (λ answer. IsTurn desk.now desk.now session.new answer (save_turn (called call.now) name.now (shared_of desk.now) session.old)) }
+    ensures ok { IfOk result (λ answer. IsTurn desk.now desk.now session.new answer (save_turn (called command.now) name.now (shared_of desk.now) session.old)) }
     ensures session { OnErr result (session.new ≡ session.old) }
 {
-    let changes = desk.own_changes(call.number);
+    let changes = desk.own_changes(command.number);
     if let Some(mut open) = session.transaction.take() {
         let saved = open.save(alloc, name, changes);
         session.transaction = Some(open);
@@ -39,12 +39,12 @@ pub fn savepoint(
 /// where there is no savepoint of the name.
 pub fn rollback_to(
     alloc: Global,
-    call: &Call<'_>,
+    command: &Command<'_>,
     desk: &mut Desk,
     session: &mut Session,
     name: &Bytes,
 ) -> Answer
-    ensures { IsTurn desk.old desk.new session.new result (back_turn (called call.now) name.now (shared_of desk.old) session.old) }
+    ensures { IsTurn desk.old desk.new session.new result (back_turn (called command.now) name.now (shared_of desk.old) session.old) }
 {
     let Some(mut open) = session.transaction.take() else {
         return refused(alloc, NO_SUCH_SAVEPOINT);
@@ -54,7 +54,7 @@ pub fn rollback_to(
     match changes {
         None => refused(alloc, NO_SUCH_SAVEPOINT),
         Some(changes) => {
-            desk.cut(call.number, changes);
+            desk.cut(command.number, changes);
             ok(alloc, 0)
         }
     }

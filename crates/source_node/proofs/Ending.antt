@@ -14,9 +14,9 @@ use Rattle.sql_tree.specs.View.{view_trees}
 use Rattle.sql_tree.specs.declared.expressions.Expr.{Expr}
 use Rattle.session_transaction.specs.sql_meaning.Changing.{Did}
 use Rattle.session_transaction.specs.sql_meaning.Running.{most_nested}
-use Rattle.session_transaction.specs.prog_run.declared.meter.Meter.{Meter}
-use Rattle.session_transaction.specs.prog_run.declared.meter.Outcome.{Outcome}
-use Rattle.session_transaction.specs.prog_run.Runs.{Spends, outcome_of}
+use Rattle.session_transaction.specs.prog_work.declared.meter.Meter.{Meter}
+use Rattle.session_transaction.specs.prog_work.declared.meter.Outcome.{Outcome}
+use Rattle.session_transaction.specs.prog_work.Outcomes.{Spends, outcome_of}
 use Rattle.session_transaction.specs.answer_making.Telling.{told_answer}
 use Rattle.session_transaction.specs.proc_model.Talk.{brought}
 use Rattle.session_transaction.specs.proc_model.Procedures as procedures

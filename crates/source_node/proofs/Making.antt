@@ -23,9 +23,9 @@ use Rattle.session_transaction.specs.log_entries.declared.entries.Entry.TheVaria
 use Rattle.session_transaction.specs.log_model.Log.{LogPlace, behind}
 use Rattle.session_transaction.specs.binlog_items.Items.{item_by_text}
 use Rattle.session_transaction.specs.binlog_items.Logged.{Encodes, in_log}
-use Rattle.session_transaction.specs.prog_run.declared.meter.Outcome.{Outcome}
-use Rattle.session_transaction.specs.prog_run.Contents.{Contents, base_of, committed_tables, without_changes}
-use Rattle.session_transaction.specs.prog_run.Runs.{Makes}
+use Rattle.session_transaction.specs.prog_work.declared.meter.Outcome.{Outcome}
+use Rattle.session_transaction.specs.prog_work.Contents.{Contents, base_of, committed_tables, without_changes}
+use Rattle.session_transaction.specs.prog_work.Defining.{Makes}
 use Rattle.session_transaction.specs.proc_model.Procedures.{plain_refusal}
 use Rattle.session_transaction.specs.proc_model.Talk.{Refusal}
 use Rattle.session_model.specs.Answers.{ok, refused, refused_as}

@@ -3,7 +3,7 @@ ghost use Rattle.std.specs.Prelude.{◌≡◌, [], false, true, None, IfOk, OnOk
 ghost use Rattle.sql_tree.specs.StatementView.{view};
 ghost use Rattle.session_transaction.specs.catalog_rules.Bases.{defined};
 ghost use Rattle.session_transaction.specs.catalog_rules.Creating.{ddl_refusal};
-ghost use Rattle.session_transaction.specs.prog_run.Runs.{Makes};
+ghost use Rattle.session_transaction.specs.prog_work.Defining.{Makes};
 ghost use Rattle.session_transaction.specs.sql_reach.Reach.{is_definition};
 ghost use Rattle.session_model.specs.Commands.{define_turn, definition_turn, made_turn};
 ghost use Rattle.session_model.specs.Running.{writing_refusal};
@@ -19,7 +19,7 @@ use session_transaction::answer_making::{NodeFault, ok, refused};
 use session_transaction::binlog_items::encode_definition;
 use session_transaction::commit_open;
 use session_transaction::prog_run::{Outcome, run_stmt};
-use session_transaction::session_shared::{Call, Desk, Session};
+use session_transaction::session_shared::{Command, Desk, Session};
 use session_transaction::session_statement::full;
 use sql_tree::Stmt;
 use std::alloc::Global;
@@ -54,7 +54,7 @@ fn run_definition(
 /// has one has an item, and was committed.
 fn make(
     alloc: Global,
-    call: &Call<'_>,
+    command: &Command<'_>,
     desk: &mut Desk,
     session: &mut Session,
     text: &[u8],
@@ -62,8 +62,8 @@ fn make(
 ) -> Result<Answer, NodeFault>
     requires definition { is_definition (view statement.now) ≡ true }
     requires allowed { ddl_refusal ((shared_of desk.old).base.catalog) (view statement.now) ≡ None }
-    requires room { writing_refusal call.now.number (shared_of desk.old) ≡ None }
-    ensures { IfOk result (λ answer. IsTurn desk.old desk.new session.new answer (made_turn (called call.now) text.now (view statement.now) (defined (view statement.now) ((shared_of desk.old).base)) (not_begun (shared_of desk.old) session.old))) }
+    requires room { writing_refusal command.now.number (shared_of desk.old) ≡ None }
+    ensures { IfOk result (λ answer. IsTurn desk.old desk.new session.new answer (made_turn (called command.now) text.now (view statement.now) (defined (view statement.now) ((shared_of desk.old).base)) (not_begun (shared_of desk.old) session.old))) }
 {
     if desk.has_changes() {
         return Err(NodeFault::NoMemory);
@@ -71,8 +71,8 @@ fn make(
     let committed = desk.committed + 1;
     let place = desk.log.len() as u64;
     let context = &mut session.vars.context;
-    let bytes = encode_definition(alloc, text, context, call.identity.server_id, place)?;
-    let told = run_definition(alloc, desk, statement, context, call.draw)?;
+    let bytes = encode_definition(alloc, text, context, command.identity.server_id, place)?;
+    let told = run_definition(alloc, desk, statement, context, command.draw)?;
     let _ = told.affected;
     desk.log.append(bytes)?;
     desk.committed = committed;
@@ -83,36 +83,36 @@ fn make(
 /// made.
 fn define_next(
     alloc: Global,
-    call: &Call<'_>,
+    command: &Command<'_>,
     desk: &mut Desk,
     session: &mut Session,
     text: &[u8],
     statement: &Stmt,
 ) -> Result<Answer, NodeFault>
     requires { is_definition (view statement.now) ≡ true }
-    ensures { IfOk result (λ answer. IsTurn desk.old desk.new session.new answer (define_turn (called call.now) text.now (view statement.now) (not_begun (shared_of desk.old) session.old))) }
+    ensures { IfOk result (λ answer. IsTurn desk.old desk.new session.new answer (define_turn (called command.now) text.now (view statement.now) (not_begun (shared_of desk.old) session.old))) }
 {
     if let Some(code) = definition_refusal(desk, statement) {
         return Ok(refused(alloc, code));
     }
-    if let Some(answer) = writing_refusal(alloc, desk, call.number) {
+    if let Some(answer) = writing_refusal(alloc, desk, command.number) {
         return Ok(answer);
     }
-    make(alloc, call, desk, session, text, statement)
+    make(alloc, command, desk, session, text, statement)
 }
 
 /// A definition: the open transaction is committed first, whatever comes of it.
 pub(crate) fn define(
     alloc: Global,
-    call: &Call<'_>,
+    command: &Command<'_>,
     desk: &mut Desk,
     session: &mut Session,
     text: &[u8],
     statement: &Stmt,
 ) -> Result<Answer, NodeFault>
     requires { is_definition (view statement.now) ≡ true }
-    ensures { IfOk result (λ answer. IsTurn desk.old desk.new session.new answer (definition_turn (called call.now) text.now (view statement.now) (shared_of desk.old) session.old)) }
+    ensures { IfOk result (λ answer. IsTurn desk.old desk.new session.new answer (definition_turn (called command.now) text.now (view statement.now) (shared_of desk.old) session.old)) }
 {
-    commit_open(alloc, call, desk, session)?;
-    define_next(alloc, call, desk, session, text, statement)
+    commit_open(alloc, command, desk, session)?;
+    define_next(alloc, command, desk, session, text, statement)
 }

@@ -10,7 +10,7 @@ ghost use Rattle.session_transaction.specs.session_statement.Turned.{IsTurn};
 
 use answer_text::Answer;
 use session_transaction::answer_making::{NodeFault, refused, told, with_warning};
-use session_transaction::session_shared::{Call, Desk, Session};
+use session_transaction::session_shared::{Command, Desk, Session};
 use session_transaction::session_statement::{full, run_with_text};
 use sql_tree::Stmt;
 use std::alloc::Global;
@@ -20,17 +20,17 @@ use val_types::SqlRefusal;
 #[tactic(auto, using(crate::proofs::Ending::telling))]
 pub(crate) fn run_plain(
     alloc: Global,
-    call: &Call<'_>,
+    command: &Command<'_>,
     desk: &mut Desk,
     session: &mut Session,
     text: &[u8],
     statement: &Stmt,
 ) -> Result<Answer, NodeFault>
     requires { is_definition (view statement.now) ≡ false }
-    ensures { IfOk result (λ answer. IsTurn desk.old desk.new session.new answer (given_turn (statement_run (called call.now) full text.now (view statement.now) (shared_of desk.old) session.old))) }
+    ensures { IfOk result (λ answer. IsTurn desk.old desk.new session.new answer (given_turn (statement_run (called command.now) full text.now (view statement.now) (shared_of desk.old) session.old))) }
 {
     let mut meter = full();
-    match run_with_text(alloc, call, desk, session, text, statement, &mut meter) {
+    match run_with_text(alloc, command, desk, session, text, statement, &mut meter) {
         Err(SqlRefusal::NoMemory) => Err(NodeFault::NoMemory),
         Err(SqlRefusal::Sql(code)) => Ok(refused(alloc, code)),
         Ok(kept) => Ok(with_warning(told(alloc, &kept.value)?, kept.warned)),

@@ -12,7 +12,7 @@ use port_traits::{Draw, Identity};
 use session_model::steps_are_kept;
 use session_transaction::answer_making::NodeFault;
 use session_transaction::binlog_items::{encode_start, served_bytes};
-use session_transaction::session_shared::{Call, Desk, Session};
+use session_transaction::session_shared::{Command, Desk, Session};
 use std::alloc::Global;
 use std::marker::Model;
 use val_types::{Bytes, NoMemory};
@@ -100,14 +100,14 @@ impl SourceNode {
         ensures state { IfOk result (λ answer. state_of self.new ≡ (step kept (self.old.identity) (state_of self.old) session text.now draw.entry.now).state) }
         ensures log { IfOk result (λ answer. Logs ((step kept (self.old.identity) (state_of self.old) session text.now draw.entry.now).committed) (self.old.desk) (self.new.desk)) }
     {
-        let call = Call {
+        let command = Command {
             identity: &self.identity,
             draw,
             number: session,
         };
         run_command(
             self.alloc,
-            &call,
+            &command,
             &mut self.desk,
             &mut self.sessions[session as usize],
             text,

@@ -15,11 +15,12 @@ ghost use Rattle.session_transaction.specs.session_statement.Turned.{IsTurn};
 use crate::calling::run_call;
 use crate::definitions::define;
 use crate::plain::run_plain;
-use crate::writing::{is_definition, refused_here};
+use crate::writing::refused_here;
 use answer_text::Answer;
-use session_set::{lock_refusal, set};
+use session_set::set;
 use session_transaction::answer_making::{NodeFault, refused};
-use session_transaction::session_shared::{Call, Desk, Session};
+use session_transaction::prog_run::is_definition;
+use session_transaction::session_shared::{Command, Desk, Session, lock_refusal};
 use session_transaction::{begin, commit, release_savepoint, rollback, rollback_to, savepoint};
 use sql_tree::{Assignment, Expr, Stmt};
 use std::alloc::Global;
@@ -29,7 +30,7 @@ use val_types::{Bytes, List, SqlError};
 /// A change, a SELECT or a DO: the catalog's checks, the lock, then it is run.
 fn plain(
     alloc: Global,
-    call: &Call<'_>,
+    command: &Command<'_>,
     desk: &mut Desk,
     session: &mut Session,
     text: &[u8],
@@ -38,21 +39,21 @@ fn plain(
 ) -> Result<Answer, NodeFault>
     requires definition { is_definition (view statement.now) ≡ false }
     requires refusal { refusal ≡ statement_refusal ((shared_of desk.old).base.catalog) session_scope (view statement.now) }
-    ensures { IfOk result (λ answer. IsTurn desk.old desk.new session.new answer (plain_turn (called call.now) text.now (view statement.now) (shared_of desk.old) session.old)) }
+    ensures { IfOk result (λ answer. IsTurn desk.old desk.new session.new answer (plain_turn (called command.now) text.now (view statement.now) (shared_of desk.old) session.old)) }
 {
     if let Some(code) = refusal {
         return Ok(refused(alloc, code));
     }
-    if let Some(answer) = lock_refusal(alloc, desk, call.number, statement) {
+    if let Some(answer) = lock_refusal(alloc, desk, command.number, statement) {
         return Ok(answer);
     }
-    run_plain(alloc, call, desk, session, text, statement)
+    run_plain(alloc, command, desk, session, text, statement)
 }
 
 /// A definition, or a change, a SELECT or a DO.
 fn other(
     alloc: Global,
-    call: &Call<'_>,
+    command: &Command<'_>,
     desk: &mut Desk,
     session: &mut Session,
     text: &[u8],
@@ -60,12 +61,12 @@ fn other(
     statement: &Stmt,
 ) -> Result<Answer, NodeFault>
     requires { refusal ≡ statement_refusal ((shared_of desk.old).base.catalog) session_scope (view statement.now) }
-    ensures { IfOk result (λ answer. IsTurn desk.old desk.new session.new answer (other_turn (called call.now) text.now (view statement.now) (shared_of desk.old) session.old)) }
+    ensures { IfOk result (λ answer. IsTurn desk.old desk.new session.new answer (other_turn (called command.now) text.now (view statement.now) (shared_of desk.old) session.old)) }
 {
     if is_definition(statement) {
-        define(alloc, call, desk, session, text, statement)
+        define(alloc, command, desk, session, text, statement)
     } else {
-        plain(alloc, call, desk, session, text, refusal, statement)
+        plain(alloc, command, desk, session, text, refusal, statement)
     }
 }
 
@@ -114,21 +115,21 @@ fn is_of_transaction(statement: &Stmt) -> bool
 /// A statement on transactions.
 fn of_transaction(
     alloc: Global,
-    call: &Call<'_>,
+    command: &Command<'_>,
     desk: &mut Desk,
     session: &mut Session,
     text: &[u8],
     statement: &Stmt,
 ) -> Result<Answer, NodeFault>
     requires { is_of_transaction (view statement.now) ≡ true }
-    ensures { IfOk result (λ answer. IsTurn desk.old desk.new session.new answer (statement_turn (called call.now) text.now (view statement.now) (shared_of desk.old) session.old)) }
+    ensures { IfOk result (λ answer. IsTurn desk.old desk.new session.new answer (statement_turn (called command.now) text.now (view statement.now) (shared_of desk.old) session.old)) }
 {
     match statement {
-        Stmt::Begin => Ok(begin(alloc, call, desk, session)?),
-        Stmt::Commit => Ok(commit(alloc, call, desk, session)?),
-        Stmt::Rollback => Ok(rollback(alloc, call, desk, session)),
-        Stmt::Savepoint(name) => Ok(savepoint(alloc, call, desk, session, name)?),
-        Stmt::RollbackTo(name) => Ok(rollback_to(alloc, call, desk, session, name)),
+        Stmt::Begin => Ok(begin(alloc, command, desk, session)?),
+        Stmt::Commit => Ok(commit(alloc, command, desk, session)?),
+        Stmt::Rollback => Ok(rollback(alloc, command, desk, session)),
+        Stmt::Savepoint(name) => Ok(savepoint(alloc, command, desk, session, name)?),
+        Stmt::RollbackTo(name) => Ok(rollback_to(alloc, command, desk, session, name)),
         Stmt::ReleaseSavepoint(name) => Ok(release_savepoint(alloc, desk, session, name)),
         _ => unreachable!(),
     }
@@ -137,7 +138,7 @@ fn of_transaction(
 /// A statement that is neither a SET nor a CALL.
 fn run_kept(
     alloc: Global,
-    call: &Call<'_>,
+    command: &Command<'_>,
     desk: &mut Desk,
     session: &mut Session,
     text: &[u8],
@@ -147,32 +148,32 @@ fn run_kept(
     requires refusal { refusal ≡ statement_refusal ((shared_of desk.old).base.catalog) session_scope (view statement.now) }
     requires set { is_set (view statement.now) ≡ false }
     requires call { is_call (view statement.now) ≡ false }
-    ensures { IfOk result (λ answer. IsTurn desk.old desk.new session.new answer (statement_turn (called call.now) text.now (view statement.now) (shared_of desk.old) session.old)) }
+    ensures { IfOk result (λ answer. IsTurn desk.old desk.new session.new answer (statement_turn (called command.now) text.now (view statement.now) (shared_of desk.old) session.old)) }
 {
     if is_of_transaction(statement) {
-        of_transaction(alloc, call, desk, session, text, statement)
+        of_transaction(alloc, command, desk, session, text, statement)
     } else {
-        other(alloc, call, desk, session, text, refusal, statement)
+        other(alloc, command, desk, session, text, refusal, statement)
     }
 }
 
 /// A statement of a session, whose parts may be taken out.
 pub(crate) fn run(
     alloc: Global,
-    call: &Call<'_>,
+    command: &Command<'_>,
     desk: &mut Desk,
     session: &mut Session,
     text: &[u8],
     statement: &mut Stmt,
 ) -> Result<Answer, NodeFault>
-    ensures { IfOk result (λ answer. IsTurn desk.old desk.new session.new answer (statement_turn (called call.now) text.now (view statement.old) (shared_of desk.old) session.old)) }
+    ensures { IfOk result (λ answer. IsTurn desk.old desk.new session.new answer (statement_turn (called command.now) text.now (view statement.old) (shared_of desk.old) session.old)) }
 {
     let refusal = refused_here(alloc, desk, statement);
     if let Some(assignments) = take_assignments(alloc, statement) {
-        return set(alloc, call, desk, session, refusal, assignments);
+        return set(alloc, command, desk, session, refusal, assignments);
     }
     if let Some((name, arguments)) = take_call(alloc, statement) {
-        return run_call(alloc, call, desk, session, refusal, &name, arguments);
+        return run_call(alloc, command, desk, session, refusal, &name, arguments);
     }
-    run_kept(alloc, call, desk, session, text, refusal, statement)
+    run_kept(alloc, command, desk, session, text, refusal, statement)
 }

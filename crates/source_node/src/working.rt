@@ -8,26 +8,31 @@ use answer_text::Answer;
 use session_ctx::SessionVars;
 use session_model::Format;
 use session_transaction::answer_making::row_count_after;
-use session_transaction::session_shared::{Call, Session};
+use session_transaction::session_shared::{Command, Session};
 use std::alloc::Global;
 use val_types::NoMemory;
 
 /// A session at its command: a new one, or with the moments of this command.
 pub(crate) fn at_work(
     alloc: Global,
-    call: &Call<'_>,
+    command: &Command<'_>,
     slot: Option<Session>,
 ) -> Result<Session, NoMemory>
-    ensures { IfOk result (λ session. session ≡ at_work (called call.now) slot) }
+    ensures { IfOk result (λ session. session ≡ at_work (called command.now) slot) }
 {
     match slot {
         None => Ok(Session {
-            vars: SessionVars::new(alloc, call.identity, u32::from(call.number), call.draw)?,
+            vars: SessionVars::new(
+                alloc,
+                command.identity,
+                u32::from(command.number),
+                command.draw,
+            )?,
             format: Format::Mixed,
             transaction: None,
         }),
         Some(mut session) => {
-            session.vars.begin_command(call.draw);
+            session.vars.begin_command(command.draw);
             Ok(session)
         }
     }

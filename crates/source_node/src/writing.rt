@@ -1,11 +1,10 @@
 //! What refuses statements before they run.
-ghost use Rattle.std.specs.Prelude.{◌≡◌, false};
+ghost use Rattle.std.specs.Prelude.{◌≡◌};
 ghost use Rattle.sql_tree.specs.Statement.{create_function, create_procedure, create_table, create_trigger};
 ghost use Rattle.sql_tree.specs.StatementView.{view, view_program, view_trigger};
 ghost use Rattle.session_transaction.specs.catalog_objects.Keys.{objects_of};
 ghost use Rattle.session_transaction.specs.catalog_rules.Checks.{session_scope, statement_refusal};
 ghost use Rattle.session_transaction.specs.catalog_rules.Creating.{ddl_refusal};
-ghost use Rattle.session_transaction.specs.sql_reach.Reach.{is_definition};
 ghost use Rattle.session_model.specs.Running.{writing_refusal};
 ghost use Rattle.session_transaction.specs.session_shared.Desk.{shared_of};
 
@@ -20,24 +19,6 @@ use sql_locals::Locals;
 use sql_tree::{CreateTable, Routine, Stmt, TriggerDef};
 use std::alloc::Global;
 use val_types::{SqlError, SqlRefusal};
-
-/// Whether a statement is a CREATE, a DROP or a TRUNCATE.
-pub(crate) fn is_definition(statement: &Stmt) -> bool
-    ensures { result ≡ is_definition (view statement.now) }
-{
-    match statement {
-        Stmt::CreateTable(_)
-        | Stmt::CreateFunction(_)
-        | Stmt::CreateProcedure(_)
-        | Stmt::CreateTrigger(_)
-        | Stmt::DropTable(_)
-        | Stmt::DropFunction(_)
-        | Stmt::DropProcedure(_)
-        | Stmt::DropTrigger(_)
-        | Stmt::Truncate(_) => true,
-        _ => false,
-    }
-}
 
 /// What refuses a statement that writes.
 pub(crate) fn writing_refusal(alloc: Global, desk: &Desk, number: u8) -> Option<Answer>

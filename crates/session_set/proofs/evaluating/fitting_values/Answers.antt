@@ -12,7 +12,7 @@ use Rattle.session_set.proofs.evaluating.fitting_values.Goals as goal
 
 pub returns-in-Err-settle : goal.returns-in-Err-settle
 returns-in-Err-settle c =
-    settled_so c.args.call.now.identity.now c.args.call.now.draw.now c.args.call.now.number (left_of c.args.meter.now) c.args.text.now (view_trees c.args.expressions.now) (misfit_of (is_open c.args.session.now) c.args.targets.now)
+    settled_so c.args.command.now.identity.now c.args.command.now.draw.now c.args.command.now.number (left_of c.args.meter.now) c.args.text.now (view_trees c.args.expressions.now) (misfit_of (is_open c.args.session.now) c.args.targets.now)
     (view c.args.statement.now) c.args.locals.now c.in-Ok.evaluated.values c.misfit_of-misfit.result (Err c.in-Err-settle.refusal) (fuel_at c.evaluate_unkept.new.meter) c.args.desk.now c.evaluate_unkept.new.desk c.settle.new.desk
     c.args.session.now c.evaluate_unkept.new.session c.settle.new.session c.in-Ok.evaluated.start.mark c.in-Ok.evaluated.start.before c.requires.is c.requires.none
     (c.misfit_of-misfit.ensures ∙ ap (λ (s : Session Item). misfit_of (is_open s) c.args.targets.now c.in-Ok.evaluated.values) c.in-Ok.ensures.session)
@@ -20,7 +20,7 @@ returns-in-Err-settle c =
 
 pub returns-in-Ok-settle : goal.returns-in-Ok-settle
 returns-in-Ok-settle c =
-    settled_so c.args.call.now.identity.now c.args.call.now.draw.now c.args.call.now.number (left_of c.args.meter.now) c.args.text.now (view_trees c.args.expressions.now) (misfit_of (is_open c.args.session.now) c.args.targets.now)
+    settled_so c.args.command.now.identity.now c.args.command.now.draw.now c.args.command.now.number (left_of c.args.meter.now) c.args.text.now (view_trees c.args.expressions.now) (misfit_of (is_open c.args.session.now) c.args.targets.now)
     (view c.args.statement.now) c.args.locals.now c.in-Ok.evaluated.values c.misfit_of-misfit.result (Ok c.in-Ok-settle.warned) (fuel_at c.evaluate_unkept.new.meter) c.args.desk.now c.evaluate_unkept.new.desk c.settle.new.desk
     c.args.session.now c.evaluate_unkept.new.session c.settle.new.session c.in-Ok.evaluated.start.mark c.in-Ok.evaluated.start.before c.requires.is c.requires.none
     (c.misfit_of-misfit.ensures ∙ ap (λ (s : Session Item). misfit_of (is_open s) c.args.targets.now c.in-Ok.evaluated.values) c.in-Ok.ensures.session)
@@ -28,5 +28,5 @@ returns-in-Ok-settle c =
 
 pub returns-in-Err : goal.returns-in-Err
 returns-in-Err c =
-    failed_so c.args.call.now.identity.now c.args.call.now.draw.now c.args.call.now.number (left_of c.args.meter.now) c.args.text.now (view_trees c.args.expressions.now) (misfit_of (is_open c.args.session.now) c.args.targets.now)
+    failed_so c.args.command.now.identity.now c.args.command.now.draw.now c.args.command.now.number (left_of c.args.meter.now) c.args.text.now (view_trees c.args.expressions.now) (misfit_of (is_open c.args.session.now) c.args.targets.now)
     c.args.locals.now c.in-Err.refusal (fuel_at c.evaluate_unkept.new.meter) c.args.desk.now c.evaluate_unkept.new.desk c.args.session.now c.evaluate_unkept.new.session c.requires.none c.in-Err.ensures.gives c.in-Err.ensures.session c.in-Err.ensures.log

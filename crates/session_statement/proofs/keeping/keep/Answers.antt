@@ -25,10 +25,10 @@ returns-then-branch c =
     ∙ ap (λ os. item_made c.args.text.now (view c.args.statement.now) c.args.start.before c.args.first (logs_rows c.args.session.now.format (reasons (objects_of c.args.desk.now.work.objects) (view c.args.statement.now))) (objects_of os) c.session.inside.vars.context c.in_ok-changes.changes) objects
     ∙ ap (λ s. item_made c.args.text.now (view c.args.statement.now) c.args.start.before c.args.first (logs_rows c.args.session.now.format (reasons (objects_of c.args.desk.now.work.objects) (view c.args.statement.now))) (objects_of c.args.desk.now.work.objects) s.vars.context c.in_ok-changes.changes) c.session.view_is in
     let some : 1 ≤ length c.in_ok-changes.changes = omega (arith, c.len.ensures, c.if-len-eq0.false) in
-    kept_changes c.args.call.now.identity.now c.args.call.now.draw.now c.args.call.now.number
+    kept_changes c.args.command.now.identity.now c.args.command.now.draw.now c.args.command.now.number
     (item_made c.args.text.now (view c.args.statement.now) c.args.start.before c.args.first (logs_rows c.args.session.now.format (reasons (objects_of c.args.desk.now.work.objects) (view c.args.statement.now))) (objects_of c.args.desk.now.work.objects) c.args.session.now.vars.context)
     (warns c.args.session.now.format (reasons (objects_of c.args.desk.now.work.objects) (view c.args.statement.now))) c.how_logged-logging.result.warned
-    (own_behind c.args.call.now.number c.args.start.mark (shared_of c.args.desk.now)) c.in_ok-changes.changes c.in_ok-item.item c.args.start.mark c.args.start.before.last_id c.args.desk.now c.keep_item.new.desk c.args.session.now c.keep_item.new.session
+    (own_behind c.args.command.now.number c.args.start.mark (shared_of c.args.desk.now)) c.in_ok-changes.changes c.in_ok-item.item c.args.start.mark c.args.start.before.last_id c.args.desk.now c.keep_item.new.desk c.args.session.now c.keep_item.new.session
     c.in_ok-keep_item.field-0 c.in_ok-changes.ensures item warned some c.if-branch.true c.in_ok-keep_item.ensures
 
 pub returns : goal.returns
@@ -44,8 +44,8 @@ returns c =
     ∙ ap (λ os. item_made c.args.text.now (view c.args.statement.now) c.args.start.before c.args.first (logs_rows c.args.session.now.format (reasons (objects_of c.args.desk.now.work.objects) (view c.args.statement.now))) (objects_of os) c.session.inside.vars.context c.in_ok-changes.changes) objects
     ∙ ap (λ s. item_made c.args.text.now (view c.args.statement.now) c.args.start.before c.args.first (logs_rows c.args.session.now.format (reasons (objects_of c.args.desk.now.work.objects) (view c.args.statement.now))) (objects_of c.args.desk.now.work.objects) s.vars.context c.in_ok-changes.changes) c.session.view_is in
     let some : 1 ≤ length c.in_ok-changes.changes = omega (arith, c.len.ensures, c.if-len-eq0.false) in
-    lost_changes c.args.call.now.identity.now c.args.call.now.draw.now c.args.call.now.number
+    lost_changes c.args.command.now.identity.now c.args.command.now.draw.now c.args.command.now.number
     (item_made c.args.text.now (view c.args.statement.now) c.args.start.before c.args.first (logs_rows c.args.session.now.format (reasons (objects_of c.args.desk.now.work.objects) (view c.args.statement.now))) (objects_of c.args.desk.now.work.objects) c.args.session.now.vars.context)
     (warns c.args.session.now.format (reasons (objects_of c.args.desk.now.work.objects) (view c.args.statement.now)))
-    (own_behind c.args.call.now.number c.args.start.mark (shared_of c.args.desk.now)) c.in_ok-changes.changes c.in_ok-item.item c.args.start.mark c.args.start.before.last_id c.args.desk.now c.keep_item.new.desk c.args.session.now c.keep_item.new.session _
+    (own_behind c.args.command.now.number c.args.start.mark (shared_of c.args.desk.now)) c.in_ok-changes.changes c.in_ok-item.item c.args.start.mark c.args.start.before.last_id c.args.desk.now c.keep_item.new.desk c.args.session.now c.keep_item.new.session _
     c.in_ok-keep_item.field-0 c.in_ok-changes.ensures item some c.if-branch.false (search rules) c.in_ok-keep_item.ensures

@@ -1,6 +1,6 @@
 use Rattle.std.proofs.Common.{length, ap, ◌∙◌}
 use Rattle.binlog_items.specs.Logged.{in_log}
-use Rattle.prog_run.specs.Contents.{nothing}
+use Rattle.prog_work.specs.Contents.{nothing}
 use Rattle.session_shared.specs.Desk.{shared_by}
 use Rattle.session_shared.proofs.Bases.{nothing_shared}
 use Rattle.session_shared.proofs.desk.Desk.new.Goals as goal
