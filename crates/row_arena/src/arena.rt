@@ -45,6 +45,24 @@ impl RowArena {
         }
     }
 
+    /// How many numbers there are: those of rows, and those that are free again.
+    pub fn len(&self) -> usize
+        ensures count { result ≡ length self.now.rows }
+        ensures few { result ≤ 2 ^ 32 }
+    {
+        self.rows.len()
+    }
+
+    /// The row of a number, for those who hold it on.
+    pub fn shared(&self, number: u32) -> Option<&Shared<Row>>
+        ensures { option_copied result ≡ option_and_then (λ row. row) (slice_get self.now.rows number) }
+    {
+        match self.rows.get(number as usize) {
+            Some(Some(row)) => Some(row),
+            _ => None,
+        }
+    }
+
     /// The row of a number.
     pub fn get(&self, number: u32) -> Option<&Row>
         ensures { option_copied result ≡ option_and_then (λ row. row) (slice_get self.now.rows number) }
@@ -59,6 +77,7 @@ impl RowArena {
     pub fn put(&mut self, row: Shared<Row>) -> u32
         requires { 0 < self.old.room }
         ensures free { IsFree self.old.rows result }
+        ensures within { result ≤ length self.old.rows }
         ensures rows { self.new.rows ≡ with_row_at self.old.rows result row }
         ensures room { self.old.room ≤ self.new.room + 1 }
     {

@@ -7,8 +7,9 @@
 //! - `arena`: [`RowArena`]
 //!
 //! # Proved
-//! - [`RowArena::get`] is the row of a number, None where it has none
-//! - [`RowArena::put`] puts a row under a number that has none, and leaves at most one less room; [`RowArena::replace`] and
+//! - [`RowArena::get`] and [`RowArena::shared`] are the row of a number, None where it has none; [`RowArena::len`] is how many
+//!   numbers there are
+//! - [`RowArena::put`] puts a row under a number that has none, a free one or the next, and leaves at most one less room; [`RowArena::replace`] and
 //!   [`RowArena::take`] answer with the row of the number, put another in its place or none, and leave no less room; no other
 //!   number's row changes
 //! - [`RowArena::make_room`] makes room for so many more, or wants memory; the rows stay, and the room is never less

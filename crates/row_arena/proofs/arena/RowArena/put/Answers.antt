@@ -1,4 +1,4 @@
-use Rattle.std.proofs.Common.{◌<◌, List, [], ◌∷◌, Option, Some, None, ap, subst, ◌∙◌, arith}
+use Rattle.std.proofs.Common.{◌<◌, List, [], ◌∷◌, length, Option, Some, None, ap, subst, ◌∙◌, arith}
 use Rattle.std.proofs.lemmas.Option.{slice_get_within}
 use Rattle.val_types.specs.declared.value.Value.{Value}
 use Rattle.row_arena.specs.Arenas.{Arena, IsFree, with_row_at}
@@ -44,3 +44,8 @@ returns-in-Some-clause-rows c =
 pub returns-in-None-clause-free : goal.returns-in-None-clause-free
 returns-in-None-clause-free c =
     subst (λ (rows : List (Option (List Value))). IsFree rows c.len-number.result) (ap (λ (a : Arena). a.rows) c.self.view_is) (end_is_free c.self.inside.rows.items c.len-number.result (omega (arith, c.len-number.ensures, c.self.inside.rows.ok.0)))
+
+pub returns-in-Some-clause-within : goal.returns-in-Some-clause-within
+returns-in-Some-clause-within c =
+    let last = popped_free c.self.inside.rows.items c.self.inside.free.items c.pop.new.self.items c.in-Some.number c.in-Some.ensures.items c.self.invariant.are_free in
+    omega (arith, slice_get_within c.self.inside.rows.items c.in-Some.number None last.0, ap (λ (a : Arena). length a.rows) c.self.view_is)

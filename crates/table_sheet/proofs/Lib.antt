@@ -1,0 +1,9 @@
+pub mod Agreeing
+pub mod Entering
+pub mod Keeping
+pub mod Looking
+pub mod Passing
+pub mod Refusing
+pub mod Shown
+pub mod Slotted
+pub mod Turning

@@ -1,0 +1,32 @@
+use Rattle.std.proofs.Common.{Some, Ok, Err, refl, sym, ap, subst, ◌∙◌, arith}
+use Rattle.val_types.specs.Keys.{primary_key}
+use Rattle.table_sheet.specs.Pages.{Page, Stays, rows_on}
+use Rattle.table_sheet.proofs.Turning.{set_stays, set_in_holds, set_in_rows, found_same, entry_found}
+use Rattle.table_sheet.proofs.sheet.Sheet.put_back_row.Goals as goal
+use Rattle.table_sheet.proofs.sheet.Sheet.put_back_row.Goals.{in-Some-1, in-None-1}
+
+pub invariant_of-self : goal.invariant_of-self
+invariant_of-self c = set_in_holds c.self.inside.definition c.self.inside.committed c.self.inside.committed c.self.inside.overlay c.fill.new.self c.args.self.now c.self.invariant c.self.view_is refl (omega arith) c.args.row c.requires.fits c.requires.free c.in-Ok.spot (found_same c.self.inside.definition c.get.result.now c.args.row c.self.inside.overlay (Ok c.in-Ok.spot) c.get.ensures c.in-Ok.ensures.found) (c.fill.ensures.slots c.self.inside.definition (primary_key c.self.inside.definition c.args.row) c.self.invariant.rising (found_same c.self.inside.definition c.get.result.now c.args.row c.self.inside.overlay (Ok c.in-Ok.spot) c.get.ensures c.in-Ok.ensures.found)) c.fill.ensures.fresh
+
+pub invariant_of-self-in-Ok-2 : goal.invariant_of-self-in-Ok-2
+invariant_of-self-in-Ok-2 c = set_in_holds c.self.inside.definition c.self.inside.committed c.self.inside.committed c.self.inside.overlay c.fill.new.self c.args.self.now c.self.invariant c.self.view_is refl (omega arith) c.args.row c.requires.fits c.requires.free c.in-Ok.spot (found_same c.self.inside.definition c.get.result.now c.args.row c.self.inside.overlay (Ok c.in-Ok.spot) c.get.ensures c.in-Ok.ensures.found) (c.fill.ensures.slots c.self.inside.definition (primary_key c.self.inside.definition c.args.row) c.self.invariant.rising (found_same c.self.inside.definition c.get.result.now c.args.row c.self.inside.overlay (Ok c.in-Ok.spot) c.get.ensures c.in-Ok.ensures.found)) c.fill.ensures.fresh
+
+pub returns-in-Ok-clause-rows : goal.returns-in-Ok-clause-rows
+returns-in-Ok-clause-rows c =
+    let rows = set_in_rows c.self.inside.definition c.self.inside.committed c.self.inside.committed c.self.inside.overlay c.fill.new.self c.args.self.now c.self.invariant c.self.view_is refl (omega arith) c.args.row c.requires.fits c.requires.free c.in-Ok.spot (found_same c.self.inside.definition c.get.result.now c.args.row c.self.inside.overlay (Ok c.in-Ok.spot) c.get.ensures c.in-Ok.ensures.found) (c.fill.ensures.slots c.self.inside.definition (primary_key c.self.inside.definition c.args.row) c.self.invariant.rising (found_same c.self.inside.definition c.get.result.now c.args.row c.self.inside.overlay (Ok c.in-Ok.spot) c.get.ensures c.in-Ok.ensures.found)) c.fill.ensures.fresh in
+    elim c.match-fill.branch [
+      | in-Some-1 w ↦ ap rows_on w.self-is ∙ rows
+      | in-None-1 w ↦ ap rows_on w.self-is ∙ rows
+    ]
+
+pub returns-in-Ok-clause-stays : goal.returns-in-Ok-clause-stays
+returns-in-Ok-clause-stays c =
+    let stays = set_stays c.self.inside.definition c.self.inside.committed c.self.inside.committed c.self.inside.overlay c.fill.new.self c.args.self.now c.self.invariant c.self.view_is refl (omega arith) (primary_key c.self.inside.definition c.args.row) c.in-Ok.spot (found_same c.self.inside.definition c.get.result.now c.args.row c.self.inside.overlay (Ok c.in-Ok.spot) c.get.ensures c.in-Ok.ensures.found) (Some c.args.row) (c.fill.ensures.slots c.self.inside.definition (primary_key c.self.inside.definition c.args.row) c.self.invariant.rising (found_same c.self.inside.definition c.get.result.now c.args.row c.self.inside.overlay (Ok c.in-Ok.spot) c.get.ensures c.in-Ok.ensures.found)) in
+    elim c.match-fill.branch [
+      | in-Some-1 w ↦ subst (λ (p : Page). Stays c.args.self.now p) (sym w.self-is) stays
+      | in-None-1 w ↦ subst (λ (p : Page). Stays c.args.self.now p) (sym w.self-is) stays
+    ]
+
+pub returns-in-Err-clause-rows : goal.returns-in-Err-clause-rows
+returns-in-Err-clause-rows c =
+    entry_found c.self.inside.definition c.args.row c.self.inside.committed c.self.inside.overlay c.args.self.now c.in-Err.field-0 c.self.view_is (found_same c.self.inside.definition c.get.result.now c.args.row c.self.inside.overlay (Err c.in-Err.field-0) c.get.ensures c.in-Err.ensures.found) c.requires.entry

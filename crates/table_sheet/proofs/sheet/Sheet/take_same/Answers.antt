@@ -1,0 +1,34 @@
+use Rattle.std.proofs.Common.{None, refl, sym, ap, subst, ◌∙◌, arith}
+use Rattle.val_types.specs.Keys.{primary_key}
+use Rattle.table_sheet.specs.Pages.{Page, Stays, rows_on}
+use Rattle.table_sheet.proofs.Turning.{set_stays, set_out_holds, set_out_rows, entry_found}
+use Rattle.table_rules.specs.Stored.{rows_beside}
+use Rattle.table_sheet.proofs.sheet.Sheet.take_same.Goals as goal
+use Rattle.table_sheet.proofs.sheet.Sheet.take_same.Goals.{in-Some-1, in-None-1}
+
+pub invariant_of-self : goal.invariant_of-self
+invariant_of-self c = set_out_holds c.self.inside.definition c.self.inside.committed c.self.inside.committed c.self.inside.overlay c.fill.new.self c.args.self.now c.self.invariant c.self.view_is refl (omega arith) (primary_key c.self.inside.definition c.args.row.now) c.in-Ok.spot c.in-Ok.ensures.found (c.fill.ensures.slots c.self.inside.definition (primary_key c.self.inside.definition c.args.row.now) c.self.invariant.rising c.in-Ok.ensures.found) c.fill.ensures.fresh
+
+pub invariant_of-self-in-Ok-2 : goal.invariant_of-self-in-Ok-2
+invariant_of-self-in-Ok-2 c = set_out_holds c.self.inside.definition c.self.inside.committed c.self.inside.committed c.self.inside.overlay c.fill.new.self c.args.self.now c.self.invariant c.self.view_is refl (omega arith) (primary_key c.self.inside.definition c.args.row.now) c.in-Ok.spot c.in-Ok.ensures.found (c.fill.ensures.slots c.self.inside.definition (primary_key c.self.inside.definition c.args.row.now) c.self.invariant.rising c.in-Ok.ensures.found) c.fill.ensures.fresh
+
+pub returns-in-Ok-clause-rows : goal.returns-in-Ok-clause-rows
+returns-in-Ok-clause-rows c =
+    let rows =
+    set_out_rows c.self.inside.definition c.self.inside.committed c.self.inside.committed c.self.inside.overlay c.fill.new.self c.args.self.now c.self.invariant c.self.view_is refl (omega arith) (primary_key c.self.inside.definition c.args.row.now) c.in-Ok.spot c.in-Ok.ensures.found (c.fill.ensures.slots c.self.inside.definition (primary_key c.self.inside.definition c.args.row.now) c.self.invariant.rising c.in-Ok.ensures.found) c.fill.ensures.fresh
+    ∙ ap (λ (p : Page). rows_beside c.args.self.now.definition (primary_key p.definition c.args.row.now) (rows_on c.args.self.now)) c.self.view_is in
+    elim c.match-fill.branch [
+      | in-Some-1 w ↦ ap rows_on w.self-is ∙ rows
+      | in-None-1 w ↦ ap rows_on w.self-is ∙ rows
+    ]
+
+pub returns-in-Ok-clause-stays : goal.returns-in-Ok-clause-stays
+returns-in-Ok-clause-stays c =
+    let stays = set_stays c.self.inside.definition c.self.inside.committed c.self.inside.committed c.self.inside.overlay c.fill.new.self c.args.self.now c.self.invariant c.self.view_is refl (omega arith) (primary_key c.self.inside.definition c.args.row.now) c.in-Ok.spot c.in-Ok.ensures.found None (c.fill.ensures.slots c.self.inside.definition (primary_key c.self.inside.definition c.args.row.now) c.self.invariant.rising c.in-Ok.ensures.found) in
+    elim c.match-fill.branch [
+      | in-Some-1 w ↦ subst (λ (p : Page). Stays c.args.self.now p) (sym w.self-is) stays
+      | in-None-1 w ↦ subst (λ (p : Page). Stays c.args.self.now p) (sym w.self-is) stays
+    ]
+
+pub returns-in-Err-clause-rows : goal.returns-in-Err-clause-rows
+returns-in-Err-clause-rows c = entry_found c.self.inside.definition c.args.row.now c.self.inside.committed c.self.inside.overlay c.args.self.now c.in-Err.field-0 c.self.view_is c.in-Err.ensures.found c.requires

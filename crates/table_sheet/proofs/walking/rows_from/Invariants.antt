@@ -1,0 +1,14 @@
+use Rattle.std.proofs.Common.{◌≡◌, ◌++◌, length}
+use Rattle.row_sheets.specs.Slots.{rows_in}
+use Rattle.table_sheet.specs.Walks.{left, IsPlace}
+use Rattle.table_sheet.proofs.walking.rows_from.Given as goal
+
+-- the rows so far stand before those that are left
+abbrev pub invariant-loop-row : goal.invariant-loop-row
+invariant-loop-row l = record {
+  place : IsPlace l.committed l.overlay l.at;
+  so_far : l.rows ++ rows_in (left l.definition l.committed l.overlay l.at) ≡ rows_in (left l.definition l.committed l.overlay l.fn.from);
+}
+
+abbrev pub decreases-loop-row : goal.decreases-loop-row
+decreases-loop-row l = length (left l.definition l.committed l.overlay l.at)

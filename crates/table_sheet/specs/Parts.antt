@@ -1,0 +1,36 @@
+-- The two parts of a sheet as slots.
+use Rattle.std.specs.Prelude.{ℕ, min, List}
+use Rattle.val_types.specs.declared.definitions.TableDef.{TableDef}
+use Rattle.block_list.specs.Layouts.{flat, room}
+use Rattle.row_sheets.specs.Slots.{Slot}
+use Rattle.row_sheets.specs.Orders.{slots_of}
+use Rattle.table_sheet.specs.declared.committed.Committed.{Committed}
+use Rattle.table_sheet.specs.declared.overlay.Overlay.{Overlay}
+use Rattle.table_sheet.specs.Numbered.{row_slot}
+use Rattle.table_sheet.specs.Ranked.{entry_slot}
+use Rattle.table_sheet.specs.Pages.{Page, Holds}
+
+-- the slots of committed rows
+abbrev pub committed_slots : TableDef → Committed → List Slot
+committed_slots definition committed = slots_of (row_slot definition committed.rows.rows) (flat committed.order.blocks)
+
+-- the slots of entries
+abbrev pub entry_slots : TableDef → Overlay → List Slot
+entry_slots definition overlay = slots_of (entry_slot definition overlay.entries.items) (flat overlay.ranks.blocks)
+
+-- for how many new rows there is room
+abbrev pub room_of : Committed → ℕ
+room_of committed = min committed.rows.room (room committed.order)
+
+-- what a sheet of these parts is to those who call it
+abbrev pub page_of : TableDef → Committed → Overlay → Page
+page_of definition committed overlay = record {
+  definition = definition;
+  committed = committed_slots definition committed;
+  entries = entry_slots definition overlay;
+  room = room_of committed;
+}
+
+-- an overlay fits a page: its entries, over the committed rows, make one
+abbrev pub Fits : Overlay → Page → Type 0
+Fits overlay page = Holds page.definition page.committed (entry_slots page.definition overlay) page.room overlay.fresh

@@ -1,0 +1,125 @@
+//! The committed rows of a table.
+ghost use Rattle.std.specs.Prelude.{IsTrue};
+ghost use Rattle.block_list.specs.Layouts.{flat};
+ghost use Rattle.table_sheet.specs.Numbered.{are_numbered};
+
+use crate::comparing::{nothing_key_cmp, nothing_row_cmp, row_key_cmp, rows_cmp};
+use block_list::{Blocks, Spot};
+use row_arena::RowArena;
+use sharing::Shared;
+use std::alloc::{AllocError, Global};
+use std::cmp::Ordering;
+use val_types::{NoMemory, Row, TableDef};
+
+/// Rows by their numbers, and the numbers in the order of the rows' primary keys.
+#[derive(Drop)]
+pub struct Committed {
+    pub rows: RowArena,
+    pub order: Blocks,
+    pub ghost numbered: { IsTrue (are_numbered rows.rows (flat order.blocks)) },
+}
+
+impl Committed {
+    ghost use Rattle.std.specs.Prelude.{◌≡◌, ◌+◌, ◌^◌, ◌<◌, ◌≤◌, [], true, length, option_copied, slice_get, Some, IsSome, MatchResult, OnOk};
+    ghost use Rattle.std.specs.Option.{option_and_then, option_map};
+    ghost use Rattle.val_types.specs.Keys.{primary_key};
+    ghost use Rattle.block_list.specs.Spots.{place, IsAt, IsFound, IsSpot};
+    ghost use Rattle.row_sheets.specs.Slots.{held, keys_in, keys_rise};
+    ghost use Rattle.row_sheets.specs.Orders.{by_key};
+    ghost use Rattle.row_sheets.specs.Over.{settled_by};
+    ghost use Rattle.table_sheet.specs.Numbered.{row_of, row_slot};
+    ghost use Rattle.table_sheet.specs.Parts.{committed_slots, room_of};
+
+    /// No rows.
+    pub(crate) fn new(alloc: Global) -> Committed
+        ensures { flat result.order.blocks ≡ [] }
+    {
+        Committed {
+            rows: RowArena::new(alloc),
+            order: Blocks::new(alloc),
+        }
+    }
+
+    /// Where the number of a key stands, or belongs.
+    fn find(&self, definition: &Shared<TableDef>, key: &Row) -> Result<Spot, Spot>
+        requires { keys_rise (keys_in (committed_slots definition.now self.now)) ≡ true }
+        ensures found { IsFound (by_key (row_slot definition.now self.now.rows.rows) key.now) self.now.order.blocks result }
+        ensures spot { MatchResult result (λ spot. IsAt self.now.order.blocks spot) (λ spot. IsSpot self.now.order.blocks spot) }
+    {
+        let compare = |number: u32| -> Ordering
+            ensures { result ≡ by_key (row_slot definition.entry.now self.entry.now.rows.rows) key.entry.now number }
+        {
+            let table = definition.get();
+            match self.rows.get(number) {
+                Some(row) => row_key_cmp(table, row, key),
+                None => nothing_key_cmp(key),
+            }
+        };
+        self.order.find(&compare)
+    }
+
+    /// The same for the primary key of a row, of which no copy is made.
+    fn find_row(&self, definition: &Shared<TableDef>, row: &Row) -> Result<Spot, Spot>
+        requires { keys_rise (keys_in (committed_slots definition.now self.now)) ≡ true }
+        ensures found { IsFound (by_key (row_slot definition.now self.now.rows.rows) (primary_key definition.now row.now)) self.now.order.blocks result }
+        ensures spot { MatchResult result (λ spot. IsAt self.now.order.blocks spot) (λ spot. IsSpot self.now.order.blocks spot) }
+    {
+        let compare = |number: u32| -> Ordering
+            ensures { result ≡ by_key (row_slot definition.entry.now self.entry.now.rows.rows) (primary_key definition.entry.now row.entry.now) number }
+        {
+            let table = definition.get();
+            match self.rows.get(number) {
+                Some(other) => rows_cmp(table, other, row),
+                None => nothing_row_cmp(table, row),
+            }
+        };
+        self.order.find(&compare)
+    }
+
+    /// The row of the number at a spot, None behind the last one.
+    pub(crate) fn at(&self, spot: Spot) -> Option<&Shared<Row>>
+        requires { IsSpot self.now.order.blocks spot }
+        ensures { option_copied result ≡ option_and_then (row_of self.now.rows.rows) (slice_get (flat self.now.order.blocks) (place self.now.order.blocks spot)) }
+    {
+        self.rows.shared(self.order.get(spot)?)
+    }
+
+    /// The row of a key.
+    pub(crate) fn get(&self, definition: &Shared<TableDef>, key: &Row) -> Option<&Shared<Row>>
+        requires { keys_rise (keys_in (committed_slots definition.now self.now)) ≡ true }
+        ensures { held key.now (committed_slots definition.now self.now) ≡ option_map (λ row. Some row) (option_copied result) }
+    {
+        match self.find(definition, key) {
+            Ok(spot) => self.at(spot),
+            Err(_) => None,
+        }
+    }
+
+    /// The row of the primary key of a row.
+    pub(crate) fn get_same(&self, definition: &Shared<TableDef>, row: &Row) -> Option<&Shared<Row>>
+        requires { keys_rise (keys_in (committed_slots definition.now self.now)) ≡ true }
+        ensures { held (primary_key definition.now row.now) (committed_slots definition.now self.now) ≡ option_map (λ row. Some row) (option_copied result) }
+    {
+        match self.find_row(definition, row) {
+            Ok(spot) => self.at(spot),
+            Err(_) => None,
+        }
+    }
+
+    /// Makes room for so many more rows.
+    pub(crate) fn make_room(&mut self, alloc: Global, more: usize) -> Result<(), NoMemory>
+        requires { more ≤ 2 ^ 33 }
+        ensures made { OnOk result (more ≤ room_of self.new) }
+        ensures few { OnOk result (length (flat self.old.order.blocks) + more ≤ 2 ^ 32) }
+        ensures rows { self.new.rows.rows ≡ self.old.rows.rows }
+        ensures order { self.new.order.blocks ≡ self.old.order.blocks }
+        ensures room { room_of self.old ≤ room_of self.new }
+    {
+        const MOST: usize = 1 << 32;
+        if self.rows.len() + more > MOST || self.order.len() + more > MOST {
+            return Err(AllocError);
+        }
+        self.order.make_room(alloc, more)?;
+        self.rows.make_room(more)
+    }
+}

@@ -1,0 +1,54 @@
+//! One table: its committed rows in order, and over them what a transaction shows.
+//!
+//! A contract sees [`Sheet`] as a `Page`: the table's definition, its committed rows and the entries of a transaction, both as the
+//! slots of `row_sheets` in the order of keys, and for how many new rows there is room. What it shows are the rows in the entries'
+//! slots over the committed ones (`rows_on`). The committed rows stand in an arena by numbers, their order and that of the entries
+//! are blocks of numbers, so that a call by primary key costs as the count's digits, wherever the row stands. An entry is made by the
+//! first change of its key and set again by later ones, so that a change is taken back without memory. Unique keys are looked for
+//! by a walk over the rows.
+//!
+//! No program uses it yet. What is still to come: rows that are shown made the committed ones, indexes of unique keys, and the
+//! count of comparisons as a clause.
+//!
+//! - `refusal`: [`SheetRefusal`]
+//! - `comparing`: keys of rows without copies of them
+//! - `committed`: rows by numbers, and the numbers in order
+//! - `entry`, `overlay`: what a transaction has of each key that it changed, and [`Overlay`], all of it
+//! - `sheet`: [`Sheet`], its calls by key, and the overlay set aside, put back and forgotten
+//! - `place`, `walking`: entries and committed rows walked side by side
+//! - `reading`: all rows, and the keys in the way of one
+//! - `writing`: rows inserted, replaced and deleted
+//!
+//! # Proved
+//! - [`Sheet::get`] and [`Sheet::get_same`] give exactly the row that is shown of a key, or of a row's key
+//! - [`Sheet::insert`], [`Sheet::replace`] and [`Sheet::delete`] make exactly the change of the rows that the definitions say, or refuse
+//!   with exactly the first key in the way or that the row is not there; then, and where memory is wanted, what is shown is as
+//!   before (`stored`). Whatever they answer, definition and committed rows stay, each entry is there still, and there is no less room
+//!   (`stays`)
+//! - [`Sheet::put_back_row`] and [`Sheet::take_same`] put a row into its entry or take it out, without memory: the two halves of taking
+//!   a change back
+//! - [`Sheet::set_aside`], [`Sheet::put_back`] and [`Sheet::forget`] give exactly the page without entries, with those that were set
+//!   aside, and without; they take no memory
+//! - [`Sheet::rows`], [`Sheet::committed_rows`] and [`Sheet::keys`] give the rows and keys in order, or want memory;
+//!   [`Sheet::key_in_way`] the number of the first key in the way
+//! - of each sheet: committed and shown rows are as those of a table have to be, and there is room to settle all that is new
+//!   (`page` of [`Sheet::definition`])
+//!
+//! # Only tested
+//! Nothing yet.
+#![tactic(auto)]
+
+mod committed;
+mod comparing;
+mod entry;
+mod overlay;
+mod place;
+mod reading;
+mod refusal;
+mod sheet;
+mod walking;
+mod writing;
+
+pub use overlay::Overlay;
+pub use refusal::SheetRefusal;
+pub use sheet::Sheet;

@@ -1,0 +1,167 @@
+//! What a transaction shows of a table.
+ghost use Rattle.std.specs.Prelude.{IsTrue};
+ghost use Rattle.block_list.specs.Layouts.{flat};
+ghost use Rattle.table_sheet.specs.Ranked.{are_ranked};
+
+use crate::comparing::{nothing_key_cmp, nothing_row_cmp, row_key_cmp, rows_cmp};
+use crate::entry::Entry;
+use block_list::{Blocks, Spot};
+use sharing::Shared;
+use std::alloc::{AllocError, Global};
+use std::cmp::Ordering;
+use val_types::{NoMemory, Row, TableDef};
+
+/// Entries in the order of first touch, their numbers in the order of keys, and how many are of keys that no committed row has.
+#[derive(Drop)]
+pub struct Overlay {
+    pub entries: Vec<Entry>,
+    pub ranks: Blocks,
+    pub fresh: usize,
+    pub ghost ranked: { IsTrue (are_ranked entries.items (flat ranks.blocks)) },
+}
+
+impl Overlay {
+    ghost use Rattle.std.specs.Prelude.{◌≡◌, ◌+◌, ◌^◌, ◌<◌, ◌≤◌, ℕ, [], ◌∷◌, true, length, option_copied, slice_get, slice_index, Some, None, Ok, Err, List, MatchResult, OnOk, OnErr};
+    ghost use Rattle.std.specs.Option.{option_and_then};
+    ghost use Rattle.val_types.specs.declared.value.Value.{Value};
+    ghost use Rattle.val_types.specs.declared.definitions.TableDef.{TableDef as Definition};
+    ghost use Rattle.val_types.specs.Keys.{primary_key};
+    ghost use Rattle.block_list.specs.Spots.{place, IsAt, IsFound, IsSpot};
+    ghost use Rattle.row_sheets.specs.Slots.{fill, keys_in, keys_rise};
+    ghost use Rattle.row_sheets.specs.Orders.{by_key};
+    ghost use Rattle.row_sheets.specs.Over.{over};
+    ghost use Rattle.table_sheet.specs.Ranked.{entry_slot};
+    ghost use Rattle.table_sheet.specs.Parts.{entry_slots};
+
+    /// No entries, which take no memory until there is to be one.
+    pub(crate) fn new(alloc: Global) -> Overlay
+        ensures entries { flat result.ranks.blocks ≡ [] }
+        ensures fresh { result.fresh ≡ 0 }
+    {
+        Overlay {
+            entries: Vec::new(alloc),
+            ranks: Blocks::new(alloc),
+            fresh: 0,
+        }
+    }
+
+    /// The entry of a number.
+    fn entry(&self, number: u32) -> Option<&Entry>
+        ensures { option_copied result ≡ slice_get self.now.entries.items number }
+    {
+        self.entries.get(number as usize)
+    }
+
+    /// Where the number of the entry of a key stands, or belongs.
+    pub(crate) fn find(&self, definition: &Shared<TableDef>, key: &Row) -> Result<Spot, Spot>
+        requires { keys_rise (keys_in (entry_slots definition.now self.now)) ≡ true }
+        ensures found { IsFound (by_key (entry_slot definition.now self.now.entries.items) key.now) self.now.ranks.blocks result }
+        ensures spot { MatchResult result (λ spot. IsAt self.now.ranks.blocks spot) (λ spot. IsSpot self.now.ranks.blocks spot) }
+    {
+        let compare = |number: u32| -> Ordering
+            ensures { result ≡ by_key (entry_slot definition.entry.now self.entry.now.entries.items) key.entry.now number }
+        {
+            let table = definition.get();
+            match self.entry(number) {
+                Some(entry) => {
+                    let bearer = entry.bearer.get();
+                    row_key_cmp(table, bearer, key)
+                }
+                None => nothing_key_cmp(key),
+            }
+        };
+        self.ranks.find(&compare)
+    }
+
+    /// The same for the primary key of a row, of which no copy is made.
+    pub(crate) fn find_row(&self, definition: &Shared<TableDef>, row: &Row) -> Result<Spot, Spot>
+        requires { keys_rise (keys_in (entry_slots definition.now self.now)) ≡ true }
+        ensures found { IsFound (by_key (entry_slot definition.now self.now.entries.items) (primary_key definition.now row.now)) self.now.ranks.blocks result }
+        ensures spot { MatchResult result (λ spot. IsAt self.now.ranks.blocks spot) (λ spot. IsSpot self.now.ranks.blocks spot) }
+    {
+        let compare = |number: u32| -> Ordering
+            ensures { result ≡ by_key (entry_slot definition.entry.now self.entry.now.entries.items) (primary_key definition.entry.now row.entry.now) number }
+        {
+            let table = definition.get();
+            match self.entry(number) {
+                Some(entry) => {
+                    let bearer = entry.bearer.get();
+                    rows_cmp(table, bearer, row)
+                }
+                None => nothing_row_cmp(table, row),
+            }
+        };
+        self.ranks.find(&compare)
+    }
+
+    /// The entry of the number at a spot, None behind the last one.
+    pub(crate) fn at(&self, spot: Spot) -> Option<&Entry>
+        requires { IsSpot self.now.ranks.blocks spot }
+        ensures { option_copied result ≡ option_and_then (slice_get self.now.entries.items) (slice_get (flat self.now.ranks.blocks) (place self.now.ranks.blocks spot)) }
+    {
+        self.entry(self.ranks.get(spot)?)
+    }
+
+    /// Gives the entry at a spot another row or none, and answers with what it had. It takes no memory.
+    pub(crate) fn fill(&mut self, spot: Spot, present: Option<Shared<Row>>) -> Option<Shared<Row>>
+        requires { IsAt self.old.ranks.blocks spot }
+        ensures before { (definition : Definition)
+            → result ≡ (entry_slot definition self.old.entries.items (slice_index (flat self.old.ranks.blocks) (place self.old.ranks.blocks spot))).row }
+        ensures slots { (definition : Definition) (key : List Value)
+            → keys_rise (keys_in (entry_slots definition self.old)) ≡ true
+            → IsFound (by_key (entry_slot definition self.old.entries.items) key) self.old.ranks.blocks (Ok spot)
+            → entry_slots definition self.new ≡ fill key present (entry_slots definition self.old) }
+        ensures fresh { self.new.fresh ≡ self.old.fresh }
+    {
+        match self.ranks.get(spot) {
+            Some(number) => {
+                let entry = &mut self.entries[number as usize];
+                let before = entry.present.take();
+                entry.present = present;
+                before
+            }
+            None => None,
+        }
+    }
+
+    /// Makes an entry of a row's key at the spot where it belongs, of a key that no committed row has where `fresh` is 1.
+    pub(crate) fn add(
+        &mut self,
+        alloc: Global,
+        spot: Spot,
+        bearer: Shared<Row>,
+        present: Option<Shared<Row>>,
+        fresh: usize,
+    ) -> Result<(), NoMemory>
+        requires spot { IsSpot self.old.ranks.blocks spot }
+        requires few { self.old.fresh + fresh < 2 ^ 64 }
+        ensures slots { OnOk result ((definition : Definition)
+            → IsFound (by_key (entry_slot definition self.old.entries.items) (primary_key definition bearer)) self.old.ranks.blocks (Err spot)
+            → entry_slots definition self.new
+            ≡ over (record { key = primary_key definition bearer; row = present } ∷ []) (entry_slots definition self.old)) }
+        ensures fresh { OnOk result (self.new.fresh ≡ self.old.fresh + fresh) }
+        ensures same { OnErr result ((definition : Definition) → entry_slots definition self.new ≡ entry_slots definition self.old) }
+        ensures same_fresh { OnErr result (self.new.fresh ≡ self.old.fresh) }
+    {
+        const MOST: usize = (1 << 32) - 1;
+        if self.entries.len() >= MOST || self.ranks.len() >= MOST {
+            return Err(AllocError);
+        }
+        self.ranks.make_room(alloc, 1)?;
+        let number = self.entries.len() as u32;
+        self.entries.push(Entry { bearer, present })?;
+        self.ranks.put(spot, number);
+        self.fresh += fresh;
+        Ok(())
+    }
+
+    /// Drops all entries, and keeps the room.
+    pub(crate) fn clear(&mut self)
+        ensures entries { flat self.new.ranks.blocks ≡ [] }
+        ensures fresh { self.new.fresh ≡ 0 }
+    {
+        self.entries.clear();
+        self.ranks.clear();
+        self.fresh = 0;
+    }
+}

@@ -1,0 +1,69 @@
+//! Rows read where they stand: all that are shown, all that are committed, and those that have a key of another.
+
+use crate::sheet::Sheet;
+use crate::walking::{first_agreed, keys_from, rows_from, start, start_below};
+use sharing::Shared;
+use std::alloc::Global;
+use val_types::{List, NoMemory, Row};
+
+impl Sheet {
+    ghost use Rattle.std.specs.Prelude.{◌≡◌, map, IfOk};
+    ghost use Rattle.val_types.specs.Keys.{primary_key};
+    ghost use Rattle.table_rules.specs.Stored.{key_in_way};
+    ghost use Rattle.row_sheets.specs.Slots.{rows_in};
+    ghost use Rattle.table_sheet.specs.Pages.{rows_on};
+
+    /// The rows that are shown, in their order, each shared with the table, so that they stay what they are whatever is changed.
+    pub fn rows(&self, alloc: Global) -> Result<List<Shared<Row>>, NoMemory>
+        ensures { IfOk result (λ rows. rows ≡ rows_on self.now) }
+    {
+        let from = start(&self.committed, &self.overlay);
+        rows_from(
+            alloc,
+            &self.definition,
+            &self.committed,
+            &self.overlay,
+            from,
+        )
+    }
+
+    /// The committed rows, whatever is shown over them.
+    pub fn committed_rows(&self, alloc: Global) -> Result<List<Shared<Row>>, NoMemory>
+        ensures { IfOk result (λ rows. rows ≡ rows_in self.now.committed) }
+    {
+        let from = start_below(&self.committed, &self.overlay);
+        rows_from(
+            alloc,
+            &self.definition,
+            &self.committed,
+            &self.overlay,
+            from,
+        )
+    }
+
+    /// The primary keys of the rows that are shown, in their order.
+    pub fn keys(&self, alloc: Global) -> Result<List<Row>, NoMemory>
+        ensures { IfOk result (λ keys. keys ≡ map (primary_key self.now.definition) (rows_on self.now)) }
+    {
+        let from = start(&self.committed, &self.overlay);
+        keys_from(
+            alloc,
+            &self.definition,
+            &self.committed,
+            &self.overlay,
+            from,
+        )
+    }
+
+    /// The number of the first key of a row that is in its way: 0 is the primary key, then come the unique keys in order of
+    /// definition. Unique keys are looked for by a walk over the rows.
+    pub fn key_in_way(&self, row: &Row) -> Option<usize>
+        ensures { result ≡ key_in_way self.now.definition row.now (rows_on self.now) }
+    {
+        if let Some(_) = self.get_same(row) {
+            return Some(0);
+        }
+        let from = start(&self.committed, &self.overlay);
+        first_agreed(&self.definition, &self.committed, &self.overlay, from, row)
+    }
+}
