@@ -1,0 +1,38 @@
+//! A store on a disk, committed record by record.
+//!
+//! A store keeps a journal of records on a disk; what its files stand for is defined in `store_model`. A record is first
+//! prepared, which takes all the memory that its commit needs, then staged behind the journal's closed gate, and then
+//! committed by that gate: until then each image that a crash may leave stands for what was held before, and from then on
+//! for what the record makes of it. A source writes the bytes of its log before it stages.
+//!
+//! This crate stands on the journal of `gate_journal`, on the definitions of `store_model` and on the bodies of
+//! `store_bodies`; the nodes with disks stand on it.
+//!
+//! - `store`: [`Store`], with the calls that write, and its readers
+//! - `next`: what a store's readers give behind a record that is prepared
+//! - `laws`: [`other_files_leave_the_store`]
+//! - `specs/Keeping`: what a disk holds of a store (`Holds`, `Keeps`), and which record leads on (`LeadsOn`)
+//! - `specs/Next`: the readers behind a record; `specs/Laws`: what leaves a store as it is
+//!
+//! # Proved
+//! - [`Store::prepare`] makes exactly the body of a record, and all that its commit needs, or wants memory and leaves the store
+//!   as it was; [`Store::stage`] and [`Store::commit`] take no memory of their own.
+//! - In [`Store::start`] and [`Store::stage`] each image stands for what is held, at each moment; in [`Store::commit`] each stands
+//!   for that or for what the record makes of it. That holds whichever call of the disk fails, so at an error a crash leaves what
+//!   it may leave inside the call; then the readers give what they gave. Other files stay as they were.
+//! - After Ok the disk keeps what is held, durable, with the journal at a closed gate, and the readers give it ([`Store::commit`]:
+//!   what is held behind the record). Staging and committing make two calls of the disk each, starting two or none. A refusal
+//!   is the disk's own, and Failed comes only where its count of faults rose.
+//! - [`Store::move_to`] goes on in another generation's journal, where the disk stands for what is held at that generation.
+//! - What is put into a log, or done to what a replica has fetched, leaves all this as it is ([`other_files_leave_the_store`]).
+//!
+//! # Only tested
+//! Nothing yet: no test calls it.
+#![tactic(auto)]
+
+mod laws;
+mod next;
+mod store;
+
+pub use laws::other_files_leave_the_store;
+pub use store::Store;
