@@ -1,0 +1,11 @@
+pub mod Naming
+pub mod Steps
+pub mod Joining
+pub mod Counting
+pub mod Composing
+pub mod Storing
+pub mod Framing
+pub mod OneLog
+pub mod Carried
+pub mod Carrying
+pub mod Owing
