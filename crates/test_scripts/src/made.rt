@@ -14,6 +14,8 @@ pub enum Piece<'a> {
     Xid(u8),
     /// An event of a type with this body.
     Event(u8, &'a [u8]),
+    /// An event of a type of rows with these rows of two numbers, by the map with the number 1, and the end of a statement.
+    Rows(u8, &'a [(usize, usize)]),
     /// Bytes as they are.
     Raw(&'a [u8]),
 }
@@ -51,12 +53,29 @@ pub fn put_text(alloc: Global, log: &mut Bytes, text: &[u8]) {
     put_event(log, 2, body.as_slice());
 }
 
+/// Puts an event of rows: the map's number, the end of a statement, two columns that are all there, in an update twice; the rows, none
+/// with a NULL.
+fn put_rows(alloc: Global, log: &mut Bytes, kind: u8, rows: &[(usize, usize)]) {
+    let mut body = bytes(alloc, b"\x01\x00\x00\x00\x00\x00\x01\x00\x02\x00\x02\x03");
+    if kind == 31 {
+        let _ = body.extend_from_slice(&[3]);
+    }
+    for row in rows {
+        let (id, v) = row;
+        let _ = body.extend_from_slice(&[0]);
+        put_number(&mut body, *id);
+        put_number(&mut body, *v);
+    }
+    put_event(log, kind, body.as_slice());
+}
+
 fn put_piece(alloc: Global, log: &mut Bytes, piece: Piece<'_>) {
     match piece {
         Piece::Text(text) => put_text(alloc, log, text.as_bytes()),
         Piece::Begin => put_text(alloc, log, b"BEGIN"),
         Piece::Xid(number) => put_event(log, 16, &[number, 0, 0, 0, 0, 0, 0, 0]),
         Piece::Event(kind, body) => put_event(log, kind, body),
+        Piece::Rows(kind, rows) => put_rows(alloc, log, kind, rows),
         Piece::Raw(raw) => {
             let _ = log.extend_from_slice(raw);
         }
