@@ -136,25 +136,36 @@ const BY_ROWS: &str = " //\ns1: SET binlog_format = ROW //\ns1: ";
 
 const APPLIED: &str = " //\nreplica: FETCH 100000 //\nreplica: APPLY 100 //\n";
 
-/// Tables, a statement in each format, all of it carried out by the replica.
-fn script_of_text(alloc: Global, text: &str) -> Bytes {
-    joined(
-        alloc,
-        &[TABLES, BY_TEXT, text, MIXED, text, BY_ROWS, text, APPLIED],
-    )
+/// Puts a piece at the end.
+fn put(script: &mut Bytes, piece: &str) {
+    let _ = script.extend_from_slice(piece.as_bytes());
 }
 
-/// The same of the statement that reaches a text, behind the definitions around it.
+/// Puts a statement in each format, all of it carried out by the replica.
+fn put_in_formats(script: &mut Bytes, statement: &str) {
+    put(script, BY_TEXT);
+    put(script, statement);
+    put(script, MIXED);
+    put(script, statement);
+    put(script, BY_ROWS);
+    put(script, statement);
+    put(script, APPLIED);
+}
+
+/// Tables, and a statement in each format.
+fn script_of_text(alloc: Global, text: &str) -> Bytes {
+    let mut script = joined(alloc, &[TABLES]);
+    put_in_formats(&mut script, text);
+    script
+}
+
+/// Tables, the definitions of a way around a text, and the statement that reaches it in each format.
 fn script_of_way(alloc: Global, way: &Way, text: &str) -> Bytes {
-    let mut script = joined(alloc, &[TABLES, way.front, text, way.behind]);
-    let statement = way.statement;
-    let rest = joined(
-        alloc,
-        &[
-            BY_TEXT, statement, MIXED, statement, BY_ROWS, statement, APPLIED,
-        ],
-    );
-    let _ = script.extend_from_slice(rest.as_slice());
+    let mut script = joined(alloc, &[TABLES]);
+    put(&mut script, way.front);
+    put(&mut script, text);
+    put(&mut script, way.behind);
+    put_in_formats(&mut script, way.statement);
     script
 }
 
