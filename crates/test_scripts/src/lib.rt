@@ -9,7 +9,7 @@
 //! - `logs`: the source's log in place of the answers
 //! - `texts`: that log printed and replayed: what each statement carries, by its text and by its rows, and what a procedure leaves
 //! - `made`, `replays`: logs of another server, made event by event: where tables differ, what is damaged or not known, logs that are
-//!   cut, streams that fail
+//!   cut, streams that fail; `stops`: rows that change and swap keys, and each stop of a row
 //! - `statuses`: words, scripts that do not split, streams that fail, what the report tells
 #![tactic(auto)]
 
@@ -31,5 +31,7 @@ mod replication;
 mod settings;
 #[cfg(test)]
 mod statuses;
+#[cfg(test)]
+mod stops;
 #[cfg(test)]
 mod texts;

@@ -14,17 +14,14 @@ use val_types::{Bytes, List};
 const T: &str = "CREATE TABLE t (id INT, v INT, PRIMARY KEY (id))";
 
 /// The map of `t`: the number 1, no flags, the schema, the name, two columns of four bytes, of which the second may be NULL.
-const MAP: &[u8] = b"\x01\x00\x00\x00\x00\x00\x00\x00\x02db\x00\x01t\x00\x02\x03\x03\x00\x02";
+pub const MAP: &[u8] = b"\x01\x00\x00\x00\x00\x00\x00\x00\x02db\x00\x01t\x00\x02\x03\x03\x00\x02";
 
-/// The map of a table `u` of two numbers, likewise.
-const MAP_U: &[u8] = b"\x01\x00\x00\x00\x00\x00\x00\x00\x02db\x00\x01u\x00\x02\x03\x03\x00\x02";
-
-/// The row (1, 10) by such a map: the number 1, the end of a statement, two columns, both there, none NULL.
+/// The row (1, 10) by that map: the number 1, the end of a statement, two columns, both there, none NULL.
 const ROW: &[u8] =
     b"\x01\x00\x00\x00\x00\x00\x01\x00\x02\x00\x02\x03\x00\x01\x00\x00\x00\x0a\x00\x00\x00";
 
 /// What stands in a log behind that table, the line of its replay, and the line of the status that it ends with.
-static CASES: [(&[Piece<'_>], &str, &str); 59] = [
+static CASES: [(&[Piece<'_>], &str, &str); 45] = [
     // a row to delete that is not there
     (
         &[
@@ -425,245 +422,6 @@ static CASES: [(&[Piece<'_>], &str, &str); 59] = [
         "applied 2 1:336\n",
         "log damaged at 336\n",
     ),
-    // a primary key that is changed; two that are swapped by way of a third; the rows are then deleted
-    (
-        &[
-            Piece::Begin,
-            Piece::Event(19, MAP),
-            Piece::Rows(30, &[(1, 10), (2, 20)]),
-            Piece::Xid(2),
-            Piece::Begin,
-            Piece::Event(19, MAP),
-            Piece::Rows(31, &[(1, 10), (3, 10)]),
-            Piece::Xid(3),
-            Piece::Begin,
-            Piece::Event(19, MAP),
-            Piece::Rows(31, &[(2, 20), (1, 20), (3, 10), (2, 10)]),
-            Piece::Xid(4),
-            Piece::Begin,
-            Piece::Event(19, MAP),
-            Piece::Rows(32, &[(1, 20), (2, 10)]),
-            Piece::Xid(5),
-        ],
-        "applied 5 1:846\n",
-        "",
-    ),
-    // a unique key that is changed, two that are swapped by way of NULL
-    (
-        &[
-            Piece::Text("CREATE TABLE u (id INT, k INT, PRIMARY KEY (id), UNIQUE KEY uk (k))"),
-            Piece::Begin,
-            Piece::Event(19, MAP_U),
-            Piece::Rows(30, &[(1, 10), (2, 20)]),
-            Piece::Xid(3),
-            Piece::Begin,
-            Piece::Event(19, MAP_U),
-            Piece::Rows(31, &[(1, 10), (1, 30)]),
-            Piece::Xid(4),
-            Piece::Begin,
-            Piece::Event(19, MAP_U),
-            Piece::Event(
-                31,
-                b"\x01\x00\x00\x00\x00\x00\x01\x00\x02\x00\x02\x03\x03\x00\x01\x00\x00\x00\x1e\x00\x00\x00\x02\x01\x00\x00\x00\x00\x02\x00\x00\x00\x14\x00\x00\x00\x00\x02\x00\x00\x00\x1e\x00\x00\x00\x02\x01\x00\x00\x00\x00\x01\x00\x00\x00\x14\x00\x00\x00",
-            ),
-            Piece::Xid(5),
-            Piece::Begin,
-            Piece::Event(19, MAP_U),
-            Piece::Rows(32, &[(1, 20), (2, 30)]),
-            Piece::Xid(6),
-        ],
-        "applied 6 1:958\n",
-        "",
-    ),
-    // a change to a primary key that is taken
-    (
-        &[
-            Piece::Begin,
-            Piece::Event(19, MAP),
-            Piece::Rows(30, &[(1, 10), (2, 20)]),
-            Piece::Xid(2),
-            Piece::Begin,
-            Piece::Event(19, MAP),
-            Piece::Rows(31, &[(1, 10), (2, 11)]),
-            Piece::Xid(3),
-        ],
-        "applied 2 1:361\n",
-        "differs at 440 code 1062 table t key (2)\n",
-    ),
-    // two that change places: the first finds its key taken, though the second would free it
-    (
-        &[
-            Piece::Begin,
-            Piece::Event(19, MAP),
-            Piece::Rows(30, &[(1, 10), (2, 20)]),
-            Piece::Xid(2),
-            Piece::Begin,
-            Piece::Event(19, MAP),
-            Piece::Rows(31, &[(1, 10), (2, 10), (2, 20), (1, 20)]),
-            Piece::Xid(3),
-        ],
-        "applied 2 1:361\n",
-        "differs at 440 code 1062 table t key (2)\n",
-    ),
-    // a unique key that is taken, of a row to add; the key told is the primary one
-    (
-        &[
-            Piece::Text("CREATE TABLE u (id INT, k INT, PRIMARY KEY (id), UNIQUE KEY uk (k))"),
-            Piece::Begin,
-            Piece::Event(19, MAP_U),
-            Piece::Rows(30, &[(1, 10)]),
-            Piece::Xid(3),
-            Piece::Begin,
-            Piece::Event(19, MAP_U),
-            Piece::Rows(30, &[(2, 10)]),
-            Piece::Xid(4),
-        ],
-        "applied 3 1:454\n",
-        "differs at 533 code 1062 table u key (2)\n",
-    ),
-    // the same of a row to change, whose group is taken back with what it added before
-    (
-        &[
-            Piece::Text("CREATE TABLE u (id INT, k INT, PRIMARY KEY (id), UNIQUE KEY uk (k))"),
-            Piece::Begin,
-            Piece::Event(19, MAP_U),
-            Piece::Rows(30, &[(1, 10), (2, 20)]),
-            Piece::Xid(3),
-            Piece::Begin,
-            Piece::Event(19, MAP_U),
-            Piece::Event(
-                30,
-                b"\x01\x00\x00\x00\x00\x00\x00\x00\x02\x00\x02\x03\x00\x03\x00\x00\x00\x1e\x00\x00\x00",
-            ),
-            Piece::Rows(31, &[(2, 20), (2, 10)]),
-            Piece::Xid(4),
-        ],
-        "applied 3 1:463\n",
-        "differs at 582 code 1062 table u key (2)\n",
-    ),
-    // a row of that key with other values
-    (
-        &[
-            Piece::Begin,
-            Piece::Event(19, MAP),
-            Piece::Rows(30, &[(1, 10), (2, 20)]),
-            Piece::Xid(2),
-            Piece::Begin,
-            Piece::Event(19, MAP),
-            Piece::Rows(32, &[(1, 11)]),
-            Piece::Xid(3),
-        ],
-        "applied 2 1:361\n",
-        "differs at 440 code 1032 table t key (1)\n",
-    ),
-    // the same to change, though the key to put is taken, too
-    (
-        &[
-            Piece::Begin,
-            Piece::Event(19, MAP),
-            Piece::Rows(30, &[(1, 10), (2, 20)]),
-            Piece::Xid(2),
-            Piece::Begin,
-            Piece::Event(19, MAP),
-            Piece::Rows(31, &[(1, 11), (2, 11)]),
-            Piece::Xid(3),
-        ],
-        "applied 2 1:361\n",
-        "differs at 440 code 1032 table t key (1)\n",
-    ),
-    // a table that is not there, to change a row in
-    (
-        &[
-            Piece::Begin,
-            Piece::Event(19, MAP_U),
-            Piece::Rows(31, &[(1, 10), (1, 11)]),
-            Piece::Xid(2),
-        ],
-        "applied 1 1:206\n",
-        "differs at 285 code 1146 table u key ()\n",
-    ),
-    // the same, to delete one
-    (
-        &[
-            Piece::Begin,
-            Piece::Event(19, MAP_U),
-            Piece::Rows(32, &[(1, 10)]),
-            Piece::Xid(2),
-        ],
-        "applied 1 1:206\n",
-        "differs at 285 code 1146 table u key ()\n",
-    ),
-    // fewer columns
-    (
-        &[
-            Piece::Begin,
-            Piece::Event(
-                19,
-                b"\x01\x00\x00\x00\x00\x00\x00\x00\x02\x64\x62\x00\x01\x74\x00\x01\x03\x00\x00",
-            ),
-            Piece::Event(
-                30,
-                b"\x01\x00\x00\x00\x00\x00\x01\x00\x02\x00\x01\x01\x00\x01\x00\x00\x00",
-            ),
-            Piece::Xid(2),
-        ],
-        "applied 1 1:206\n",
-        "differs at 284 code 30010 table t key ()\n",
-    ),
-    // a text whose greatest length is 6 in the map and 5 in the table
-    (
-        &[
-            Piece::Text("CREATE TABLE s (id INT, w VARCHAR(5), PRIMARY KEY (id))"),
-            Piece::Begin,
-            Piece::Event(
-                19,
-                b"\x01\x00\x00\x00\x00\x00\x00\x00\x02\x64\x62\x00\x01\x73\x00\x02\x03\x0f\x02\x06\x00\x02",
-            ),
-            Piece::Event(
-                30,
-                b"\x01\x00\x00\x00\x00\x00\x01\x00\x02\x00\x02\x03\x00\x01\x00\x00\x00\x02\x61\x62",
-            ),
-            Piece::Xid(3),
-        ],
-        "applied 2 1:296\n",
-        "differs at 377 code 30010 table s key ()\n",
-    ),
-    // NULL for a column that takes none, in the row to put
-    (
-        &[
-            Piece::Begin,
-            Piece::Event(19, MAP),
-            Piece::Rows(30, &[(1, 10)]),
-            Piece::Xid(2),
-            Piece::Begin,
-            Piece::Event(19, MAP),
-            Piece::Event(
-                31,
-                b"\x01\x00\x00\x00\x00\x00\x01\x00\x02\x00\x02\x03\x03\x00\x01\x00\x00\x00\x0a\x00\x00\x00\x01\x0a\x00\x00\x00",
-            ),
-            Piece::Xid(3),
-        ],
-        "applied 2 1:352\n",
-        "differs at 431 code 30010 table t key ()\n",
-    ),
-    // the same in the row that was
-    (
-        &[
-            Piece::Begin,
-            Piece::Event(19, MAP),
-            Piece::Rows(30, &[(1, 10)]),
-            Piece::Xid(2),
-            Piece::Begin,
-            Piece::Event(19, MAP),
-            Piece::Event(
-                31,
-                b"\x01\x00\x00\x00\x00\x00\x01\x00\x02\x00\x02\x03\x03\x01\x0a\x00\x00\x00\x00\x01\x00\x00\x00\x0b\x00\x00\x00",
-            ),
-            Piece::Xid(3),
-        ],
-        "applied 2 1:352\n",
-        "differs at 431 code 30010 table t key ()\n",
-    ),
 ];
 
 /// A log with the table `t` and these pieces.
@@ -701,7 +459,7 @@ fn is_read(alloc: Global, log: &[u8], line: &str, ending: &str) -> bool {
 }
 
 /// The same of a log with the table and these pieces.
-fn is_read_behind(alloc: Global, pieces: &[Piece<'_>], line: &str, ending: &str) -> bool {
+pub fn is_read_behind(alloc: Global, pieces: &[Piece<'_>], line: &str, ending: &str) -> bool {
     let log = behind_table(alloc, pieces);
     is_read(alloc, log.as_slice(), line, ending)
 }
