@@ -11,6 +11,7 @@ ghost use Rattle.val_types.specs.Changes.{table_of};
 
 use crate::texts::can_carry_text;
 use log_entry_laws::log_entries::Item;
+use sharing::Shared;
 use val_types::{Bytes, Change, ColType, ColumnDef, List, Row, TableDef, row_fits};
 
 /// The greatest length of a name of a table.
@@ -52,25 +53,28 @@ fn is_change(columns: &List<ColumnDef>, change: &Change) -> bool
     ensures { OnTrue result (IsChange (rows_kind_of change.now) (table_of change.now) (map kind_of columns.now) change.now) }
 {
     match change {
-        Change::Insert { row, .. } | Change::Delete { row, .. } => is_row(columns, row),
-        Change::Update { before, after, .. } => is_row(columns, before) && is_row(columns, after),
+        Change::Insert { row, .. } | Change::Delete { row, .. } => is_row(columns, row.get()),
+        Change::Update { before, after, .. } => {
+            is_row(columns, before.get()) && is_row(columns, after.get())
+        }
     }
 }
 
 /// The columns of a table by its definition.
-fn columns_of<'a>(defs: &'a [TableDef], name: &Bytes) -> Option<&'a List<ColumnDef>>
+fn columns_of<'a>(defs: &'a [Shared<TableDef>], name: &Bytes) -> Option<&'a List<ColumnDef>>
     ensures { columns_seen result ≡ columns_in defs.now name.now }
 {
     for definition in defs {
-        if definition.name == *name {
-            return Some(&definition.columns);
+        let table = definition.get();
+        if table.name == *name {
+            return Some(&table.columns);
         }
     }
     None
 }
 
 /// Whether a change can be carried beside the definition of its table.
-fn can_carry(defs: &List<TableDef>, change: &Change) -> bool
+fn can_carry(defs: &List<Shared<TableDef>>, change: &Change) -> bool
     ensures { OnTrue result (CanCarry defs.now change.now) }
 {
     let Some(columns) = columns_of(defs.as_slice(), change.table()) else {
@@ -80,7 +84,7 @@ fn can_carry(defs: &List<TableDef>, change: &Change) -> bool
 }
 
 /// Whether all changes can be.
-fn can_carry_all(defs: &List<TableDef>, changes: &[Change]) -> bool
+fn can_carry_all(defs: &List<Shared<TableDef>>, changes: &[Change]) -> bool
     ensures { OnTrue result (CanCarryAll defs.now changes.now) }
 {
     for change in changes {
@@ -92,11 +96,11 @@ fn can_carry_all(defs: &List<TableDef>, changes: &[Change]) -> bool
 }
 
 /// Whether no name of a table is too long.
-fn are_named(defs: &[TableDef]) -> bool
+fn are_named(defs: &[Shared<TableDef>]) -> bool
     ensures { OnTrue result (AreNamed defs.now) }
 {
     for definition in defs {
-        if definition.name.len() > LONGEST_NAME {
+        if definition.get().name.len() > LONGEST_NAME {
             return false;
         }
     }

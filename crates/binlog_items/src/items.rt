@@ -1,5 +1,5 @@
 //! The items of a transaction that a log can carry.
-ghost use Rattle.std.specs.Prelude.{◌≡◌, ◌≤◌, ◌++◌, ◌∷◌, ℕ, [], length, nat_lt, take, IfOk, OnErr, OnOk};
+ghost use Rattle.std.specs.Prelude.{◌≡◌, ◌+◌, ◌<◌, ◌≤◌, ◌^◌, ◌++◌, ◌∷◌, ℕ, [], length, nat_lt, take, IfOk, OnErr, OnOk};
 ghost use Rattle.log_entry_laws.specs.log_entries.declared.entries.Entry.TheVariants.{Transaction};
 ghost use Rattle.binlog_items.specs.Logged.{Encodes};
 ghost use Rattle.row_laws.specs.row_events.Sizes.{bounded};
@@ -92,14 +92,13 @@ impl Items {
         self.cache.cut(mark);
     }
 
-    /// The bytes of the transaction of these items, where so many were committed before, from a header's place on.
+    /// The bytes of the transaction of these items, where so many were committed before, from a header's place on. A place too
+    /// far behind is refused as where memory is short.
     pub fn encode(&self, alloc: Global, committed: u64, header: &Header) -> Result<Bytes, NoMemory>
-        requires { 1 ≤ length self.now }
+        requires some { 1 ≤ length self.now }
+        requires few { committed + 1 < 2 ^ 64 }
         ensures { IfOk result (λ bytes. Encodes (Transaction header.now.stamp header.now.server_id self.now) committed header.now.pos bytes) }
     {
-        let Some(number) = committed.checked_add(1) else {
-            return Err(AllocError);
-        };
         let end = header
             .pos
             .saturating_add(self.cache.bytes())
@@ -108,6 +107,6 @@ impl Items {
             return Err(AllocError);
         }
         have_words(header.stamp, header.server_id);
-        self.cache.encode(alloc, number, header)
+        self.cache.encode(alloc, committed + 1, header)
     }
 }

@@ -8,38 +8,37 @@ ghost use Rattle.val_types.specs.Changes.{table_of};
 
 use catalog_checks::catalog_objects::{Object, Objects};
 use catalog_checks::is_among;
+use sharing::Shared;
 use statement_names::Names;
 use std::alloc::Global;
-use val_types::{Bytes, Change, Duplicate, List, NoMemory, TableDef};
+use val_types::{Bytes, Change, List, NoMemory, TableDef};
 
-/// Puts a copy of a definition at the end, where its table is among some names.
+/// Puts one more holder of a definition at the end, where its table is among some names.
 fn put_among(
-    alloc: Global,
     names: &[Bytes],
-    definition: &TableDef,
-    defs: &mut List<TableDef>,
+    definition: &Shared<TableDef>,
+    defs: &mut List<Shared<TableDef>>,
 ) -> Result<(), NoMemory>
     ensures { OnOk result (defs.new ≡ defs.old ++ among names.now (definition.now ∷ [])) }
 {
-    if is_among(names, &definition.name) {
-        let copy = definition.duplicate(alloc)?;
-        defs.push(copy)?;
+    if is_among(names, &definition.get().name) {
+        defs.push(definition.share()?)?;
     }
     Ok(())
 }
 
-/// Copies of the definitions of the tables that are among some names, in the order of the catalog.
+/// The definitions of the tables that are among some names, in the order of the catalog.
 fn definitions_among(
     alloc: Global,
     objects: &[Object],
     names: &[Bytes],
-) -> Result<List<TableDef>, NoMemory>
+) -> Result<List<Shared<TableDef>>, NoMemory>
     ensures { IfOk result (λ defs. defs ≡ among names.now (definitions_in (objects_of objects.now))) }
 {
     let mut defs = List::new(alloc);
     for object in objects {
         if let Object::Table(definition) = object {
-            put_among(alloc, names, definition.get(), &mut defs)?;
+            put_among(names, definition, &mut defs)?;
         }
     }
     Ok(defs)
@@ -56,13 +55,13 @@ fn names_in(alloc: Global, changes: &[Change]) -> Result<Names, NoMemory>
     Ok(names)
 }
 
-/// Copies of the definitions of the tables that changes change, in the order of the catalog. The names of these tables are
+/// The definitions of the tables that changes change, shared with the catalog, in its order. The names of these tables are
 /// gathered first, so that many changes of few tables cost little.
 pub fn definitions_changed(
     alloc: Global,
     objects: &Objects,
     changes: &[Change],
-) -> Result<List<TableDef>, NoMemory>
+) -> Result<List<Shared<TableDef>>, NoMemory>
     ensures { IfOk result (λ defs. defs ≡ definitions_changed (objects_of objects.now) changes.now) }
 {
     let names = names_in(alloc, changes)?;

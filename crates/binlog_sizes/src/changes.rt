@@ -33,11 +33,11 @@ pub fn change_size(change: &Change) -> u64
 {
     let head = (change.table().len() as u64).saturating_add(2);
     match change {
-        Change::Insert { row, .. } => head.saturating_add(row_size(row)),
-        Change::Delete { row, .. } => head.saturating_add(row_size(row)),
+        Change::Insert { row, .. } => head.saturating_add(row_size(row.get())),
+        Change::Delete { row, .. } => head.saturating_add(row_size(row.get())),
         Change::Update { before, after, .. } => head
-            .saturating_add(row_size(before))
-            .saturating_add(row_size(after)),
+            .saturating_add(row_size(before.get()))
+            .saturating_add(row_size(after.get())),
     }
 }
 

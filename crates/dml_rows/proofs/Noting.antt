@@ -1,5 +1,5 @@
 -- The change that storing a row makes, and changes noted and taken back.
-use Rattle.std.proofs.Common.{◌≡◌, ℕ, ◌+◌, ◌<◌, ◌≤◌, List, [], ◌∷◌, ◌++◌, length, take, drop, true, Option, Some, None, Result, Ok, Err, ◌⊎◌, inl, inr, length-append, refl, sym, ap, subst, ◌∙◌, arith}
+use Rattle.std.proofs.Common.{◌≡◌, ℕ, ◌+◌, ◌<◌, ◌≤◌, List, [], ◌∷◌, ◌++◌, length, take, drop, Bool, true, false, cond, Option, Some, None, Result, Ok, Err, ◌⊎◌, inl, inr, length-append, refl, sym, ap, subst, ◌∙◌, arith}
 use Rattle.std.specs.Prelude.{is_some, slice_get}
 use Rattle.std.specs.Option.{option_map, option_and_then}
 use Rattle.std.proofs.Math.ListN.{drop_of_length-le}
@@ -11,9 +11,10 @@ use Rattle.val_types.specs.declared.definitions.TableDef.{TableDef}
 use Rattle.val_types.specs.declared.change.Change.{Change}
 use Rattle.val_types.specs.declared.change.Change.TheVariants.{Insert, Update, Delete}
 use Rattle.val_types.specs.Changes.{inverse}
+use Rattle.val_types.specs.Keys.{primary_key}
 use Rattle.table_rules.specs.Tables.{Table}
 use Rattle.table_rules.specs.Changes.{applied}
-use Rattle.table_rules.specs.Stored.{table_named, row_of_key, row_at, rows_beside, key_in_way, Obstacle, where_found, unless_taken, insertion_in, replacement_in, insertion, replacement, deletion, carried_out, all_applied, all_inverse}
+use Rattle.table_rules.specs.Stored.{table_named, row_of_key, row_at, rows_beside, key_in_way, Obstacle, row_absent, where_found, unless_taken, insertion_in, replacement_in, insertion, replacement, deletion, carried_out, all_applied, all_inverse}
 use Rattle.table_rules.specs.Stores.{Store, place_of, definitions_of, keeps, keeps_put, KeepsAll, KeepsSame, IsWhole, can_take_back}
 use Rattle.table_rules.specs.Leads.{Leads}
 use Rattle.table_rules.proofs.Equations.{insertion_by, replacement_by, deletion_by_row, applied_none, applied_one}
@@ -22,7 +23,9 @@ use Rattle.table_rules.proofs.Places.{place_has_name}
 use Rattle.table_rules.proofs.Leading.{leads_nowhere, one_change_leads, no_change_leads, leads_back, leads_home, none_taken_back, last_step, back_last, rest_taken_back}
 use Rattle.row_store.specs.declared.refusal.RowRefusal.{RowRefusal}
 use Rattle.row_store.specs.declared.refusal.RowRefusal.TheVariants.{Taken, Absent, NoMemory}
-use Rattle.row_store.specs.Stores.{Stores}
+use Rattle.row_store.specs.Slots.{is_standing}
+use Rattle.row_store.specs.Stores.{Stores, exchange, exchange_in, removal, removal_in}
+use Rattle.row_store.proofs.Exchanging.{exchange_by, removal_by}
 use Rattle.dml_rows.specs.Noted.{changes_of, StaysReversible}
 
 -- ---- the change that was made
@@ -60,6 +63,37 @@ replaced name key row before ts after there e =
     let is = replacement_by name key row ts (table_named name ts) refl in
     is ∙ replacement_ok (table_named name ts) name key row before ts after there (ap (λ (step : Result Change Obstacle). carried_out step ts) (sym is) ∙ e)
 
+-- a row that stands just so, replaced or taken out
+exchanged_by : (b : Bool) (way : Option ℕ) (change : Change) (ts after : List Table) → carried_out (cond b (unless_taken way change) (Err row_absent)) ts ≡ Some after
+    → cond b (unless_taken way change) (Err row_absent) ≡ Ok change
+exchanged_by true way change ts after e = unless_ok way change ts after e
+exchanged_by false way change ts after e = cc
+
+exchanged_in : (o : Option Table) (name : List ℕ) (before row : List Value) (ts after : List Table) → carried_out (where_found o (exchange_in name before row)) ts ≡ Some after
+    → where_found o (exchange_in name before row) ≡ Ok (Update name before row)
+exchanged_in None name before row ts after e = cc
+exchanged_in (Some t) name before row ts after e =
+    exchanged_by (is_standing t.definition before t.rows) (key_in_way t.definition row (rows_beside t.definition (primary_key t.definition before) t.rows)) (Update name before row) ts after e
+
+pub exchanged : (name : List ℕ) (before row : List Value) (ts after : List Table) → carried_out (exchange name before row ts) ts ≡ Some after → exchange name before row ts ≡ Ok (Update name before row)
+exchanged name before row ts after e =
+    let is = exchange_by name before row ts (table_named name ts) refl in
+    is ∙ exchanged_in (table_named name ts) name before row ts after (ap (λ (step : Result Change Obstacle). carried_out step ts) (sym is) ∙ e)
+
+removed_by : (b : Bool) (change : Change) (ts after : List Table) → carried_out (cond b (Ok change) (Err row_absent)) ts ≡ Some after → cond b (Ok change) (Err row_absent) ≡ Ok change
+removed_by true change ts after e = refl
+removed_by false change ts after e = cc
+
+removed_in : (o : Option Table) (name : List ℕ) (row : List Value) (ts after : List Table) → carried_out (where_found o (removal_in name row)) ts ≡ Some after
+    → where_found o (removal_in name row) ≡ Ok (Delete name row)
+removed_in None name row ts after e = cc
+removed_in (Some t) name row ts after e = removed_by (is_standing t.definition row t.rows) (Delete name row) ts after e
+
+pub removed : (name : List ℕ) (row : List Value) (ts after : List Table) → carried_out (removal name row ts) ts ≡ Some after → removal name row ts ≡ Ok (Delete name row)
+removed name row ts after e =
+    let is = removal_by name row ts (table_named name ts) refl in
+    is ∙ removed_in (table_named name ts) name row ts after (ap (λ (step : Result Change Obstacle). carried_out step ts) (sym is) ∙ e)
+
 -- ---- refusals
 
 pub refused : (refusal : RowRefusal) (step : Result Change Obstacle) (old new : List Table) → Stores {A = Unit {0}} (Err refusal) step old new → new ≡ old
@@ -72,21 +106,13 @@ carried step change old new is e = ap (λ (s : Result Change Obstacle). carried_
 
 -- ---- names and places
 
-some_name : (o : Option TableDef) (d : TableDef) (name : List ℕ) → Some d ≡ o → option_map (λ (e : TableDef). e.name) o ≡ Some name → d.name ≡ name
-some_name None d name e f = cc
-some_name (Some g) d name e f = let same : d ≡ g = cc in let named : g.name ≡ name = cc in ap (λ (h : TableDef). h.name) same ∙ named
-
--- the definition at the place of a name has the name
-pub name_there : (name : List ℕ) (ts : List Table) (at : ℕ) (d : TableDef) → Some d ≡ slice_get (definitions_of ts) at → place_of name ts ≡ Some at → d.name ≡ name
-name_there name ts at d is e = some_name (slice_get (definitions_of ts) at) d name is (place_has_name name ts at e)
-
-none_name : (o : Option TableDef) (name : List ℕ) → None ≡ o → option_map (λ (e : TableDef). e.name) o ≡ Some name → ⊥
-none_name None name e f = cc
-none_name (Some g) name e f = cc
+-- the name at the place of a name is that name
+pub name_there : (name there : List ℕ) (ts : List Table) (at : ℕ) → Some there ≡ option_map (λ (d : TableDef). d.name) (slice_get (definitions_of ts) at) → place_of name ts ≡ Some at → there ≡ name
+name_there name there ts at is e = let both : Some there ≡ Some name = is ∙ place_has_name name ts at e in cc
 
 -- where no definition stands, no name has its place
-pub no_name_there : (name : List ℕ) (ts : List Table) (at : ℕ) → None ≡ slice_get (definitions_of ts) at → place_of name ts ≡ Some at → ⊥
-no_name_there name ts at none e = none_name (slice_get (definitions_of ts) at) name none (place_has_name name ts at e)
+pub no_name_there : (name : List ℕ) (ts : List Table) (at : ℕ) → None ≡ option_map (λ (d : TableDef). d.name) (slice_get (definitions_of ts) at) → place_of name ts ≡ Some at → ⊥
+no_name_there name ts at none e = let never : None ≡ Some name = none ∙ place_has_name name ts at e in cc
 
 -- ---- a change that was made and noted
 
@@ -114,6 +140,22 @@ delete_leads old new noted now name key row whole there made kept keys is =
     (one_change_leads old new noted (Delete name row) whole.rows
     (carried (deletion name key old.tables) (Delete name row) old.tables new.tables (deletion_by_row name key old.tables (Some row) there) made) kept keys)
 
+pub exchange_leads : (old new : Store) (noted now : List Change) (name : List ℕ) (before row : List Value) → IsWhole old
+    → carried_out (exchange name before row old.tables) old.tables ≡ Some new.tables → keeps new name before ≡ true
+    → KeepsAll old new → now ≡ noted ++ Update name before row ∷ [] → Leads old noted new now
+exchange_leads old new noted now name before row whole made kept keys is =
+    subst (λ (cs : List Change). Leads old noted new cs) (sym is)
+    (one_change_leads old new noted (Update name before row) whole.rows
+    (carried (exchange name before row old.tables) (Update name before row) old.tables new.tables (exchanged name before row old.tables new.tables made) made) kept keys)
+
+pub removal_leads : (old new : Store) (noted now : List Change) (name : List ℕ) (row : List Value) → IsWhole old
+    → carried_out (removal name row old.tables) old.tables ≡ Some new.tables → keeps new name row ≡ true
+    → KeepsAll old new → now ≡ noted ++ Delete name row ∷ [] → Leads old noted new now
+removal_leads old new noted now name row whole made kept keys is =
+    subst (λ (cs : List Change). Leads old noted new cs) (sym is)
+    (one_change_leads old new noted (Delete name row) whole.rows
+    (carried (removal name row old.tables) (Delete name row) old.tables new.tables (removed name row old.tables new.tables made) made) kept keys)
+
 -- what was noted is the change of storing the row
 pub insert_notes : (old new : List Table) (noted now : List Change) (name : List ℕ) (row : List Value) → carried_out (insertion name row old) old ≡ Some new → now ≡ noted ++ Insert name row ∷ []
     → now ≡ noted ++ changes_of (insertion name row old)
@@ -126,6 +168,14 @@ update_notes old new noted now name key before row there made is = is ∙ ap (λ
 pub delete_notes : (old : List Table) (noted now : List Change) (name : List ℕ) (key row : List Value) → row_at name key old ≡ Some row
     → now ≡ noted ++ Delete name row ∷ [] → now ≡ noted ++ changes_of (deletion name key old)
 delete_notes old noted now name key row there is = is ∙ ap (λ (s : Result Change Obstacle). noted ++ changes_of s) (sym (deletion_by_row name key old (Some row) there))
+
+pub exchange_notes : (old new : List Table) (noted now : List Change) (name : List ℕ) (before row : List Value)
+    → carried_out (exchange name before row old) old ≡ Some new → now ≡ noted ++ Update name before row ∷ [] → now ≡ noted ++ changes_of (exchange name before row old)
+exchange_notes old new noted now name before row made is = is ∙ ap (λ (s : Result Change Obstacle). noted ++ changes_of s) (sym (exchanged name before row old new made))
+
+pub removal_notes : (old new : List Table) (noted now : List Change) (name : List ℕ) (row : List Value)
+    → carried_out (removal name row old) old ≡ Some new → now ≡ noted ++ Delete name row ∷ [] → now ≡ noted ++ changes_of (removal name row old)
+removal_notes old new noted now name row made is = is ∙ ap (λ (s : Result Change Obstacle). noted ++ changes_of s) (sym (removed name row old new made))
 
 -- what was refused leads on, with more keys at most
 pub refused_leads : (refusal : RowRefusal) (step : Result Change Obstacle) (old new : Store) (noted now : List Change) → Stores {A = Unit {0}} (Err refusal) step old.tables new.tables → KeepsAll old new → now ≡ noted

@@ -7,18 +7,17 @@ ghost use Rattle.dml_rows.specs.Noted.{Notes};
 
 use crate::storing::{delete_row_at, insert_row_at, update_row_at};
 use row_store::{RowRefusal, Tables};
-use std::alloc::Global;
+use sharing::Shared;
 use undo_log::Undo;
 use val_types::{Bytes, Row};
 
 /// Inserts a row.
 #[tactic(auto, using(crate::proofs::Noting::nothing_leads))]
 pub fn insert_row(
-    alloc: Global,
     tables: &mut Tables,
     undo: &mut Undo,
     table: &Bytes,
-    row: Row,
+    row: Shared<Row>,
 ) -> Result<(), RowRefusal>
     requires { fits_table table.now row tables.old.tables ≡ true }
     ensures stored { Stores result (insertion table.now row tables.old.tables)
@@ -27,7 +26,7 @@ pub fn insert_row(
     ensures leads { Leads tables.old undo.old tables.new undo.new }
 {
     match tables.place(table) {
-        Some(at) => insert_row_at(alloc, tables, undo, at, row),
+        Some(at) => insert_row_at(tables, undo, at, row),
         None => Err(RowRefusal::Absent),
     }
 }
@@ -35,12 +34,11 @@ pub fn insert_row(
 /// Replaces the row of a key.
 #[tactic(auto, using(crate::proofs::Noting::nothing_leads))]
 pub fn update_row(
-    alloc: Global,
     tables: &mut Tables,
     undo: &mut Undo,
     table: &Bytes,
     key: &Row,
-    row: Row,
+    row: Shared<Row>,
 ) -> Result<(), RowRefusal>
     requires { fits_table table.now row tables.old.tables ≡ true }
     ensures stored { Stores result (replacement table.now key.now row tables.old.tables)
@@ -50,7 +48,7 @@ pub fn update_row(
     ensures leads { Leads tables.old undo.old tables.new undo.new }
 {
     match tables.place(table) {
-        Some(at) => update_row_at(alloc, tables, undo, at, key, row),
+        Some(at) => update_row_at(tables, undo, at, key, row),
         None => Err(RowRefusal::Absent),
     }
 }
@@ -58,7 +56,6 @@ pub fn update_row(
 /// Deletes the row of a key.
 #[tactic(auto, using(crate::proofs::Noting::nothing_leads))]
 pub fn delete_row(
-    alloc: Global,
     tables: &mut Tables,
     undo: &mut Undo,
     table: &Bytes,
@@ -71,7 +68,7 @@ pub fn delete_row(
     ensures leads { Leads tables.old undo.old tables.new undo.new }
 {
     match tables.place(table) {
-        Some(at) => delete_row_at(alloc, tables, undo, at, key),
+        Some(at) => delete_row_at(tables, undo, at, key),
         None => Err(RowRefusal::Absent),
     }
 }

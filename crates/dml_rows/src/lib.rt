@@ -1,6 +1,7 @@
-//! One row's change: stored and noted for taking back, or neither.
+//! One row's change: stored and noted for taking back, or neither. The change and the table hold the same row.
 //!
 //! - `storing`: [`insert_row_at`], [`update_row_at`] and [`delete_row_at`], in the table at a place
+//! - `standing`: [`replace_row_at`] and [`remove_row_at`], which are given the row that stands
 //! - `by_name`: [`insert_row`], [`update_row`] and [`delete_row`], in the table of a name
 //! - `taking_back`: [`take_back_to`]
 //!
@@ -21,9 +22,11 @@
 #![tactic(auto)]
 
 mod by_name;
+mod standing;
 mod storing;
 mod taking_back;
 
 pub use by_name::{delete_row, insert_row, update_row};
+pub use standing::{remove_row_at, replace_row_at};
 pub use storing::{delete_row_at, insert_row_at, update_row_at};
 pub use taking_back::take_back_to;

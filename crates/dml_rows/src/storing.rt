@@ -8,18 +8,17 @@ ghost use Rattle.row_store.specs.Stores.{Stores};
 ghost use Rattle.dml_rows.specs.Noted.{Notes};
 
 use row_store::{RowRefusal, Tables};
-use std::alloc::Global;
+use sharing::Shared;
 use undo_log::Undo;
-use val_types::{Change, Duplicate, Row};
+use val_types::{Change, Row};
 
 /// Inserts a row into the table at a place.
 #[tactic(auto, using(crate::proofs::Noting::nothing_leads, crate::proofs::Noting::unchanged_leads))]
 pub fn insert_row_at(
-    alloc: Global,
     tables: &mut Tables,
     undo: &mut Undo,
     at: usize,
-    row: Row,
+    row: Shared<Row>,
 ) -> Result<(), RowRefusal>
     requires { fits_at at row tables.old.tables ≡ true }
     ensures stored { (name : List ℕ) → place_of name tables.old.tables ≡ Some at
@@ -28,12 +27,12 @@ pub fn insert_row_at(
         → Notes result (insertion name row tables.old.tables) undo.old undo.new }
     ensures leads { Leads tables.old undo.old tables.new undo.new }
 {
-    let Some(definition) = tables.definition(at) else {
+    let Some(name) = tables.name_at(at) else {
         return Err(RowRefusal::Absent);
     };
     let change = Change::Insert {
-        table: definition.name.duplicate(alloc)?,
-        row: row.duplicate(alloc)?,
+        table: name.share()?,
+        row: row.share()?,
     };
     undo.push(change)?;
     match tables.insert_at(at, row) {
@@ -48,12 +47,11 @@ pub fn insert_row_at(
 /// Replaces the row of a key in the table at a place.
 #[tactic(auto, using(crate::proofs::Noting::nothing_leads, crate::proofs::Noting::unchanged_leads))]
 pub fn update_row_at(
-    alloc: Global,
     tables: &mut Tables,
     undo: &mut Undo,
     at: usize,
     key: &Row,
-    row: Row,
+    row: Shared<Row>,
 ) -> Result<(), RowRefusal>
     requires { fits_at at row tables.old.tables ≡ true }
     ensures stored { (name : List ℕ) → place_of name tables.old.tables ≡ Some at
@@ -62,17 +60,16 @@ pub fn update_row_at(
         → Notes result (replacement name key.now row tables.old.tables) undo.old undo.new }
     ensures leads { Leads tables.old undo.old tables.new undo.new }
 {
-    let Some(definition) = tables.definition(at) else {
+    let Some(name) = tables.name_at(at) else {
         return Err(RowRefusal::Absent);
     };
-    let before = match tables.get_at(at, key) {
-        Some(before) => before.duplicate(alloc)?,
-        None => return Err(RowRefusal::Absent),
+    let Some(before) = tables.held_at(at, key) else {
+        return Err(RowRefusal::Absent);
     };
     let change = Change::Update {
-        table: definition.name.duplicate(alloc)?,
-        before,
-        after: row.duplicate(alloc)?,
+        table: name.share()?,
+        before: before.share()?,
+        after: row.share()?,
     };
     undo.push(change)?;
     match tables.update_at(at, key, row) {
@@ -87,7 +84,6 @@ pub fn update_row_at(
 /// Deletes the row of a key from the table at a place.
 #[tactic(auto, using(crate::proofs::Noting::nothing_leads, crate::proofs::Noting::unchanged_leads))]
 pub fn delete_row_at(
-    alloc: Global,
     tables: &mut Tables,
     undo: &mut Undo,
     at: usize,
@@ -99,16 +95,15 @@ pub fn delete_row_at(
         → Notes result (deletion name key.now tables.old.tables) undo.old undo.new }
     ensures leads { Leads tables.old undo.old tables.new undo.new }
 {
-    let Some(definition) = tables.definition(at) else {
+    let Some(name) = tables.name_at(at) else {
         return Err(RowRefusal::Absent);
     };
-    let row = match tables.get_at(at, key) {
-        Some(row) => row.duplicate(alloc)?,
-        None => return Err(RowRefusal::Absent),
+    let Some(row) = tables.held_at(at, key) else {
+        return Err(RowRefusal::Absent);
     };
     let change = Change::Delete {
-        table: definition.name.duplicate(alloc)?,
-        row,
+        table: name.share()?,
+        row: row.share()?,
     };
     undo.push(change)?;
     match tables.delete_at(at, key) {
@@ -121,7 +116,7 @@ pub fn delete_row_at(
 }
 
 /// Drops the last change.
-fn forget(undo: &mut Undo)
+pub(crate) fn forget(undo: &mut Undo)
     ensures { (noted : List Change) → (last : Change) → undo.old ≡ noted ++ last ∷ []
         → undo.new ≡ noted }
 {

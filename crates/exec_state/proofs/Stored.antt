@@ -1,27 +1,27 @@
 -- What storing a row comes to is what the definitions' actions on a scene give.
-use Rattle.std.proofs.Common.{◌≡◌, ℕ, List, [], ◌∷◌, ◌++◌, Bool, true, false, ◌&&◌, Option, Some, None, Result, Ok, Err, refl, sym, ap, ◌∙◌}
+use Rattle.std.proofs.Common.{◌≡◌, ℕ, List, [], ◌∷◌, ◌++◌, Bool, true, false, ◌&&◌, cond, Option, Some, None, Result, Ok, Err, refl, sym, ap, ◌∙◌}
 use Rattle.std.specs.Prelude.{is_some, is_none, is_ok, slice_get}
-use Rattle.std.specs.Option.{option_map, option_map_or, option_and_then}
-use Rattle.std.proofs.lemmas.Bool.{and_from}
+use Rattle.std.specs.Option.{option_map, option_map_or}
 use Rattle.val_types.specs.declared.value.Value.{Value}
 use Rattle.val_types.specs.declared.change.Change.{Change}
 use Rattle.val_types.specs.declared.change.Change.TheVariants.{Insert, Update, Delete}
 use Rattle.val_types.specs.declared.definitions.TableDef.{TableDef}
 use Rattle.val_types.specs.Fitting.{row_fits}
-use Rattle.val_types.specs.Keys.{primary_key, same_values}
+use Rattle.val_types.specs.Keys.{primary_key}
 use Rattle.table_rules.specs.Tables.{Table}
 use Rattle.table_rules.specs.Changes.{applied, rows_after}
-use Rattle.table_rules.specs.Stored.{Obstacle, key_taken, row_absent, table_named, row_of_key, row_at, rows_beside, key_in_way, where_found, unless_taken, insertion_in, insertion, replacement, deletion, carried_out, fits_table}
+use Rattle.table_rules.specs.Stored.{Obstacle, key_taken, row_absent, table_named, rows_beside, key_in_way, where_found, unless_taken, insertion_in, insertion, carried_out, fits_table}
 use Rattle.table_rules.specs.Stores.{place_of, definitions_of, fits_at}
-use Rattle.table_rules.proofs.Equations.{insertion_by, replacement_by, deletion_by}
-use Rattle.table_rules.proofs.Places.{fits_by_place}
+use Rattle.table_rules.proofs.Equations.{insertion_by}
+use Rattle.table_rules.proofs.Places.{fits_by_place, place_has_name}
 use Rattle.table_rules.proofs.Storing.{applied_where, inserts_where}
-use Rattle.table_rules.proofs.Taking.{same_is}
+use Rattle.row_store.specs.Slots.{is_standing}
+use Rattle.row_store.specs.Stores.{exchange, removal}
+use Rattle.row_store.proofs.Exchanging.{exchange_as, removal_as}
 use Rattle.dml_rows.specs.Noted.{changes_of}
 use Rattle.sql_meaning.specs.Scenes.{Scene, Ending, Action, done, failed, then_do, ◌>>=◌, require, make, noted}
-use Rattle.sql_meaning.specs.Changing.{is_there, take_out, put_in_place}
-use Rattle.exec_state.specs.Stage.{is_row}
-use Rattle.exec_state.proofs.Snapshots.{definition_there, no_definition}
+use Rattle.sql_meaning.specs.Changing.{take_out, put_in_place}
+use Rattle.exec_state.proofs.Snapshots.{definition_there}
 
 -- ---- changes made
 
@@ -113,196 +113,155 @@ table_at : (name : List ℕ) (scene : Scene) (at : ℕ) (d : TableDef) → place
     → (t : Table) × (table_named name scene.tables ≡ Some t) × (t.definition ≡ d)
 table_at name scene at d here e = found_with (table_named name scene.tables) d (sym (definition_there name scene at here) ∙ e)
 
--- the row of a key there
-row_there : (name : List ℕ) (key : List Value) (ts : List Table) (t : Table) → table_named name ts ≡ Some t → row_at name key ts ≡ row_of_key t.definition key t.rows
-row_there name key ts t e = ap (option_and_then (λ (u : Table). row_of_key u.definition key u.rows)) e
+definition_named : (o : Option TableDef) (name : List ℕ) → option_map (λ (d : TableDef). d.name) o ≡ Some name → (d : TableDef) × (o ≡ Some d)
+definition_named None name e = cc
+definition_named (Some d) name e = (d, refl)
+
+named_at : (name : List ℕ) (scene : Scene) (at : ℕ) → place_of name scene.tables ≡ Some at → (t : Table) × (table_named name scene.tables ≡ Some t)
+named_at name scene at here =
+    let d = definition_named (slice_get (definitions_of scene.tables) at) name (place_has_name name scene.tables at here) in
+    let t = table_at name scene at d.0 here d.1 in
+    (t.0, t.1)
 
 -- ---- a row taken out
 
-take_step : (name : List ℕ) (row : List Value) (scene : Scene) (t : Table) (standing : Option (List Value)) → table_named name scene.tables ≡ Some t
-    → row_of_key t.definition (primary_key t.definition row) t.rows ≡ standing
-    → take_out name row scene ≡ then_do (require 1032 (is_row row standing) scene) (λ _. make 1032 (Delete name row))
-take_step name row scene t standing e f = rw (e, f) refl
+take_by : (b : Bool) (name : List ℕ) (row : List Value) (scene : Scene) (t : Table) → table_named name scene.tables ≡ Some t → is_standing t.definition row t.rows ≡ b
+    → take_out name row scene ≡ then_do (require 1032 b scene) (λ _. make 1032 (Delete name row))
+take_by b name row scene t e there = rw e (ap (λ (holds : Bool). then_do (require 1032 holds scene) (λ _. make 1032 (Delete name row))) there)
 
-refused_there : (holds : Bool) (scene : Scene) (change : Change) → holds ≡ false → then_do (require 1032 holds scene) (λ _. make 1032 change) ≡ failed 1032 scene
-refused_there holds scene change e = rw e refl
-
-passed_there : (holds : Bool) (scene : Scene) (change : Change) → holds ≡ true → then_do (require 1032 holds scene) (λ _. make 1032 change) ≡ make 1032 change scene
-passed_there holds scene change e = rw e refl
-
-standing_at : (name : List ℕ) (row : List Value) (scene : Scene) (d : TableDef) (t : Table) (standing : Option (List Value)) → table_named name scene.tables ≡ Some t → t.definition ≡ d
-    → standing ≡ row_at name (primary_key d row) scene.tables → row_of_key t.definition (primary_key t.definition row) t.rows ≡ standing
-standing_at name row scene d t standing named same e =
-    ap (λ (u : TableDef). row_of_key t.definition (primary_key u row) t.rows) same ∙ sym (row_there name (primary_key d row) scene.tables t named) ∙ sym e
-
--- another row stands at its key, or none
-pub not_taken_out : (name : List ℕ) (row : List Value) (at : ℕ) (scene : Scene) (d : TableDef) (standing : Option (List Value)) → place_of name scene.tables ≡ Some at
-    → slice_get (definitions_of scene.tables) at ≡ Some d → standing ≡ row_at name (primary_key d row) scene.tables → is_row row standing ≡ false
-    → take_out name row scene ≡ failed 1032 scene
-not_taken_out name row at scene d standing here e found differs =
-    let t = table_at name scene at d here e in
-    take_step name row scene t.0 standing t.1 (standing_at name row scene d t.0 standing t.1 t.2 found)
-    ∙ refused_there (is_row row standing) scene (Delete name row) differs
-
--- what taking out the row of a key comes to
-deletion_of : (name : List ℕ) (key row : List Value) (ts : List Table) (t : Table) → table_named name ts ≡ Some t → row_of_key t.definition key t.rows ≡ Some row
-    → deletion name key ts ≡ Ok (Delete name row)
-deletion_of name key row ts t e f =
-    deletion_by name key ts (Some t) e ∙ ap (λ (r : Option (List Value)). where_found r (λ (found : List Value). Ok (Delete name found))) f
-
-same_row : (row : List Value) (standing : Option (List Value)) → is_row row standing ≡ true → standing ≡ Some row
-same_row row None e = cc
-same_row row (Some s) e = ap (λ (r : List Value). Some r) (same_is s row e)
-
-there_is_deletion : (name : List ℕ) (row : List Value) (at : ℕ) (scene : Scene) (d : TableDef) (standing : Option (List Value)) → place_of name scene.tables ≡ Some at
-    → slice_get (definitions_of scene.tables) at ≡ Some d → standing ≡ row_at name (primary_key d row) scene.tables → is_row row standing ≡ true
-    → (deletion name (primary_key d row) scene.tables ≡ Ok (Delete name row)) × (take_out name row scene ≡ make 1032 (Delete name row) scene)
-there_is_deletion name row at scene d standing here e found same =
-    let t = table_at name scene at d here e in
-    let is : row_of_key t.0.definition (primary_key t.0.definition row) t.0.rows ≡ standing = standing_at name row scene d t.0 standing t.1 t.2 found in (
-      deletion_of name (primary_key d row) row scene.tables t.0 t.1
-          (ap (λ (u : TableDef). row_of_key t.0.definition (primary_key u row) t.0.rows) (sym t.2) ∙ is ∙ same_row row standing same),
-      take_step name row scene t.0 standing t.1 is ∙ passed_there (is_row row standing) scene (Delete name row) same,
-    )
-
-delete_as : (name : List ℕ) (row : List Value) (scene : Scene) (tables : List Table) (changes : List Change) (step : Result Change Obstacle)
-    → step ≡ Ok (Delete name row) → carried_out step scene.tables ≡ Some tables → changes ≡ scene.changes ++ changes_of step
-    → make 1032 (Delete name row) scene ≡ done tt (stored scene tables changes)
-delete_as name row scene tables changes step is carried now =
-    made 1032 (Delete name row) scene tables (ap (λ (s : Result Change Obstacle). carried_out s scene.tables) (sym is) ∙ carried)
-    ∙ noted_as (Delete name row) scene tables changes (now ∙ ap (λ (s : Result Change Obstacle). scene.changes ++ changes_of s) is)
+removed_by : (b : Bool) (name : List ℕ) (row : List Value) (scene : Scene) (t : Table) (tables : List Table) (changes : List Change)
+    → table_named name scene.tables ≡ Some t → is_standing t.definition row t.rows ≡ b
+    → carried_out (cond b (Ok (Delete name row)) (Err row_absent)) scene.tables ≡ Some tables → changes ≡ scene.changes ++ changes_of (cond b (Ok (Delete name row)) (Err row_absent))
+    → take_out name row scene ≡ done tt (stored scene tables changes)
+removed_by true name row scene t tables changes e there carried now =
+    take_by true name row scene t e there ∙ made 1032 (Delete name row) scene tables carried ∙ noted_as (Delete name row) scene tables changes now
+removed_by false name row scene t tables changes e there carried now = cc
 
 -- the row stands there, and was taken out
-pub taken_out : (name : List ℕ) (row : List Value) (at : ℕ) (scene : Scene) (d : TableDef) (standing : Option (List Value)) (tables : List Table) (changes : List Change)
-    → place_of name scene.tables ≡ Some at → slice_get (definitions_of scene.tables) at ≡ Some d → standing ≡ row_at name (primary_key d row) scene.tables → is_row row standing ≡ true
-    → carried_out (deletion name (primary_key d row) scene.tables) scene.tables ≡ Some tables
-    → changes ≡ scene.changes ++ changes_of (deletion name (primary_key d row) scene.tables)
+pub taken_out : (name : List ℕ) (row : List Value) (at : ℕ) (scene : Scene) (tables : List Table) (changes : List Change) → place_of name scene.tables ≡ Some at
+    → carried_out (removal name row scene.tables) scene.tables ≡ Some tables → changes ≡ scene.changes ++ changes_of (removal name row scene.tables)
     → take_out name row scene ≡ done tt (stored scene tables changes)
-taken_out name row at scene d standing tables changes here e found same carried now =
-    let is = there_is_deletion name row at scene d standing here e found same in
-    is.1 ∙ delete_as name row scene tables changes (deletion name (primary_key d row) scene.tables) is.0 carried now
+taken_out name row at scene tables changes here carried now =
+    let t = named_at name scene at here in
+    let is = removal_as name row scene.tables t.0 (is_standing t.0.definition row t.0.rows) t.1 refl in
+    removed_by (is_standing t.0.definition row t.0.rows) name row scene t.0 tables changes t.1 refl
+    (ap (λ (s : Result Change Obstacle). carried_out s scene.tables) (sym is) ∙ carried) (now ∙ ap (λ (s : Result Change Obstacle). scene.changes ++ changes_of s) is)
 
--- or nothing was in the way of that
-pub nothing_in_way : (name : List ℕ) (row : List Value) (at : ℕ) (scene : Scene) (d : TableDef) (standing : Option (List Value)) (obstacle : Obstacle)
-    → place_of name scene.tables ≡ Some at → slice_get (definitions_of scene.tables) at ≡ Some d → standing ≡ row_at name (primary_key d row) scene.tables → is_row row standing ≡ true
-    → deletion name (primary_key d row) scene.tables ≡ Err obstacle → take_out name row scene ≡ failed 1032 scene
-nothing_in_way name row at scene d standing obstacle here e found same refused =
-    let is = there_is_deletion name row at scene d standing here e found same in
-    let never : Ok (Delete name row) ≡ Err obstacle = sym is.0 ∙ refused in cc
+kept_by : (b : Bool) (name : List ℕ) (row : List Value) (scene : Scene) (t : Table) (obstacle : Obstacle) → table_named name scene.tables ≡ Some t → is_standing t.definition row t.rows ≡ b
+    → cond b (Ok (Delete name row)) (Err row_absent) ≡ Err obstacle → take_out name row scene ≡ failed 1032 scene
+kept_by true name row scene t obstacle e there refused = cc
+kept_by false name row scene t obstacle e there refused = take_by false name row scene t e there
 
--- without a table
-pub none_taken_out : (name : List ℕ) (row : List Value) (at : ℕ) (scene : Scene) → place_of name scene.tables ≡ Some at
-    → slice_get (definitions_of scene.tables) at ≡ None → take_out name row scene ≡ failed 1146 scene
-none_taken_out name row at scene here none =
-    ap (λ (e : Ending Table). then_do e (λ table. require 1032 (is_there table.definition row table.rows) >>= λ _. make 1032 (Delete name row))) (no_definition name scene at here none)
+-- another row stands at its key, or none
+pub not_taken_out : (name : List ℕ) (row : List Value) (at : ℕ) (scene : Scene) (obstacle : Obstacle) → place_of name scene.tables ≡ Some at
+    → removal name row scene.tables ≡ Err obstacle → take_out name row scene ≡ failed 1032 scene
+not_taken_out name row at scene obstacle here refused =
+    let t = named_at name scene at here in
+    let is = removal_as name row scene.tables t.0 (is_standing t.0.definition row t.0.rows) t.1 refl in
+    kept_by (is_standing t.0.definition row t.0.rows) name row scene t.0 obstacle t.1 refl (sym is ∙ refused)
 
 -- ---- a row put in the place of another
 
 abbrev way_of : Table → (old new : List Value) → Option ℕ
 way_of t old new = key_in_way t.definition new (rows_beside t.definition (primary_key t.definition old) t.rows)
 
-put_step : (name : List ℕ) (old new : List Value) (scene : Scene) (t : Table) (standing : Option (List Value)) → table_named name scene.tables ≡ Some t
-    → row_of_key t.definition (primary_key t.definition old) t.rows ≡ standing
-    → put_in_place name old new scene
-    ≡ then_do (require 1032 (row_fits t.definition.columns new && is_row old standing) scene) (λ _. require 1062 (is_none (way_of t old new)) >>= λ _. make 1032 (Update name old new))
-put_step name old new scene t standing e f = rw (e, f) refl
+-- the rest, where the row stands there
+abbrev then_put : List ℕ → (old new : List Value) → Table → Action (Unit {0})
+then_put name old new t = require 1062 (is_none (way_of t old new)) >>= λ _. make 1032 (Update name old new)
 
-refused_before : (holds : Bool) (scene : Scene) (next : Action (Unit {0})) → holds ≡ false → then_do (require 1032 holds scene) (λ _. next) ≡ failed 1032 scene
-refused_before holds scene next e = rw e refl
-
-passed_before : (holds : Bool) (scene : Scene) (next : Action (Unit {0})) → holds ≡ true → then_do (require 1032 holds scene) (λ _. next) ≡ next scene
-passed_before holds scene next e = rw e refl
-
-none_fits : (fits there : Bool) → fits ≡ false → (fits && there) ≡ false
-none_fits fits there e = rw e refl
-
-none_there : (fits there : Bool) → there ≡ false → (fits && there) ≡ false
-none_there true there e = e
-none_there false there e = refl
+put_by : (holds : Bool) (name : List ℕ) (old new : List Value) (scene : Scene) (t : Table) → table_named name scene.tables ≡ Some t
+    → (row_fits t.definition.columns new && is_standing t.definition old t.rows) ≡ holds
+    → put_in_place name old new scene ≡ then_do (require 1032 holds scene) (λ _. then_put name old new t)
+put_by holds name old new scene t e there = rw e (ap (λ (b : Bool). then_do (require 1032 b scene) (λ _. then_put name old new t)) there)
 
 fits_in : (name : List ℕ) (row : List Value) (at : ℕ) (scene : Scene) (t : Table) (fits : Bool) → place_of name scene.tables ≡ Some at → table_named name scene.tables ≡ Some t
     → fits_at at row scene.tables ≡ fits → row_fits t.definition.columns row ≡ fits
 fits_in name row at scene t fits here named e =
     ap (λ (o : Option Table). option_map_or (λ (u : Table). row_fits u.definition.columns row) o true) (sym named) ∙ sym (fits_by_place name row scene.tables at here) ∙ e
 
+none_fits : (fits there : Bool) → fits ≡ false → (fits && there) ≡ false
+none_fits fits there e = rw e refl
+
+both_there : (fits there b : Bool) → fits ≡ true → there ≡ b → (fits && there) ≡ b
+both_there fits there b e f = rw e f
+
 -- one that does not fit
-pub unfit_in_place : (name : List ℕ) (old new : List Value) (at : ℕ) (scene : Scene) (d : TableDef) → place_of name scene.tables ≡ Some at
-    → slice_get (definitions_of scene.tables) at ≡ Some d → fits_at at new scene.tables ≡ false → put_in_place name old new scene ≡ failed 1032 scene
-unfit_in_place name old new at scene d here e unfit =
-    let t = table_at name scene at d here e in
-    let standing : Option (List Value) = row_of_key t.0.definition (primary_key t.0.definition old) t.0.rows in
-    put_step name old new scene t.0 standing t.1 refl
-    ∙ refused_before (row_fits t.0.definition.columns new && is_row old standing) scene (require 1062 (is_none (way_of t.0 old new)) >>= λ _. make 1032 (Update name old new))
-    (none_fits (row_fits t.0.definition.columns new) (is_row old standing) (fits_in name new at scene t.0 false here t.1 unfit))
+pub unfit_in_place : (name : List ℕ) (old new : List Value) (at : ℕ) (scene : Scene) → place_of name scene.tables ≡ Some at
+    → fits_at at new scene.tables ≡ false → put_in_place name old new scene ≡ failed 1032 scene
+unfit_in_place name old new at scene here unfit =
+    let t = named_at name scene at here in
+    put_by false name old new scene t.0 t.1
+    (none_fits (row_fits t.0.definition.columns new) (is_standing t.0.definition old t.0.rows) (fits_in name new at scene t.0 false here t.1 unfit))
 
--- another row stands there, or none
-pub not_in_place : (name : List ℕ) (old new : List Value) (at : ℕ) (scene : Scene) (d : TableDef) (standing : Option (List Value)) → place_of name scene.tables ≡ Some at
-    → slice_get (definitions_of scene.tables) at ≡ Some d → standing ≡ row_at name (primary_key d old) scene.tables → is_row old standing ≡ false
-    → put_in_place name old new scene ≡ failed 1032 scene
-not_in_place name old new at scene d standing here e found differs =
-    let t = table_at name scene at d here e in
-    put_step name old new scene t.0 standing t.1 (standing_at name old scene d t.0 standing t.1 t.2 found)
-    ∙ refused_before (row_fits t.0.definition.columns new && is_row old standing) scene (require 1062 (is_none (way_of t.0 old new)) >>= λ _. make 1032 (Update name old new))
-    (none_there (row_fits t.0.definition.columns new) (is_row old standing) differs)
-
-replacement_of : (name : List ℕ) (key old new : List Value) (ts : List Table) (t : Table) → table_named name ts ≡ Some t → row_of_key t.definition key t.rows ≡ Some old
-    → replacement name key new ts ≡ unless_taken (key_in_way t.definition new (rows_beside t.definition key t.rows)) (Update name old new)
-replacement_of name key old new ts t e f =
-    replacement_by name key new ts (Some t) e
-    ∙ ap (λ (r : Option (List Value)). where_found r (λ before. unless_taken (key_in_way t.definition new (rows_beside t.definition key t.rows)) (Update name before new))) f
-
-replace_as : (name : List ℕ) (old new : List Value) (scene : Scene) (way : Option ℕ) (step : Result Change Obstacle) (tables : List Table) (changes : List Change)
-    → step ≡ unless_taken way (Update name old new) → carried_out step scene.tables ≡ Some tables → changes ≡ scene.changes ++ changes_of step
+way_done : (way : Option ℕ) (name : List ℕ) (old new : List Value) (scene : Scene) (tables : List Table) (changes : List Change)
+    → carried_out (unless_taken way (Update name old new)) scene.tables ≡ Some tables → changes ≡ scene.changes ++ changes_of (unless_taken way (Update name old new))
     → then_do (require 1062 (is_none way) scene) (λ _. make 1032 (Update name old new)) ≡ done tt (stored scene tables changes)
-replace_as name old new scene None step tables changes is carried now =
-    made 1032 (Update name old new) scene tables (ap (λ (s : Result Change Obstacle). carried_out s scene.tables) (sym is) ∙ carried)
-    ∙ noted_as (Update name old new) scene tables changes (now ∙ ap (λ (s : Result Change Obstacle). scene.changes ++ changes_of s) is)
-replace_as name old new scene (Some which) step tables changes is carried now =
-    let nothing : None ≡ Some tables = ap (λ (s : Result Change Obstacle). carried_out s scene.tables) (sym is) ∙ carried in cc
+way_done None name old new scene tables changes carried now =
+    made 1032 (Update name old new) scene tables carried ∙ noted_as (Update name old new) scene tables changes now
+way_done (Some which) name old new scene tables changes carried now = cc
 
-replace_refused : (name : List ℕ) (old new : List Value) (scene : Scene) (way : Option ℕ) (step : Result Change Obstacle) (obstacle : Obstacle)
-    → step ≡ unless_taken way (Update name old new) → step ≡ Err obstacle
-    → then_do (require 1062 (is_none way) scene) (λ _. make 1032 (Update name old new)) ≡ failed 1062 scene
-replace_refused name old new scene None step obstacle is refused = let never : Ok (Update name old new) ≡ Err obstacle = sym is ∙ refused in cc
-replace_refused name old new scene (Some which) step obstacle is refused = refl
-
--- the old row stands there and the new one fits: what the store comes to decides
-there_to_replace : (name : List ℕ) (old new : List Value) (at : ℕ) (scene : Scene) (d : TableDef) (standing : Option (List Value)) → place_of name scene.tables ≡ Some at
-    → slice_get (definitions_of scene.tables) at ≡ Some d → standing ≡ row_at name (primary_key d old) scene.tables → is_row old standing ≡ true → fits_at at new scene.tables ≡ true
-    → (way : Option ℕ) × (replacement name (primary_key d old) new scene.tables ≡ unless_taken way (Update name old new))
-    × (put_in_place name old new scene ≡ then_do (require 1062 (is_none way) scene) (λ _. make 1032 (Update name old new)))
-there_to_replace name old new at scene d standing here e found same fits =
-    let t = table_at name scene at d here e in
-    let is : row_of_key t.0.definition (primary_key t.0.definition old) t.0.rows ≡ standing = standing_at name old scene d t.0 standing t.1 t.2 found in (
-      way_of t.0 old new,
-      ap (λ (u : TableDef). replacement name (primary_key u old) new scene.tables) (sym t.2)
-          ∙ replacement_of name (primary_key t.0.definition old) old new scene.tables t.0 t.1 (is ∙ same_row old standing same),
-      put_step name old new scene t.0 standing t.1 is
-          ∙ passed_before (row_fits t.0.definition.columns new && is_row old standing) scene (require 1062 (is_none (way_of t.0 old new)) >>= λ _. make 1032 (Update name old new))
-          (and_from (row_fits t.0.definition.columns new) (is_row old standing) (fits_in name new at scene t.0 true here t.1 fits) same),
-    )
+put_done : (b : Bool) (name : List ℕ) (old new : List Value) (scene : Scene) (t : Table) (tables : List Table) (changes : List Change)
+    → table_named name scene.tables ≡ Some t → (row_fits t.definition.columns new && is_standing t.definition old t.rows) ≡ b
+    → carried_out (cond b (unless_taken (way_of t old new) (Update name old new)) (Err row_absent)) scene.tables ≡ Some tables
+    → changes ≡ scene.changes ++ changes_of (cond b (unless_taken (way_of t old new) (Update name old new)) (Err row_absent))
+    → put_in_place name old new scene ≡ done tt (stored scene tables changes)
+put_done true name old new scene t tables changes e there carried now =
+    put_by true name old new scene t e there ∙ way_done (way_of t old new) name old new scene tables changes carried now
+put_done false name old new scene t tables changes e there carried now = cc
 
 -- it was replaced
-pub put_there : (name : List ℕ) (old new : List Value) (at : ℕ) (scene : Scene) (d : TableDef) (standing : Option (List Value)) (tables : List Table) (changes : List Change)
-    → place_of name scene.tables ≡ Some at → slice_get (definitions_of scene.tables) at ≡ Some d → standing ≡ row_at name (primary_key d old) scene.tables → is_row old standing ≡ true → fits_at at new scene.tables ≡ true
-    → carried_out (replacement name (primary_key d old) new scene.tables) scene.tables ≡ Some tables
-    → changes ≡ scene.changes ++ changes_of (replacement name (primary_key d old) new scene.tables)
+pub put_there : (name : List ℕ) (old new : List Value) (at : ℕ) (scene : Scene) (tables : List Table) (changes : List Change)
+    → place_of name scene.tables ≡ Some at → fits_at at new scene.tables ≡ true
+    → carried_out (exchange name old new scene.tables) scene.tables ≡ Some tables → changes ≡ scene.changes ++ changes_of (exchange name old new scene.tables)
     → put_in_place name old new scene ≡ done tt (stored scene tables changes)
-put_there name old new at scene d standing tables changes here e found same fits carried now =
-    let is = there_to_replace name old new at scene d standing here e found same fits in
-    is.2 ∙ replace_as name old new scene is.0 (replacement name (primary_key d old) new scene.tables) tables changes is.1 carried now
+put_there name old new at scene tables changes here fits carried now =
+    let t = named_at name scene at here in
+    let b = is_standing t.0.definition old t.0.rows in
+    let is = exchange_as name old new scene.tables t.0 b t.1 refl in
+    put_done b name old new scene t.0 tables changes t.1
+    (both_there (row_fits t.0.definition.columns new) b b (fits_in name new at scene t.0 true here t.1 fits) refl)
+    (ap (λ (s : Result Change Obstacle). carried_out s scene.tables) (sym is) ∙ carried) (now ∙ ap (λ (s : Result Change Obstacle). scene.changes ++ changes_of s) is)
+
+way_taken : (way : Option ℕ) (name : List ℕ) (old new : List Value) (scene : Scene) (which : ℕ) → unless_taken way (Update name old new) ≡ Err (key_taken which)
+    → then_do (require 1062 (is_none way) scene) (λ _. make 1032 (Update name old new)) ≡ failed 1062 scene
+way_taken None name old new scene which e = cc
+way_taken (Some other) name old new scene which e = refl
+
+put_taken : (b : Bool) (name : List ℕ) (old new : List Value) (scene : Scene) (t : Table) (which : ℕ)
+    → table_named name scene.tables ≡ Some t → (row_fits t.definition.columns new && is_standing t.definition old t.rows) ≡ b
+    → cond b (unless_taken (way_of t old new) (Update name old new)) (Err row_absent) ≡ Err (key_taken which)
+    → put_in_place name old new scene ≡ failed 1062 scene
+put_taken true name old new scene t which e there refused =
+    put_by true name old new scene t e there ∙ way_taken (way_of t old new) name old new scene which refused
+put_taken false name old new scene t which e there refused = cc
 
 -- or a key of the new row is that of a third
-pub key_there : (name : List ℕ) (old new : List Value) (at : ℕ) (scene : Scene) (d : TableDef) (standing : Option (List Value)) (obstacle : Obstacle)
-    → place_of name scene.tables ≡ Some at → slice_get (definitions_of scene.tables) at ≡ Some d → standing ≡ row_at name (primary_key d old) scene.tables → is_row old standing ≡ true → fits_at at new scene.tables ≡ true
-    → replacement name (primary_key d old) new scene.tables ≡ Err obstacle → put_in_place name old new scene ≡ failed 1062 scene
-key_there name old new at scene d standing obstacle here e found same fits refused =
-    let is = there_to_replace name old new at scene d standing here e found same fits in
-    is.2 ∙ replace_refused name old new scene is.0 (replacement name (primary_key d old) new scene.tables) obstacle is.1 refused
+pub key_there : (name : List ℕ) (old new : List Value) (at : ℕ) (scene : Scene) (which : ℕ) → place_of name scene.tables ≡ Some at → fits_at at new scene.tables ≡ true
+    → exchange name old new scene.tables ≡ Err (key_taken which) → put_in_place name old new scene ≡ failed 1062 scene
+key_there name old new at scene which here fits refused =
+    let t = named_at name scene at here in
+    let b = is_standing t.0.definition old t.0.rows in
+    let is = exchange_as name old new scene.tables t.0 b t.1 refl in
+    put_taken b name old new scene t.0 which t.1
+    (both_there (row_fits t.0.definition.columns new) b b (fits_in name new at scene t.0 true here t.1 fits) refl) (sym is ∙ refused)
 
--- without a table
-pub none_in_place : (name : List ℕ) (old new : List Value) (at : ℕ) (scene : Scene) → place_of name scene.tables ≡ Some at
-    → slice_get (definitions_of scene.tables) at ≡ None → put_in_place name old new scene ≡ failed 1146 scene
-none_in_place name old new at scene here none =
-    ap (λ (e : Ending Table). then_do e (λ table. require 1032 (row_fits table.definition.columns new && is_there table.definition old table.rows) >>= λ _.
-    require 1062 (is_none (way_of table old new)) >>= λ _. make 1032 (Update name old new))) (no_definition name scene at here none)
+way_absent : (way : Option ℕ) (change : Change) → unless_taken way change ≡ Err row_absent → ⊥
+way_absent None change e = cc
+way_absent (Some which) change e = cc
+
+put_absent : (b : Bool) (name : List ℕ) (old new : List Value) (scene : Scene) (t : Table)
+    → table_named name scene.tables ≡ Some t → (row_fits t.definition.columns new && is_standing t.definition old t.rows) ≡ b
+    → cond b (unless_taken (way_of t old new) (Update name old new)) (Err row_absent) ≡ Err row_absent
+    → put_in_place name old new scene ≡ failed 1032 scene
+put_absent true name old new scene t e there refused = absurd (way_absent (way_of t old new) (Update name old new) refused)
+put_absent false name old new scene t e there refused = put_by false name old new scene t e there
+
+-- or another row stands there, or none
+pub not_in_place : (name : List ℕ) (old new : List Value) (at : ℕ) (scene : Scene) → place_of name scene.tables ≡ Some at → fits_at at new scene.tables ≡ true
+    → exchange name old new scene.tables ≡ Err row_absent → put_in_place name old new scene ≡ failed 1032 scene
+not_in_place name old new at scene here fits refused =
+    let t = named_at name scene at here in
+    let b = is_standing t.0.definition old t.0.rows in
+    let is = exchange_as name old new scene.tables t.0 b t.1 refl in
+    put_absent b name old new scene t.0 t.1
+    (both_there (row_fits t.0.definition.columns new) b b (fits_in name new at scene t.0 true here t.1 fits) refl) (sym is ∙ refused)

@@ -1,8 +1,5 @@
 -- What the state of the code stands for, and what its calls answer.
-use Rattle.std.specs.Prelude.{◌≡◌, ◌≤◌, ℕ, Bool, false, List, Option, Result, Ok, Err, unwrap_or}
-use Rattle.std.specs.Option.{option_map_or}
-use Rattle.val_types.specs.declared.value.Value.{Value}
-use Rattle.val_types.specs.Keys.{same_values}
+use Rattle.std.specs.Prelude.{◌≡◌, ◌≤◌, ℕ, List, Result, Ok, Err, unwrap_or}
 use Rattle.val_types.specs.declared.refusal.SqlRefusal.{SqlRefusal}
 use Rattle.val_types.specs.declared.refusal.SqlRefusal.TheVariants.{Sql, NoMemory}
 use Rattle.auto_inc.specs.declared.counters.Counter.{Counter}
@@ -47,7 +44,3 @@ abbrev pub EndsAs : {A : Type 0} → Result A SqlRefusal → Scene → Ending A 
 EndsAs (Ok a) scene ending = ending ≡ done a scene
 EndsAs (Err (Sql code)) scene ending = ending ≡ failed code scene
 EndsAs (Err NoMemory) scene ending = Unit {0}
-
--- whether just this row was found
-abbrev pub is_row : List Value → Option (List Value) → Bool
-is_row row standing = option_map_or (λ s. same_values s row) standing false

@@ -12,7 +12,7 @@ use undo_log::Undo;
 use val_types::{Bytes, List, Row, SqlError, SqlRefusal, TableDef, Value};
 
 /// A name that is no table's.
-pub(crate) const NO_SUCH_TABLE: SqlError = 1146;
+const NO_SUCH_TABLE: SqlError = 1146;
 
 /// A table as it stands: its definition and its rows in the order of their keys, shared with the table.
 #[derive(Drop)]
@@ -59,7 +59,8 @@ impl Stage {
         self.seeds.0
     }
 
-    /// The UUID that follows those of the command, which count on from a number.
+    /// The UUID that follows those of the command, which count on from a number. The count of the definitions has no
+    /// bound, and a stage tells none: past 2^128, which nothing reaches, this is want of memory.
     pub fn next_uuid(&mut self, alloc: Global, first: u128) -> Result<Value, SqlRefusal>
         ensures gives { EndsAs result (scene_of self.new) (next_uuid first (scene_of self.old)) }
         ensures leads { LeadsOn self.old self.new }

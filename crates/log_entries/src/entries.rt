@@ -1,6 +1,7 @@
 //! Items of a transaction, and entries of what a source committed.
 
 use crate::carried::Carried;
+use sharing::Shared;
 use val_types::{Bytes, Change, List, TableDef};
 
 /// A statement that changed rows, as a log has it: by its text with what that carries, or by its rows.
@@ -10,8 +11,8 @@ pub struct Item {
     pub carried: Carried,
     /// Whether it is logged by its rows.
     pub rows: bool,
-    /// The definitions of the tables of its changes.
-    pub defs: List<TableDef>,
+    /// The definitions of the tables of its changes, shared with the catalog that they come from.
+    pub defs: List<Shared<TableDef>>,
     pub changes: List<Change>,
 }
 

@@ -24,13 +24,13 @@ fn put_change(alloc: Global, out: &mut Bytes, change: &Change) -> Result<(), NoM
 {
     out.push(b' ')?;
     match change {
-        Change::Insert { row, .. } => put_row(alloc, out, row),
+        Change::Insert { row, .. } => put_row(alloc, out, row.get()),
         Change::Update { before, after, .. } => {
-            put_row(alloc, out, before)?;
+            put_row(alloc, out, before.get())?;
             out.extend_from_slice(b"->")?;
-            put_row(alloc, out, after)
+            put_row(alloc, out, after.get())
         }
-        Change::Delete { row, .. } => put_row(alloc, out, row),
+        Change::Delete { row, .. } => put_row(alloc, out, row.get()),
     }
 }
 

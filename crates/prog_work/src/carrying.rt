@@ -10,36 +10,35 @@ use crate::work::Work;
 use auto_inc::Counters;
 use exec_state::dml_rows::{delete_row, insert_row, take_back_to, update_row};
 use row_store::RowRefusal;
+use sharing::Shared;
 use val_types::{Bytes, Row};
 
 impl Work {
     /// Puts a row in.
     #[tactic(auto, using(crate::proofs::Carried::together_led, crate::proofs::Carried::rows_changed))]
-    pub fn insert_row(&mut self, table: &Bytes, row: Row) -> Result<(), RowRefusal>
+    pub fn insert_row(&mut self, table: &Bytes, row: Shared<Row>) -> Result<(), RowRefusal>
         requires { fits_table table.now row self.old.tables ≡ true }
         ensures stored { Stores result (insertion table.now row self.old.tables) self.old.tables self.new.tables }
         ensures noted { Notes result (insertion table.now row self.old.tables) self.old.changes self.new.changes }
         ensures rest { ChangesRows self.old self.new }
     {
-        insert_row(
-            self.alloc,
-            &mut self.stage.tables,
-            &mut self.stage.undo,
-            table,
-            row,
-        )
+        insert_row(&mut self.stage.tables, &mut self.stage.undo, table, row)
     }
 
     /// Replaces the row of a key.
     #[tactic(auto, using(crate::proofs::Carried::together_led, crate::proofs::Carried::rows_changed))]
-    pub fn update_row(&mut self, table: &Bytes, key: &Row, row: Row) -> Result<(), RowRefusal>
+    pub fn update_row(
+        &mut self,
+        table: &Bytes,
+        key: &Row,
+        row: Shared<Row>,
+    ) -> Result<(), RowRefusal>
         requires { fits_table table.now row self.old.tables ≡ true }
         ensures stored { Stores result (replacement table.now key.now row self.old.tables) self.old.tables self.new.tables }
         ensures noted { Notes result (replacement table.now key.now row self.old.tables) self.old.changes self.new.changes }
         ensures rest { ChangesRows self.old self.new }
     {
         update_row(
-            self.alloc,
             &mut self.stage.tables,
             &mut self.stage.undo,
             table,
@@ -55,13 +54,7 @@ impl Work {
         ensures noted { Notes result (deletion table.now key.now self.old.tables) self.old.changes self.new.changes }
         ensures rest { ChangesRows self.old self.new }
     {
-        delete_row(
-            self.alloc,
-            &mut self.stage.tables,
-            &mut self.stage.undo,
-            table,
-            key,
-        )
+        delete_row(&mut self.stage.tables, &mut self.stage.undo, table, key)
     }
 
     /// Moves the counter of a table behind a value, where it is not there yet. A table without one has none after it.

@@ -46,7 +46,7 @@ fn carry_out(
         ) => Ok(Some(Stopped::Differs {
             pos,
             code,
-            table,
+            table: table.copied(alloc)?,
             key,
         })),
         Err(Stop::NoMemory) => Err(NodeFault::NoMemory),

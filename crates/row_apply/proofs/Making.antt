@@ -1,7 +1,7 @@
 -- A change of a transaction under way, made or refused.
 use Rattle.std.proofs.Common.{◌≡◌, ℕ, List, [], ◌∷◌, ◌++◌, Bool, true, false, Option, Some, None, Result, Ok, Err, refl, sym, ap, ◌∙◌}
-use Rattle.std.specs.Prelude.{IsSome, is_ok, unwrap_or, if◌then◌else◌}
-use Rattle.std.specs.Option.{option_and_then, option_map_or}
+use Rattle.std.specs.Prelude.{is_ok, is_some, unwrap_or, if◌then◌else◌}
+use Rattle.std.specs.Option.{option_map_or}
 use Rattle.val_types.specs.declared.value.Value.{Value}
 use Rattle.val_types.specs.declared.change.Change.{Change}
 use Rattle.val_types.specs.declared.change.Change.TheVariants.{Insert, Update, Delete}
@@ -19,7 +19,7 @@ use Rattle.apply_model.specs.Stops.{Differs}
 use Rattle.apply_model.specs.Rows.{Refusal, Store, change_if, change_refusal, counters_moved, matches, storing_refusal, table_refusal}
 use Rattle.apply_model.specs.Texts.{Progress}
 use Rattle.apply_model.specs.Groups.{and_then, with_store}
-use Rattle.row_apply.specs.Changes.{change_carried, code_in, is_row, table_code}
+use Rattle.row_apply.specs.Changes.{change_carried, code_in, is_row, table_code, IsKey}
 use Rattle.row_apply.proofs.Refusing.{not_refused, insert_unfit, insert_taken, update_unfit, update_taken, update_absent, delete_absent}
 
 -- ---- the refusal, by the table
@@ -35,12 +35,8 @@ there m c (Some t) e = (t, refl)
 pub table_there : (m : Map) (c : Change) (ts : List Table) → table_code m ts c ≡ None → (t : Table) × (table_named (table_of c) ts ≡ Some t)
 table_there m c ts e = there m c (table_named (table_of c) ts) e
 
-takes_by : (m : Map) (c : Change) (o : Option Table) → option_map_or (λ (t : Table). code_in m c t.definition) o (Some 1146) ≡ None → IsSome o
-takes_by m c None e = cc
-takes_by m c (Some t) e = refl
-
-pub takes_there : (m : Map) (c : Change) (ts : List Table) → table_code m ts c ≡ None → IsSome (table_named (table_of c) ts)
-takes_there m c ts e = takes_by m c (table_named (table_of c) ts) e
+pub there_is : (m : Map) (c : Change) (ts : List Table) → table_code m ts c ≡ None → is_some (table_named (table_of c) ts) ≡ true
+there_is m c ts e = ap is_some (table_there m c ts e).1
 
 taken_when : (b : Bool) (x : Option Refusal) → (if b then no_code else Some 30010) ≡ None → (if b then x else Some (30010, [])) ≡ x
 taken_when true x e = refl
@@ -101,10 +97,6 @@ made place m c ts after cs moved ch noted none app counters is =
 pub change_refused : (place : ℕ) (m : Map) (c : Change) (p : Progress) (code : ℕ) → table_code m p.store.tables c ≡ Some code
     → change_carried place m c p ≡ stopped_at place code (table_of c) []
 change_refused place m c p code e = stopped place m c p code [] (by_table m c (table_named (table_of c) p.store.tables) code e)
-
--- what is known of a key that was computed
-abbrev pub IsKey : List ℕ → List Table → List Value → List Value → Type 0
-IsKey name ts row key = (t : Table) → table_named name ts ≡ Some t → key ≡ primary_key t.definition row
 
 -- a refusal by the rows, with a key
 rows_refuse : (place : ℕ) (m : Map) (c : Change) (p : Progress) (code : ℕ) (row key : List Value) (t : Table) → table_named (table_of c) p.store.tables ≡ Some t

@@ -1,11 +1,11 @@
 -- One change, by the steps in which it is made.
-use Rattle.std.specs.Prelude.{ℕ, Bool, false, if◌then◌else◌, List, Option, Some, None, Result, Ok, max, ℤ}
+use Rattle.std.specs.Prelude.{◌≡◌, ℕ, Bool, false, if◌then◌else◌, List, Option, Some, None, Result, Ok, max, ℤ}
 use Rattle.std.specs.Option.{option_map_or}
 use Rattle.val_types.specs.declared.change.Change.{Change}
 use Rattle.val_types.specs.declared.definitions.TableDef.{TableDef}
 use Rattle.val_types.specs.declared.value.Value.{Value}
 use Rattle.val_types.specs.Changes.{table_of}
-use Rattle.val_types.specs.Keys.{same_values}
+use Rattle.val_types.specs.Keys.{primary_key, same_values}
 use Rattle.auto_inc.specs.declared.counters.Counter.{Counter}
 use Rattle.auto_inc.specs.Counting.{behind, changed_for}
 use Rattle.table_rules.specs.Tables.{Table}
@@ -25,6 +25,10 @@ code_in m c d = if matches m d c then None else Some 30010
 
 abbrev pub table_code : Map → List Table → Change → Option ℕ
 table_code m tables c = option_map_or (λ (t : Table). code_in m c t.definition) (table_named (table_of c) tables) (Some 1146)
+
+-- the primary key of a row in the table of a name, if there is one
+abbrev pub IsKey : List ℕ → List Table → List Value → List Value → Type 0
+IsKey name tables row key = (t : Table) → table_named name tables ≡ Some t → key ≡ primary_key t.definition row
 
 -- whether a row that was found has some values
 abbrev pub is_row : Option (List Value) → List Value → Bool

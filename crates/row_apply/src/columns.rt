@@ -66,10 +66,11 @@ pub(crate) fn matches(map: &MapView, definition: &TableDef, change: &Change) -> 
         return false;
     }
     match change {
-        Change::Insert { row, .. } => takes_row(&definition.columns, row),
+        Change::Insert { row, .. } => takes_row(&definition.columns, row.get()),
         Change::Update { before, after, .. } => {
-            takes_row(&definition.columns, before) && takes_row(&definition.columns, after)
+            takes_row(&definition.columns, before.get())
+                && takes_row(&definition.columns, after.get())
         }
-        Change::Delete { row, .. } => takes_row(&definition.columns, row),
+        Change::Delete { row, .. } => takes_row(&definition.columns, row.get()),
     }
 }

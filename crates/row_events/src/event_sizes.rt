@@ -13,6 +13,7 @@ ghost use Rattle.row_events.specs.Sizes.{bounded, sizes};
 use crate::runs::{Run, run_of, slice_of};
 use crate::tables::have_table;
 use byte_fields::bytes_lenenc;
+use sharing::Shared;
 use val_types::{Bytes, Change, ColType, ColumnDef, List, TableDef};
 
 /// How many bytes the metadata of a type has.
@@ -59,7 +60,7 @@ fn map_size(name: &Bytes, columns: &[ColumnDef]) -> u64
 }
 
 /// How many bytes the maps of the tables of changes have.
-fn maps_size(defs: &List<TableDef>, changes: &[Change]) -> u64
+fn maps_size(defs: &List<Shared<TableDef>>, changes: &[Change]) -> u64
     ensures { result ≡ bounded (sizes (map table_map (maps_from 1 defs.now (tables_of changes.now)))) }
 {
     let mut size: u64 = 0;
@@ -85,7 +86,7 @@ fn present_size(change: &Change, columns: u64) -> u64
 }
 
 /// How many bytes the rows event of a run of changes has, whatever the id of its table.
-fn run_size(defs: &List<TableDef>, first: &Change, run: &Run) -> u64
+fn run_size(defs: &List<Shared<TableDef>>, first: &Change, run: &Run) -> u64
     requires { run.now.size ≡ bounded (length (piece defs.now first.now run.now.more.now).rows) }
     ensures { (names : List (List ℕ)) → result ≡ bounded (size (rows (run_event defs.now names first.now run.now.more.now run.now.rest.now))) }
 {
@@ -94,7 +95,7 @@ fn run_size(defs: &List<TableDef>, first: &Change, run: &Run) -> u64
 }
 
 /// How many bytes the rows events of changes have, whatever the ids of their tables.
-fn runs_size(defs: &List<TableDef>, changes: &[Change]) -> u64
+fn runs_size(defs: &List<Shared<TableDef>>, changes: &[Change]) -> u64
     ensures { (names : List (List ℕ)) (stamp : ℕ) → result ≡ bounded (total (rows_events defs.now names changes.now stamp)) }
 {
     let mut size: u64 = 0;
@@ -108,7 +109,7 @@ fn runs_size(defs: &List<TableDef>, changes: &[Change]) -> u64
 }
 
 /// How many bytes the events of an item by its rows have, at whatever time.
-pub fn rows_size(defs: &List<TableDef>, changes: &[Change]) -> u64
+pub fn rows_size(defs: &List<Shared<TableDef>>, changes: &[Change]) -> u64
     ensures { (stamp : ℕ) → result ≡ bounded (total (at_time stamp (bodies_of (changes_item defs.now changes.now)))) }
 {
     maps_size(defs, changes).saturating_add(runs_size(defs, changes))

@@ -60,10 +60,11 @@ pub fn change_size(columns: &[ColumnDef], change: &Change) -> u64
     ensures { result ≡ bounded (length (change_bytes (map kind_of columns.now) change.now)) }
 {
     match change {
-        Change::Insert { row, .. } => row_size(columns, row.as_slice()),
+        Change::Insert { row, .. } => row_size(columns, row.get().as_slice()),
         Change::Update { before, after, .. } => {
-            row_size(columns, before.as_slice()).saturating_add(row_size(columns, after.as_slice()))
+            let size = row_size(columns, before.get().as_slice());
+            size.saturating_add(row_size(columns, after.get().as_slice()))
         }
-        Change::Delete { row, .. } => row_size(columns, row.as_slice()),
+        Change::Delete { row, .. } => row_size(columns, row.get().as_slice()),
     }
 }

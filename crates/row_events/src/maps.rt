@@ -11,6 +11,7 @@ use crate::tables::columns_of;
 use crate::writing::put;
 use event_codec::{Event, Header, MapView};
 use row_image::{codes_of, metadata_of};
+use sharing::Shared;
 use std::alloc::Global;
 use val_types::{Bytes, ColumnDef, List, NoMemory, TableDef};
 
@@ -45,7 +46,7 @@ fn put_map_of(
 /// Puts the map of a table with an id at the end.
 fn put_map(
     alloc: Global,
-    defs: &List<TableDef>,
+    defs: &List<Shared<TableDef>>,
     id: u64,
     name: &Bytes,
     h: Header,
@@ -64,7 +65,7 @@ fn put_map(
 /// Puts maps of tables at the end, with ids from 1 on.
 pub fn put_maps(
     alloc: Global,
-    defs: &List<TableDef>,
+    defs: &List<Shared<TableDef>>,
     names: &List<Bytes>,
     h: Header,
     out: &mut Bytes,

@@ -17,6 +17,7 @@ use crate::tables::{columns_of, id_of, tables_of};
 use crate::writing::put;
 use event_codec::{Event, Header, RowsView};
 use row_image::put_change;
+use sharing::Shared;
 use std::alloc::Global;
 use val_types::{Bytes, Change, ColumnDef, List, NoMemory, TableDef};
 
@@ -70,7 +71,7 @@ fn put_run_of(
 /// Puts the rows event of a run of changes at the end.
 fn put_run(
     alloc: Global,
-    defs: &List<TableDef>,
+    defs: &List<Shared<TableDef>>,
     names: &List<Bytes>,
     first: &Change,
     run: &Run,
@@ -92,7 +93,7 @@ fn put_run(
 /// Puts the rows events of changes at the end, of which the last ends their item.
 fn put_runs(
     alloc: Global,
-    defs: &List<TableDef>,
+    defs: &List<Shared<TableDef>>,
     names: &List<Bytes>,
     changes: &[Change],
     h: Header,
@@ -117,7 +118,7 @@ fn put_runs(
 /// changes. The header behind them.
 pub fn put_rows(
     alloc: Global,
-    defs: &List<TableDef>,
+    defs: &List<Shared<TableDef>>,
     changes: &[Change],
     h: Header,
     out: &mut Bytes,
@@ -138,7 +139,7 @@ pub fn put_rows(
 /// as they were.
 pub fn encode_rows(
     alloc: Global,
-    defs: &List<TableDef>,
+    defs: &List<Shared<TableDef>>,
     changes: &List<Change>,
     header: &Header,
     out: &mut Bytes,

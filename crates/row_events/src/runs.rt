@@ -10,6 +10,7 @@ ghost use Rattle.row_events.specs.Sizes.{bounded};
 use crate::image_sizes::change_size;
 use crate::tables::columns_of;
 use event_codec::RowsKind;
+use sharing::Shared;
 use val_types::{Bytes, Change, ColumnDef, List, TableDef};
 
 /// How many bytes of rows an event has at the most, where it has more than one change.
@@ -38,7 +39,7 @@ fn code_of(change: &Change) -> u8
 }
 
 /// The columns of a table by its definition, none where there is none.
-pub fn slice_of<'a>(defs: &'a List<TableDef>, name: &Bytes) -> &'a [ColumnDef]
+pub fn slice_of<'a>(defs: &'a List<Shared<TableDef>>, name: &Bytes) -> &'a [ColumnDef]
     ensures { result.now ≡ columns_in defs.now name.now }
 {
     match columns_of(defs, name) {
@@ -88,7 +89,7 @@ fn run_from<'a>(
 }
 
 /// A change with all those behind it that go on with it.
-pub fn run_of<'a>(defs: &List<TableDef>, first: &Change, all: &'a [Change]) -> Run<'a>
+pub fn run_of<'a>(defs: &List<Shared<TableDef>>, first: &Change, all: &'a [Change]) -> Run<'a>
     ensures { IsRun defs.now first.now all.now result.more.now result.rest.now result.size }
 {
     let columns = slice_of(defs, first.table());

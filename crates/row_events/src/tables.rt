@@ -4,6 +4,7 @@ ghost use Rattle.val_types.specs.Changes.{table_of};
 ghost use Rattle.log_model.specs.Items.{columns_in, id_from, tables_of};
 ghost use Rattle.row_events.specs.Tables.{columns_seen, has};
 
+use sharing::Shared;
 use std::alloc::Global;
 use val_types::{Bytes, Change, ColumnDef, Duplicate, List, NoMemory, TableDef};
 
@@ -37,12 +38,13 @@ pub fn tables_of(alloc: Global, changes: &[Change]) -> Result<List<Bytes>, NoMem
 }
 
 /// The columns of a table by its definition.
-pub fn columns_of<'a>(defs: &'a List<TableDef>, name: &Bytes) -> Option<&'a List<ColumnDef>>
+pub fn columns_of<'a>(defs: &'a List<Shared<TableDef>>, name: &Bytes) -> Option<&'a List<ColumnDef>>
     ensures { columns_seen result ≡ columns_in defs.now name.now }
 {
     for def in defs.as_slice() {
-        if def.name == *name {
-            return Some(&def.columns);
+        let table = def.get();
+        if table.name == *name {
+            return Some(&table.columns);
         }
     }
     None

@@ -6,6 +6,7 @@ ghost use Rattle.row_image.specs.Walk.{change_seen, one_at, row_seen};
 
 use crate::column::{behind_type, column_type, read_column};
 use event_codec::{MapView, RowsKind, RowsView, VarValue};
+use sharing::Shared;
 use std::alloc::Global;
 use val_types::{Bytes, Change, List, NoMemory, Row, Value};
 
@@ -49,13 +50,13 @@ fn read_values<'a>(
     Ok(Some((row, rest)))
 }
 
-/// A row, and what is behind it.
+/// A row, which changes share, and what is behind it.
 #[tactic(auto, using(crate::proofs::Columns::as_many_types), unfolding(log_model::specs::Images::row_at))]
 fn read_row<'a>(
     alloc: Global,
     map: &MapView,
     bytes: &'a [u8],
-) -> Result<Option<(Row, &'a [u8])>, NoMemory>
+) -> Result<Option<(Shared<Row>, &'a [u8])>, NoMemory>
     ensures { IfOk result (λ o. row_seen o ≡ row_at (map_types (map_of map.now)) bytes.now) }
 {
     let size = map.kinds.len().div_ceil(8);
@@ -63,22 +64,27 @@ fn read_row<'a>(
         return Ok(None);
     }
     let (nulls, rest) = bytes.split_at(size);
-    read_values(alloc, map, nulls, rest)
+    match read_values(alloc, map, nulls, rest)? {
+        Some((row, behind)) => Ok(Some((Shared::new(alloc, row)?, behind))),
+        None => Ok(None),
+    }
 }
 
-/// A change of a row, and what is behind it.
+/// A change of a row of the map's table, whose name is shared, and what is behind it.
 fn read_one<'a>(
     alloc: Global,
     inserted: bool,
+    table: &Shared<Bytes>,
     map: &MapView,
     bytes: &'a [u8],
 ) -> Result<Option<(Change, &'a [u8])>, NoMemory>
+    requires { table.now ≡ map.now.name.now }
     ensures { IfOk result (λ o. change_seen o ≡ one_at inserted map.now.name.now (map_types (map_of map.now)) bytes.now) }
 {
     let Some((row, rest)) = read_row(alloc, map, bytes)? else {
         return Ok(None);
     };
-    let table = Bytes::from_slice(alloc, map.name)?;
+    let table = table.share()?;
     let change = if inserted {
         Change::Insert { table, row }
     } else {
@@ -90,9 +96,11 @@ fn read_one<'a>(
 /// A change of a pair of rows, and what is behind it.
 fn read_pair<'a>(
     alloc: Global,
+    table: &Shared<Bytes>,
     map: &MapView,
     bytes: &'a [u8],
 ) -> Result<Option<(Change, &'a [u8])>, NoMemory>
+    requires { table.now ≡ map.now.name.now }
     ensures { IfOk result (λ o. change_seen o ≡ change_at RowsKind.Update map.now.name.now (map_types (map_of map.now)) bytes.now) }
 {
     let Some((before, middle)) = read_row(alloc, map, bytes)? else {
@@ -101,7 +109,7 @@ fn read_pair<'a>(
     let Some((after, rest)) = read_row(alloc, map, middle)? else {
         return Ok(None);
     };
-    let table = Bytes::from_slice(alloc, map.name)?;
+    let table = table.share()?;
     let change = Change::Update {
         table,
         before,
@@ -114,27 +122,30 @@ fn read_pair<'a>(
 fn read_change<'a>(
     alloc: Global,
     kind: RowsKind,
+    table: &Shared<Bytes>,
     map: &MapView,
     bytes: &'a [u8],
 ) -> Result<Option<(Change, &'a [u8])>, NoMemory>
+    requires { table.now ≡ map.now.name.now }
     ensures { IfOk result (λ o. change_seen o ≡ change_at kind map.now.name.now (map_types (map_of map.now)) bytes.now) }
 {
     match kind {
-        RowsKind::Write => read_one(alloc, true, map, bytes),
-        RowsKind::Update => read_pair(alloc, map, bytes),
-        RowsKind::Delete => read_one(alloc, false, map, bytes),
+        RowsKind::Write => read_one(alloc, true, table, map, bytes),
+        RowsKind::Update => read_pair(alloc, table, map, bytes),
+        RowsKind::Delete => read_one(alloc, false, table, map, bytes),
     }
 }
 
-/// The changes that the rows of an event are; where not all of its bytes are rows, those of the rows
-/// in front.
+/// The changes that the rows of an event are, which share the name of their table; where not all of its
+/// bytes are rows, those of the rows in front.
 pub fn rows_of(alloc: Global, map: &MapView, event: &RowsView) -> Result<List<Change>, NoMemory>
     ensures { IfOk result (λ cs. cs ≡ changes_of (map_of map.now) (rows_of event.now)) }
 {
+    let table = Shared::new(alloc, Bytes::from_slice(alloc, map.name)?)?;
     let mut changes = List::new(alloc);
     let mut rest = event.rows;
     while let [_, ..] = rest {
-        match read_change(alloc, event.kind, map, rest)? {
+        match read_change(alloc, event.kind, &table, map, rest)? {
             Some((change, next)) => {
                 changes.push(change)?;
                 rest = next;

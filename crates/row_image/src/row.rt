@@ -44,11 +44,11 @@ pub fn put_change(
     ensures err { OnErr result (BeginsWith out.new out.old) }
 {
     match change {
-        Change::Insert { row, .. } => put_row(columns, row, out),
+        Change::Insert { row, .. } => put_row(columns, row.get(), out),
         Change::Update { before, after, .. } => {
-            put_row(columns, before, out)?;
-            put_row(columns, after, out)
+            put_row(columns, before.get(), out)?;
+            put_row(columns, after.get(), out)
         }
-        Change::Delete { row, .. } => put_row(columns, row, out),
+        Change::Delete { row, .. } => put_row(columns, row.get(), out),
     }
 }

@@ -1,5 +1,5 @@
 -- Slots whose keys rise, looked through by halves.
-use Rattle.std.proofs.Common.{◌≡◌, ℕ, zero, suc, ◌<◌, ◌≤◌, List, [], ◌∷◌, length, get_or, Bool, true, false, Result, Ok, Err, Ordering, Less, Equal, Greater, inl, inr, ◌⊎◌, refl, sym, ap, subst, ◌∙◌, arith}
+use Rattle.std.proofs.Common.{◌≡◌, ℕ, zero, suc, ◌<◌, ◌≤◌, List, [], ◌∷◌, length, get_or, Bool, true, false, None, Result, Ok, Err, Ordering, Less, Equal, Greater, inl, inr, ◌⊎◌, refl, sym, ap, subst, ◌∙◌, arith}
 use Rattle.std.specs.List.Sorted.{IsNonDecreasingBy, IsPartitionPoint, IsSearchInRange, IsBinarySearchResult}
 use Rattle.std.specs.Ordering.{is_eq, is_lt, ordering_index, ordering_reverse}
 use Rattle.std.proofs.lemmas.Bool.{and_parts, not-false, cases_lt, cases_eq}
@@ -98,6 +98,18 @@ place_of_key key ss at up h is =
 
 pub place_of_slot : (ss : List Slot) (at : ℕ) (s : Slot) → keys_rise (keys_in ss) ≡ true → at < length ss → s ≡ get_or ss at s → at ≡ place (is_slot_of s.key) ss
 place_of_slot ss at s up h is = place_of_key s.key ss at up h (λ d. ap (λ (t : Slot). t.key) (is ∙ get_or_default ss at s d h))
+
+-- each slot is that of a key
+pub key_there : (ss : List Slot) (at : ℕ) → keys_rise (keys_in ss) ≡ true → at < length ss → (key : List Value) × (at ≡ place (is_slot_of key) ss)
+key_there ss at up h =
+    let d : Slot = record { key = []; row = None } in
+    let s : Slot = get_or ss at d in
+    (s.key, place_of_slot ss at s up h (sym (get_or_default ss at s d h)))
+
+-- and of the one that is its own
+pub found_near : (key : List Value) (ss : List Slot) (at : ℕ) (s : Slot) → keys_rise (keys_in ss) ≡ true → at < length ss → s ≡ get_or ss at s → is_eq (key_order s.key key) ≡ true
+    → Finds key ss (Ok at)
+found_near key ss at s up h is e = (h, subst (λ (k : List Value). at ≡ place (is_slot_of k) ss) (same_is s.key key e) (place_of_slot ss at s up h is))
 
 -- between lower and higher keys, none is the key
 not_between : (key : List Value) (ss : List Slot) (at k : ℕ) (d : Slot) → IsPartitionPoint (λ s. key_order s.key key ≡ Less) (λ s. key_order s.key key ≡ Greater) ss at

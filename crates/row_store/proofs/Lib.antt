@@ -2,6 +2,7 @@ pub mod Agreeing
 pub mod Beside
 pub mod Counting
 pub mod Emptying
+pub mod Exchanging
 pub mod Halving
 pub mod Places
 pub mod Shelved

@@ -114,7 +114,7 @@ not_placed name ss e = sym (place_mapped table_on (has_name name) ss) ∙ e
 pub shelf_at : (name : List ℕ) (ss : List Shelf) (at : ℕ) (s : Shelf) → place_of name (store_of ss).tables ≡ Some at → s ≡ get_or ss at s → shelf_named name ss ≡ Some s
 shelf_at name ss at s e is = found (is_named name) ss at s (placed name ss at e) is
 
-set_at : (name : List ℕ) (ss : List Shelf) (at : ℕ) (new : Shelf) → place_of name (store_of ss).tables ≡ Some at → slice_set ss at new ≡ swap name new ss
+pub set_at : (name : List ℕ) (ss : List Shelf) (at : ℕ) (new : Shelf) → place_of name (store_of ss).tables ≡ Some at → slice_set ss at new ≡ swap name new ss
 set_at name ss at new e = replaced (is_named name) new ss at (placed name ss at e)
 
 get_past : (ss : List Shelf) (at : ℕ) → length ss ≤ at → slice_get ss at ≡ None
@@ -271,7 +271,7 @@ some_row : (o : Option (List Value)) → is_some o ≡ true → (row : List Valu
 some_row None e = cc
 some_row (Some row) e = (row, refl)
 
-delete_by : (r : Result (Unit {0}) RowRefusal) (name : List ℕ) (key : List Value) (ss : List Shelf) (old new : Shelf) → shelf_named name ss ≡ Some old → same_name old new
+pub delete_by : (r : Result (Unit {0}) RowRefusal) (name : List ℕ) (key : List Value) (ss : List Shelf) (old new : Shelf) → shelf_named name ss ≡ Some old → same_name old new
     → Deleted r old.definition key (rows_in old.slots.items) (rows_in new.slots.items) → Stores r (deletion name key (tables_on ss)) (tables_on ss) (tables_on (swap name new ss))
 delete_by (Ok done) name key ss old new found same p =
     let row = some_row (row_of_key old.definition key (rows_in old.slots.items)) p.0 in delete_stored name key row.0 ss old new found same row.1 p.1

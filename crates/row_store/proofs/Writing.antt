@@ -14,6 +14,7 @@ use Rattle.table_rules.proofs.Storing.{keys_in_way, key_is, without_is_beside}
 use Rattle.row_store.specs.declared.slots.Slot.{Slot}
 use Rattle.row_store.specs.declared.refusal.RowRefusal.{RowRefusal}
 use Rattle.row_store.specs.declared.refusal.RowRefusal.TheVariants.{Taken, Absent, NoMemory}
+use Rattle.row_store.specs.Refusals.{Refuses}
 use Rattle.row_store.specs.Shelves.{Inserted, Replaced}
 use Rattle.table_rules.specs.Stores.{is_among}
 use Rattle.row_store.specs.Slots.{place, rows_in, keys_in, is_slot_of, is_not_before, is_sound, Finds}
@@ -181,6 +182,13 @@ pub refused_same : (refusal : RowRefusal) (d : TableDef) (row : List Value) (old
 refused_same (Taken which) d row old new p = p.1
 refused_same Absent d row old new p = absurd p
 refused_same NoMemory d row old new p = p
+
+-- a key that is in the way is what is told of it
+pub way_refused : (refusal : RowRefusal) (which : ℕ) (d : TableDef) (row : List Value) (rows : List (List Value)) → Refuses which refusal → key_in_way d row rows ≡ Some which
+    → Inserted (Err refusal) d row rows rows
+way_refused (Taken told) which d row rows p way = (way ∙ ap (λ (k : ℕ). Some k) (sym p), refl)
+way_refused Absent which d row rows p way = absurd p
+way_refused NoMemory which d row rows p way = refl
 
 pub replaced_err : (refusal : RowRefusal) (d : TableDef) (key row before : List Value) (old mid new : List (List Value)) → row_of_key d key old ≡ Some before
     → Inserted (Err refusal) d row (rows_beside d key old) mid → new ≡ old → Replaced (Err refusal) d key row old new

@@ -2,6 +2,7 @@
 
 use crate::refusal::RowRefusal;
 use crate::tables::Tables;
+use sharing::Shared;
 use val_types::{Bytes, Duplicate, List, NoMemory, Row};
 
 impl Tables {
@@ -42,7 +43,7 @@ impl Tables {
     }
 
     /// Inserts a row. Absent where there is no such table.
-    pub fn insert(&mut self, table: &Bytes, row: Row) -> Result<(), RowRefusal>
+    pub fn insert(&mut self, table: &Bytes, row: Shared<Row>) -> Result<(), RowRefusal>
         requires { fits_table table.now row self.old.tables ≡ true }
         ensures stored { Stores result (insertion table.now row self.old.tables)
             self.old.tables self.new.tables }
@@ -56,7 +57,7 @@ impl Tables {
     }
 
     /// Replaces the row of a key.
-    pub fn update(&mut self, table: &Bytes, key: &Row, row: Row) -> Result<(), RowRefusal>
+    pub fn update(&mut self, table: &Bytes, key: &Row, row: Shared<Row>) -> Result<(), RowRefusal>
         requires { fits_table table.now row self.old.tables ≡ true }
         ensures stored { Stores result (replacement table.now key.now row self.old.tables)
             self.old.tables self.new.tables }

@@ -12,7 +12,7 @@ impl Slot {
         ensures { IfOk result (λ copy. copy ≡ self.now) }
     {
         let row = match &self.row {
-            Some(row) => Some(row.copy(alloc)?),
+            Some(row) => Some(row.share()?),
             None => None,
         };
         Ok(Slot {
@@ -32,6 +32,7 @@ impl Shelf {
             slots.push(slot.copy(alloc)?)?;
         }
         Ok(Shelf {
+            name: self.name.share()?,
             definition: self.definition.share()?,
             slots,
             empties: self.empties,

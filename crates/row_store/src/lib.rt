@@ -10,13 +10,13 @@
 //!
 //! - `refusal`: [`RowRefusal`]
 //! - `comparing`: keys of rows without copies of them
-//! - `held`: a row in a slot, by itself or shared
 //! - `slots`: a key with its row
 //! - `looking`: the slot of a key, and a key in the way
 //! - `shelf`: the slots of a table
 //! - `named`: the shelf of a table
 //! - `tables`: [`Tables`], by places
 //! - `by_name`: the same by names
+//! - `standing`: rows that stand just so
 //! - `reading`: rows read where they stand
 //! - `copying`: tables once more
 //! - `laws`: what holds of all that is stored
@@ -32,8 +32,11 @@
 //!   row (`row`)
 //! - [`Tables::get_at`], [`Tables::fits_at`], [`Tables::insert_at`], [`Tables::update_at`] and
 //!   [`Tables::delete_at`] do so in the table at a place, for each name that has it; no place is asked for
-//! - [`Tables::rows`] gives the rows in their order, shared with the table, without copies of them but of
-//!   those that were taken back, or wants memory; [`Tables::copy`] gives equal tables that keep the same keys
+//! - [`Tables::replace_at`] and [`Tables::remove_at`] are given the row that stands, and do so where just that
+//!   row does; [`Tables::held_at`] and [`Tables::name_at`] give the row of a key and a table's name as they
+//!   are held
+//! - [`Tables::rows`] gives the rows in their order, shared with the table, without copies, or wants memory;
+//!   [`Tables::copy`] gives equal tables that keep the same keys
 //! - [`Tables::key_in_way`], [`Tables::row_in_way`] and [`Tables::row_on_key`] give the number of the first
 //!   key in the way, the row that has it, and the row that has the key of a number, without memory
 //! - [`Tables::create`], [`Tables::drop_table`], [`Tables::clear`] and [`Tables::tidy`] their definitions;
@@ -52,7 +55,6 @@
 mod by_name;
 mod comparing;
 mod copying;
-mod held;
 mod laws;
 mod looking;
 mod named;
@@ -60,6 +62,7 @@ mod reading;
 mod refusal;
 mod shelf;
 mod slots;
+mod standing;
 mod tables;
 
 pub use laws::tables_are_kept;

@@ -26,6 +26,25 @@ pub(crate) fn slot_for(definition: &TableDef, row: &Row, slots: &[Slot]) -> Resu
     slots.binary_search_by(|slot| key_row_cmp(&slot.key, definition, row))
 }
 
+/// The same, where the slot at a place, if there is one, is the first that is looked at.
+pub(crate) fn slot_near(
+    definition: &TableDef,
+    row: &Row,
+    slots: &[Slot],
+    at: usize,
+) -> Result<usize, usize>
+    requires { IsTrue (keys_rise (keys_in slots.now)) }
+    ensures { Finds (primary_key definition.now row.now) slots.now result }
+{
+    if at >= slots.len() {
+        return slot_for(definition, row, slots);
+    }
+    if key_row_cmp(&slots[at].key, definition, row).is_eq() {
+        return Ok(at);
+    }
+    slot_for(definition, row, slots)
+}
+
 /// Whether a row agrees with one in some slots on a unique key.
 fn agrees_with_any(key: &KeyDef, row: &Row, slots: &[Slot]) -> bool
     ensures { result ≡ list_any (λ other. agree_on row.now other key.now) (rows_in slots.now) }

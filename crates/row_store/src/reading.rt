@@ -20,7 +20,7 @@ impl Shelf {
         let mut rows = List::with_capacity(alloc, self.slots.len())?;
         for slot in self.slots.as_slice() {
             if let Some(row) = &slot.row {
-                rows.push(row.share(alloc)?)?;
+                rows.push(row.share()?)?;
             }
         }
         Ok(rows)

@@ -2,20 +2,22 @@
 ghost use Rattle.std.specs.Prelude.{◌≡◌, IsTrue, count_by};
 ghost use Rattle.row_store.specs.Slots.{is_bare, is_sound};
 
-use crate::held::Held;
 use crate::looking::{first_agreed, slot_for, slot_of};
 use crate::refusal::{RowRefusal, taken};
 use crate::slots::Slot;
 use sharing::Shared;
 use std::alloc::Global;
-use val_types::{Change, Duplicate, List, NoMemory, Row, TableDef, key_of};
+use val_types::{Bytes, Change, List, NoMemory, Row, TableDef, key_of};
 
-/// A table: its definition, its slots in the order of their keys, and how many of them are empty.
+/// A table: its name and its definition, its slots in the order of their keys, and how many of them are empty.
 #[derive(Drop)]
 pub struct Shelf {
+    /// The name in the definition, which the changes of its rows share.
+    pub name: Shared<Bytes>,
     pub definition: Shared<TableDef>,
     pub slots: Vec<Slot>,
     pub empties: usize,
+    pub ghost named: { name ≡ definition.name },
     pub ghost sound: { IsTrue (is_sound definition slots.items) },
     pub ghost counted: { empties ≡ count_by is_bare slots.items },
 }
@@ -33,11 +35,13 @@ impl Shelf {
     ghost use Rattle.row_store.specs.Shelves.{has_slot, has_slot_to_put, Deleted, Inserted, KeepsSlots, Replaced};
 
     /// A table without rows.
-    pub(crate) fn new(alloc: Global, definition: Shared<TableDef>) -> Shelf
+    pub(crate) fn new(alloc: Global, name: Shared<Bytes>, definition: Shared<TableDef>) -> Shelf
+        requires { name ≡ definition.name }
         ensures definition { result.definition ≡ definition }
         ensures rows { rows_in result.slots.items ≡ [] }
     {
         Shelf {
+            name,
             definition,
             slots: Vec::new(alloc),
             empties: 0,
@@ -51,6 +55,17 @@ impl Shelf {
     {
         match slot_of(&self.slots, key) {
             Ok(at) => self.slots[at].held(),
+            Err(_) => None,
+        }
+    }
+
+    /// The same, as the table holds it.
+    pub(crate) fn holder(&self, key: &Row) -> Option<&Shared<Row>>
+        ensures { option_copied result
+            ≡ row_of_key self.now.definition key.now (rows_in self.now.slots.items) }
+    {
+        match slot_of(&self.slots, key) {
+            Ok(at) => self.slots[at].holder(),
             Err(_) => None,
         }
     }
@@ -70,7 +85,7 @@ impl Shelf {
     }
 
     /// Takes the row out of a slot, and leaves the slot.
-    fn empty(&mut self, at: usize) -> Option<Held>
+    pub(crate) fn empty(&mut self, at: usize) -> Option<Shared<Row>>
         requires { at < length self.old.slots.items }
         ensures found { (key : List Value) → at ≡ place (is_slot_of key) self.old.slots.items
             → result ≡ row_of_key self.old.definition key (rows_in self.old.slots.items) }
@@ -86,7 +101,7 @@ impl Shelf {
     }
 
     /// Takes the row of a key out, and leaves its slot.
-    fn take(&mut self, key: &Row) -> Option<Held>
+    fn take(&mut self, key: &Row) -> Option<Shared<Row>>
         ensures found { result
             ≡ row_of_key self.old.definition key.now (rows_in self.old.slots.items) }
         ensures rows { rows_in self.new.slots.items
@@ -114,7 +129,7 @@ impl Shelf {
     }
 
     /// Puts a row into the slot of its key, which stands at a place.
-    fn fill(&mut self, at: usize, row: Held)
+    fn fill(&mut self, at: usize, row: Shared<Row>)
         requires slot { Finds (primary_key self.old.definition row) self.old.slots.items (Ok at) }
         requires fits { row_fits self.old.definition.columns row ≡ true }
         requires free { list_any (collide self.old.definition row) (rows_in self.old.slots.items) ≡ false }
@@ -130,7 +145,7 @@ impl Shelf {
     }
 
     /// Puts a row into the slot of its key.
-    fn put(&mut self, row: Held)
+    pub(crate) fn put(&mut self, row: Shared<Row>)
         requires slot { has_slot (primary_key self.old.definition row) self.old ≡ true }
         requires fits { row_fits self.old.definition.columns row ≡ true }
         requires free { list_any (collide self.old.definition row) (rows_in self.old.slots.items) ≡ false }
@@ -145,7 +160,7 @@ impl Shelf {
     }
 
     /// Puts a row into a new slot, at the place where that of its key belongs.
-    fn add(&mut self, alloc: Global, at: usize, row: Held) -> Result<(), NoMemory>
+    fn add(&mut self, alloc: Global, at: usize, row: Shared<Row>) -> Result<(), NoMemory>
         requires place { Finds (primary_key self.old.definition row) self.old.slots.items (Err at) }
         requires fits { row_fits self.old.definition.columns row ≡ true }
         requires free { list_any (collide self.old.definition row) (rows_in self.old.slots.items) ≡ false }
@@ -178,20 +193,24 @@ impl Shelf {
         }
     }
 
-    /// Inserts a row.
-    pub(crate) fn insert(&mut self, alloc: Global, row: Row) -> Result<(), RowRefusal>
-        requires { row_fits self.old.definition.columns row ≡ true }
+    /// Inserts a row, by where its primary key was found.
+    pub(crate) fn insert_found(
+        &mut self,
+        alloc: Global,
+        row: Shared<Row>,
+        found: Result<usize, usize>,
+    ) -> Result<(), RowRefusal>
+        requires fits { row_fits self.old.definition.columns row ≡ true }
+        requires found { Finds (primary_key self.old.definition row) self.old.slots.items found }
         ensures stored { Inserted result self.old.definition row
             (rows_in self.old.slots.items) (rows_in self.new.slots.items) }
         ensures slot { OnOk result (has_slot (primary_key self.old.definition row) self.new ≡ true) }
         ensures slots { KeepsSlots self.old self.new }
         ensures definition { self.new.definition ≡ self.old.definition }
     {
-        let found = slot_for(self.definition.get(), &row, &self.slots);
-        if let Some(which) = self.in_way(&row, found) {
+        if let Some(which) = self.in_way(row.get(), found) {
             return Err(taken(which));
         }
-        let row = Held::new(alloc, row)?;
         match found {
             Ok(at) => self.fill(at, row),
             Err(at) => self.add(alloc, at, row)?,
@@ -199,8 +218,26 @@ impl Shelf {
         Ok(())
     }
 
+    /// Inserts a row.
+    pub(crate) fn insert(&mut self, alloc: Global, row: Shared<Row>) -> Result<(), RowRefusal>
+        requires { row_fits self.old.definition.columns row ≡ true }
+        ensures stored { Inserted result self.old.definition row
+            (rows_in self.old.slots.items) (rows_in self.new.slots.items) }
+        ensures slot { OnOk result (has_slot (primary_key self.old.definition row) self.new ≡ true) }
+        ensures slots { KeepsSlots self.old self.new }
+        ensures definition { self.new.definition ≡ self.old.definition }
+    {
+        let found = slot_for(self.definition.get(), row.get(), &self.slots);
+        self.insert_found(alloc, row, found)
+    }
+
     /// Replaces the row of a key.
-    pub(crate) fn update(&mut self, alloc: Global, key: &Row, row: Row) -> Result<(), RowRefusal>
+    pub(crate) fn update(
+        &mut self,
+        alloc: Global,
+        key: &Row,
+        row: Shared<Row>,
+    ) -> Result<(), RowRefusal>
         requires { row_fits self.old.definition.columns row ≡ true }
         ensures stored { Replaced result self.old.definition key.now row
             (rows_in self.old.slots.items) (rows_in self.new.slots.items) }
@@ -209,16 +246,9 @@ impl Shelf {
         ensures slots { KeepsSlots self.old self.new }
         ensures definition { self.new.definition ≡ self.old.definition }
     {
-        let before = match self.take(key) {
-            Some(before) => before,
-            None => return Err(RowRefusal::Absent),
-        };
-        match self.insert(alloc, row) {
-            Ok(()) => Ok(()),
-            Err(refusal) => {
-                self.put(before);
-                Err(refusal)
-            }
+        match slot_of(&self.slots, key) {
+            Ok(at) => self.exchange(alloc, at, row),
+            Err(_) => Err(RowRefusal::Absent),
         }
     }
 
@@ -245,11 +275,11 @@ impl Shelf {
         ensures definition { self.new.definition ≡ self.old.definition }
     {
         match change {
-            Change::Insert { row, .. } => self.take_same(&row),
-            Change::Delete { row, .. } => self.put(Held::own(row)),
+            Change::Insert { row, .. } => self.take_same(row.get()),
+            Change::Delete { row, .. } => self.put(row),
             Change::Update { before, after, .. } => {
-                self.take_same(&after);
-                self.put(Held::own(before));
+                self.take_same(after.get());
+                self.put(before);
             }
         }
     }

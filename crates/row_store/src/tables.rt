@@ -100,7 +100,7 @@ impl Tables {
 
     /// Inserts a row into the table at a place. The primary key is looked at first, then the unique keys in
     /// order of definition. Absent where there is no table.
-    pub fn insert_at(&mut self, at: usize, row: Row) -> Result<(), RowRefusal>
+    pub fn insert_at(&mut self, at: usize, row: Shared<Row>) -> Result<(), RowRefusal>
         requires { fits_at at row self.old.tables ≡ true }
         ensures stored { (name : List ℕ) → place_of name self.old.tables ≡ Some at
             → Stores result (insertion name row self.old.tables) self.old.tables self.new.tables }
@@ -115,7 +115,7 @@ impl Tables {
     }
 
     /// Replaces the row of a key in the table at a place. Keys of the row itself are in no way of it.
-    pub fn update_at(&mut self, at: usize, key: &Row, row: Row) -> Result<(), RowRefusal>
+    pub fn update_at(&mut self, at: usize, key: &Row, row: Shared<Row>) -> Result<(), RowRefusal>
         requires { fits_at at row self.old.tables ≡ true }
         ensures stored { (name : List ℕ) → place_of name self.old.tables ≡ Some at
             → Stores result (replacement name key.now row self.old.tables) self.old.tables self.new.tables }
@@ -166,8 +166,9 @@ impl Tables {
         ensures err { OnErr result (self.new ≡ self.old) }
         ensures keys { KeepsAll self.old self.new }
     {
+        let name = Shared::new(self.alloc, definition.name.duplicate(self.alloc)?)?;
         let definition = Shared::new(self.alloc, definition.duplicate(self.alloc)?)?;
-        let shelf = Shelf::new(self.alloc, definition);
+        let shelf = Shelf::new(self.alloc, name, definition);
         self.shelves.push(shelf)?;
         Ok(())
     }

@@ -1,10 +1,9 @@
 //! A value that many may hold.
 ghost use Rattle.std.specs.Prelude.{◌≡◌, IfOk};
 
-use std::alloc::Global;
+use std::alloc::{AllocError, Global};
 use std::marker::Model;
 use std::rc::Rc;
-use val_types::NoMemory;
 
 /// A reference-counted value, which contracts see as the value itself. It is never changed.
 #[derive(Drop)]
@@ -31,7 +30,7 @@ impl<T> Shared<T> {
 
 impl<T: Drop> Shared<T> {
     /// Puts a value on the heap. Where there is no memory, it is dropped.
-    pub fn new(alloc: Global, value: T) -> Result<Shared<T>, NoMemory>
+    pub fn new(alloc: Global, value: T) -> Result<Shared<T>, AllocError>
         ensures { IfOk result (λ s. s ≡ value) }
     {
         Ok(Shared {
@@ -41,7 +40,7 @@ impl<T: Drop> Shared<T> {
 
     /// One more holder of the same value, without a copy of it. Past the greatest count of holders this
     /// is want of memory.
-    pub fn share(&self) -> Result<Shared<T>, NoMemory>
+    pub fn share(&self) -> Result<Shared<T>, AllocError>
         ensures { IfOk result (λ s. s ≡ self.now) }
     {
         Ok(Shared {

@@ -14,6 +14,7 @@ ghost use Rattle.table_rules.specs.Leads.{Leads};
 
 use dml_rows::{delete_row_at, insert_row_at, take_back_to, update_row_at};
 use row_store::{RowRefusal, Tables};
+use sharing::Shared;
 use std::alloc::Global;
 use undo_log::Undo;
 use val_types::{Duplicate, List, Row};
@@ -28,11 +29,11 @@ fn insert_fitting(
 ) -> Result<(), RowRefusal>
     ensures { Leads tables.old undo.old tables.new undo.new }
 {
-    let row = row.duplicate(alloc)?;
-    if !tables.fits_at(at, &row) {
+    let row = Shared::new(alloc, row.duplicate(alloc)?)?;
+    if !tables.fits_at(at, row.get()) {
         return Err(RowRefusal::Absent);
     }
-    insert_row_at(alloc, tables, undo, at, row)
+    insert_row_at(tables, undo, at, row)
 }
 
 /// Replaces the row of a key, if it is there and the other one fits.
@@ -49,11 +50,11 @@ fn update_fitting(
     if tables.get_at(at, key).is_none() {
         return Ok(());
     }
-    let row = row.duplicate(alloc)?;
-    if !tables.fits_at(at, &row) {
+    let row = Shared::new(alloc, row.duplicate(alloc)?)?;
+    if !tables.fits_at(at, row.get()) {
         return Err(RowRefusal::Absent);
     }
-    update_row_at(alloc, tables, undo, at, key, row)
+    update_row_at(tables, undo, at, key, row)
 }
 
 /// Inserts each row, replaces the row of a key by it, and deletes the row of the key, up to the first
@@ -71,7 +72,7 @@ pub fn change_each(
     for row in rows.as_slice() {
         insert_fitting(alloc, tables, undo, at, row)?;
         update_fitting(alloc, tables, undo, at, key, row)?;
-        delete_row_at(alloc, tables, undo, at, key)?;
+        delete_row_at(tables, undo, at, key)?;
     }
     Ok(())
 }

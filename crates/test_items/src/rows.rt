@@ -7,6 +7,7 @@ ghost use Rattle.test_items.specs.Small.{row, small_changes, small_tables};
 
 use event_codec::Header;
 use row_events::{encode_rows, rows_size};
+use sharing::Shared;
 use std::alloc::Global;
 use std::test::Fail;
 use val_types::{Bytes, Change, ColType, ColumnDef, List, NoMemory, Row, TableDef, Value};
@@ -67,20 +68,27 @@ fn table(alloc: Global) -> Result<TableDef, NoMemory>
     })
 }
 
-fn row(alloc: Global, first: i64, second: i64) -> Result<Row, NoMemory>
+fn row(alloc: Global, first: i64, second: i64) -> Result<Shared<Row>, NoMemory>
     ensures { IfOk result (λ r. r ≡ row first second) }
 {
     let mut row = Row::new(alloc);
     row.push(Value::Int(first))?;
     row.push(Value::Int(second))?;
-    Ok(row)
+    Shared::new(alloc, row)
+}
+
+/// The name of the table.
+fn name(alloc: Global) -> Result<Shared<Bytes>, NoMemory>
+    ensures { IfOk result (λ n. n ≡ codes "t") }
+{
+    Shared::new(alloc, Bytes::from_slice(alloc, b"t")?)
 }
 
 fn put_in(alloc: Global) -> Result<Change, NoMemory>
     ensures { IfOk result (λ c. c ≡ Insert (codes "t") (row (pos 1) (pos 1))) }
 {
     let row = row(alloc, 1, 1)?;
-    let table = Bytes::from_slice(alloc, b"t")?;
+    let table = name(alloc)?;
     Ok(Change::Insert { table, row })
 }
 
@@ -89,7 +97,7 @@ fn changed(alloc: Global) -> Result<Change, NoMemory>
 {
     let before = row(alloc, 1, 1)?;
     let after = row(alloc, 1, 2)?;
-    let table = Bytes::from_slice(alloc, b"t")?;
+    let table = name(alloc)?;
     Ok(Change::Update {
         table,
         before,
@@ -101,7 +109,7 @@ fn taken_out(alloc: Global) -> Result<Change, NoMemory>
     ensures { IfOk result (λ c. c ≡ Delete (codes "t") (row (pos 1) (pos 2))) }
 {
     let row = row(alloc, 1, 2)?;
-    let table = Bytes::from_slice(alloc, b"t")?;
+    let table = name(alloc)?;
     Ok(Change::Delete { table, row })
 }
 
@@ -117,16 +125,20 @@ pub fn changes(alloc: Global) -> Result<List<Change>, NoMemory>
 }
 
 /// Their table.
-pub fn tables(alloc: Global) -> Result<List<TableDef>, NoMemory>
+pub fn tables(alloc: Global) -> Result<List<Shared<TableDef>>, NoMemory>
     ensures { IfOk result (λ ds. ds ≡ small_tables) }
 {
     let mut tables = List::new(alloc);
-    tables.push(table(alloc)?)?;
+    tables.push(Shared::new(alloc, table(alloc)?)?)?;
     Ok(tables)
 }
 
 /// Their events at 402.
-fn written(alloc: Global, defs: &List<TableDef>, changes: &List<Change>) -> Result<Bytes, NoMemory>
+fn written(
+    alloc: Global,
+    defs: &List<Shared<TableDef>>,
+    changes: &List<Change>,
+) -> Result<Bytes, NoMemory>
     requires tables { defs.now ≡ small_tables }
     requires changes { changes.now ≡ small_changes }
 {

@@ -3,8 +3,9 @@
 use crate::tests::{bytes, expect_all, is_change};
 use event_codec::{MapView, RowsKind, RowsView};
 use row_image::{rows_fit, rows_of};
+use sharing::Shared;
 use std::alloc::Global;
-use val_types::{Bytes, Change, List, Row, Value};
+use val_types::{Bytes, Change, List, NoMemory, Row, Value};
 
 /// A table `t` of columns of these kinds, each of which may be NULL.
 fn map<'a>(kinds: &'a [u8], metadata: &'a [u8], nulls: &'a [u8]) -> MapView<'a> {
@@ -31,6 +32,14 @@ fn write(columns: u64, rows: &[u8]) -> RowsView<'_> {
     }
 }
 
+/// The change that puts a row into `t`.
+fn inserted(alloc: Global, row: Row) -> Result<Change, NoMemory> {
+    Ok(Change::Insert {
+        table: Shared::new(alloc, bytes(alloc, b"t"))?,
+        row: Shared::new(alloc, row)?,
+    })
+}
+
 /// Whether bytes are just one row of a table, and are none where their last byte is missing.
 fn is_row(alloc: Global, map: &MapView<'_>, of: &[u8], row: Row) -> bool {
     let columns = map.kinds.len() as u64;
@@ -38,10 +47,9 @@ fn is_row(alloc: Global, map: &MapView<'_>, of: &[u8], row: Row) -> bool {
     if rows_fit(map, &write(columns, short)) || !rows_fit(map, &write(columns, of)) {
         return false;
     }
-    let table = bytes(alloc, b"t");
     is_change(
         rows_of(alloc, map, &write(columns, of)),
-        &Change::Insert { table, row },
+        inserted(alloc, row),
     )
 }
 

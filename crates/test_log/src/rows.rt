@@ -2,8 +2,9 @@
 use crate::tests::{bytes, expect_all, is_change};
 use event_codec::{MapView, RowsKind, RowsView};
 use row_image::{rows_fit, rows_of};
+use sharing::Shared;
 use std::alloc::Global;
-use val_types::{Change, List, Row, Value};
+use val_types::{Change, List, NoMemory, Row, Value};
 
 /// A table `t` of INT, BIGINT and VARCHAR(300).
 static MAP: MapView = MapView {
@@ -78,27 +79,29 @@ static BOTH: [u8; 18] = [
 ];
 
 /// A row of three values.
-fn row(alloc: Global, first: Value, second: Value, third: Value) -> Row {
+fn row(alloc: Global, first: Value, second: Value, third: Value) -> Result<Shared<Row>, NoMemory> {
     let mut row = List::new(alloc);
     let _ = row.push(first);
     let _ = row.push(second);
     let _ = row.push(third);
-    row
+    Shared::new(alloc, row)
 }
 
 /// The change of the first of both rows to the second.
-fn change(alloc: Global) -> Change {
+fn change(alloc: Global) -> Result<Change, NoMemory> {
     let text = Value::Text(bytes(alloc, b"ab"));
-    Change::Update {
-        table: bytes(alloc, b"t"),
-        before: row(alloc, Value::Int(-2), Value::Null, text),
-        after: row(alloc, Value::Null, Value::Int(1), Value::Null),
-    }
+    let before = row(alloc, Value::Int(-2), Value::Null, text)?;
+    let after = row(alloc, Value::Null, Value::Int(1), Value::Null)?;
+    Ok(Change::Update {
+        table: Shared::new(alloc, bytes(alloc, b"t"))?,
+        before,
+        after,
+    })
 }
 
 #[test]
 fn rows_and_changes(rt: HostRuntime) {
     expect_all(&rt, "rows that fit their map", held(), 10);
     let found = rows_of(rt.alloc(), &MAP, &event(RowsKind::Update, 3, &BOTH));
-    assert!(rt; is_change(found, &change(rt.alloc())));
+    assert!(rt; is_change(found, change(rt.alloc())));
 }

@@ -255,11 +255,36 @@ pub(crate) fn is_text(found: Result<Bytes, NoMemory>, wanted: &[u8]) -> bool {
     }
 }
 
+/// Whether two changes are of one kind, and have the same rows.
+fn have_same_rows(a: &Change, b: &Change) -> bool {
+    match (a, b) {
+        (Change::Insert { row, .. }, Change::Insert { row: other, .. }) => *row.get()
+            == *other.get(),
+        (Change::Delete { row, .. }, Change::Delete { row: other, .. }) => *row.get()
+            == *other.get(),
+        (
+            Change::Update { before, after, .. },
+            Change::Update {
+                before: old,
+                after: new,
+                ..
+            },
+        ) => *before.get() == *old.get() && *after.get() == *new.get(),
+        _ => false,
+    }
+}
+
 /// Whether changes are made, and are just this one.
-pub(crate) fn is_change(found: Result<List<Change>, NoMemory>, wanted: &Change) -> bool {
-    match found {
-        Ok(changes) => matches!(changes.as_slice(), [change] if *change == *wanted),
-        Err(_) => false,
+pub(crate) fn is_change(
+    found: Result<List<Change>, NoMemory>,
+    wanted: Result<Change, NoMemory>,
+) -> bool {
+    let (Ok(found), Ok(wanted)) = (found, wanted) else {
+        return false;
+    };
+    match found.as_slice() {
+        [change] => *change.table() == *wanted.table() && have_same_rows(change, &wanted),
+        _ => false,
     }
 }
 

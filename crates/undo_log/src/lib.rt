@@ -5,8 +5,8 @@
 //!
 //! # Proved
 //! - [`Undo::push`] puts a change at the end, or wants memory and leaves the list
-//! - [`Undo::mark`] is the count; [`Undo::since`] gives equal copies of the changes behind a mark, or wants
-//!   memory
+//! - [`Undo::mark`] is the count; [`Undo::since`] gives the changes behind a mark once more, their rows shared
+//!   with the list, or wants memory
 //! - [`Undo::pop`] takes the last change out, None just for the empty list; [`Undo::clear`] empties it
 //!
 //! # Only tested

@@ -6,7 +6,7 @@ use std::marker::Model;
 use val_types::{Change, Duplicate, List, NoMemory};
 
 /// Changes, the last one at the end.
-#[derive(Debug, Drop)]
+#[derive(Drop)]
 pub struct Undo {
     alloc: Global,
     changes: List<Change>,
@@ -47,7 +47,7 @@ impl Undo {
         self.changes.len() as u64
     }
 
-    /// Copies of the changes behind a mark, the first of them first.
+    /// The changes behind a mark once more, the first of them first; no row is copied.
     pub fn since(&self, mark: u64) -> Result<List<Change>, NoMemory>
         requires { mark ≤ length self.now }
         ensures { IfOk result (λ changes. changes ≡ drop mark self.now) }

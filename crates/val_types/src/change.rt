@@ -5,23 +5,25 @@ ghost use Rattle.val_types.specs.Changes.{inverse, table_of};
 use crate::duplicate::Duplicate;
 use crate::list::{Bytes, NoMemory};
 use crate::value::Row;
+use sharing::Shared;
 use std::alloc::Global;
 
-/// A change of one row of a table.
-#[derive(PartialEq, Eq, Debug, Drop)]
+/// A change of one row of a table. Its parts are shared with who made it: the name with the table's
+/// definition, the rows with the table itself.
+#[derive(Drop)]
 pub enum Change {
     Insert {
-        table: Bytes,
-        row: Row,
+        table: Shared<Bytes>,
+        row: Shared<Row>,
     },
     Update {
-        table: Bytes,
-        before: Row,
-        after: Row,
+        table: Shared<Bytes>,
+        before: Shared<Row>,
+        after: Shared<Row>,
     },
     Delete {
-        table: Bytes,
-        row: Row,
+        table: Shared<Bytes>,
+        row: Shared<Row>,
     },
 }
 
@@ -31,9 +33,9 @@ impl Change {
         ensures { result.now ≡ table_of self.now }
     {
         match self {
-            Change::Insert { table, .. } => table,
-            Change::Update { table, .. } => table,
-            Change::Delete { table, .. } => table,
+            Change::Insert { table, .. } => table.get(),
+            Change::Update { table, .. } => table.get(),
+            Change::Delete { table, .. } => table.get(),
         }
     }
 
@@ -57,25 +59,27 @@ impl Change {
     }
 }
 
+/// One more holder of each part, without copies.
 impl Duplicate for Change {
     fn duplicate(&self, alloc: Global) -> Result<Change, NoMemory> {
+        let _ = alloc;
         match self {
             Change::Insert { table, row } => Ok(Change::Insert {
-                table: table.duplicate(alloc)?,
-                row: row.duplicate(alloc)?,
+                table: table.share()?,
+                row: row.share()?,
             }),
             Change::Update {
                 table,
                 before,
                 after,
             } => Ok(Change::Update {
-                table: table.duplicate(alloc)?,
-                before: before.duplicate(alloc)?,
-                after: after.duplicate(alloc)?,
+                table: table.share()?,
+                before: before.share()?,
+                after: after.share()?,
             }),
             Change::Delete { table, row } => Ok(Change::Delete {
-                table: table.duplicate(alloc)?,
-                row: row.duplicate(alloc)?,
+                table: table.share()?,
+                row: row.share()?,
             }),
         }
     }

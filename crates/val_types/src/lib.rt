@@ -13,7 +13,7 @@
 //! - `definitions`: [`TableDef`], [`ColumnDef`], [`ColType`] and [`KeyDef`]
 //! - `fitting`: which values and rows fit their columns
 //! - `keys`: the key of a row, and its value in a column
-//! - `change`: [`Change`], and its inverse
+//! - `change`: [`Change`], whose name and rows are shared, and its inverse
 //! - `worked`: texts, orders, fitting and keys by hand, which the checker computes
 //!
 //! An edit here proves everything again, so only what nearly all crates cite stands here: what

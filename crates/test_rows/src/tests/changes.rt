@@ -6,6 +6,7 @@ use super::storing::definition;
 use super::{bytes, number};
 use dml_rows::{delete_row, insert_row, take_back_to, update_row};
 use row_store::{RowRefusal, Tables};
+use sharing::Shared;
 use std::alloc::Global;
 use undo_log::Undo;
 use val_types::{Bytes, Row, Value};
@@ -51,7 +52,7 @@ fn insert(
     if !tables.fits(table, &row) {
         return Err(RowRefusal::Absent);
     }
-    insert_row(alloc, tables, undo, table, row)
+    insert_row(tables, undo, table, Shared::new(alloc, row)?)
 }
 
 /// Replaces a row by one that fits; absent where it does not.
@@ -70,7 +71,7 @@ fn update(
     if !tables.fits(table, &row) {
         return Err(RowRefusal::Absent);
     }
-    update_row(alloc, tables, undo, table, &key, row)
+    update_row(tables, undo, table, &key, Shared::new(alloc, row)?)
 }
 
 /// Deletes a row.
@@ -85,7 +86,7 @@ fn delete(
     ensures { Leads tables.old undo.old tables.new undo.new }
 {
     let key = number(alloc, id);
-    delete_row(alloc, tables, undo, table, &key)
+    delete_row(tables, undo, table, &key)
 }
 
 /// Whether a step answers as it should.

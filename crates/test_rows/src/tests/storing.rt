@@ -189,7 +189,7 @@ fn insert(
     if !tables.fits(table, &row) {
         return Err(RowRefusal::Absent);
     }
-    tables.insert(table, row)
+    tables.insert(table, Shared::new(alloc, row)?)
 }
 
 /// Replaces a row by one that fits; absent where it does not.
@@ -205,7 +205,7 @@ fn update(
     if !tables.fits(table, &row) {
         return Err(RowRefusal::Absent);
     }
-    tables.update(table, &key, row)
+    tables.update(table, &key, Shared::new(alloc, row)?)
 }
 
 /// Deletes a row.

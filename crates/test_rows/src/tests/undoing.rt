@@ -1,20 +1,26 @@
 //! Changes pushed, copied and taken out, by hand.
 
 use super::{bytes, number};
+use sharing::Shared;
 use std::alloc::Global;
 use undo_log::Undo;
-use val_types::Change;
+use val_types::{Change, NoMemory};
 
 /// A change of a table as a table of tests holds it: its name, and the number in its row.
 static CHANGES: [(&[u8], i64); 4] = [(b"t", 1), (b"t", 2), (b"u", -3), (b"t", 1)];
 
-fn fill(alloc: Global, undo: &mut Undo) {
+fn put(alloc: Global, table: &[u8], of: i64) -> Result<Change, NoMemory> {
+    Ok(Change::Insert {
+        table: Shared::new(alloc, bytes(alloc, table))?,
+        row: Shared::new(alloc, number(alloc, of))?,
+    })
+}
+
+fn fill(alloc: Global, undo: &mut Undo) -> Result<(), NoMemory> {
     for (table, of) in &CHANGES {
-        let _ = undo.push(Change::Insert {
-            table: bytes(alloc, *table),
-            row: number(alloc, *of),
-        });
+        undo.push(put(alloc, *table, *of)?)?;
     }
+    Ok(())
 }
 
 /// Whether there are so many changes since a mark.
@@ -39,7 +45,7 @@ fn is_popped(undo: &mut Undo, wanted: &[u8]) -> bool {
 #[test]
 fn changes_and_marks(rt: HostRuntime) {
     let mut undo = Undo::new(rt.alloc());
-    fill(rt.alloc(), &mut undo);
+    assert!(rt; fill(rt.alloc(), &mut undo).is_ok());
     assert!(rt; undo.mark() == 4);
     assert!(rt; has_since(&undo, 2, 2) && has_since(&undo, 4, 0) && has_since(&undo, 0, 4));
     assert!(rt; is_popped(&mut undo, b"t") && is_popped(&mut undo, b"u"));

@@ -1,6 +1,7 @@
 //! Changes with their inverses, and refusals.
 
 use super::bytes;
+use sharing::Shared;
 use std::alloc::{AllocError, Global};
 use val_types::{Change, Duplicate, List, NoMemory, Row, SqlError, SqlRefusal, Value};
 
@@ -12,37 +13,71 @@ fn one(alloc: Global, number: i64) -> Row {
 }
 
 /// Inserts a row of one number into `t`.
-fn put(alloc: Global, number: i64) -> Change {
-    Change::Insert {
-        table: bytes(alloc, b"t"),
-        row: one(alloc, number),
-    }
+fn put(alloc: Global, number: i64) -> Result<Change, NoMemory> {
+    Ok(Change::Insert {
+        table: Shared::new(alloc, bytes(alloc, b"t"))?,
+        row: Shared::new(alloc, one(alloc, number))?,
+    })
 }
 
 /// Deletes it.
-fn taken(alloc: Global, number: i64) -> Change {
-    Change::Delete {
-        table: bytes(alloc, b"t"),
-        row: one(alloc, number),
-    }
+fn taken(alloc: Global, number: i64) -> Result<Change, NoMemory> {
+    Ok(Change::Delete {
+        table: Shared::new(alloc, bytes(alloc, b"t"))?,
+        row: Shared::new(alloc, one(alloc, number))?,
+    })
 }
 
 /// Puts another in its place.
-fn replaced(alloc: Global, before: i64, after: i64) -> Change {
-    Change::Update {
-        table: bytes(alloc, b"t"),
-        before: one(alloc, before),
-        after: one(alloc, after),
+fn replaced(alloc: Global, before: i64, after: i64) -> Result<Change, NoMemory> {
+    Ok(Change::Update {
+        table: Shared::new(alloc, bytes(alloc, b"t"))?,
+        before: Shared::new(alloc, one(alloc, before))?,
+        after: Shared::new(alloc, one(alloc, after))?,
+    })
+}
+
+/// Whether two changes are of one kind and have the same rows.
+fn have_same_rows(a: &Change, b: &Change) -> bool {
+    match (a, b) {
+        (Change::Insert { row: a, .. }, Change::Insert { row: b, .. }) => a.get() == b.get(),
+        (Change::Delete { row: a, .. }, Change::Delete { row: b, .. }) => a.get() == b.get(),
+        (
+            Change::Update {
+                before: a,
+                after: c,
+                ..
+            },
+            Change::Update {
+                before: b,
+                after: d,
+                ..
+            },
+        ) => a.get() == b.get() && c.get() == d.get(),
+        _ => false,
     }
 }
 
+/// Whether two changes are the same.
+fn are_same(a: &Change, b: &Change) -> bool {
+    a.table() == b.table() && have_same_rows(a, b)
+}
+
 /// Whether a change has an inverse and a copy, and is one of `t`.
-fn is_turned(alloc: Global, change: Change, inverse: &Change) -> bool {
+fn is_turned(
+    alloc: Global,
+    change: Result<Change, NoMemory>,
+    inverse: Result<Change, NoMemory>,
+) -> bool {
+    let (Ok(change), Ok(inverse)) = (change, inverse) else {
+        return false;
+    };
     let copied = match change.duplicate(alloc) {
-        Ok(copy) => copy == change,
+        Ok(copy) => are_same(&copy, &change),
         Err(_) => false,
     };
-    copied && change.table().as_slice() == b"t".as_slice() && change.inverse() == *inverse
+    let named = change.table().as_slice() == b"t".as_slice();
+    copied && named && are_same(&change.inverse(), &inverse)
 }
 
 /// A refusal by an error's number.
@@ -62,9 +97,9 @@ fn without_memory() -> Result<(), SqlRefusal> {
 #[test]
 fn changes_and_refusals(rt: HostRuntime) {
     let alloc = rt.alloc();
-    assert!(rt; is_turned(alloc, put(alloc, 5), &taken(alloc, 5)));
-    assert!(rt; is_turned(alloc, taken(alloc, 5), &put(alloc, 5)));
-    assert!(rt; is_turned(alloc, replaced(alloc, 5, 6), &replaced(alloc, 6, 5)));
+    assert!(rt; is_turned(alloc, put(alloc, 5), taken(alloc, 5)));
+    assert!(rt; is_turned(alloc, taken(alloc, 5), put(alloc, 5)));
+    assert!(rt; is_turned(alloc, replaced(alloc, 5, 6), replaced(alloc, 6, 5)));
     assert!(rt; refused() == Err(SqlRefusal::Sql(1062)));
     assert!(rt; without_memory() == Err(SqlRefusal::NoMemory));
 }

@@ -1,5 +1,7 @@
 use Rattle.std.proofs.Common.{rules, ◌≡◌, ℕ, List, [], ◌∷◌, ◌++◌, Some, None, refl, subst}
 use Rattle.std.specs.Prelude.{slice_get}
+use Rattle.std.specs.Option.{option_map}
+use Rattle.val_types.specs.declared.definitions.TableDef.{TableDef}
 use Rattle.val_types.specs.declared.change.Change.TheVariants.{Update}
 use Rattle.table_rules.specs.Stored.{row_at}
 use Rattle.table_rules.specs.Stores.{place_of, definitions_of}
@@ -9,25 +11,25 @@ use Rattle.dml_rows.proofs.storing.update_row_at.Goals as goal
 
 pub returns-in-Ok-clause-noted : goal.returns-in-Ok-clause-noted
 returns-in-Ok-clause-noted c =
-    let d = c.in-Some.definition.now in
-    let before = c.in_ok-before-in-Some-get_at.before in
-    let noted : c.push.new.self ≡ c.args.undo.now ++ Update d.name before c.args.row ∷ [] = search rules in
-    let is : Some d ≡ slice_get (definitions_of c.args.tables.now.tables) c.args.at = search rules in
+    let named = c.in-Some.name.now in
+    let before = c.in-Some-held_at.before.now in
+    let noted : c.push.new.self ≡ c.args.undo.now ++ Update named before c.args.row ∷ [] = search rules in
+    let is : Some named ≡ option_map (λ (d : TableDef). d.name) (slice_get (definitions_of c.args.tables.now.tables) c.args.at) = search rules in
     λ name at.
     (let there : row_at name c.args.key.now c.args.tables.now.tables ≡ Some before = search rules in
     update_notes c.args.tables.now.tables c.update_at.new.self.tables c.args.undo.now c.push.new.self name c.args.key.now before c.args.row there (c.in-Ok.ensures.stored name at)
-    (subst (λ (n : List ℕ). c.push.new.self ≡ c.args.undo.now ++ Update n before c.args.row ∷ []) (name_there name c.args.tables.now.tables c.args.at d is at) noted))
+    (subst (λ (n : List ℕ). c.push.new.self ≡ c.args.undo.now ++ Update n before c.args.row ∷ []) (name_there name named c.args.tables.now.tables c.args.at is at) noted))
 
 pub returns-in-Ok-clause-leads : goal.returns-in-Ok-clause-leads
 returns-in-Ok-clause-leads c =
-    let d = c.in-Some.definition.now in
-    let before = c.in_ok-before-in-Some-get_at.before in
-    let noted : c.push.new.self ≡ c.args.undo.now ++ Update d.name before c.args.row ∷ [] = search rules in
-    let at : place_of d.name c.args.tables.now.tables ≡ Some c.args.at = search rules in
-    let there : row_at d.name c.args.key.now c.args.tables.now.tables ≡ Some before = search rules in
-    update_leads c.args.tables.now c.update_at.new.self c.args.undo.now c.push.new.self d.name c.args.key.now before c.args.row c.definition.ensures.whole there (c.in-Ok.ensures.stored d.name at) (c.in-Ok.ensures.before d.name before there) c.in-Ok.ensures.keys noted
+    let named = c.in-Some.name.now in
+    let before = c.in-Some-held_at.before.now in
+    let noted : c.push.new.self ≡ c.args.undo.now ++ Update named before c.args.row ∷ [] = search rules in
+    let at : place_of named c.args.tables.now.tables ≡ Some c.args.at = search rules in
+    let there : row_at named c.args.key.now c.args.tables.now.tables ≡ Some before = search rules in
+    update_leads c.args.tables.now c.update_at.new.self c.args.undo.now c.push.new.self named c.args.key.now before c.args.row c.name_at.ensures.whole there (c.in-Ok.ensures.stored named at) (c.in-Ok.ensures.before named before there) c.in-Ok.ensures.keys noted
 
-pub returns-in-None-clause-stored : goal.returns-in-None-clause-stored
-returns-in-None-clause-stored c =
+pub returns-in_default-held_at-clause-stored : goal.returns-in_default-held_at-clause-stored
+returns-in_default-held_at-clause-stored c =
     λ name at.
     (let none : row_at name c.args.key.now c.args.tables.now.tables ≡ None = search rules in (not_replaced name c.args.key.now c.args.row c.args.tables.now.tables none, refl))

@@ -22,6 +22,7 @@ pub invariant_of-self : goal.invariant_of-self
 invariant_of-self c =
     let new : List Slot = insert c.args.self.now.slots.items c.args.at (record { key = c.in_ok-key.key; row = Some c.args.row }) in
     record {
+      named = c.args.self.now.named;
       sound =
           ap (is_sound c.args.self.now.definition) c.insert.ensures.items
           ∙ either (λ slots. is_sound c.args.self.now.definition slots ≡ true) (is_ok c.insert.result) new c.args.self.now.slots.items

@@ -13,6 +13,7 @@ invariant_of-self c =
     let at : c.args.at ≡ place (is_slot_of s.key) c.args.self.now.slots.items = place_of_slot c.args.self.now.slots.items c.args.at s (sound c.args.self.now.definition c.args.self.now.slots.items c.args.self.now.sound).rising c.requires c.index_mut.ensures.value in
     let more : c.from.result ≡ cond (is_some s.row) 1 0 = search rules in
     record {
+      named = c.args.self.now.named;
       sound = emptied_sound c.args.self.now.definition s.key c.args.self.now.slots.items c.args.at s c.take-row.new.self c.args.self.now.sound at c.index_mut.ensures.value c.take-row.ensures.after;
       counted = omega (arith, more, c.args.self.now.counted, emptied_count c.args.self.now.slots.items c.args.at s c.take-row.new.self c.requires c.index_mut.ensures.value c.take-row.ensures.after);
     }

@@ -10,6 +10,7 @@ invariant_of-self c =
     let s = c.index_mut-slot.result.now in
     let bare : c.from.result ≡ cond (is_bare s) 1 0 = search rules in
     record {
+      named = c.args.self.now.named;
       sound = put_sound c.args.self.now.definition c.args.row c.args.self.now.slots.items c.args.at s c.args.self.now.sound c.requires.slot c.index_mut-slot.ensures.value c.requires.fits c.requires.free;
       counted = omega (arith, bare, c.args.self.now.counted, (filled_count c.args.self.now.slots.items c.args.at s c.args.row c.requires.slot.0 c.index_mut-slot.ensures.value).1);
     }

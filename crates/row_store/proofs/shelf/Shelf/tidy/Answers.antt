@@ -11,6 +11,7 @@ pub invariant_of-self : goal.invariant_of-self
 invariant_of-self c =
     let kept : c.retain.new.self.items ≡ filter is_full c.args.self.now.slots.items = filter_same _ is_full _ (λ x b f' k. search rules) _ _ c.retain.ensures.filtered in
     record {
+      named = c.args.self.now.named;
       sound = ap (is_sound c.args.self.now.definition) kept ∙ full_sound c.args.self.now.definition c.args.self.now.slots.items c.args.self.now.sound;
       counted = sym (ap (λ (slots : List Slot). count_by is_bare slots) kept ∙ none_left c.args.self.now.slots.items);
     }

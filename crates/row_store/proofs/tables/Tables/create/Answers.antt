@@ -9,13 +9,13 @@ pub invariant_of-self-2 : goal.invariant_of-self-2
 invariant_of-self-2 c =
     let free : table_named c.args.definition.now.name (store_of c.self.inside.shelves.items).tables ≡ None = rw c.self.view_is c.requires in
     ap (λ shelves. names_differ (definitions_on shelves)) c.in_ok-push.ensures.items
-    ∙ names_more c.self.inside.shelves.items c.new-shelf.result c.args.definition.now c.self.invariant free (c.new-shelf.ensures.definition ∙ c.in_ok-definition.ensures ∙ c.in_ok-duplicate.ensures)
+    ∙ names_more c.self.inside.shelves.items c.new-shelf.result c.args.definition.now c.self.invariant free (c.new-shelf.ensures.definition ∙ c.in_ok-definition.ensures ∙ c.in_ok-duplicate-2.ensures)
 
 pub returns-clause-ok : goal.returns-clause-ok
 returns-clause-ok c =
     rw (← c.self.view_is)
     (ap (λ shelves. (store_of shelves).tables) c.in_ok-push.ensures.items
-    ∙ created c.self.inside.shelves.items c.new-shelf.result c.args.definition.now (c.new-shelf.ensures.definition ∙ c.in_ok-definition.ensures ∙ c.in_ok-duplicate.ensures) c.new-shelf.ensures.rows)
+    ∙ created c.self.inside.shelves.items c.new-shelf.result c.args.definition.now (c.new-shelf.ensures.definition ∙ c.in_ok-definition.ensures ∙ c.in_ok-duplicate-2.ensures) c.new-shelf.ensures.rows)
 
 pub returns-clause-keys : goal.returns-clause-keys
 returns-clause-keys c =

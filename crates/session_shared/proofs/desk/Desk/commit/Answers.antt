@@ -1,4 +1,4 @@
-use Rattle.std.proofs.Common.{rules, ◌≡◌, ℕ, ◌+◌, length, subst}
+use Rattle.std.proofs.Common.{rules, ◌≡◌, ℕ, ◌+◌, ◌<◌, ◌^◌, length, subst, arith}
 use Rattle.session_model.specs.log_entries.declared.entries.Entry.TheVariants.{Transaction}
 use Rattle.binlog_items.specs.Logged.{Encodes, in_log}
 use Rattle.session_shared.proofs.Bases.{committed_now}
@@ -17,3 +17,10 @@ pub returns-clause-log : goal.returns-clause-log
 returns-clause-log c =
     one_entry (Transaction c.args.stamp c.args.server_id c.args.items.now) c.args.self.now.log c.append.new.self c.in_ok-bytes.bytes c.args.self.now.committed c.in_ok-append.ensures.ok
     (subst (λ (k : ℕ). Encodes (Transaction c.args.stamp c.args.server_id c.args.items.now) c.args.self.now.committed k c.in_ok-bytes.bytes) c.len.ensures c.in_ok-bytes.ensures)
+
+-- the count behind it has 64 bits
+pub encode-requires-clause-few : goal.encode-requires-clause-few
+encode-requires-clause-few c =
+    let next : c.in-Some.committed ≡ c.args.self.now.committed + 1 = search rules in
+    let low : c.in-Some.committed < 2 ^ 64 = search rules in
+    omega (arith, next, low)

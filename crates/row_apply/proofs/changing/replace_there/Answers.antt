@@ -1,0 +1,27 @@
+use Rattle.std.proofs.Common.{◌≡◌, List, true, false, ap, ◌∙◌, rules}
+use Rattle.table_rules.specs.Tables.{Table}
+use Rattle.table_rules.specs.Stored.{row_at, table_named}
+use Rattle.row_apply.specs.Changes.{is_row}
+use Rattle.row_apply.specs.Ends.{progress_in}
+use Rattle.row_apply.proofs.Making.{update_absent_stops}
+use Rattle.row_apply.proofs.Refusing.{found_some, row_found}
+use Rattle.row_apply.proofs.changing.replace_there.Goals as goal
+
+pub returns-then-not-is_there-clause-ends : goal.returns-then-not-is_there-clause-ends
+returns-then-not-is_there-clause-ends c = λ m takes.
+    let absent : is_row (row_at c.args.table c.args.key c.args.work.now.tables) c.args.before.now ≡ false = search rules in
+    rw c.differs.ensures
+    (update_absent_stops c.args.pos m c.args.table c.args.before.now c.args.after c.args.key (progress_in c.args.work.now) c.together.ensures.kept takes c.requires absent)
+
+pub replace-requires-clause-there : goal.replace-requires-clause-there
+replace-requires-clause-there c =
+    let there : is_row (row_at c.args.table c.args.key c.args.work.now.tables) c.args.before.now ≡ true = search rules in
+    found_some (row_at c.args.table c.args.key c.args.work.now.tables) c.args.before.now there
+
+pub replace-requires-clause-put : goal.replace-requires-clause-put
+replace-requires-clause-put c = λ t is. c.in_ok-put.ensures t (ap (λ (ts : List Table). table_named c.args.table ts) c.tables-2.ensures ∙ is)
+
+pub returns-clause-ends : goal.returns-clause-ends
+returns-clause-ends c = λ m takes.
+    let there : is_row (row_at c.args.table c.args.key c.args.work.now.tables) c.args.before.now ≡ true = search rules in
+    c.replace.ensures.ends m c.args.before.now takes (row_found (row_at c.args.table c.args.key c.args.work.now.tables) c.args.before.now there)

@@ -1,0 +1,12 @@
+use Rattle.std.proofs.Common.{◌≤◌, length, ◌∙◌, arith}
+use Rattle.row_store.proofs.Shelved.{got_row, none_past}
+use Rattle.row_store.proofs.tables.Tables.held_at.Goals as goal
+
+pub returns-then-at-len : goal.returns-then-at-len
+returns-then-at-len c =
+    let past : length c.self.inside.shelves.items ≤ c.args.at = omega arith in
+    rw (← c.self.view_is) (λ name e. absurd (none_past name c.self.inside.shelves.items c.args.at past e))
+
+pub returns : goal.returns
+returns c =
+    rw (← c.self.view_is) (λ name e. c.holder.ensures ∙ got_row name c.args.key.now c.self.inside.shelves.items c.args.at c.index.result.now c.index.ensures e)
