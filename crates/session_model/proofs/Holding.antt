@@ -433,7 +433,7 @@ none_there zero n = refl
 none_there (suc count) zero = refl
 none_there (suc count) (suc n) = none_there count n
 
-none_owned : (shared : Shared) → shared.changes ≡ [] → (n : ℕ) → SessionOwns n shared (slice_index_or {A = Option (Session Whole)} (replicate session_slots None) n None)
+pub none_owned : (shared : Shared) → shared.changes ≡ [] → (n : ℕ) → SessionOwns n shared (slice_index_or {A = Option (Session Whole)} (replicate session_slots None) n None)
 none_owned shared e n = subst (λ (s : Option (Session Whole)). SessionOwns n shared s) (sym (none_there session_slots n)) (closed_owns n shared first_format e)
 
 pub runs_begin : RunsBegin

@@ -3,6 +3,7 @@ pub mod Holding
 mod Leaving
 mod Logging
 pub mod Natural
+pub mod Opening
 pub mod Owning
 mod Saving
 mod Staying

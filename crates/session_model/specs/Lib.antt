@@ -7,6 +7,7 @@ pub mod Commands
 pub mod Calling
 pub mod Machine
 pub mod Holding
+pub mod Openings
 pub mod Worked
 -- the crates below that this one speaks of, passed on
 pub use Rattle.session_ctx.specs.catalog_rules as catalog_rules

@@ -1,6 +1,7 @@
 //! What holds of the machine of sessions.
 ghost use Rattle.session_model.specs.Holding.{CallsKeepSteps, DefinitionsLeaveAll, ErrorsLeaveAll, FormatsDecide, ReadersSeeCommitted, RunsBegin, RunsGoOn, RunsOpen, StepsLeaveAll};
 ghost use Rattle.session_model.specs.Machine.{StepsAreKept};
+ghost use Rattle.session_model.specs.Openings.{OpeningsHold, OpensWithNothing, RestartsHold};
 
 use session_ctx::sql_meaning::statements_end_well;
 
@@ -20,6 +21,14 @@ pub fn runs_hold()
 {
     statements_end_well();
 }
+
+/// A law: what holds of every run holds of a source that opens on whatever its store has, and behind a RESTART; opening on nothing is
+/// the opening of a source without a store.
+pub fn openings_hold()
+    ensures nothing { OpensWithNothing }
+    ensures openings { OpeningsHold }
+    ensures restarts { RestartsHold }
+{}
 
 /// A law: the transactions that a step puts out are logged in the format that its session had before it.
 pub fn formats_decide()

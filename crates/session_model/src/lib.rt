@@ -6,7 +6,8 @@
 //!
 //! The definitions stand in specs/: `Formats` (how statements are logged), `Sessions` (what is kept), `Answers`, `Running` (the writer's lock, transactions and one
 //! statement's run), `Counting` (ROW_COUNT), `Commands` (one definition a command), `Calling` (CALL: what a procedure asks, as steps of its
-//! session), `Machine` (a step, and the whole run), `Holding` (what holds of every run).
+//! session), `Machine` (a step, and the whole run), `Holding` (what holds of every run), `Openings` (a source that opens on what its store
+//! has, and RESTART).
 //!
 //! - `format`: how statements are logged
 //! - `laws`: what follows from the definitions
@@ -19,7 +20,8 @@
 //!   has an item; a savepoint stands at the changes of its items, so that ROLLBACK TO cuts rows and items at one place; an item
 //!   changed something and has the definitions of the tables that it changed, and no transaction has more bytes than one may
 //!   have ([`runs_hold`]).
-//! - This holds behind a CALL, too, whatever its procedure does and wherever an error ends it: each change, SELECT, DO and evaluation of a
+//! - This holds of a source that opens on what its store has, and behind a RESTART ([`openings_hold`]).
+//! - It holds behind a CALL, too, whatever its procedure does and wherever an error ends it: each change, SELECT, DO and evaluation of a
 //!   procedure is one statement of its session, which the catalog's checks and the lock let through or refuse, and is logged by
 //!   itself, with its locals closed in; outside a transaction it is committed by itself, and stays where the CALL ends with an error
 //!   ([`runs_hold`], [`calls_committed`]).
@@ -42,7 +44,8 @@ mod worked;
 pub use binlog_sizes::log_entries;
 pub use format::Format;
 pub use laws::{
-    errors_leave_all, formats_decide, readers_see_committed, runs_hold, steps_are_kept,
+    errors_leave_all, formats_decide, openings_hold, readers_see_committed, runs_hold,
+    steps_are_kept,
 };
 pub use session_ctx;
 pub use text_answers;

@@ -143,7 +143,7 @@ runs_stay_well from m holds d h = catalogs_stay_well m.history from.base m.state
 
 -- ---- entries that a command puts out
 
-well_behind : (front back : List (Entry Whole)) → AreWellDefined front → AreWellDefined back → AreWellDefined (front ++ back)
+pub well_behind : (front back : List (Entry Whole)) → AreWellDefined front → AreWellDefined back → AreWellDefined (front ++ back)
 well_behind [] back f b = b
 well_behind (e ∷ es) back f b = (f.0, well_behind es back f.1 b)
 

@@ -1,5 +1,5 @@
 -- Each step keeps that committed statements give the changes of the entries, and that their texts say them.
-use Rattle.std.proofs.Common.{◌≡◌, ◌≢◌, ◌<◌, ℕ, ◌⊎◌, inl, inr, Bool, true, false, ◌==◌, List, [], length, Option, Some, None, refl, sym, subst}
+use Rattle.std.proofs.Common.{◌≡◌, ◌≢◌, ◌<◌, ℕ, ◌⊎◌, inl, inr, Bool, true, false, ◌==◌, List, [], ◌∷◌, length, Option, Some, None, refl, sym, subst, if◌then◌else◌}
 use Rattle.std.proofs.lemmas.List.{get_or-set_same, get_or-set_other}
 use Rattle.std.proofs.lemmas.Bool.{eqb-true, eqb-false}
 use Rattle.std.specs.Prelude.{slice_index_or, slice_set, replicate}
@@ -11,15 +11,20 @@ use Rattle.name_const_laws.specs.Laws.{ClosedDoesTheSame}
 use Rattle.session_model.specs.Sessions.{Open, Session, Shared}
 use Rattle.session_model.specs.Running.{Call, Turn, is_other, items_of}
 use Rattle.session_model.specs.declared.format.Format.{Format}
-use Rattle.session_model.specs.Machine.{Whole, whole, text_turn, at_work, with_count, session_slots, step}
+use Rattle.name_const_laws.specs.log_entries.declared.entries.Entry.{Entry}
+use Rattle.name_const_laws.specs.log_entries.declared.entries.Entry.TheVariants.{LogStart}
+use Rattle.session_model.specs.Machine.{Whole, whole, Machine, text_turn, at_work, with_count, session_slots, step}
 use Rattle.session_model.specs.Holding.{Owns, format_of, transaction_of, RunsBegin, RunsOpen, RunsGoOn}
+use Rattle.session_model.specs.Openings.{opened_from, committed_in, OpeningsHold, RestartsHold}
 use Rattle.session_model.proofs.Holding.{none_there, work_owns, work_same}
 use Rattle.session_model.proofs.Owning.{not_both}
 use Rattle.session_replays.specs.Again.{AllGive}
-use Rattle.session_replays.specs.Replaying.{ReplaysBegin, ReplaysOpen, ReplaysGoOn}
-use Rattle.session_replays.specs.Texts.{AllSay}
+use Rattle.session_replays.specs.Bodies.{AreWellDefined}
+use Rattle.session_replays.specs.Replaying.{ReplaysBegin, ReplaysOpen, ReplaysGoOn, OpeningsReplay, RestartsReplay}
+use Rattle.session_replays.specs.Again.{EntriesGive}
+use Rattle.session_replays.specs.Texts.{AllSay, EntriesSay}
 use Rattle.session_replays.proofs.Closing.{ClosingLaws}
-use Rattle.session_replays.proofs.Defining.{catalogs_stay_well, histories_stay_well}
+use Rattle.session_replays.proofs.Defining.{catalogs_stay_well, histories_stay_well, well_behind}
 use Rattle.session_replays.proofs.Giving.{none_give, entries_behind}
 use Rattle.session_replays.proofs.Saying.{Leaves, say_behind, TextLaws}
 use Rattle.session_replays.proofs.SayingTurns.{command_leaves}
@@ -116,3 +121,44 @@ replays_open opens identity draw = record {
   says = tt;
   open_say = none_say;
 }
+
+-- ---- a source that opens
+
+-- of the head of a log nothing is asked
+record OpeningSays (base : Base) (es : List (Entry Whole)) : Type 0 where
+  gives : EntriesGive base es
+  well : AreWellDefined es
+  says : EntriesSay es
+
+head_says : (stamp server : ℕ) (base : Base) (first : Bool) → OpeningSays base (if first then LogStart stamp server ∷ [] else [])
+head_says stamp server base true = record { gives = (tt, λ next made. tt); well = (tt, tt); says = tt }
+head_says stamp server base false = record { gives = tt; well = tt; says = tt }
+
+pub openings_replay : OpeningsHold → OpeningsReplay
+openings_replay opens identity draw from sizes bodies =
+    let head = head_says draw.now identity.server_id from.base (from.place.log == 0) in
+    record {
+      holds = opens identity draw from;
+      sizes = sizes;
+      bodies = bodies;
+      history = head.gives;
+      open_ones = none_open from.base;
+      well = head.well;
+      says = head.says;
+      open_say = none_say;
+    }
+
+pub restarts_replay : RestartsHold → RestartsReplay
+restarts_replay restarts identity draw from m r =
+    let again : Machine = opened_from identity draw (committed_in m) in
+    let head = head_says draw.now identity.server_id m.state.shared.base (m.state.shared.place.log == 0) in
+    record {
+      holds = restarts identity draw from m r.holds;
+      sizes = r.sizes;
+      bodies = r.bodies;
+      history = entries_behind m.history again.history from.base m.state.shared.base r.history r.holds.entries head.gives;
+      open_ones = none_open m.state.shared.base;
+      well = well_behind m.history again.history r.well head.well;
+      says = say_behind m.history again.history r.says head.says;
+      open_say = none_say;
+    }

@@ -8,6 +8,7 @@ use Rattle.port_traits.specs.declared.identity.Draw.{Draw}
 use Rattle.session_model.specs.Running.{items_of}
 use Rattle.session_model.specs.Machine.{whole, Machine, machine_after, first_state, opened, step}
 use Rattle.session_model.specs.Holding.{Beginning, with_nothing, Holds, transaction_of}
+use Rattle.session_model.specs.Openings.{opened_from, restarted}
 use Rattle.session_replays.specs.Again.{AllGive, EntriesGive}
 use Rattle.session_replays.specs.Bodies.{BodiesAreWell, AreWellDefined}
 use Rattle.session_replays.specs.Sizes.{ProceduresHaveSizes}
@@ -40,3 +41,13 @@ abbrev pub ReplaysGoOn : Type 0
 ReplaysGoOn =
     (from : Beginning) (m : Machine) (identity : Identity) (n : ℕ) (text : List ℕ) (draw : Draw) → Replays from m → n < length m.state.sessions
     → length text ≤ 2 ^ 20 → IsBytes text → Replays from (machine_after m (step whole identity m.state n text draw))
+
+-- a source that opens on what its store has
+abbrev pub OpeningsReplay : Type 0
+OpeningsReplay =
+    (identity : Identity) (draw : Draw) (from : Beginning) → ProceduresHaveSizes from.base.catalog → BodiesAreWell from.base.catalog
+    → Replays from (opened_from identity draw from)
+
+-- and behind a RESTART
+abbrev pub RestartsReplay : Type 0
+RestartsReplay = (identity : Identity) (draw : Draw) (from : Beginning) (m : Machine) → Replays from m → Replays from (restarted identity draw m)

@@ -2,7 +2,7 @@
 ghost use Rattle.session_replays.specs.Again.{SetsRunAsDos};
 ghost use Rattle.session_replays.specs.Bodies.{CatalogsStayWell, HistoriesStayWell, RunsStayWell, StepsDefineWell};
 ghost use Rattle.session_replays.specs.Followed.{MixedIsUnwarned, RowsAreUnwarned, UnwarnedFollow};
-ghost use Rattle.session_replays.specs.Replaying.{ReplaysBegin, ReplaysGoOn, ReplaysOpen};
+ghost use Rattle.session_replays.specs.Replaying.{OpeningsReplay, ReplaysBegin, ReplaysGoOn, ReplaysOpen, RestartsReplay};
 ghost use Rattle.session_replays.specs.Rerun.{RunsAgain};
 
 use independence_laws::statements_are_followed;
@@ -11,8 +11,8 @@ use name_const_laws::sql_text::prints_are_read;
 use name_const_laws::{
     closed_does_the_same, closed_is_allowed, closed_is_read, fitted_values_are_short,
 };
-use session_model::runs_hold;
 use session_model::text_answers::{answers_are_well, texts_are_answered};
+use session_model::{openings_hold, runs_hold};
 
 /// A law: the DO over some expressions, as which a SET is logged, ends as their evaluation does, on the same scene.
 pub fn sets_run_as_dos()
@@ -39,6 +39,14 @@ pub fn transactions_replay()
     prints_are_read();
     texts_are_answered();
     runs_hold();
+}
+
+/// A law: so it is where a source opens on what its store has, and behind a RESTART.
+pub fn openings_replay()
+    ensures openings { OpeningsReplay }
+    ensures restarts { RestartsReplay }
+{
+    openings_hold();
 }
 
 /// A law: what the committed statements of a run make of the base that it began with, each run with what it began

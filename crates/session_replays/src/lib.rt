@@ -21,6 +21,7 @@
 //!   statement, a change, a SELECT or a DO that no check of the catalog refuses; so are those of a CALL with their locals closed in. A
 //!   run may begin with any base in which the types of procedures have sizes that there are, as those that CREATE PROCEDURE made have,
 //!   and in which bodies are such as the parser can give. The texts of its commands are of bytes.
+//! - All this holds of a source that opens on what its store has, and behind a RESTART ([`openings_replay`]).
 //! - Statements of procedures are among them, with their locals closed in: a condition, a DEFAULT or a SET that changed rows is the DO over
 //!   its expressions.
 //! - So what the statements of a run make of the base that it began with is the committed base ([`statements_make_the_base`]).
@@ -41,8 +42,8 @@ mod worked;
 // What is its own, and the crates below that it speaks of, passed on: who stands above names them through it.
 pub use independence_laws;
 pub use laws::{
-    bodies_stay_well, sets_run_as_dos, statements_make_the_base, transactions_replay,
-    unwarned_items_follow,
+    bodies_stay_well, openings_replay, sets_run_as_dos, statements_make_the_base,
+    transactions_replay, unwarned_items_follow,
 };
 pub use session_model;
 pub use worked::{call_run_again, script_run_again};
