@@ -5,17 +5,9 @@ ghost use Rattle.session_model.specs.text_answers.Answers.{a_statement, text_ans
 ghost use Rattle.answer_making.specs.ReadTexts.{IsRefusedText};
 
 use session_model::text_answers::texts_are_answered;
-use sql_parse::{ParseRefusal, parse};
+use sql_parse::{ParseRefusal, parse_boxed};
 use sql_tree::Stmt;
 use std::alloc::Global;
-use val_types::NoMemory;
-
-/// A value on the heap. Where there is no memory, it is dropped.
-fn boxed<T: Drop>(alloc: Global, value: T) -> Result<Box<T>, NoMemory>
-    ensures { IfOk result (λ b. b.value ≡ value) }
-{
-    Ok(Box::new(alloc, value)?)
-}
 
 /// The statement that a text is, or why it is none.
 pub fn statement_of(alloc: Global, text: &[u8]) -> Result<Box<Stmt>, ParseRefusal>
@@ -24,5 +16,5 @@ pub fn statement_of(alloc: Global, text: &[u8]) -> Result<Box<Stmt>, ParseRefusa
     ensures refused { IfErr result (IsRefusedText (text_answer text.now)) }
 {
     texts_are_answered();
-    Ok(boxed(alloc, parse(alloc, text)?)?)
+    parse_boxed(alloc, text)
 }

@@ -1,5 +1,6 @@
 -- What reading a text answers.
 use Rattle.std.specs.Prelude.{◌≡◌, ◌<◌, ◌≤◌, ℕ, ◌-◌, ◌⊎◌, List, [], ◌∷◌, length, drop, Option, Some, None, Result, Ok, Err}
+use Rattle.std.specs.Global.{Box}
 use Rattle.sql_tree.specs.Depth.{depth_of}
 use Rattle.sql_tree.specs.Statement.{Statement}
 use Rattle.sql_tree.specs.StatementView.{view}
@@ -70,3 +71,8 @@ IsSunk (Ok t) = ⊥
 IsSunk (Err (Syntax at)) = ⊥
 IsSunk (Err Deep) = Unit {0}
 IsSunk (Err NoMemory) = Unit {0}
+
+-- the answer with its statement taken out of the box
+abbrev pub opened : Result (Box Stmt) ParseRefusal → Result Stmt ParseRefusal
+opened (Ok s) = Ok s.value
+opened (Err e) = Err e

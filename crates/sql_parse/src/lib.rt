@@ -1,10 +1,11 @@
 //! Statements of SQL, read from the bytes of a text, or the place where a text is no statement.
 //!
-//! [`parse`](parsing) is the one public call of the parser; its parts are the crates below. What a
-//! text is, where it is refused and what is too deep say the rules of `sql_syntax`; a tree is that
-//! of `sql_tree`. Tokens are made once, by `sql_lex`, and each function reads from a rest of them
-//! exactly what its rule reads. A part of a tree is held with its number of levels, and not at all
-//! where it has more than a statement may have, so that no tree is ever deeper than that.
+//! [`parse`](parsing) is the one public call of the parser, [`parse_boxed`] the same with the statement
+//! on the heap; its parts are the crates below. What a text is, where it is refused and what is too
+//! deep say the rules of `sql_syntax`; a tree is that of `sql_tree`. Tokens are made once, by
+//! `sql_lex`, and each function reads from a rest of them exactly what its rule reads. A part of a
+//! tree is held with its number of levels, and not at all where it has more than a statement may
+//! have, so that no tree is ever deeper than that.
 //!
 //! - `sql_parse_tokens`: tokens, names, literals; `sql_parse_nodes`: parts of trees
 //! - `sql_parse_expressions`: expressions and SELECTs
@@ -13,7 +14,7 @@
 //! - `statements`, `parsing`: a statement, and the statement that a text is
 //!
 //! # Proved
-//! `parse`, over every text of at most 4294967295 bytes:
+//! `parse` and `parse_boxed`, over every text of at most 4294967295 bytes:
 //! - Ok is a statement that the text is, within 400 open constructs and 200 levels (`statement`).
 //! - A syntax error's place is one at which the grammar refuses the text; Deep comes only where the
 //!   text opens the 401st construct or the whole statement has more levels (`cause`).
@@ -28,4 +29,4 @@
 mod parsing;
 mod statements;
 
-pub use parsing::{ParseRefusal, parse};
+pub use parsing::{ParseRefusal, parse, parse_boxed};

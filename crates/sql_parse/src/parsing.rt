@@ -2,7 +2,7 @@
 ghost use Rattle.std.specs.Prelude.{◌≡◌, ◌≤◌, ℕ, IfErr, IfOk, List as Items, Ok, length};
 ghost use Rattle.sql_tree.specs.Statement.{Statement};
 ghost use Rattle.sql_tree.specs.StatementView.{view};
-ghost use Rattle.sql_parse.specs.Answers.{Answers, IsCause, IsRead, IsRefused, IsSunk, IsWhole, place_left, reading};
+ghost use Rattle.sql_parse.specs.Answers.{Answers, IsCause, IsRead, IsRefused, IsSunk, IsWhole, opened, place_left, reading};
 ghost use Rattle.sql_parse_nodes.specs.Kept.{IsKept};
 ghost use Rattle.sql_syntax.specs.Tokens.{Tok};
 ghost use Rattle.sql_tree.specs.Depth.{depth_of};
@@ -120,4 +120,26 @@ pub fn parse(alloc: Global, text: &[u8]) -> Result<Stmt, ParseRefusal>
     let (tokens, stop) = lex_front(alloc, text)?;
     let lexemes = lexemes(alloc, text, tokens.as_slice())?;
     answer(alloc, text, lexemes.as_slice(), stop as u32)
+}
+
+/// A value on the heap. Where there is no memory, it is dropped.
+fn boxed<T: Drop>(alloc: Global, value: T) -> Result<Box<T>, AllocError>
+    ensures { IfOk result (λ b. b.value ≡ value) }
+{
+    Ok(Box::new(alloc, value)?)
+}
+
+/// The statement that a text of at most 4294967295 bytes is, on the heap. Who reads a text so never holds a statement by
+/// value, which each of its functions would have to drop part by part.
+pub fn parse_boxed(alloc: Global, text: &[u8]) -> Result<Box<Stmt>, ParseRefusal>
+    requires { length text.now ≤ 4294967295 }
+    ensures statement { IfOk result (λ s. reads text.now (view s.value)) }
+    ensures cause { IfErr result (IsCause text.now) }
+
+    // Each text gives its one answer, unless memory runs out.
+    ensures read { (s : Statement) → reads text.now s → IsRead s (opened result) }
+    ensures refused { (at : ℕ) → IsRefusedAt text.now at → IsRefused at (opened result) }
+    ensures deep { IsTooDeep text.now → IsSunk (opened result) }
+{
+    Ok(boxed(alloc, parse(alloc, text)?)?)
 }
