@@ -177,31 +177,31 @@ updates_other : (a : Around) (d : TableDef) (sets : List (List ℕ × Tree)) (co
     ≡ then_do (update_row (world_of a) (frame_behind a (seen_as d counted.row) []) d sets other scene) (λ count. pure (record { sequence = counted.sequence; affected = affected + 2 * count; last_id = last_id }))
 updates_other a d sets counted affected last_id other scene h = place_by a d (updating sets) counted affected last_id (Some other) scene h
 
-updates_seen : (a : Around) (d : TableDef) (sets : List (List ℕ × Tree)) (counted : Counted) (affected : ℕ) (last_id : Option ℤ) (o : Option (List Value)) (other : List Value) (v : Shown) (scene : Scene)
-    → o ≡ Some other → way_of d counted.row scene ≡ done o scene → v ≡ seen_as d counted.row
+updates_seen : (a : Around) (d : TableDef) (sets : List (List ℕ × Tree)) (counted : Counted) (affected : ℕ) (last_id : Option ℤ) (other : List Value) (v : Shown) (scene : Scene)
+    → way_of d counted.row scene ≡ done (Some other) scene → v ≡ seen_as d counted.row
     → placed_in a d (updating sets) counted affected last_id scene
     ≡ then_do (update_row (world_of a) (frame_behind a v []) d sets other scene) (λ count. pure (record { sequence = counted.sequence; affected = affected + 2 * count; last_id = last_id }))
-updates_seen a d sets counted affected last_id o other v scene some h is =
-    updates_other a d sets counted affected last_id other scene (h ∙ ap (λ (x : Option (List Value)). done x scene) some)
+updates_seen a d sets counted affected last_id other v scene h is =
+    updates_other a d sets counted affected last_id other scene h
     ∙ ap (λ (w : Shown). then_do (update_row (world_of a) (frame_behind a w []) d sets other scene) (λ count. pure (record { sequence = counted.sequence; affected = affected + 2 * count; last_id = last_id }))) (sym is)
 
-pub placed_updating : (a : Around) (d : TableDef) (sets : List (List ℕ × Tree)) (counted : Counted) (affected count sum : ℕ) (last_id : Option ℤ) (o : Option (List Value)) (other : List Value) (v : Shown) (scene next : Scene)
-    → o ≡ Some other → way_of d counted.row scene ≡ done o scene → v ≡ seen_as d counted.row
+pub placed_updating : (a : Around) (d : TableDef) (sets : List (List ℕ × Tree)) (counted : Counted) (affected count sum : ℕ) (last_id : Option ℤ) (other : List Value) (v : Shown) (scene next : Scene)
+    → way_of d counted.row scene ≡ done (Some other) scene → v ≡ seen_as d counted.row
     → update_row (world_of a) (frame_behind a v []) d sets other scene ≡ done count next → sum ≡ affected + 2 * count
     → placed_in a d (updating sets) counted affected last_id scene ≡ done (record { sequence = counted.sequence; affected = sum; last_id = last_id }) next
-placed_updating a d sets counted affected count sum last_id o other v scene next some h is e all =
-    updates_seen a d sets counted affected last_id o other v scene some h is
+placed_updating a d sets counted affected count sum last_id other v scene next h is e all =
+    updates_seen a d sets counted affected last_id other v scene h is
     ∙ ap (λ (x : Ending ℕ). then_do x (λ count. pure (record { sequence = counted.sequence; affected = affected + 2 * count; last_id = last_id }))) e
     ∙ ap (λ (n : ℕ). done (record { sequence = counted.sequence; affected = n; last_id = last_id }) next) (sym all)
 
-pub placed_not_updated : (a : Around) (d : TableDef) (sets : List (List ℕ × Tree)) (counted : Counted) (affected : ℕ) (e : SqlRefusal) (last_id : Option ℤ) (o : Option (List Value)) (other : List Value) (v : Shown) (scene next : Scene)
-    → o ≡ Some other → way_of d counted.row scene ≡ done o scene → v ≡ seen_as d counted.row
+pub placed_not_updated : (a : Around) (d : TableDef) (sets : List (List ℕ × Tree)) (counted : Counted) (affected : ℕ) (e : SqlRefusal) (last_id : Option ℤ) (other : List Value) (v : Shown) (scene next : Scene)
+    → way_of d counted.row scene ≡ done (Some other) scene → v ≡ seen_as d counted.row
     → EndsAs {A = ℕ} (Err e) next (update_row (world_of a) (frame_behind a v []) d sets other scene)
     → EndsAsBy inserting_of (Err e) next (placed_in a d (updating sets) counted affected last_id scene)
-placed_not_updated a d sets counted affected (Sql code) last_id o other v scene next some h is e =
-    updates_seen a d sets counted affected last_id o other v scene some h is
+placed_not_updated a d sets counted affected (Sql code) last_id other v scene next h is e =
+    updates_seen a d sets counted affected last_id other v scene h is
     ∙ ap (λ (x : Ending ℕ). then_do x (λ count. pure (record { sequence = counted.sequence; affected = affected + 2 * count; last_id = last_id }))) e
-placed_not_updated a d sets counted affected NoMemory last_id o other v scene next some h is e = tt
+placed_not_updated a d sets counted affected NoMemory last_id other v scene next h is e = tt
 
 pub ruleset placing = (placed_clear, placed_refusing, placed_ignoring, placed_replacing, placed_not_cleared)
 

@@ -8,7 +8,7 @@ use Rattle.val_types.specs.declared.definitions.TableDef.{TableDef}
 use Rattle.table_rules.specs.Tables.{Table}
 use Rattle.table_rules.specs.Stored.{table_named, has_key_in_way, row_in_way}
 use Rattle.table_rules.specs.Stores.{place_of}
-use Rattle.sql_evaluation.specs.sql_meaning.Scenes.{done, needed, then_do, pure}
+use Rattle.sql_evaluation.specs.sql_meaning.Scenes.{Scene, done, needed, then_do, pure}
 use Rattle.exec_state.specs.declared.stage.Stage.{Stage}
 use Rattle.exec_state.specs.Stage.{scene_of}
 use Rattle.exec_state.proofs.Snapshots.{definition_there}
@@ -76,3 +76,9 @@ pub key_copied : {E : Type 0} (at : ℕ) (d : TableDef) (s : Stage) (row : List 
     → IfOk r (λ copy. copy ≡ option_copied o) → IfOk r (λ found. found_by d (has_key_in_way d row which) (scene_of s) ≡ done found (scene_of s))
 key_copied at d s row which o (Ok r) h looked is = key_found at d s row which o r h looked is
 key_copied at d s row which o (Err e) h looked is = tt
+
+-- one that is in the way is met
+pub way_met : (d : TableDef) (row : List Value) (scene : Scene) → InWay d row scene → way_of d row scene ≡ done None scene → ⊥
+way_met d row scene h none =
+    let same : done None scene ≡ done (Some h.other) scene = sym none ∙ h.there in
+    cc

@@ -1,7 +1,7 @@
 //! Rows that have a key of another one.
 #![tactic(auto)]
 
-ghost use Rattle.std.specs.Prelude.{◌≡◌, false, true, None, IfOk};
+ghost use Rattle.std.specs.Prelude.{◌≡◌, false, true, None, Some, IfOk};
 ghost use Rattle.std.specs.Option.{option_copied};
 ghost use Rattle.table_rules.specs.Stored.{has_key_in_way};
 ghost use Rattle.sql_evaluation.specs.sql_meaning.Scenes.{done};
@@ -53,6 +53,24 @@ pub(crate) fn row_in_way(
 {
     let _ = definition;
     copied(alloc, stage.tables.row_in_way(at, row))
+}
+
+/// The same where there is one.
+pub(crate) fn row_met(
+    alloc: Global,
+    stage: &Stage,
+    at: usize,
+    definition: &Shared<TableDef>,
+    row: &Row,
+) -> Result<Shared<Row>, NoMemory>
+    requires stands { StandsAt at definition.now stage.now }
+    requires in_way { InWay definition.now row.now (scene_of stage.now) }
+    ensures { IfOk result (λ other. way_of definition.now row.now (scene_of stage.now) ≡ done (Some other) (scene_of stage.now)) }
+{
+    match row_in_way(alloc, stage, at, definition, row)? {
+        Some(other) => Ok(other),
+        None => unreachable!(),
+    }
 }
 
 /// Whether a row has a key in the way of a row.

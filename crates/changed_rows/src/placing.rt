@@ -15,7 +15,7 @@ use crate::deleting::delete_row;
 use crate::executor::Executor;
 use crate::firing::after;
 use crate::inserting::{Inserting, Manner};
-use crate::looking::{is_in_way, row_in_way, row_on_key};
+use crate::looking::{is_in_way, row_met, row_on_key};
 use crate::standing::put_in;
 use crate::table::ChangedTable;
 use crate::updating::update_row;
@@ -205,13 +205,11 @@ fn update_other<E: Executor>(
 ) -> Result<Inserting, SqlRefusal>
     requires serves { E.serves table.now.executor.now (world_of table.now.around.now).below }
     requires stands { StandsAt table.now.at table.now.definition.now stage.old }
+    requires in_way { InWay table.now.definition.now counted.row (scene_of stage.old) }
     ensures gives { EndsAsBy inserting_of result (scene_of stage.new) (placed_in table.now.around.now table.now.definition.now (updating (view_sets sets.now)) (counted_of counted) affected last_id (scene_of stage.old)) }
     ensures leads { LeadsOn stage.old stage.new }
 {
-    let Some(other) = row_in_way(table.alloc, stage, table.at, table.definition, &counted.row)?
-    else {
-        return Err(SqlRefusal::NoMemory);
-    };
+    let other = row_met(table.alloc, stage, table.at, table.definition, &counted.row)?;
     let Counted {
         row,
         sequence,
