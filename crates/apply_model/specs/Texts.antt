@@ -1,5 +1,5 @@
 -- A statement of a log, run with what its item carries and nothing else.
-use Rattle.std.specs.Prelude.{ℕ, ◌^◌, nat_lt, Bool, true, false, if◌then◌else◌, List, [], length, Option, Some, None, Result, Ok, Err, ℤ}
+use Rattle.std.specs.Prelude.{ℕ, nat_lt, Bool, true, false, if◌then◌else◌, List, [], length, Option, Some, None, Result, Ok, Err, ℤ}
 use Rattle.val_types.specs.declared.change.Change.{Change}
 use Rattle.val_types.specs.declared.value.Value.{Value}
 use Rattle.port_traits.specs.declared.identity.Identity.{Identity}
@@ -10,6 +10,7 @@ use Rattle.sql_tree.specs.Statement.{Statement, insert_into, replace_into, updat
 use Rattle.session_ctx.specs.catalog_rules.Objects.{Object}
 use Rattle.session_ctx.specs.catalog_rules.Checks.{session_scope, statement_refusal}
 use Rattle.binlog_sizes.specs.log_entries.declared.carried.Carried.{Carried}
+use Rattle.binlog_sizes.specs.Sizes.{most_text}
 use Rattle.session_ctx.specs.Carrying.{context_carried}
 use Rattle.session_ctx.specs.sql_meaning.Changing.{Did}
 use Rattle.session_ctx.specs.sql_meaning.Frames.{Context}
@@ -62,10 +63,6 @@ pub record Applier : Type 0 where
   pub catalog : List Object
 
 -- ---- which texts are run
-
--- texts of more bytes than a command may have
-abbrev pub most_text : ℕ
-most_text = 2 ^ 20
 
 -- what may stand in a transaction; all else is 30005
 abbrev pub may_stand : Statement → Bool

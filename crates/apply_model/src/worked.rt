@@ -8,7 +8,7 @@ ghost use Rattle.val_types.specs.declared.value.Value.{Value};
 ghost use Rattle.event_codec.specs.Event.{int_var, table_map, user_var};
 ghost use Rattle.event_codec.specs.declared.event.IntVarKind.TheVariants.{InsertId};
 ghost use Rattle.event_codec.specs.declared.event.RowsKind.TheVariants.{Write, Update, Delete};
-ghost use Rattle.apply_model.specs.Texts.{most_text};
+ghost use Rattle.binlog_sizes.specs.Sizes.{most_text};
 ghost use Rattle.apply_model.specs.Worked.{carried_on, counted_on, counts, leaves, pair, pair_bytes, rows_of, stops, t_map, text_of, wide_map};
 
 /// Rows of one item: two are put, one is changed, one is taken out.

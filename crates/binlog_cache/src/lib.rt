@@ -24,4 +24,6 @@ mod cache;
 mod encoding;
 mod kept;
 
+// What is its own, and the crate below that it speaks of, passed on: who stands above names it through it.
+pub use binlog_sizes;
 pub use cache::Cache;

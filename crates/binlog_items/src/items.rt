@@ -7,14 +7,12 @@ ghost use Rattle.binlog_cache.specs.binlog_sizes.Sizes.{are_too_large, most_byte
 
 use crate::carrying::{have_words, is_logged};
 use binlog_cache::Cache;
+use binlog_cache::binlog_sizes::MOST_BYTES;
 use event_codec::Header;
 use log_entry_laws::log_entries::Item;
 use std::alloc::{AllocError, Global};
 use std::marker::Model;
 use val_types::{Bytes, NoMemory};
-
-/// The most bytes that the items of a transaction may have, and that their changes may have.
-const MOST_BYTES: u64 = 67_108_864;
 
 /// How many bytes BEGIN and XID have beside the items.
 const ENDS: u64 = 67;

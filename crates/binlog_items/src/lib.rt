@@ -38,6 +38,7 @@ mod texts;
 
 // What is its own, and the crates below that it speaks of, passed on: who stands above names them through it.
 pub use before::Before;
+pub use binlog_cache::binlog_sizes;
 pub use definition::encode_definition;
 pub use items::Items;
 pub use making::item_of;

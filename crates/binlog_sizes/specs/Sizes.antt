@@ -2,7 +2,7 @@
 --
 -- A change is kept as its kind 1, the length of its table's name 1, the name, and each of its rows as a count 1 and its values. NULL has
 -- 1 byte, a number 9, a text 5 and its bytes.
-use Rattle.std.specs.Prelude.{ℕ, ◌+◌, ◌||◌, nat_lt, Bool, List, [], ◌∷◌, length}
+use Rattle.std.specs.Prelude.{ℕ, ◌+◌, ◌^◌, ◌||◌, nat_lt, Bool, List, [], ◌∷◌, length}
 use Rattle.val_types.specs.declared.change.Change.{Change}
 use Rattle.val_types.specs.declared.change.Change.TheVariants.{Insert, Update, Delete}
 use Rattle.val_types.specs.declared.value.Value.{Value}
@@ -45,7 +45,11 @@ abbrev pub all_changes_size : List Item → ℕ
 all_changes_size [] = 0
 all_changes_size (i ∷ is) = changes_size i.changes + all_changes_size is
 
--- ---- the limit
+-- ---- the limits
+
+-- the greatest length of a text, as of a command: 1 MiB
+abbrev pub most_text : ℕ
+most_text = 2 ^ 20
 
 -- the greatest sum of each: 64 MiB
 abbrev pub most_bytes : ℕ

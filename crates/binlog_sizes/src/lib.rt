@@ -4,6 +4,7 @@
 //! out; both stand on this crate.
 //!
 //! - `changes`: [`changes_size`]
+//! - `limits`: [`MOST_BYTES`], and [`MOST_TEXT`], how long a text may be
 //!
 //! The definitions stand in specs/ (`Sizes`).
 //!
@@ -12,8 +13,10 @@
 #![tactic(auto)]
 
 mod changes;
+mod limits;
 
 // What is its own, and the crates below that it speaks of, passed on: who stands above names them through it.
 pub use changes::{change_size, changes_size};
+pub use limits::{MOST_BYTES, MOST_TEXT};
 pub use row_events;
 pub use row_events::{log_entries, row_image};

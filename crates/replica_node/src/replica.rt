@@ -1,5 +1,6 @@
 //! The replica.
-ghost use Rattle.std.specs.Prelude.{◌≡◌, ◌≤◌, ◌+◌, ◌^◌, length, IfOk, OnErr, OnOk};
+ghost use Rattle.std.specs.Prelude.{◌≡◌, ◌≤◌, ◌+◌, length, IfOk, OnErr, OnOk};
+ghost use Rattle.replica_model.specs.apply_model.binlog_sizes.Sizes.{most_text};
 ghost use Rattle.replica_model.specs.Replica.{fetched, first_replica, want};
 ghost use Rattle.replica_model.specs.Selecting.{select_answer};
 ghost use Rattle.replica_node.specs.Kept.{replica_of};
@@ -87,7 +88,7 @@ impl ReplicaNode {
     /// The answer to a text of at most 1,048,576 bytes whose first word is SELECT: 1064 or 30007 where it is no statement, then
     /// the error of the first of the catalog's checks, 1290 where it would change rows, then its own.
     pub fn select(&mut self, text: &[u8], draw: &Draw) -> Result<Answer, NodeFault>
-        requires { length text.now ≤ 2 ^ 20 }
+        requires { length text.now ≤ most_text }
         ensures answer { IfOk result (λ answer. answer ≡ select_answer self.old.identity draw.entry.now (replica_of self.old).counters (replica_of self.old).base text.now) }
         ensures same { self.new ≡ self.old }
     {

@@ -1,8 +1,9 @@
 //! A text of a reader: a SELECT, in a session of its own that has no number.
-ghost use Rattle.std.specs.Prelude.{◌≡◌, ◌≤◌, ◌^◌, [], false, length, IfOk};
+ghost use Rattle.std.specs.Prelude.{◌≡◌, ◌≤◌, [], false, length, IfOk};
 ghost use Rattle.sql_tree.specs.StatementView.{view};
 ghost use Rattle.prog_run.specs.prog_work.Contents.{base_of};
 ghost use Rattle.unsafe_rules.specs.sql_reach.Reach.{is_definition};
+ghost use Rattle.replica_model.specs.apply_model.binlog_sizes.Sizes.{most_text};
 ghost use Rattle.row_apply.specs.Ends.{Stays};
 ghost use Rattle.replica_model.specs.Selecting.{select_answer, select_checked, select_run};
 
@@ -112,7 +113,7 @@ pub(crate) fn answer(
     text: &[u8],
     draw: &Draw,
 ) -> Result<Answer, NodeFault>
-    requires length { length text.now ≤ 2 ^ 20 }
+    requires length { length text.now ≤ most_text }
     requires changes { work.old.changes ≡ [] }
     ensures answer { IfOk result (λ answer. answer ≡ select_answer identity.now draw.entry.now work.old.counters (base_of work.old) text.now) }
     ensures same { work.new ≡ work.old }

@@ -1,5 +1,5 @@
 -- What each command of a session does: one definition a command.
-use Rattle.std.specs.Prelude.{ℕ, ◌^◌, Bool, false, not, nat_lt, if◌then◌else◌, List, [], ◌∷◌, ◌++◌, length, filter, find, map, take, Option, Some, None, Result, Ok, Err, is_some}
+use Rattle.std.specs.Prelude.{ℕ, Bool, false, not, nat_lt, if◌then◌else◌, List, [], ◌∷◌, ◌++◌, length, filter, find, map, take, Option, Some, None, Result, Ok, Err, is_some}
 use Rattle.std.specs.Option.{option_map}
 use Rattle.val_types.specs.declared.value.Value.{Value}
 use Rattle.sql_print.specs.StatementSpelling.{spelling}
@@ -28,6 +28,7 @@ use Rattle.session_model.specs.Running.{Call, full, Turn, Given, is_other, writi
 use Rattle.session_ctx.specs.Variables.{setting, fitting, assigned}
 use Rattle.session_ctx.specs.declared.session.SessionVars.{SessionVars}
 use Rattle.binlog_sizes.specs.log_entries.Variables.{variable_set}
+use Rattle.binlog_sizes.specs.Sizes.{most_text}
 
 -- a command that changes nothing of what is shared
 abbrev pub answered : {I : Type 0} → Answer → Shared → Session I → Turn I Answer
@@ -183,7 +184,7 @@ trees_of (t ∷ ts) = tree t (trees_of ts)
 
 -- a text of more bytes than a command may have
 abbrev pub is_too_long : List ℕ → Bool
-is_too_long text = nat_lt (2 ^ 20) (length text)
+is_too_long text = nat_lt most_text (length text)
 
 -- what refuses an assignment: a user variable takes every value, a session variable those of its own
 abbrev pub refusal_of : Result (Unit {0}) ℕ → Option ℕ

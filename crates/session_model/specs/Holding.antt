@@ -1,6 +1,6 @@
 -- What holds of every run: the committed base is what its entries make of the first one, and the log ends where they end; the open
 -- changes are those of the writer's items, and a savepoint stands where it says; items and entries are what statements made.
-use Rattle.std.specs.Prelude.{◌≡◌, ℕ, ◌≤◌, ◌<◌, ◌^◌, ◌==◌, ◌&&◌, Bool, true, false, not, List, [], ◌∷◌, ◌++◌, length, map, flat_map, take, Option, Some, None, is_some, slice_index_or, Result, Ok, Err}
+use Rattle.std.specs.Prelude.{◌≡◌, ℕ, ◌≤◌, ◌<◌, ◌==◌, ◌&&◌, Bool, true, false, not, List, [], ◌∷◌, ◌++◌, length, map, flat_map, take, Option, Some, None, is_some, slice_index_or, Result, Ok, Err}
 use Rattle.std.specs.Option.{option_map_or, option_and_then}
 use Rattle.val_types.specs.declared.change.Change.{Change}
 use Rattle.auto_inc.specs.declared.counters.Counter.{Counter}
@@ -12,7 +12,7 @@ use Rattle.binlog_sizes.specs.log_entries.declared.entries.Entry.{Entry}
 use Rattle.binlog_sizes.specs.log_entries.declared.entries.Entry.TheVariants.{Transaction, Definition, LogStart}
 use Rattle.binlog_sizes.specs.log_entries.Entries.{after}
 use Rattle.binlog_sizes.specs.log_model.Log.{LogPlace, counted_all, written_to}
-use Rattle.binlog_sizes.specs.Sizes.{are_too_large}
+use Rattle.binlog_sizes.specs.Sizes.{are_too_large, most_text}
 use Rattle.proc_model.specs.Talk.{Left, Talk, brought}
 use Rattle.proc_model.specs.Procedures.{Came}
 use Rattle.session_ctx.specs.declared.session.SessionVars.{SessionVars}
@@ -83,7 +83,7 @@ pub record AreOne (items : List Whole) : Type 0 where
 -- A definition: its text, which a command may have, is the statement that was carried out.
 pub record IsDefined (i : Whole) : Type 0 where
   pub text : text_answer i.kept.text ≡ a_statement i.began.tree
-  pub short : length i.kept.text ≤ 2 ^ 20
+  pub short : length i.kept.text ≤ most_text
   pub is : is_definition i.began.tree ≡ true
 
 abbrev pub EntryMade : Entry Whole → Type 0
@@ -167,7 +167,7 @@ RunsOpen = (identity : Identity) (draw : Draw) → Holds with_nothing (opened id
 abbrev pub RunsGoOn : Type 0
 RunsGoOn =
     (from : Beginning) (m : Machine) (identity : Identity) (n : ℕ) (text : List ℕ) (draw : Draw) → Holds from m → n < length m.state.sessions
-    → length text ≤ 2 ^ 20 → Holds from (machine_after m (step whole identity m.state n text draw))
+    → length text ≤ most_text → Holds from (machine_after m (step whole identity m.state n text draw))
 
 -- the transactions that a step puts out are logged in the format that its session had before it: each item by its text under
 -- STATEMENT, by its rows under ROW, and under MIXED by its text exactly where it has no reason

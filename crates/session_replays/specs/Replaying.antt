@@ -1,10 +1,11 @@
 -- What holds of every run: committed statements, run one transaction after the other, give just the changes of the entries, and their
 -- texts are read as these statements.
-use Rattle.std.specs.Prelude.{ℕ, ◌≤◌, ◌<◌, ◌^◌, List, [], length, None, slice_index_or}
+use Rattle.std.specs.Prelude.{ℕ, ◌≤◌, ◌<◌, List, [], length, None, slice_index_or}
 use Rattle.hex.specs.Hex.{IsBytes}
 use Rattle.auto_inc.specs.declared.counters.Counter.{Counter}
 use Rattle.port_traits.specs.declared.identity.Identity.{Identity}
 use Rattle.port_traits.specs.declared.identity.Draw.{Draw}
+use Rattle.session_model.specs.binlog_sizes.Sizes.{most_text}
 use Rattle.session_model.specs.Running.{items_of}
 use Rattle.session_model.specs.Machine.{whole, Machine, machine_after, first_state, opened, step}
 use Rattle.session_model.specs.Holding.{Beginning, with_nothing, Holds, transaction_of}
@@ -40,7 +41,7 @@ ReplaysOpen = (identity : Identity) (draw : Draw) → Replays with_nothing (open
 abbrev pub ReplaysGoOn : Type 0
 ReplaysGoOn =
     (from : Beginning) (m : Machine) (identity : Identity) (n : ℕ) (text : List ℕ) (draw : Draw) → Replays from m → n < length m.state.sessions
-    → length text ≤ 2 ^ 20 → IsBytes text → Replays from (machine_after m (step whole identity m.state n text draw))
+    → length text ≤ most_text → IsBytes text → Replays from (machine_after m (step whole identity m.state n text draw))
 
 -- a source that opens on what its store has
 abbrev pub OpeningsReplay : Type 0

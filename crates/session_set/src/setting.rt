@@ -18,7 +18,7 @@ use crate::evaluating::fitting_values;
 use answer_making::{NodeFault, ok, refused, with_warning};
 use answer_text::Answer;
 use session_statement::full;
-use session_statement::session_shared::{COMMAND_LIMIT, Command, Desk, Session, lock_refusal};
+use session_statement::session_shared::{Command, Desk, MOST_TEXT, Session, lock_refusal};
 use sql_locals::Locals;
 use sql_print::print;
 use sql_tree::{Assignment, Expr, Stmt, Target};
@@ -90,7 +90,7 @@ fn set_taken(
 {
     let statement = Stmt::Do(expressions);
     let text = print(alloc, &statement)?;
-    if text.len() > COMMAND_LIMIT {
+    if text.len() > MOST_TEXT {
         return Ok(refused(alloc, TEXT_TOO_LONG));
     }
     if let Some(code) = refusal {

@@ -17,9 +17,6 @@ use std::alloc::Global;
 use std::marker::Model;
 use val_types::{List, SqlError, SqlRefusal};
 
-/// The greatest length of a command.
-pub const COMMAND_LIMIT: usize = 1_048_576;
-
 /// Why a statement is refused before it runs: its error, and with 1205 the session that writes.
 #[derive(Drop)]
 pub struct Refusal {

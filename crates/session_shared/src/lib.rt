@@ -6,7 +6,7 @@
 //! - `formats`: [`how_logged`], whether what a statement changed is logged by its rows, and whether the statement is warned
 //! - `command`: [`Command`], what a command has round it
 //! - `checking`: what refuses a statement before it runs: [`checked`], [`lock_check`], [`lock_refusal`], [`step_check`];
-//!   [`COMMAND_LIMIT`], how long a command may be
+//!   [`MOST_TEXT`] of `binlog_sizes` says how long a command may be
 //!
 //! The definitions in specs/ say what the code's parts stand for (`Desk`), what is logged (`Logging`), and what an item more
 //! and going back to a savepoint make of a transaction (`Saving`).
@@ -32,9 +32,8 @@ mod session;
 
 // What is its own, and the crates below that it speaks of, passed on: who stands above names them through it.
 pub use binlog_items;
-pub use checking::{
-    COMMAND_LIMIT, Refusal, checked, lock_check, lock_refusal, refused_as, step_check,
-};
+pub use binlog_items::binlog_sizes::MOST_TEXT;
+pub use checking::{Refusal, checked, lock_check, lock_refusal, refused_as, step_check};
 pub use command::Command;
 pub use desk::Desk;
 pub use formats::{HowLogged, how_logged};

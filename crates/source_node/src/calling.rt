@@ -15,7 +15,7 @@ use answer_text::Answer;
 use session_call::call_steps;
 use session_transaction::answer_making::{NodeFault, refused};
 use session_transaction::prog_run::Meter;
-use session_transaction::session_shared::{COMMAND_LIMIT, Command, Desk, Session, lock_refusal};
+use session_transaction::session_shared::{Command, Desk, MOST_TEXT, Session, lock_refusal};
 use session_transaction::session_statement::{Kept, evaluate_with_text, full};
 use sql_print::print;
 use sql_tree::{Expr, Stmt};
@@ -98,7 +98,7 @@ pub(crate) fn run_call(
 {
     let statement = Stmt::Do(arguments);
     let text = print(alloc, &statement)?;
-    if text.len() > COMMAND_LIMIT {
+    if text.len() > MOST_TEXT {
         return Ok(refused(alloc, TEXT_TOO_LONG));
     }
     if let Some(code) = refusal {

@@ -1,5 +1,6 @@
 //! A command of a session: a text, whatever it is.
-ghost use Rattle.std.specs.Prelude.{◌≡◌, ◌≤◌, ◌^◌, Some, length, IfOk};
+ghost use Rattle.std.specs.Prelude.{◌≡◌, ◌≤◌, Some, length, IfOk};
+ghost use Rattle.session_model.specs.binlog_sizes.Sizes.{most_text};
 ghost use Rattle.session_model.specs.Machine.{command as command_turn, text_turn};
 ghost use Rattle.session_transaction.specs.session_statement.Calls.{called};
 ghost use Rattle.session_transaction.specs.session_shared.Desk.{shared_of};
@@ -26,7 +27,7 @@ fn run_text(
     session: &mut Session,
     text: &[u8],
 ) -> Result<Answer, NodeFault>
-    requires { length text.now ≤ 2 ^ 20 }
+    requires { length text.now ≤ most_text }
     ensures { IfOk result (λ answer. IsTurn desk.old desk.new session.new answer (text_turn (called command.now) text.now (text_answer text.now) (shared_of desk.old) session.old)) }
 {
     match statement_of(alloc, text) {
@@ -45,7 +46,7 @@ pub(crate) fn run_command(
     place: &mut Option<Session>,
     text: &[u8],
 ) -> Result<Answer, NodeFault>
-    requires { length text.now ≤ 2 ^ 20 }
+    requires { length text.now ≤ most_text }
     ensures shared { IfOk result (λ answer. shared_of desk.new ≡ (command_turn (called command.now) text.now (shared_of desk.old) place.old).shared) }
     ensures session { IfOk result (λ answer. place.new ≡ Some ((command_turn (called command.now) text.now (shared_of desk.old) place.old).session)) }
     ensures answer { IfOk result (λ answer. answer ≡ (command_turn (called command.now) text.now (shared_of desk.old) place.old).given) }

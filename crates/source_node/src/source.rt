@@ -1,6 +1,7 @@
 //! The source.
-ghost use Rattle.std.specs.Prelude.{◌≡◌, ◌<◌, ◌≤◌, ◌^◌, length, map, replicate, IfOk};
+ghost use Rattle.std.specs.Prelude.{◌≡◌, ◌<◌, ◌≤◌, length, map, replicate, IfOk};
 ghost use Rattle.session_transaction.specs.log_entry_laws.Entries.{CanLogAll};
+ghost use Rattle.session_model.specs.binlog_sizes.Sizes.{most_text};
 ghost use Rattle.session_model.specs.Holding.{Holds, with_nothing};
 ghost use Rattle.session_model.specs.Machine.{Machine, kept, kept_entry, log_bytes, machine_after, opened, step, whole};
 ghost use Rattle.source_node.specs.Standing.{no_session, state_of, Stands};
@@ -94,7 +95,7 @@ impl SourceNode {
     #[tactic(auto, unfolding(session_model::specs::Machine::step))]
     fn exec_kept(&mut self, session: u8, text: &[u8], draw: &Draw) -> Result<Answer, NodeFault>
         requires number { session < 100 }
-        requires length { length text.now ≤ 2 ^ 20 }
+        requires length { length text.now ≤ most_text }
         ensures identity { self.new.identity ≡ self.old.identity }
         ensures answer { IfOk result (λ answer. answer ≡ (step kept (self.old.identity) (state_of self.old) session text.now draw.entry.now).answer) }
         ensures state { IfOk result (λ answer. state_of self.new ≡ (step kept (self.old.identity) (state_of self.old) session text.now draw.entry.now).state) }
@@ -120,7 +121,7 @@ impl SourceNode {
     /// more.
     pub fn exec(&mut self, session: u8, text: &[u8], draw: &Draw) -> Result<Answer, NodeFault>
         requires number { session < 100 }
-        requires length { length text.now ≤ 2 ^ 20 }
+        requires length { length text.now ≤ most_text }
         ensures identity { self.new.identity ≡ self.old.identity }
         ensures stands { (m : Machine) → Stands self.old m → Holds with_nothing m → IfOk result (λ answer.
             (answer ≡ (step whole (self.old.identity) m.state session text.now draw.entry.now).answer)

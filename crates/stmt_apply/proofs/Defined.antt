@@ -14,7 +14,8 @@ use Rattle.apply_laws.specs.sql_reach.Defining.{counters_after}
 use Rattle.apply_laws.specs.sql_reach.Reach.{is_definition}
 use Rattle.apply_laws.specs.text_answers.Answers.{TextAnswer, text_answer}
 use Rattle.apply_model.specs.Groups.{Applied, define_allowed, define_if}
-use Rattle.apply_model.specs.Texts.{statement_by, statement_in, most_text}
+use Rattle.apply_model.specs.binlog_sizes.Sizes.{most_text}
+use Rattle.apply_model.specs.Texts.{statement_by, statement_in}
 use Rattle.row_apply.specs.prog_work.Contents.{Contents, base_of}
 use Rattle.row_apply.specs.prog_work.Defining.{Defines, Makes}
 use Rattle.row_apply.specs.prog_work.declared.meter.Outcome.{Outcome}

@@ -5,13 +5,11 @@ ghost use Rattle.apply_model.specs.Texts.{statement_in};
 ghost use Rattle.stmt_apply.specs.Ending.{IsRefusal};
 
 use answer_making::statement_of;
+use apply_model::binlog_sizes::MOST_TEXT;
 use sql_parse::ParseRefusal;
 use sql_tree::Stmt;
 use std::alloc::Global;
 use val_types::{SqlError, SqlRefusal, TEXT_TOO_LONG};
-
-/// The most bytes that a text may have: 1 MiB.
-const MOST_TEXT: usize = 1_048_576;
 
 /// A text is no statement (ER_PARSE_ERROR).
 const NO_STATEMENT: SqlError = 1064;

@@ -9,6 +9,7 @@ ghost use Rattle.stmt_apply.specs.Needing.{no_text};
 ghost use Rattle.stmt_apply.specs.UnderWay.{Goes, Stands};
 
 use crate::needs::Needs;
+use apply_model::binlog_sizes::MOST_BYTES;
 use event_codec::MapView;
 use row_apply::{Stop, stop_at};
 use std::alloc::Global;
@@ -16,9 +17,6 @@ use val_types::{List, SqlError};
 
 /// The items or the changes of a transaction have too many bytes (ER_TRANS_CACHE_FULL).
 const TOO_LARGE: SqlError = 1197;
-
-/// How many bytes they may have: 64 MiB.
-const MOST_BYTES: u64 = 67_108_864;
 
 /// A transaction under way: the bytes of its events and of its changes, and of the item under way what its text carries, the
 /// maps and the place of its first rows.
