@@ -1,4 +1,7 @@
 //! What is left to a command, and what is told of a statement.
+ghost use Rattle.std.specs.Prelude.{◌≡◌};
+ghost use Rattle.prog_work.specs.Outcomes.{full_meter};
+
 use sharing::Shared;
 use val_types::{List, Row};
 
@@ -10,6 +13,19 @@ pub struct Meter {
     /// Turns of WHILE.
     pub turns: u32,
     pub uuids: u128,
+}
+
+impl Meter {
+    /// What is left to a command at its beginning, and to a statement of a log.
+    pub fn full() -> Meter
+        ensures { result ≡ full_meter }
+    {
+        Meter {
+            depth: 16,
+            turns: 1_000_000,
+            uuids: 0,
+        }
+    }
 }
 
 /// What is told of a statement that came to its end.

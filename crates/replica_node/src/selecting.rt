@@ -40,11 +40,7 @@ fn run(
     ensures stays { Stays work.old work.new }
 {
     let mut session = SessionVars::new(alloc, identity, 0, draw)?;
-    let mut meter = Meter {
-        depth: 16,
-        turns: 1_000_000,
-        uuids: 0,
-    };
+    let mut meter = Meter::full();
     work.together();
     let result = run_stmt(
         alloc,

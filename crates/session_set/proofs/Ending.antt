@@ -13,7 +13,7 @@ use Rattle.answer_making.specs.session_model.Sessions.{Session}
 use Rattle.answer_making.specs.session_model.Running.{Call, Fuel, Given, fitted_run, full}
 use Rattle.answer_making.specs.session_model.Commands.{all_assigned}
 use Rattle.session_statement.specs.session_shared.Desk.{shared_of}
-use Rattle.session_statement.specs.Ran.{full_meter}
+use Rattle.answer_making.specs.prog_work.Outcomes.{full_meter}
 use Rattle.session_statement.specs.Turned.{EndsWith, IsTurn}
 use Rattle.session_statement.specs.declared.keeping.Kept.{Kept}
 use Rattle.session_statement.specs.session_shared.declared.desk.Desk.{Desk}

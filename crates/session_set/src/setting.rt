@@ -15,9 +15,9 @@ ghost use Rattle.session_statement.specs.Turned.{IsTurn};
 
 use crate::assigning::{assign_all, taken_apart};
 use crate::evaluating::fitting_values;
+use answer_making::prog_work::Meter;
 use answer_making::{NodeFault, ok, refused, with_warning};
 use answer_text::Answer;
-use session_statement::full;
 use session_statement::session_shared::{Command, Desk, MOST_TEXT, Session, lock_refusal};
 use sql_locals::Locals;
 use sql_print::print;
@@ -56,7 +56,7 @@ fn set_values(
     ensures { IfOk result (λ answer. IsTurn desk.old desk.new session.new answer (set_from targets.now (fitted_run (called command.now) full text.now (view_trees expressions.now) (misfit_of (is_open session.old) targets.now) (shared_of desk.old) session.old))) }
 {
     let locals = Locals::new(alloc);
-    let mut meter = full();
+    let mut meter = Meter::full();
     match fitting_values(
         alloc,
         command,

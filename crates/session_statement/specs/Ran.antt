@@ -11,7 +11,7 @@ use Rattle.proc_parts.specs.sql_reach.Defining.{number_of_bytes}
 use Rattle.proc_parts.specs.sql_meaning.Scenes.{Scene, Ending, done, failed}
 use Rattle.proc_parts.specs.sql_meaning.Frames.{Context}
 use Rattle.proc_parts.specs.sql_meaning.Changing.{Did}
-use Rattle.proc_parts.specs.sql_meaning.Running.{most_nested, most_turns, effect, evaluation, context_after}
+use Rattle.proc_parts.specs.sql_meaning.Running.{effect, evaluation, context_after}
 use Rattle.proc_parts.specs.prog_work.declared.meter.Meter.{Meter}
 use Rattle.proc_parts.specs.prog_work.declared.meter.Outcome.{Outcome}
 use Rattle.proc_parts.specs.prog_work.Outcomes.{outcome_of}
@@ -28,10 +28,6 @@ pub record Place : Type 0 where
 
 abbrev pub place_at : Shared → Context → Place
 place_at shared context = record { shared = shared; context = context }
-
--- what is left to a command at its beginning
-abbrev pub full_meter : Meter
-full_meter = record { depth = most_nested; turns = most_turns; uuids = 0 }
 
 -- what is left to a statement behind others, and behind it
 abbrev pub fuel_at : Meter → Fuel

@@ -26,7 +26,6 @@ mod stepping;
 // What is its own, and the crates below that it speaks of, passed on: who stands above names them through it.
 pub use keeping::{Kept, Start, settle};
 pub use proc_parts::prog_run;
-pub use running::full;
 pub use session_shared;
 pub use session_shared::binlog_items;
 pub use stepping::{

@@ -7,7 +7,7 @@ ghost use Rattle.proc_parts.specs.prog_work.Outcomes.{Spends};
 ghost use Rattle.proc_parts.specs.Calls.{left_of};
 ghost use Rattle.session_shared.specs.session_model.Running.{is_other};
 ghost use Rattle.session_shared.specs.Desk.{shared_of};
-ghost use Rattle.session_statement.specs.Ran.{Comes, Gives, fuel_at, full_meter, place_at};
+ghost use Rattle.session_statement.specs.Ran.{Comes, Gives, fuel_at, place_at};
 
 use port_traits::Draw;
 use proc_parts::prog_run::{Meter, Outcome, eval_list, run_stmt};
@@ -17,17 +17,6 @@ use sql_locals::Locals;
 use sql_tree::{Expr, Stmt};
 use std::alloc::Global;
 use val_types::{List, SqlRefusal, Value};
-
-/// What is left to a command at its beginning.
-pub fn full() -> Meter
-    ensures { result ≡ full_meter }
-{
-    Meter {
-        depth: 16,
-        turns: 1_000_000,
-        uuids: 0,
-    }
-}
 
 /// Runs a statement that sees the open changes.
 fn run_own(

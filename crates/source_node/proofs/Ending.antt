@@ -28,7 +28,8 @@ use Rattle.session_model.specs.Commands.{given_turn}
 use Rattle.session_model.specs.Calling.{Reached, arguments_run, called_by, called_with, came_to, steps_of}
 use Rattle.session_transaction.specs.session_statement.Calls.{call_of}
 use Rattle.session_transaction.specs.session_shared.Desk.{shared_of}
-use Rattle.session_transaction.specs.session_statement.Ran.{fuel_at, full_meter, told_given, told_of}
+use Rattle.session_transaction.specs.prog_work.Outcomes.{full_meter}
+use Rattle.session_transaction.specs.session_statement.Ran.{fuel_at, told_given, told_of}
 use Rattle.session_call.specs.Stepping.{Stood}
 use Rattle.session_transaction.specs.session_statement.Turned.{EndsWith, IsTurn, Moves, giving}
 use Rattle.session_transaction.specs.session_statement.declared.keeping.Kept.{Kept}

@@ -4,11 +4,11 @@ ghost use Rattle.sql_tree.specs.Statement.{call_procedure, evaluate};
 ghost use Rattle.sql_tree.specs.StatementView.{view};
 ghost use Rattle.sql_tree.specs.View.{view_trees};
 ghost use Rattle.session_transaction.specs.catalog_rules.Checks.{session_scope, statement_refusal};
-ghost use Rattle.session_transaction.specs.prog_work.Outcomes.{Spends};
+ghost use Rattle.session_transaction.specs.prog_work.Outcomes.{Spends, full_meter};
 ghost use Rattle.session_model.specs.Calling.{arguments_run, call_turn, called_with};
 ghost use Rattle.session_transaction.specs.session_statement.Calls.{called};
 ghost use Rattle.session_transaction.specs.session_shared.Desk.{shared_of};
-ghost use Rattle.session_transaction.specs.session_statement.Ran.{fuel_at, full_meter};
+ghost use Rattle.session_transaction.specs.session_statement.Ran.{fuel_at};
 ghost use Rattle.session_transaction.specs.session_statement.Turned.{EndsWith, IsTurn};
 
 use answer_text::Answer;
@@ -16,7 +16,7 @@ use session_call::call_steps;
 use session_transaction::answer_making::{NodeFault, refused};
 use session_transaction::prog_run::Meter;
 use session_transaction::session_shared::{Command, Desk, MOST_TEXT, Session, lock_refusal};
-use session_transaction::session_statement::{Kept, evaluate_with_text, full};
+use session_transaction::session_statement::{Kept, evaluate_with_text};
 use sql_print::print;
 use sql_tree::{Expr, Stmt};
 use std::alloc::Global;
@@ -72,7 +72,7 @@ fn call_with(
     requires { view statement.now ≡ evaluate (view_trees arguments.now) }
     ensures { IfOk result (λ answer. IsTurn desk.old desk.new session.new answer (called_with (called command.now) name.now (arguments_run (called command.now) text.now (view_trees arguments.now) (shared_of desk.old) session.old))) }
 {
-    let mut meter = full();
+    let mut meter = Meter::full();
     match argument_values(
         alloc, command, desk, session, text, statement, arguments, &mut meter,
     ) {

@@ -18,9 +18,8 @@ use session_ctx::Ctx;
 use session_transaction::answer_making::{NodeFault, ok, refused};
 use session_transaction::binlog_items::encode_definition;
 use session_transaction::commit_open;
-use session_transaction::prog_run::{Outcome, run_stmt};
+use session_transaction::prog_run::{Meter, Outcome, run_stmt};
 use session_transaction::session_shared::{Command, Desk, Session};
-use session_transaction::session_statement::full;
 use sql_tree::Stmt;
 use std::alloc::Global;
 use val_types::SqlRefusal;
@@ -42,7 +41,7 @@ fn run_definition(
     ensures log { desk.new.log ≡ desk.old.log }
     ensures context { OnOk result (context.new ≡ context.old) }
 {
-    let mut meter = full();
+    let mut meter = Meter::full();
     match run_stmt(alloc, &mut desk.work, statement, context, draw, &mut meter) {
         Err(SqlRefusal::NoMemory) => Err(NodeFault::NoMemory),
         Err(SqlRefusal::Sql(_)) => unreachable!(),

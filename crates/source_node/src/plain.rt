@@ -10,8 +10,9 @@ ghost use Rattle.session_transaction.specs.session_statement.Turned.{IsTurn};
 
 use answer_text::Answer;
 use session_transaction::answer_making::{NodeFault, refused, told, with_warning};
+use session_transaction::prog_run::Meter;
 use session_transaction::session_shared::{Command, Desk, Session};
-use session_transaction::session_statement::{full, run_with_text};
+use session_transaction::session_statement::run_with_text;
 use sql_tree::Stmt;
 use std::alloc::Global;
 use val_types::SqlRefusal;
@@ -29,7 +30,7 @@ pub(crate) fn run_plain(
     requires { is_definition (view statement.now) ≡ false }
     ensures { IfOk result (λ answer. IsTurn desk.old desk.new session.new answer (given_turn (statement_run (called command.now) full text.now (view statement.now) (shared_of desk.old) session.old))) }
 {
-    let mut meter = full();
+    let mut meter = Meter::full();
     match run_with_text(alloc, command, desk, session, text, statement, &mut meter) {
         Err(SqlRefusal::NoMemory) => Err(NodeFault::NoMemory),
         Err(SqlRefusal::Sql(code)) => Ok(refused(alloc, code)),

@@ -18,7 +18,8 @@ use Rattle.row_apply.specs.prog_work.declared.meter.Outcome.{Outcome}
 use Rattle.row_apply.specs.prog_work.Contents.{Contents}
 use Rattle.prog_run.specs.Runs.{Runs, moment, scene_at, setting_at}
 use Rattle.row_apply.specs.Ends.{progress_in}
-use Rattle.stmt_apply.specs.Applying.{Adds, applier_in, full_meter}
+use Rattle.prog_run.specs.prog_work.Outcomes.{full_meter}
+use Rattle.stmt_apply.specs.Applying.{Adds, applier_in}
 use Rattle.stmt_apply.specs.Ending.{EndsBy, IsRefusal}
 
 -- ---- what may stand in a transaction is no definition

@@ -2,19 +2,13 @@
 use Rattle.std.specs.Prelude.{◌≡◌, ◌++◌, drop, length}
 use Rattle.port_traits.specs.declared.identity.Identity.{Identity}
 use Rattle.port_traits.specs.declared.identity.Draw.{Draw}
-use Rattle.apply_laws.specs.sql_meaning.Running.{most_nested, most_turns}
 use Rattle.apply_model.specs.Texts.{Applier}
 use Rattle.apply_model.specs.Groups.{Applied, applier_of}
-use Rattle.row_apply.specs.prog_work.declared.meter.Meter.{Meter}
 use Rattle.row_apply.specs.prog_work.Contents.{Contents, base_of}
 
 -- who applies: a replica with a draw, and the catalog that is there
 abbrev pub applier_in : Identity → Draw → Contents → Applier
 applier_in identity draw c = applier_of identity draw (base_of c)
-
--- what is left to a statement of a log
-abbrev pub full_meter : Meter
-full_meter = record { depth = most_nested; turns = most_turns; uuids = 0 }
 
 -- what stands behind a group
 abbrev pub applied_in : Contents → Applied

@@ -11,11 +11,11 @@ ghost use Rattle.stmt_apply.specs.Ending.{EndsBy};
 
 use crate::needs::nothing_carried;
 use crate::reading::statement_in;
-use crate::text::{NOT_ALLOWED, full};
+use crate::text::NOT_ALLOWED;
 use apply_laws::session_ctx::{Ctx, from_carried};
 use event_codec::QueryView;
 use port_traits::{Draw, Identity};
-use prog_run::{Work, is_definition, run_stmt};
+use prog_run::{Meter, Work, is_definition, run_stmt};
 use row_apply::{Stop, stop_at};
 use sql_tree::Stmt;
 use std::alloc::Global;
@@ -37,7 +37,7 @@ fn define(
     if !is_definition(statement) {
         return Err(SqlRefusal::Sql(NOT_ALLOWED));
     }
-    let mut meter = full();
+    let mut meter = Meter::full();
     match run_stmt(alloc, work, statement, context, draw, &mut meter) {
         Ok(_) => Ok(()),
         Err(refusal) => Err(refusal),

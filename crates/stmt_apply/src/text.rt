@@ -8,7 +8,7 @@ ghost use Rattle.event_codec.specs.Event.{query_of};
 ghost use Rattle.port_traits.specs.declared.identity.Identity.{Identity as Who};
 ghost use Rattle.apply_model.specs.Texts.{allowed, carried_of, carry_text, may_stand, run_in};
 ghost use Rattle.row_apply.specs.Ends.{Stays, progress_in};
-ghost use Rattle.stmt_apply.specs.Applying.{Adds, applier_in, full_meter};
+ghost use Rattle.stmt_apply.specs.Applying.{Adds, applier_in};
 ghost use Rattle.stmt_apply.specs.Ending.{EndsBy};
 ghost use Rattle.stmt_apply.specs.Needing.{Counts, needs_of};
 
@@ -25,17 +25,6 @@ use val_types::{SqlError, SqlRefusal};
 
 /// A statement may not stand in a log where it stands (this project's number).
 pub(crate) const NOT_ALLOWED: SqlError = 30005;
-
-/// What is left to a statement of a log.
-pub(crate) fn full() -> Meter
-    ensures { result ≡ full_meter }
-{
-    Meter {
-        depth: 16,
-        turns: 1_000_000,
-        uuids: 0,
-    }
-}
 
 /// Whether a statement may stand in a transaction.
 fn may_stand(statement: &Stmt) -> bool
@@ -76,7 +65,7 @@ fn run(
     ensures rest { Stays work.old work.new }
     ensures adds { OnOk result (Adds work.old work.new) }
 {
-    let mut meter = full();
+    let mut meter = Meter::full();
     work.together();
     let result = run_stmt(alloc, work, statement, context, draw, &mut meter);
     work.together();
