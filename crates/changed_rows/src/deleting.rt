@@ -27,6 +27,6 @@ pub fn delete_row<E: Executor>(
     ensures leads { LeadsOn stage.old stage.new }
 {
     before(table, stage, Cause::Delete, None, Some(row))?;
-    take_out(table.alloc, stage, table.at, table.definition, row.get())?;
+    take_out(stage, table.at, table.definition, row)?;
     after(table, stage, Cause::Delete, None, Some(row))
 }

@@ -14,8 +14,8 @@
 //! - `firing`: triggers before and after; `looking`: rows that have a key of another; `standing`: rows stored, taken out
 //!   and replaced in the table at a place
 //!
-//! A row is copied where it is stored, where an assignment changes it, and where it is in the way of another and has to
-//! outlive its own change.
+//! A row is copied where an assignment changes it, and where it is in the way of another and has to outlive its own change.
+//! Where it is stored, the table and the change that is noted hold the row that is handed in.
 //!
 //! The definitions in specs/ say what the code's values stand for and where a table stands (`Changed`), what a trigger leaves
 //! (`Firing`), and what the parts of an INSERT are (`Inserted`).

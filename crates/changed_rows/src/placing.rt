@@ -50,8 +50,9 @@ fn put_row<E: Executor>(
     let Some(affected) = affected.checked_add(1) else {
         return Err(SqlRefusal::NoMemory);
     };
-    put_in(table.alloc, stage, table.at, table.definition, &row)?;
-    after(table, stage, Cause::Insert, Some(&row), None)?;
+    let row = Shared::new(table.alloc, row)?;
+    put_in(stage, table.at, table.definition, row.share()?)?;
+    after(table, stage, Cause::Insert, Some(row.get()), None)?;
     Ok(Inserting {
         sequence,
         affected,

@@ -10,78 +10,71 @@ ghost use Rattle.changed_rows.specs.Changed.{StandsAt};
 
 use exec_state::Stage;
 use sharing::Shared;
-use std::alloc::Global;
-use val_types::{Duplicate, Row, SqlRefusal, TableDef, key_cmp};
+use val_types::{Row, SqlRefusal, TableDef, key_cmp};
 
-/// Puts a copy of a row in; 1062 where it cannot be put there.
+/// Puts a row in; 1062 where it cannot be put there.
 pub(crate) fn put_in(
-    alloc: Global,
     stage: &mut Stage,
     at: usize,
     definition: &Shared<TableDef>,
-    row: &Row,
+    row: Shared<Row>,
 ) -> Result<(), SqlRefusal>
     requires stands { StandsAt at definition.now stage.old }
-    ensures gives { EndsAs result (scene_of stage.new) (make 1062 (changes.Insert definition.now.name row.now) (scene_of stage.old)) }
+    ensures gives { EndsAs result (scene_of stage.new) (make 1062 (changes.Insert definition.now.name row) (scene_of stage.old)) }
     ensures leads { LeadsOn stage.old stage.new }
 {
     let _ = definition;
-    let row = row.duplicate(alloc)?;
-    stage.insert(alloc, at, row)
+    stage.insert(at, row)
 }
 
 /// Takes a row out; 1032 where it does not stand there.
 pub(crate) fn take_out(
-    alloc: Global,
     stage: &mut Stage,
     at: usize,
     definition: &Shared<TableDef>,
-    row: &Row,
+    row: &Shared<Row>,
 ) -> Result<(), SqlRefusal>
     requires stands { StandsAt at definition.now stage.old }
     ensures gives { EndsAs result (scene_of stage.new) (take_out definition.now.name row.now (scene_of stage.old)) }
     ensures leads { LeadsOn stage.old stage.new }
 {
     let _ = definition;
-    stage.take_out(alloc, at, row)
+    stage.take_out(at, row)
 }
 
-/// Puts a copy of a row in the place of another: 1032 where that does not stand there, 1062 where a key of the new one is
-/// that of a third.
+/// Puts a row in the place of another: 1032 where that does not stand there, 1062 where a key of the new one is that of a
+/// third.
 fn put_in_place(
-    alloc: Global,
     stage: &mut Stage,
     at: usize,
     definition: &Shared<TableDef>,
-    old: &Row,
-    new: &Row,
+    old: &Shared<Row>,
+    new: Shared<Row>,
 ) -> Result<(), SqlRefusal>
     requires stands { StandsAt at definition.now stage.old }
-    ensures gives { EndsAs result (scene_of stage.new) (put_in_place definition.now.name old.now new.now (scene_of stage.old)) }
+    ensures gives { EndsAs result (scene_of stage.new) (put_in_place definition.now.name old.now new (scene_of stage.old)) }
     ensures leads { LeadsOn stage.old stage.new }
 {
     let _ = definition;
-    let new = new.duplicate(alloc)?;
-    stage.put_in_place(alloc, at, old, new)
+    stage.put_in_place(at, old, new)
 }
 
 /// Stores the new row, unless it is as the old one was; gives 1 where it is a change, else 0.
 pub(crate) fn store_update(
-    alloc: Global,
     stage: &mut Stage,
     at: usize,
     definition: &Shared<TableDef>,
-    old: &Row,
-    new: &Row,
+    old: &Shared<Row>,
+    new: &Shared<Row>,
 ) -> Result<u64, SqlRefusal>
     requires stands { StandsAt at definition.now stage.old }
     ensures gives { EndsAs result (scene_of stage.new) (store_update definition.now old.now new.now (scene_of stage.old)) }
     ensures one { IfOk result (λ count. count ≤ 1) }
     ensures leads { LeadsOn stage.old stage.new }
 {
-    if key_cmp(new, old).is_eq() {
+    if key_cmp(new.get(), old.get()).is_eq() {
         return Ok(0);
     }
-    put_in_place(alloc, stage, at, definition, old, new)?;
+    put_in_place(stage, at, definition, old, new.share()?)?;
     Ok(1)
 }

@@ -117,14 +117,7 @@ fn store_left<E: Executor>(
     ensures leads { LeadsOn stage.old stage.new }
 {
     none_missing(table.definition.get(), left.get(), None)?;
-    let count = store_update(
-        table.alloc,
-        stage,
-        table.at,
-        table.definition,
-        old.get(),
-        left.get(),
-    )?;
+    let count = store_update(stage, table.at, table.definition, old, left)?;
     after(table, stage, Cause::Update, Some(left.get()), Some(old))?;
     Ok(count)
 }

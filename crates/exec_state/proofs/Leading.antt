@@ -8,7 +8,7 @@ use Rattle.table_rules.specs.Leads.{Leads}
 use Rattle.table_rules.specs.Stores.{Store}
 use Rattle.table_rules.proofs.Leading.{leads_nowhere, leads_on}
 use Rattle.exec_state.specs.declared.stage.Stage.{Stage}
-use Rattle.exec_state.specs.Stage.{LeadsOn, Led, NoneLower}
+use Rattle.exec_state.specs.Stage.{LeadsOn, NoneLower}
 
 as_low : (n : ℕ) → n ≤ n
 as_low n = omega arith

@@ -10,9 +10,8 @@
 //! # Proved
 //! - [`Stage::table`] gives the table of a name as it stands, without a copy of a row or a definition, or 1146
 //! - [`Stage::draw`] and [`Stage::next_uuid`] are the definitions' draw of RAND() and their next UUID
-//! - [`Stage::put_row`], [`Stage::take_row`] and [`Stage::swap_row`] are the definitions' actions on one row, which
-//!   table, change and caller hold together; [`Stage::insert`], [`Stage::take_out`] and [`Stage::put_in_place`] are
-//!   the same for rows by themselves
+//! - [`Stage::insert`], [`Stage::take_out`] and [`Stage::put_in_place`] are the definitions' actions on one row, which
+//!   table, change and caller hold together
 //! - each leads from the stage before to the one after (`LeadsOn`): the changes behind the old ones lead from the
 //!   old rows to the new, and taking them back leads to the old ones and needs no memory; counters are of the same tables, and none is lower
 #![tactic(auto, using(crate::proofs::Leading::leading, crate::proofs::Leading::stage_moves), unfolding(crate::specs::Stage::scene_of))]

@@ -1,5 +1,5 @@
-//! Rows stored in the table at a place, as the definitions' actions on a scene. The place of a table stays good
-//! while no table is made or dropped.
+//! Rows stored in the table at a place, as the definitions' actions on a scene: table, change and caller hold one row
+//! together. The place of a table stays good while no table is made or dropped.
 ghost use Rattle.std.specs.Prelude.{◌≡◌, ℕ, List, Some};
 ghost use Rattle.val_types.specs.declared.change.Change.TheVariants.{Insert};
 ghost use Rattle.table_rules.specs.Stores.{place_of};
@@ -11,8 +11,7 @@ use crate::stage::Stage;
 use dml_rows::{insert_row_at, remove_row_at, replace_row_at};
 use row_store::RowRefusal;
 use sharing::Shared;
-use std::alloc::Global;
-use val_types::{Duplicate, Row, SqlError, SqlRefusal};
+use val_types::{Row, SqlError, SqlRefusal};
 
 /// A key of the row is that of another.
 const DUPLICATE_KEY: SqlError = 1062;
@@ -23,7 +22,7 @@ const ROW_ABSENT: SqlError = 1032;
 impl Stage {
     /// Puts a row into the table at a place; 1062 where it cannot be put there.
     #[tactic(auto, using(crate::proofs::Leading::leading, crate::proofs::Leading::stage_stores), unfolding(crate::specs::Stage::scene_of))]
-    pub fn put_row(&mut self, at: usize, row: Shared<Row>) -> Result<(), SqlRefusal>
+    pub fn insert(&mut self, at: usize, row: Shared<Row>) -> Result<(), SqlRefusal>
         ensures gives { (name : List ℕ) → place_of name self.old.tables.tables ≡ Some at
             → EndsAs result (scene_of self.new) (make 1062 (Insert name row) (scene_of self.old)) }
         ensures leads { LeadsOn self.old self.new }
@@ -41,7 +40,7 @@ impl Stage {
 
     /// Takes a row out of the table at a place, with one search; 1032 where it does not stand there.
     #[tactic(auto, using(crate::proofs::Leading::leading, crate::proofs::Leading::stage_stores), unfolding(crate::specs::Stage::scene_of))]
-    pub fn take_row(&mut self, at: usize, row: &Shared<Row>) -> Result<(), SqlRefusal>
+    pub fn take_out(&mut self, at: usize, row: &Shared<Row>) -> Result<(), SqlRefusal>
         ensures gives { (name : List ℕ) → place_of name self.old.tables.tables ≡ Some at
             → EndsAs result (scene_of self.new) (take_out name row.now (scene_of self.old)) }
         ensures leads { LeadsOn self.old self.new }
@@ -57,7 +56,7 @@ impl Stage {
     /// Puts a row in the place of another in the table at a place: 1032 where that does not stand there, 1062 where a
     /// key of the new one is that of a third. Where the primary key stays, there is one search.
     #[tactic(auto, using(crate::proofs::Leading::leading, crate::proofs::Leading::stage_stores), unfolding(crate::specs::Stage::scene_of))]
-    pub fn swap_row(
+    pub fn put_in_place(
         &mut self,
         at: usize,
         old: &Shared<Row>,
@@ -76,42 +75,5 @@ impl Stage {
             Err(RowRefusal::Taken { .. }) => Err(SqlRefusal::Sql(DUPLICATE_KEY)),
             Err(RowRefusal::Absent) => Err(SqlRefusal::Sql(ROW_ABSENT)),
         }
-    }
-
-    /// As [`Stage::put_row`], for a row that nobody holds yet.
-    pub fn insert(&mut self, alloc: Global, at: usize, row: Row) -> Result<(), SqlRefusal>
-        ensures gives { (name : List ℕ) → place_of name self.old.tables.tables ≡ Some at
-            → EndsAs result (scene_of self.new) (make 1062 (Insert name row) (scene_of self.old)) }
-        ensures leads { LeadsOn self.old self.new }
-    {
-        let row = Shared::new(alloc, row)?;
-        self.put_row(at, row)
-    }
-
-    /// As [`Stage::take_row`], for a row of which a copy is noted.
-    pub fn take_out(&mut self, alloc: Global, at: usize, row: &Row) -> Result<(), SqlRefusal>
-        ensures gives { (name : List ℕ) → place_of name self.old.tables.tables ≡ Some at
-            → EndsAs result (scene_of self.new) (take_out name row.now (scene_of self.old)) }
-        ensures leads { LeadsOn self.old self.new }
-    {
-        let row = Shared::new(alloc, row.duplicate(alloc)?)?;
-        self.take_row(at, &row)
-    }
-
-    /// As [`Stage::swap_row`], for an old row of which a copy is noted.
-    pub fn put_in_place(
-        &mut self,
-        alloc: Global,
-        at: usize,
-        old: &Row,
-        new: Row,
-    ) -> Result<(), SqlRefusal>
-        ensures gives { (name : List ℕ) → place_of name self.old.tables.tables ≡ Some at
-            → EndsAs result (scene_of self.new) (put_in_place name old.now new (scene_of self.old)) }
-        ensures leads { LeadsOn self.old self.new }
-    {
-        let old = Shared::new(alloc, old.duplicate(alloc)?)?;
-        let new = Shared::new(alloc, new)?;
-        self.swap_row(at, &old, new)
     }
 }
