@@ -5,14 +5,13 @@ ghost use Rattle.session_model.specs.text_answers.Answers.{a_statement, text_ans
 ghost use Rattle.answer_making.specs.ReadTexts.{IsRefusedText};
 
 use session_model::text_answers::texts_are_answered;
-use sql_parse::{ParseRefusal, parse_boxed};
-use sql_tree::Stmt;
+use sql_parse::{ParseRefusal, Parsed, parse_boxed};
 use std::alloc::Global;
 
 /// The statement that a text is, or why it is none.
-pub fn statement_of(alloc: Global, text: &[u8]) -> Result<Box<Stmt>, ParseRefusal>
+pub fn statement_of(alloc: Global, text: &[u8]) -> Result<Parsed, ParseRefusal>
     requires { length text.now ≤ 4294967295 }
-    ensures statement { IfOk result (λ s. text_answer text.now ≡ a_statement (view s.value)) }
+    ensures statement { IfOk result (λ p. text_answer text.now ≡ a_statement (view p.statement.value)) }
     ensures refused { IfErr result (IsRefusedText (text_answer text.now)) }
 {
     texts_are_answered();

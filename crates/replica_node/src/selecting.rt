@@ -118,6 +118,6 @@ pub(crate) fn answer(
         Err(ParseRefusal::NoMemory) => Err(NodeFault::NoMemory),
         Err(ParseRefusal::Deep) => Ok(refused(alloc, TOO_DEEP)),
         Err(ParseRefusal::Syntax { at }) => Ok(refused_at(alloc, at)),
-        Ok(statement) => select_checked(alloc, identity, work, &statement, draw),
+        Ok(parsed) => select_checked(alloc, identity, work, &parsed.statement, draw),
     }
 }

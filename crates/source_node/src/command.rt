@@ -34,7 +34,7 @@ fn run_text(
         Err(ParseRefusal::NoMemory) => Err(NodeFault::NoMemory),
         Err(ParseRefusal::Deep) => Ok(refused(alloc, TOO_DEEP)),
         Err(ParseRefusal::Syntax { at }) => Ok(refused_at(alloc, at)),
-        Ok(mut statement) => run(alloc, command, desk, session, text, &mut statement),
+        Ok(mut parsed) => run(alloc, command, desk, session, text, &mut parsed.statement),
     }
 }
 

@@ -1,12 +1,12 @@
 -- What reading a text answers.
 use Rattle.std.specs.Prelude.{◌≡◌, ◌<◌, ◌≤◌, ℕ, ◌-◌, ◌⊎◌, List, [], ◌∷◌, length, drop, Option, Some, None, Result, Ok, Err}
-use Rattle.std.specs.Global.{Box}
 use Rattle.sql_tree.specs.Depth.{depth_of}
 use Rattle.sql_tree.specs.Statement.{Statement}
 use Rattle.sql_tree.specs.StatementView.{view}
 use Rattle.sql_tree.specs.declared.statements.Stmt.{Stmt}
 use Rattle.sql_grammar.specs.Reader.{Read, Syntax as syntax, Deep as deep}
 use Rattle.sql_parse_tokens.specs.declared.lexeme.Lexeme.{Lexeme}
+use Rattle.sql_parse.specs.declared.parsing.Parsed.{Parsed}
 use Rattle.sql_parse.specs.declared.parsing.ParseRefusal.{ParseRefusal}
 use Rattle.sql_parse.specs.declared.parsing.ParseRefusal.TheVariants.{Syntax, Deep, NoMemory}
 use Rattle.sql_parse_nodes.specs.declared.kept.Levelled.{Levelled}
@@ -72,7 +72,7 @@ IsSunk (Err (Syntax at)) = ⊥
 IsSunk (Err Deep) = Unit {0}
 IsSunk (Err NoMemory) = Unit {0}
 
--- the answer with its statement taken out of the box
-abbrev pub opened : Result (Box Stmt) ParseRefusal → Result Stmt ParseRefusal
-opened (Ok s) = Ok s.value
+-- the answer with its statement in place of what holds it
+abbrev pub opened : Result Parsed ParseRefusal → Result Stmt ParseRefusal
+opened (Ok p) = Ok p.statement.value
 opened (Err e) = Err e

@@ -1,7 +1,7 @@
 //! Statements of SQL, read from the bytes of a text, or the place where a text is no statement.
 //!
 //! [`parse`](parsing) is the one public call of the parser, [`parse_boxed`] the same with the statement
-//! on the heap; its parts are the crates below. What a text is, where it is refused and what is too
+//! on the heap, as [`Parsed`], which this crate drops; its parts are the crates below. What a text is, where it is refused and what is too
 //! deep say the rules of `sql_syntax`; a tree is that of `sql_tree`. Tokens are made once, by
 //! `sql_lex`, and each function reads from a rest of them exactly what its rule reads. A part of a
 //! tree is held with its number of levels, and not at all where it has more than a statement may
@@ -29,4 +29,4 @@
 mod parsing;
 mod statements;
 
-pub use parsing::{ParseRefusal, parse, parse_boxed};
+pub use parsing::{ParseRefusal, Parsed, parse, parse_boxed};

@@ -129,11 +129,23 @@ fn boxed<T: Drop>(alloc: Global, value: T) -> Result<Box<T>, AllocError>
     Ok(Box::new(alloc, value)?)
 }
 
-/// The statement that a text of at most 4294967295 bytes is, on the heap. Who reads a text so never holds a statement by
-/// value, which each of its functions would have to drop part by part.
-pub fn parse_boxed(alloc: Global, text: &[u8]) -> Result<Box<Stmt>, ParseRefusal>
+/// A statement that was read, on the heap. It is dropped by this crate: a crate that drops a tree by itself has a function
+/// for each type in it.
+pub struct Parsed {
+    pub statement: Box<Stmt>,
+}
+
+impl Drop for Parsed {
+    fn drop(self) {
+        let Parsed { statement } = self;
+        drop(statement);
+    }
+}
+
+/// The statement that a text of at most 4294967295 bytes is, on the heap.
+pub fn parse_boxed(alloc: Global, text: &[u8]) -> Result<Parsed, ParseRefusal>
     requires { length text.now ≤ 4294967295 }
-    ensures statement { IfOk result (λ s. reads text.now (view s.value)) }
+    ensures statement { IfOk result (λ p. reads text.now (view p.statement.value)) }
     ensures cause { IfErr result (IsCause text.now) }
 
     // Each text gives its one answer, unless memory runs out.
@@ -141,5 +153,6 @@ pub fn parse_boxed(alloc: Global, text: &[u8]) -> Result<Box<Stmt>, ParseRefusal
     ensures refused { (at : ℕ) → IsRefusedAt text.now at → IsRefused at (opened result) }
     ensures deep { IsTooDeep text.now → IsSunk (opened result) }
 {
-    Ok(boxed(alloc, parse(alloc, text)?)?)
+    let statement = boxed(alloc, parse(alloc, text)?)?;
+    Ok(Parsed { statement })
 }

@@ -58,8 +58,8 @@ fn define_text(
     ensures err { OnErr result (work.new ≡ work.old) }
 {
     let mut context = from_carried(alloc, &nothing_carried(alloc), identity, draw)?;
-    let statement = statement_in(alloc, query.text)?;
-    define(alloc, work, &statement, &mut context, draw)
+    let parsed = statement_in(alloc, query.text)?;
+    define(alloc, work, &parsed.statement, &mut context, draw)
 }
 
 /// The definition at a place.

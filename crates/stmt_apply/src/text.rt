@@ -112,6 +112,6 @@ pub(crate) fn run_text(
     ensures needs { needs_of needs.new ≡ needs_of needs.old }
 {
     let mut context = needs.context(alloc, query, identity, draw)?;
-    let statement = statement_in(alloc, query.text)?;
-    run_allowed(alloc, work, &statement, &mut context, draw)
+    let parsed = statement_in(alloc, query.text)?;
+    run_allowed(alloc, work, &parsed.statement, &mut context, draw)
 }
