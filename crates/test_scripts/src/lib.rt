@@ -4,6 +4,7 @@
 //!
 //! - `playing`: calls of the program on scripts and on logs
 //! - `answers`: scripts and what they write: transactions, generated values, limits of trees, errors and their order
+//! - `refusals`: statements, SETs, CALLs and definitions with one cause to be refused, and SELECTs of the replica
 //! - `programs`: stored functions and triggers; `settings`: SET that is refused behind its evaluation
 //! - `replication`: logs fetched in pieces and carried out in groups
 //! - `logs`: the source's log in place of the answers
@@ -23,6 +24,8 @@ mod made;
 mod playing;
 #[cfg(test)]
 mod programs;
+#[cfg(test)]
+mod refusals;
 #[cfg(test)]
 mod replays;
 #[cfg(test)]
