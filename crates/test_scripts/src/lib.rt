@@ -9,8 +9,8 @@
 //! - `replication`: logs fetched in pieces and carried out in groups
 //! - `logs`: the source's log in place of the answers
 //! - `texts`: that log printed and replayed: what each statement carries, by its text and by its rows, and what a procedure leaves
-//! - `made`, `replays`: logs of another server, made event by event: where tables differ, what is damaged or not known, logs that are
-//!   cut, streams that fail; `stops`: rows that change and swap keys, and each stop of a row
+//! - `made`, `replays`: logs of another server, made event by event: texts and groups that are refused, what is damaged or not known,
+//!   logs that are cut, streams that fail; `stops`: rows that change and swap keys, each stop of a row, tables that differ
 //! - `statuses`: words, scripts that do not split, streams that fail, what the report tells
 #![tactic(auto)]
 
