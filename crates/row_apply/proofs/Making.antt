@@ -1,7 +1,7 @@
 -- A change of a transaction under way, made or refused.
 use Rattle.std.proofs.Common.{◌≡◌, ℕ, List, [], ◌∷◌, ◌++◌, Bool, true, false, Option, Some, None, Result, Ok, Err, refl, sym, ap, ◌∙◌}
-use Rattle.std.specs.Prelude.{is_ok, is_some, unwrap_or, if◌then◌else◌}
-use Rattle.std.specs.Option.{option_map_or}
+use Rattle.std.specs.Prelude.{IsSome, is_ok, unwrap_or, if◌then◌else◌}
+use Rattle.std.specs.Option.{option_and_then, option_map_or}
 use Rattle.val_types.specs.declared.value.Value.{Value}
 use Rattle.val_types.specs.declared.change.Change.{Change}
 use Rattle.val_types.specs.declared.change.Change.TheVariants.{Insert, Update, Delete}
@@ -35,8 +35,12 @@ there m c (Some t) e = (t, refl)
 pub table_there : (m : Map) (c : Change) (ts : List Table) → table_code m ts c ≡ None → (t : Table) × (table_named (table_of c) ts ≡ Some t)
 table_there m c ts e = there m c (table_named (table_of c) ts) e
 
-pub there_is : (m : Map) (c : Change) (ts : List Table) → table_code m ts c ≡ None → is_some (table_named (table_of c) ts) ≡ true
-there_is m c ts e = ap is_some (table_there m c ts e).1
+takes_by : (m : Map) (c : Change) (o : Option Table) → option_map_or (λ (t : Table). code_in m c t.definition) o (Some 1146) ≡ None → IsSome o
+takes_by m c None e = cc
+takes_by m c (Some t) e = refl
+
+pub takes_there : (m : Map) (c : Change) (ts : List Table) → table_code m ts c ≡ None → IsSome (table_named (table_of c) ts)
+takes_there m c ts e = takes_by m c (table_named (table_of c) ts) e
 
 taken_when : (b : Bool) (x : Option Refusal) → (if b then no_code else Some 30010) ≡ None → (if b then x else Some (30010, [])) ≡ x
 taken_when true x e = refl

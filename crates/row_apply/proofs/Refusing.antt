@@ -1,6 +1,6 @@
 -- Whether the rows of a table refuse a change, by what storing its row comes to.
 use Rattle.std.proofs.Common.{◌≡◌, ℕ, List, [], ◌∷◌, Bool, true, false, not, ◌&&◌, Option, Some, None, refl, sym, ap, ◌∙◌}
-use Rattle.std.specs.Prelude.{is_some, is_ok, if◌then◌else◌, Result, Ok, Err}
+use Rattle.std.specs.Prelude.{is_some, is_ok, if◌then◌else◌}
 use Rattle.std.specs.List.{list_any}
 use Rattle.std.specs.Option.{option_map, option_and_then, option_map_or}
 use Rattle.std.proofs.lemmas.Bool.{false_from_ne_true, true≢false, or_parts}
@@ -13,8 +13,7 @@ use Rattle.val_types.specs.Fitting.{row_fits}
 use Rattle.val_types.specs.Keys.{primary_key, same_values, agree_on, collide}
 use Rattle.table_rules.specs.Tables.{Table}
 use Rattle.table_rules.specs.Changes.{applied, may_put, put, rows_after, with_row, without, AreKept}
-use Rattle.table_rules.specs.Stored.{table_named, has_key, key_in_way, row_of_key, row_at, rows_beside, fits_table, insertion, insertion_in, replacement, replacement_in, deletion, unless_taken, where_found, Obstacle, row_absent}
-use Rattle.table_rules.proofs.Equations.{insertion_by, replacement_by, deletion_by_row}
+use Rattle.table_rules.specs.Stored.{table_named, has_key, row_of_key, row_at, rows_beside, fits_table, insertion, replacement}
 use Rattle.table_rules.proofs.Storing.{applied_where, inserts_where, named_kept, replaces_where, without_is_beside}
 use Rattle.table_rules.proofs.Taking.{Kept, as_kept, same_is, same_self, taken_out}
 use Rattle.apply_model.specs.Rows.{Refusal, taken_if, replacing, removing, storing_refusal}
@@ -152,10 +151,6 @@ pub row_found : (o : Option (List Value)) (row : List Value) → is_row o row �
 row_found None row e = cc
 row_found (Some found) row e = ap (λ (y : List Value). Some y) (sym (same_is row found e))
 
-pub found_some : (o : Option (List Value)) (row : List Value) → is_row o row ≡ true → is_some o ≡ true
-found_some None row e = cc
-found_some (Some found) row e = refl
-
 other_found : (o : Option (List Value)) (row : List Value) → is_row o row ≡ false → o ≡ Some row → ⊥
 other_found o row e is = true≢false (sym (same_self row) ∙ sym (ap (λ (p : Option (List Value)). is_row p row) is) ∙ e)
 
@@ -177,44 +172,3 @@ delete_absent name row ts t all found e = ap (removing t.definition row) (none_t
 pub update_absent : (name : List ℕ) (before row : List Value) (ts : List Table) (t : Table) → AreKept ts → table_named name ts ≡ Some t
     → is_row (row_at name (primary_key t.definition before) ts) before ≡ false → storing_refusal t.definition t.rows (Update name before row) ≡ absent_at t.definition before
 update_absent name before row ts t all found e = ap (replacing t.definition before row) (none_taken name before ts t all found e)
-
--- ---- what cannot come
-
-abbrev pub absent_step : Result Change Obstacle
-absent_step = Err row_absent
-
-never_absent : (which : Option ℕ) (c : Change) → unless_taken which c ≡ absent_step → ⊥
-never_absent None c e = cc
-never_absent (Some which) c e = cc
-
-no_insert_absent : (o : Option Table) (name : List ℕ) (row : List Value) → is_some o ≡ true → where_found o (insertion_in name row) ≡ absent_step → ⊥
-no_insert_absent None name row there e = cc
-no_insert_absent (Some t) name row there e = never_absent (key_in_way t.definition row t.rows) (Insert name row) e
-
--- a table that is there is not absent for a row to put
-pub insert_not_absent : (name : List ℕ) (row : List Value) (ts : List Table) → is_some (table_named name ts) ≡ true → insertion name row ts ≡ absent_step → ⊥
-insert_not_absent name row ts there e =
-    no_insert_absent (table_named name ts) name row there (sym (insertion_by name row ts (table_named name ts) refl) ∙ e)
-
-no_replace_found : (d : TableDef) (name : List ℕ) (key row : List Value) (rows : List (List Value)) (o : Option (List Value)) → is_some o ≡ true
-    → where_found o (λ before. unless_taken (key_in_way d row (rows_beside d key rows)) (Update name before row)) ≡ absent_step → ⊥
-no_replace_found d name key row rows None there e = cc
-no_replace_found d name key row rows (Some before) there e = never_absent (key_in_way d row (rows_beside d key rows)) (Update name before row) e
-
-no_replace_absent : (o : Option Table) (name : List ℕ) (key row : List Value) → is_some (option_and_then (λ (t : Table). row_of_key t.definition key t.rows) o) ≡ true
-    → where_found o (replacement_in name key row) ≡ absent_step → ⊥
-no_replace_absent None name key row there e = cc
-no_replace_absent (Some t) name key row there e = no_replace_found t.definition name key row t.rows (row_of_key t.definition key t.rows) there e
-
--- nor is a row that is there for one to replace it
-pub replace_not_absent : (name : List ℕ) (key row : List Value) (ts : List Table) → is_some (row_at name key ts) ≡ true → replacement name key row ts ≡ absent_step → ⊥
-replace_not_absent name key row ts there e =
-    no_replace_absent (table_named name ts) name key row there (sym (replacement_by name key row ts (table_named name ts) refl) ∙ e)
-
-never_refused : (c : Change) (x : Obstacle) (step : Result Change Obstacle) → step ≡ Ok c → step ≡ Err x → ⊥
-never_refused c x step is e = let f : Ok c ≡ Err x = sym is ∙ e in cc
-
--- nothing is in the way of taking out a row that is there
-pub delete_not_refused : (name : List ℕ) (key row : List Value) (ts : List Table) (x : Obstacle) → is_row (row_at name key ts) row ≡ true → deletion name key ts ≡ Err x → ⊥
-delete_not_refused name key row ts x there e =
-    never_refused (Delete name row) x (deletion name key ts) (deletion_by_row name key ts (Some row) (row_found (row_at name key ts) row there)) e

@@ -1,5 +1,5 @@
 //! One change of a row, made to the tables as it is.
-ghost use Rattle.std.specs.Prelude.{◌≡◌, List as Items, [], Err, false, true, is_some, IfSome, None, Some};
+ghost use Rattle.std.specs.Prelude.{◌≡◌, List as Items, [], Err, false, IfSome, IsSome, None, Some};
 ghost use Rattle.val_types.specs.declared.change.Change.TheVariants.{Delete, Insert, Update};
 ghost use Rattle.val_types.specs.declared.value.Value.{Value as Content};
 ghost use Rattle.val_types.specs.Changes.{table_of};
@@ -59,7 +59,7 @@ fn raise(work: &mut Work, table: &Bytes, value: Option<i64>)
 }
 
 /// A row of a key put into a table that takes it, with the counter that it raises: 1062.
-#[tactic(auto, using(crate::proofs::Staying::staying, crate::proofs::Refusing::insert_not_absent))]
+#[tactic(auto, using(crate::proofs::Staying::staying))]
 fn put_in(
     work: &mut Work,
     pos: u64,
@@ -67,7 +67,7 @@ fn put_in(
     key: Row,
     row: Shared<Row>,
 ) -> Result<(), Stop>
-    requires there { is_some (table_named table work.old.tables) ≡ true }
+    requires there { IsSome (table_named table work.old.tables) }
     requires key { IsKey table work.old.tables row key }
     ensures ends { (m : Map) → table_code m work.old.tables (Insert table row) ≡ None → Ends result (progress_in work.new) (change_carried pos m (Insert table row) (progress_in work.old)) }
     ensures unfit { fits_table table row work.old.tables ≡ false → result ≡ Err (Differs pos 1062 table key) }
@@ -97,7 +97,7 @@ fn insert(
     table: Shared<Bytes>,
     row: Shared<Row>,
 ) -> Result<(), Stop>
-    requires { is_some (table_named table work.old.tables) ≡ true }
+    requires { IsSome (table_named table work.old.tables) }
     ensures ends { (m : Map) → table_code m work.old.tables (Insert table row) ≡ None → Ends result (progress_in work.new) (change_carried pos m (Insert table row) (progress_in work.old)) }
     ensures rest { Stays work.old work.new }
 {
@@ -106,7 +106,7 @@ fn insert(
 }
 
 /// A row that is there replaced by another, which has the key to put: 1062.
-#[tactic(auto, using(crate::proofs::Staying::staying, crate::proofs::Refusing::replace_not_absent))]
+#[tactic(auto, using(crate::proofs::Staying::staying))]
 fn replace(
     work: &mut Work,
     pos: u64,
@@ -115,7 +115,7 @@ fn replace(
     put: Row,
     after: Shared<Row>,
 ) -> Result<(), Stop>
-    requires there { is_some (row_at table key work.old.tables) ≡ true }
+    requires there { IsSome (row_at table key work.old.tables) }
     requires put { IsKey table work.old.tables after put }
     ensures ends { (m : Map) → (before : Items Content) → table_code m work.old.tables (Update table before after) ≡ None → row_at table key work.old.tables ≡ Some before
         → Ends result (progress_in work.new) (change_carried pos m (Update table before after) (progress_in work.old)) }
@@ -176,7 +176,7 @@ fn update(
 }
 
 /// A row of a key taken out of a table, once it is there: 1032.
-#[tactic(auto, using(crate::proofs::Staying::staying, crate::proofs::Refusing::delete_not_refused))]
+#[tactic(auto, using(crate::proofs::Staying::staying))]
 fn take_out(
     work: &mut Work,
     pos: u64,
@@ -195,9 +195,9 @@ fn take_out(
     }
     match work.delete_row(table.get(), &key) {
         Ok(()) => Ok(()),
-        Err(RowRefusal::Taken { .. }) => unreachable!(),
-        Err(RowRefusal::Absent) => unreachable!(),
         Err(RowRefusal::NoMemory) => Err(Stop::NoMemory),
+        Err(RowRefusal::Absent) => unreachable!(),
+        Err(RowRefusal::Taken { .. }) => unreachable!(),
     }
 }
 
@@ -219,7 +219,7 @@ fn delete(
 
 /// A change that its table takes, which is there.
 fn make(alloc: Global, work: &mut Work, pos: u64, change: Change) -> Result<(), Stop>
-    requires { is_some (table_named (table_of change) work.old.tables) ≡ true }
+    requires { IsSome (table_named (table_of change) work.old.tables) }
     ensures ends { (m : Map) → table_code m work.old.tables change ≡ None → Ends result (progress_in work.new) (change_carried pos m change (progress_in work.old)) }
     ensures rest { Stays work.old work.new }
 {

@@ -7,7 +7,7 @@ use Rattle.apply_model.specs.Rows.{counters_moved}
 use Rattle.prog_work.specs.Contents.{Contents}
 use Rattle.row_apply.specs.Changes.{raised_to}
 use Rattle.row_apply.specs.Ends.{progress_in}
-use Rattle.row_apply.proofs.Making.{gone_to, insert_made, insert_taken_stops}
+use Rattle.row_apply.proofs.Making.{gone_to, insert_made, insert_taken_stops, insertion_there}
 use Rattle.row_apply.proofs.changing.put_in.Goals as goal
 
 pub returns-in-Ok-clause-ends : goal.returns-in-Ok-clause-ends
@@ -27,3 +27,8 @@ returns-in-Err-Taken-clause-ends c = λ m takes.
     let stored = rw c.in-Err-Taken.field-0-is at c.in-Err-Taken.ensures.stored in
     rw c.differs-in-Err-Taken.ensures
     (insert_taken_stops c.args.pos m c.args.table c.args.row c.args.key (progress_in c.args.work.now) c.in-Err-Taken.field-0-0 takes c.requires.key fits stored.0)
+
+pub unreachable-requires : goal.unreachable-requires
+unreachable-requires c =
+    let stored = rw c.in-Err-Absent.field-0-is at c.in-Err-Absent.ensures.stored in
+    insertion_there c.args.table c.args.row c.args.work.now.tables c.requires.there stored.0

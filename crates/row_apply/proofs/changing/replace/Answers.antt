@@ -27,4 +27,4 @@ returns-in-Ok-clause-ends c = λ m before takes there.
 pub unreachable-requires : goal.unreachable-requires
 unreachable-requires c =
     let stored = rw c.in-Err-Absent.field-0-is at c.in-Err-Absent.ensures.stored in
-    replacement_there c.args.table c.args.key c.args.after c.args.work.now.tables c.requires stored.0
+    replacement_there c.args.table c.args.key c.args.after c.args.work.now.tables c.requires.there stored.0

@@ -3,8 +3,8 @@ use Rattle.table_rules.specs.Tables.{Table}
 use Rattle.table_rules.specs.Stored.{row_at, table_named}
 use Rattle.row_apply.specs.Changes.{is_row}
 use Rattle.row_apply.specs.Ends.{progress_in}
-use Rattle.row_apply.proofs.Making.{update_absent_stops}
-use Rattle.row_apply.proofs.Refusing.{found_some, row_found}
+use Rattle.row_apply.proofs.Making.{row_there, update_absent_stops}
+use Rattle.row_apply.proofs.Refusing.{row_found}
 use Rattle.row_apply.proofs.changing.replace_there.Goals as goal
 
 pub returns-then-not-is_there-clause-ends : goal.returns-then-not-is_there-clause-ends
@@ -16,7 +16,7 @@ returns-then-not-is_there-clause-ends c = λ m takes.
 pub replace-requires-clause-there : goal.replace-requires-clause-there
 replace-requires-clause-there c =
     let there : is_row (row_at c.args.table c.args.key c.args.work.now.tables) c.args.before.now ≡ true = search rules in
-    found_some (row_at c.args.table c.args.key c.args.work.now.tables) c.args.before.now there
+    row_there c.args.table c.args.key c.args.before.now c.args.work.now.tables there
 
 pub replace-requires-clause-put : goal.replace-requires-clause-put
 replace-requires-clause-put c = λ t is. c.in_ok-put.ensures t (ap (λ (ts : List Table). table_named c.args.table ts) c.tables-2.ensures ∙ is)
