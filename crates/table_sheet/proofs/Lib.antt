@@ -4,6 +4,8 @@ pub mod Keeping
 pub mod Looking
 pub mod Passing
 pub mod Refusing
+pub mod Settled
 pub mod Shown
 pub mod Slotted
+pub mod Steps
 pub mod Turning

@@ -194,7 +194,7 @@ ranked_after entries new entry blocks roomy ms spot n pushed same put is ranked 
     ∙ ap (are_ranked (entries ++ entry ∷ [])) (put ∙ ap (insert (flat roomy) (place roomy spot)) is ∙ ap (λ (bs : List (List ℕ)). insert (flat bs) (place bs spot) (length entries)) same)
     ∙ ranked_put entries entry (flat blocks) (place blocks spot) ranked
 
-spot_within : (bs : List (List ℕ)) (b at : ℕ) → at ≤ length (block_at bs b) → length (flat (take b bs)) + at ≤ length (flat bs)
+pub spot_within : (bs : List (List ℕ)) (b at : ℕ) → at ≤ length (block_at bs b) → length (flat (take b bs)) + at ≤ length (flat bs)
 spot_within [] zero at le = omega (arith, le)
 spot_within [] (suc b) at le = omega (arith, le)
 spot_within (c ∷ bs) zero at le = omega (arith, le, length-append c (flat bs))

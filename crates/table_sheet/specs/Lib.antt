@@ -4,4 +4,5 @@ pub mod Pages
 pub mod Parts
 pub mod Ranked
 pub mod Refusals
+pub mod Settling
 pub mod Walks

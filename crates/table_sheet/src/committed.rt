@@ -59,7 +59,7 @@ impl Committed {
     }
 
     /// The same for the primary key of a row, of which no copy is made.
-    fn find_row(&self, definition: &Shared<TableDef>, row: &Row) -> Result<Spot, Spot>
+    pub(crate) fn find_row(&self, definition: &Shared<TableDef>, row: &Row) -> Result<Spot, Spot>
         requires { keys_rise (keys_in (committed_slots definition.now self.now)) ≡ true }
         ensures found { IsFound (by_key (row_slot definition.now self.now.rows.rows) (primary_key definition.now row.now)) self.now.order.blocks result }
         ensures spot { MatchResult result (λ spot. IsAt self.now.order.blocks spot) (λ spot. IsSpot self.now.order.blocks spot) }

@@ -7,8 +7,7 @@
 //! first change of its key and set again by later ones, so that a change is taken back without memory. Unique keys are looked for
 //! by a walk over the rows.
 //!
-//! No program uses it yet. What is still to come: rows that are shown made the committed ones, indexes of unique keys, and the
-//! count of comparisons as a clause.
+//! No program uses it yet. What is still to come: indexes of unique keys, and the count of comparisons as a clause.
 //!
 //! - `refusal`: [`SheetRefusal`]
 //! - `comparing`: keys of rows without copies of them
@@ -18,6 +17,7 @@
 //! - `place`, `walking`: entries and committed rows walked side by side
 //! - `reading`: all rows, and the keys in the way of one
 //! - `writing`: rows inserted, replaced and deleted
+//! - `settling`: rows that are shown made the committed ones
 //!
 //! # Proved
 //! - [`Sheet::get`] and [`Sheet::get_same`] give exactly the row that is shown of a key, or of a row's key
@@ -29,6 +29,7 @@
 //!   a change back
 //! - [`Sheet::set_aside`], [`Sheet::put_back`] and [`Sheet::forget`] give exactly the page without entries, with those that were set
 //!   aside, and without; they take no memory
+//! - [`Sheet::settle`] makes exactly the rows that are shown the committed ones, so that the same are shown then; it takes no memory
 //! - [`Sheet::rows`], [`Sheet::committed_rows`] and [`Sheet::keys`] give the rows and keys in order, or want memory;
 //!   [`Sheet::key_in_way`] the number of the first key in the way
 //! - of each sheet: committed and shown rows are as those of a table have to be, and there is room to settle all that is new
@@ -45,6 +46,7 @@ mod overlay;
 mod place;
 mod reading;
 mod refusal;
+mod settling;
 mod sheet;
 mod walking;
 mod writing;

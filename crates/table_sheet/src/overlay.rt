@@ -46,7 +46,7 @@ impl Overlay {
     }
 
     /// The entry of a number.
-    fn entry(&self, number: u32) -> Option<&Entry>
+    pub(crate) fn entry(&self, number: u32) -> Option<&Entry>
         ensures { option_copied result ≡ slice_get self.now.entries.items number }
     {
         self.entries.get(number as usize)
