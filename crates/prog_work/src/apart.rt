@@ -22,7 +22,7 @@ impl Work {
         ensures together { AreTogether result.catalog result.stage.tables result.stage.undo result.stage.counters }
     {
         let alloc = self.alloc;
-        let Work { catalog, stage, .. } = mem::replace(self, Work::new(alloc));
+        let (catalog, stage) = mem::replace(self, Work::new(alloc)).into_parts();
         Apart { catalog, stage }
     }
 

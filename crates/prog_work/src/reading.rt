@@ -65,7 +65,8 @@ impl Work {
         requires { reader.objects ≡ self.old.objects }
         ensures { self.new ≡ record self.old { counters = reader.counters } }
     {
-        let Work { stage, .. } = reader;
+        let (catalog, stage) = reader.into_parts();
+        drop(catalog);
         let Stage { counters, .. } = stage;
         self.stage.counters = counters;
     }

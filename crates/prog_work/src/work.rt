@@ -1,6 +1,7 @@
 //! What statements work on.
 ghost use Rattle.std.specs.Prelude.{◌≡◌, []};
-ghost use Rattle.prog_work.specs.Contents.{IsTogether, committed_tables, nothing, taken_back};
+ghost use Rattle.prog_work.specs.Contents.{IsTogether, committed_tables, contents_of, nothing, taken_back};
+ghost use Rattle.prog_work.specs.Together.{AreTogether};
 
 use auto_inc::Counters;
 use catalog::Catalog;
@@ -11,8 +12,8 @@ use std::alloc::Global;
 use std::marker::Model;
 use undo_log::Undo;
 
-/// The catalog, the tables as they stand with the changes that can be taken back, and the counters.
-#[derive(Drop)]
+/// The catalog, the tables as they stand with the changes that can be taken back, and the counters. It is dropped here, so that no
+/// crate that holds it has a function for each type of a tree in the catalog.
 pub struct Work {
     pub(crate) alloc: Global,
     pub(crate) catalog: Catalog,
@@ -40,7 +41,32 @@ impl Model for Work {
     ghost invariant = { λ w. AreTogether w.catalog w.stage.tables w.stage.undo w.stage.counters };
 }
 
+impl Drop for Work {
+    fn drop(self) {
+        let Work {
+            alloc: _,
+            catalog,
+            stage,
+        } = self;
+        drop(catalog);
+        drop(stage);
+    }
+}
+
 impl Work {
+    /// The catalog and the stage, which are together.
+    pub(crate) fn into_parts(self) -> (Catalog, Stage)
+        ensures is { contents_of result.0 result.1 ≡ self }
+        ensures together { AreTogether result.0 result.1.tables result.1.undo result.1.counters }
+    {
+        let Work {
+            alloc: _,
+            catalog,
+            stage,
+        } = self;
+        (catalog, stage)
+    }
+
     /// No table and no change, which takes no memory.
     #[tactic(auto, using(crate::proofs::Holding::together_nothing))]
     pub fn new(alloc: Global) -> Work
