@@ -20,8 +20,8 @@ use val_types::{Bytes, List, NoMemory};
 /// How many bytes BEGIN and XID have beside the items.
 const ENDS: u64 = 67;
 
-/// The items of a transaction, in the order in which their statements ran. Contracts see it as their list.
-#[derive(Drop)]
+/// The items of a transaction, in the order in which their statements ran. Contracts see it as their list. It is dropped here, so
+/// that no crate that holds it has a function for each type in an item.
 pub struct Cache {
     kept: List<Kept>,
 }
@@ -36,6 +36,13 @@ impl Model for Cache {
     ghost view = { λ c. items_of c.kept };
 
     ghost invariant = { λ c. AreCounted c.kept };
+}
+
+impl Drop for Cache {
+    fn drop(self) {
+        let Cache { kept } = self;
+        drop(kept);
+    }
 }
 
 impl Cache {

@@ -15,8 +15,7 @@ use std::alloc::Global;
 use std::marker::Model;
 use val_types::{Bytes, Duplicate, NoMemory};
 
-/// An open transaction: its items, its savepoints, the oldest first, and whether a row was ever changed in it.
-#[derive(Drop)]
+/// An open transaction: its items, its savepoints, the oldest first, and whether a row was ever changed in it. It is dropped here.
 pub struct Open {
     items: Items,
     saves: Vec<Save>,
@@ -30,6 +29,18 @@ impl Model for Open {
     ghost Value = { Transaction LoggedItem };
 
     ghost view = { λ o. record { items = o.items; saves = o.saves.items; changed = o.changed } };
+}
+
+impl Drop for Open {
+    fn drop(self) {
+        let Open {
+            items,
+            saves,
+            changed: _,
+        } = self;
+        drop(items);
+        drop(saves);
+    }
 }
 
 impl Open {
