@@ -15,8 +15,7 @@ use std::alloc::Global;
 use std::marker::Model;
 use val_types::Bytes;
 
-/// A replica in memory, which contracts see as who it is and what it keeps.
-#[derive(Drop)]
+/// A replica in memory, which contracts see as who it is and what it keeps. It is dropped here.
 pub struct ReplicaNode {
     pub(crate) alloc: Global,
     pub(crate) identity: Identity,
@@ -39,6 +38,21 @@ impl Model for ReplicaNode {
     ghost view = { λ n. record { identity = n.identity; work = n.work; number = n.number; relay = n.relay } };
 
     ghost invariant = { λ n. n.work.changes ≡ [] };
+}
+
+impl Drop for ReplicaNode {
+    fn drop(self) {
+        let ReplicaNode {
+            alloc: _,
+            identity,
+            work,
+            number: _,
+            relay,
+        } = self;
+        drop(identity);
+        drop(work);
+        drop(relay);
+    }
 }
 
 impl ReplicaNode {

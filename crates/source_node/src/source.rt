@@ -21,8 +21,7 @@ use val_types::{Bytes, NoMemory};
 /// The number of the log.
 const FIRST_LOG: u32 = 1;
 
-/// A source in memory with its log, which contracts see as what it keeps.
-#[derive(Drop)]
+/// A source in memory with its log, which contracts see as what it keeps. It is dropped here.
 pub struct SourceNode {
     alloc: Global,
     identity: Identity,
@@ -44,6 +43,20 @@ impl Model for SourceNode {
     ghost view = { λ n. record { identity = n.identity; desk = n.desk; sessions = n.sessions.items } };
 
     ghost invariant = { λ n. length n.sessions.items ≡ 100 };
+}
+
+impl Drop for SourceNode {
+    fn drop(self) {
+        let SourceNode {
+            alloc: _,
+            identity,
+            desk,
+            sessions,
+        } = self;
+        drop(identity);
+        drop(desk);
+        drop(sessions);
+    }
 }
 
 /// A place for each session, none of which has had a command.
