@@ -2,13 +2,13 @@
 //!
 //! - `expressions`: expressions and SELECTs
 //! - `statements`: changes, and whole statements: [`close_stmt`]
-//! - `closing`: [`close_over`]
+//! - `closing`: [`close_over`]; [`closed_over`], a [`Closed`] statement on the heap
 //!
 //! Names, and the numbers of LIMITs, are closed by `name_const_names`; what refuses to close a statement is found by
 //! `name_const_checks`. In specs/ stands `Refusing`, what a call of [`close_over`] answers.
 //!
 //! # Proved
-//! - [`close_stmt`] gives the statement with its locals closed in, or finds no memory.
+//! - [`close_stmt`] gives the statement with its locals closed in, or finds no memory; so does [`closed_over`].
 //! - [`close_over`] refuses what [`check_closing`](name_const_checks::check_closing) refuses, else it gives the statement with its
 //!   locals closed in, or finds no memory. It asks nothing of the statement.
 //!
@@ -23,7 +23,7 @@ mod expressions;
 mod statements;
 
 // What is its own, and the crates below that it speaks of, passed on: who stands above names them through it.
-pub use closing::close_over;
+pub use closing::{Closed, close_over, closed_over};
 pub use name_const_checks;
 pub use name_const_checks::proc_model;
 pub use name_const_names::log_entries;

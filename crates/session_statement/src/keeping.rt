@@ -11,7 +11,7 @@ ghost use Rattle.session_statement.specs.Keeping.{item_kept, settled, statement_
 ghost use Rattle.session_statement.specs.Turned.{EndsAs, IsTurn};
 
 use proc_parts::log_entries::Item;
-use proc_parts::name_const::close_stmt;
+use proc_parts::name_const::closed_over;
 use proc_parts::session_ctx::Ctx;
 use session_shared::binlog_items::{Before, Items, item_of};
 use session_shared::{Command, Desk, Open, Session, how_logged};
@@ -19,7 +19,7 @@ use sql_locals::Locals;
 use sql_print::print;
 use sql_tree::Stmt;
 use std::alloc::Global;
-use val_types::{Boxed, NoMemory, SqlError, SqlRefusal};
+use val_types::{NoMemory, SqlError, SqlRefusal};
 
 /// A transaction has too many bytes.
 const TOO_LARGE: SqlError = 1197;
@@ -207,13 +207,6 @@ pub(crate) fn keep_printed(
     )
 }
 
-/// A statement with locals closed in, on the heap.
-fn closed_over(alloc: Global, statement: &Stmt, locals: &Locals) -> Result<Boxed<Stmt>, NoMemory>
-    ensures { IfOk result (λ copy. view copy ≡ closed (view statement.now) locals.now) }
-{
-    Boxed::new(alloc, close_stmt(alloc, locals, statement)?)
-}
-
 /// The same of the DO over expressions, in which locals are closed. It is closed only where they changed something.
 #[tactic(auto, using(crate::proofs::Keeps::nothing_kept))]
 pub(crate) fn keep_closed(
@@ -232,5 +225,13 @@ pub(crate) fn keep_closed(
         return Ok(false);
     }
     let closed = closed_over(alloc, statement, locals)?;
-    keep_printed(alloc, command, desk, session, closed.get(), start, None)
+    keep_printed(
+        alloc,
+        command,
+        desk,
+        session,
+        closed.statement.get(),
+        start,
+        None,
+    )
 }
