@@ -71,7 +71,7 @@ ranges_are_enough world frame d condition place rows scene fits =
 
 -- ---- keys that facts name
 
-equal_is : (a b : Value) → is_eq (value_order a b) ≡ true → a ≡ b
+pub equal_is : (a b : Value) → is_eq (value_order a b) ≡ true → a ≡ b
 equal_is a b e = value_exact a b (eq_is (value_order a b) e)
   where
     eq_is : (o : Ordering) → is_eq o ≡ true → o ≡ orders.Equal

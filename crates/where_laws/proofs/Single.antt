@@ -38,11 +38,11 @@ Rows = List (List Value)
 -- ---- tests that at most one row passes
 
 -- where a row passes, none behind it does
-abbrev IsLone : (List Value → Bool) → Rows → Type 0
+abbrev pub IsLone : (List Value → Bool) → Rows → Type 0
 IsLone test [] = Unit {0}
 IsLone test (row ∷ rows) = (test row ≡ true → filter test rows ≡ []) × IsLone test rows
 
-only_one : (test : List Value → Bool) (rows : Rows) → IsLone test rows → filter test rows ≡ option_to_list (find test rows)
+pub only_one : (test : List Value → Bool) (rows : Rows) → IsLone test rows → filter test rows ≡ option_to_list (find test rows)
 only_one test [] lone = refl
 only_one test (row ∷ rows) lone = step (test row) lone.0 (only_one test rows lone.1)
   where
@@ -72,7 +72,7 @@ less_unequal orders.Less e = refl
 less_unequal orders.Equal e = cc
 less_unequal orders.Greater e = cc
 
-key_is_lone : (d : TableDef) (key : List Value) (rows : Rows) → rise d rows ≡ true → IsLone (has_key d key) rows
+pub key_is_lone : (d : TableDef) (key : List Value) (rows : Rows) → rise d rows ≡ true → IsLone (has_key d key) rows
 key_is_lone d key [] rising = tt
 key_is_lone d key (row ∷ rows) rising =
     let both = and_parts (list_all (is_below d row) rows) (rise d rows) rising in (

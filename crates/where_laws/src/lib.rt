@@ -2,7 +2,7 @@
 //!
 //! A WHERE tests each row of its table in the order of keys, and a test may fail, draw, or call a function that changes rows. A row may be
 //! left out where its test is not true and nothing is noticed of it. What is known of a condition before any row is looked at says so of
-//! rows: it is read from the tree, the definition of the table, and what is round the WHERE. Used by no code yet.
+//! rows: it is read from the tree, the definition of the table, and what is round the WHERE. `where_keys` finds keys by it.
 //!
 //! The definitions stand in specs/: `Facts` (how values in columns compare with others), `Sides` (sides of a comparison: a column, or a
 //! value that stands whatever the row; locals hide columns, and columns hide those of rows in view outside), `Known` (what is known of a

@@ -1,0 +1,31 @@
+//! The primary key that a WHERE names before a row is looked at.
+//!
+//! A condition is a tree of AND: its parts are looked at from the left, up to the first that may do more than be true, false or unknown.
+//! Where a part is `=` or `<=>` between a column of the key, which is never NULL, and a value that stands whatever the row, it says of each
+//! row what it has there. A value stands where it is a literal, NAME_CONST, a local, a user variable that was set, or a column of NEW or
+//! OLD; a local hides a column of its name. It has to be of the column's kind, and not NULL.
+//!
+//! - `outside`: what a WHERE has outside of its table ([`Outside`])
+//! - `sides`: sides of comparisons that are known: columns, and values that stand
+//! - `keys`: what a condition says of a column, and of the primary key ([`key_named`])
+//! - `laws`: what follows
+//!
+//! The definitions in specs/ (`Sides`, `Keys`) say of the code's parts what they give; the conditions that they know are among those of
+//! `where_laws`, which knows rows in view outside and `-` before a value, too.
+//!
+//! # Proved
+//! - [`key_named`] gives just the values that the condition names of the primary key, None where it names not each, or wants memory
+//! - where a condition names a key, a WHERE keeps the same rows, with the same scene or error behind it, where only the row of that key
+//!   is looked at, if there is one: whatever rows the table has, and whatever else is round the WHERE ([`named_keys_are_enough`])
+#![tactic(auto)]
+
+mod keys;
+mod laws;
+mod outside;
+mod sides;
+
+// What is its own, and the crates below that it speaks of, passed on: who stands above names them through it.
+pub use keys::key_named;
+pub use laws::named_keys_are_enough;
+pub use outside::{Outside, RowOf};
+pub use session_ctx;
