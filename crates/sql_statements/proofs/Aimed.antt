@@ -1,6 +1,7 @@
 -- The table that is changed, where it is found.
 use Rattle.std.proofs.Common.{◌≡◌, ℕ, List, Some, sym, ap, ◌∙◌}
 use Rattle.std.specs.Prelude.{slice_get}
+use Rattle.std.specs.Option.{option_map}
 use Rattle.val_types.specs.declared.value.Value.{Value}
 use Rattle.val_types.specs.declared.definitions.TableDef.{TableDef}
 use Rattle.table_rules.specs.Tables.{Table}
@@ -30,7 +31,7 @@ pub found_so : (target : Target) (name : List ℕ) (stage : Stage)
 unfolding StandsAt scene_of
 found_so target name stage place there = record {
   stands = record {
-    place = place_named name target.definition stage.tables.tables target.at (name_there name stage.tables.tables target.at target.definition (sym there) place) place;
+    place = place_named name target.definition stage.tables.tables target.at (name_there name target.definition.name stage.tables.tables target.at (ap (option_map (λ (d : TableDef). d.name)) (sym there)) place) place;
     there = there;
   };
   place = place;
