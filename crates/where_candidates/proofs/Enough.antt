@@ -1,0 +1,88 @@
+-- Rows that are all that a WHERE has to look at.
+use Rattle.std.proofs.Common.{◌≡◌, ℕ, zero, suc, List, [], ◌∷◌, Option, Some, None, map, refl, sym, ap, ◌∙◌}
+use Rattle.std.specs.Prelude.{slice_get, option_to_list}
+use Rattle.std.specs.Option.{option_map, option_and_then, option_map_or}
+use Rattle.val_types.specs.declared.value.Value.{Value}
+use Rattle.val_types.specs.declared.definitions.TableDef.{TableDef}
+use Rattle.table_rules.specs.Tables.{Table, IsKept}
+use Rattle.table_rules.specs.Stored.{table_named, row_at, rows_of, row_of_key}
+use Rattle.table_rules.specs.Stores.{place_of, definitions_of, Store, IsWhole}
+use Rattle.table_rules.proofs.Places.{place_is_of_name, none_named}
+use Rattle.table_rules.proofs.Storing.{named_kept}
+use Rattle.sql_tree.specs.Tree.{Tree, Part, part}
+use Rattle.where_keys.specs.sql_meaning.Scenes.{kept_by}
+use Rattle.where_keys.specs.where_laws.Laws.{kept_where}
+use Rattle.where_keys.specs.declared.outside.Outside.{Outside}
+use Rattle.where_keys.specs.Keys.{key_in}
+use Rattle.where_keys.proofs.Named.{named_keys_are_enough}
+use Rattle.where_candidates.specs.Candidates.{AreCandidates}
+
+-- ---- the table of a name, at its place
+
+get_mapped : {X Y : Type 0} (f : X → Y) (xs : List X) (i : ℕ) → slice_get (map f xs) i ≡ option_map f (slice_get xs i)
+get_mapped f [] i = refl
+get_mapped f (x ∷ xs) zero = refl
+get_mapped f (x ∷ xs) (suc i) = get_mapped f xs i
+
+definition_there : (name : List ℕ) (tables : List Table) (at : ℕ) → place_of name tables ≡ Some at
+    → slice_get (definitions_of tables) at ≡ option_map (λ (t : Table). t.definition) (table_named name tables)
+definition_there name tables at place =
+    get_mapped (λ (t : Table). t.definition) tables at ∙ ap (option_map (λ (t : Table). t.definition)) (place_is_of_name name tables at place)
+
+-- nothing is there
+no_definition : (found : Option Table) → option_map (λ (t : Table). t.definition) found ≡ None → found ≡ None
+no_definition None e = refl
+no_definition (Some t) e = cc
+
+pub not_at : (name : List ℕ) (tables : List Table) (at : ℕ) → place_of name tables ≡ Some at → slice_get (definitions_of tables) at ≡ None → table_named name tables ≡ None
+not_at name tables at place none = no_definition (table_named name tables) (sym (definition_there name tables at place) ∙ none)
+
+pub not_placed : (name : List ℕ) (tables : List Table) → place_of name tables ≡ None → table_named name tables ≡ None
+not_placed name tables e = none_named name tables e
+
+-- it has its definition and its rows, is kept, and has the row of a key
+table_is : (d : TableDef) (found : Option Table) → option_map (λ (t : Table). t.definition) found ≡ Some d
+    → found ≡ Some (record { definition = d; rows = option_map_or (λ (t : Table). t.rows) found [] })
+table_is d None here = cc
+table_is d (Some t) here = let same : t.definition ≡ d = cc in ap (λ (e : TableDef). Some (record { definition = e; rows = t.rows })) same
+
+kept_there : (d : TableDef) (found : Option Table) → option_map (λ (t : Table). t.definition) found ≡ Some d → ((t : Table) → found ≡ Some t → IsKept t)
+    → IsKept (record { definition = d; rows = option_map_or (λ (t : Table). t.rows) found [] })
+kept_there d found here kept = kept (record { definition = d; rows = option_map_or (λ (t : Table). t.rows) found [] }) (table_is d found here)
+
+row_there : (key : List Value) (d : TableDef) (found : Option Table) → option_map (λ (t : Table). t.definition) found ≡ Some d
+    → option_and_then (λ (t : Table). row_of_key t.definition key t.rows) found ≡ row_of_key d key (option_map_or (λ (t : Table). t.rows) found [])
+row_there key d None here = cc
+row_there key d (Some t) here = let same : t.definition ≡ d = cc in ap (λ (e : TableDef). row_of_key e key t.rows) same
+
+-- ---- candidates
+
+-- all rows are enough
+pub all_so : (o : Outside) (name : List ℕ) (d : TableDef) (p : Part) (tables : List Table) (at : ℕ) (rows : List (List Value)) → place_of name tables ≡ Some at
+    → slice_get (definitions_of tables) at ≡ Some d → rows ≡ rows_of name tables → AreCandidates o name d p tables rows
+all_so o name d p tables at rows place there is = record {
+  all = rows_of name tables;
+  there = table_is d (table_named name tables) (sym (definition_there name tables at place) ∙ there);
+  enough = λ world frame round scene. ap (λ (left : List (List Value)). kept_by (kept_where world frame d p) left scene) (sym is);
+}
+
+-- so is the row of a key that the condition names
+pub keyed_so : (o : Outside) (name : List ℕ) (d : TableDef) (t : Tree) (store : Store) (at : ℕ) (key : List Value) (rows : List (List Value)) → IsWhole store
+    → place_of name store.tables ≡ Some at → slice_get (definitions_of store.tables) at ≡ Some d → key_in o d t d.primary ≡ Some key
+    → rows ≡ option_to_list (row_at name key store.tables) → AreCandidates o name d (part t) store.tables rows
+keyed_so o name d t store at key rows whole place there named is =
+    let here = sym (definition_there name store.tables at place) ∙ there in
+    let kept = kept_there d (table_named name store.tables) here (λ t e. named_kept name store.tables t whole.rows e) in
+    let same : rows ≡ option_to_list (row_of_key d key (rows_of name store.tables)) =
+    is ∙ ap (λ (r : Option (List Value)). option_to_list r) (row_there key d (table_named name store.tables) here) in
+    record {
+      all = rows_of name store.tables;
+      there = table_is d (table_named name store.tables) here;
+      enough = λ world frame round scene.
+          (named_keys_are_enough o d t key named).gives world frame round (rows_of name store.tables) kept scene
+          ∙ ap (λ (left : List (List Value)). kept_by (kept_where world frame d (part t)) left scene) (sym same);
+    }
+
+pub ruleset seeing = (all_so, keyed_so)
+
+pub ruleset missing = (not_at, not_placed)
