@@ -1,4 +1,6 @@
-use Rattle.std.proofs.Common.{◌≡◌, List, true, false, ap, ◌∙◌, rules}
+use Rattle.std.proofs.Common.{◌≡◌, ℕ, List, true, false, ap, ◌∙◌, rules}
+use Rattle.val_types.specs.declared.value.Value.{Value}
+use Rattle.val_types.specs.Keys.{primary_key}
 use Rattle.table_rules.specs.Tables.{Table}
 use Rattle.table_rules.specs.Stored.{row_at, table_named}
 use Rattle.row_apply.specs.Changes.{is_row}
@@ -19,7 +21,9 @@ replace-requires-clause-there c =
     row_there c.args.table c.args.key c.args.before.now c.args.work.now.tables there
 
 pub replace-requires-clause-put : goal.replace-requires-clause-put
-replace-requires-clause-put c = λ t is. c.in_ok-put.ensures t (ap (λ (ts : List Table). table_named c.args.table ts) c.tables-2.ensures ∙ is)
+replace-requires-clause-put c = λ t is.
+    c.in_ok-put.ensures t (ap (λ (name : List ℕ). table_named name c.tables-2.result.now.tables) c.get-2.ensures ∙ ap (λ (ts : List Table). table_named c.args.table ts) c.tables-2.ensures ∙ is)
+    ∙ ap (λ (row : List Value). primary_key t.definition row) c.get-3.ensures
 
 pub returns-clause-ends : goal.returns-clause-ends
 returns-clause-ends c = λ m takes.
