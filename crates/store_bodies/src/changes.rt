@@ -5,10 +5,19 @@ ghost use Rattle.store_model.specs.Reading.{read_as, so_many, row_in, change_of_
 ghost use Rattle.store_model.specs.Bodies.{changes_in};
 ghost use Rattle.store_bodies.specs.Seen.{seen};
 
-use crate::rows::take_row;
+use crate::rows::take_shared_row;
 use crate::taking::{take_four, take_name, take_one};
+use sharing::Shared;
 use std::alloc::Global;
 use val_types::{Bytes, Change, List, NoMemory};
+
+/// The name of a table, for a change to hold.
+fn shared_name(alloc: Global, name: &[u8]) -> Result<Shared<Bytes>, NoMemory>
+    ensures { IfOk result (λ s. s ≡ name.now) }
+{
+    let name = Bytes::from_slice(alloc, name)?;
+    Shared::new(alloc, name)
+}
 
 /// A row that was put in.
 fn take_insert<'a>(
@@ -18,10 +27,10 @@ fn take_insert<'a>(
 ) -> Result<Option<(Change, &'a [u8])>, NoMemory>
     ensures { IfOk result (λ o. seen o ≡ read_as (λ row. Change.Insert name.now row) (row_in bytes.now)) }
 {
-    let Some((row, rest)) = take_row(alloc, bytes)? else {
+    let Some((row, rest)) = take_shared_row(alloc, bytes)? else {
         return Ok(None);
     };
-    let table = Bytes::from_slice(alloc, name)?;
+    let table = shared_name(alloc, name)?;
     Ok(Some((Change::Insert { table, row }, rest)))
 }
 
@@ -33,13 +42,13 @@ fn take_update<'a>(
 ) -> Result<Option<(Change, &'a [u8])>, NoMemory>
     ensures { IfOk result (λ o. seen o ≡ and_then (λ before rest. read_as (λ after. Change.Update name.now before after) (row_in rest)) (row_in bytes.now)) }
 {
-    let Some((before, middle)) = take_row(alloc, bytes)? else {
+    let Some((before, middle)) = take_shared_row(alloc, bytes)? else {
         return Ok(None);
     };
-    let Some((after, rest)) = take_row(alloc, middle)? else {
+    let Some((after, rest)) = take_shared_row(alloc, middle)? else {
         return Ok(None);
     };
-    let table = Bytes::from_slice(alloc, name)?;
+    let table = shared_name(alloc, name)?;
     let change = Change::Update {
         table,
         before,
@@ -56,10 +65,10 @@ fn take_delete<'a>(
 ) -> Result<Option<(Change, &'a [u8])>, NoMemory>
     ensures { IfOk result (λ o. seen o ≡ read_as (λ row. Change.Delete name.now row) (row_in bytes.now)) }
 {
-    let Some((row, rest)) = take_row(alloc, bytes)? else {
+    let Some((row, rest)) = take_shared_row(alloc, bytes)? else {
         return Ok(None);
     };
-    let table = Bytes::from_slice(alloc, name)?;
+    let table = shared_name(alloc, name)?;
     Ok(Some((Change::Delete { table, row }, rest)))
 }
 

@@ -8,7 +8,7 @@
 //! - `putting`: the bytes of numbers, texts, values, rows and changes
 //! - `reading`: [`record_of`]
 //! - `changes`, `rows`, `taking`: changes, rows with their values, and texts and numbers at the front of some bytes
-//! - `snapshots`: parts of a snapshot's body, both ways
+//! - `snapshots`, `ends`: parts of a snapshot's body, both ways: the texts of objects, rows, and the ends of logs
 //!
 //! # Proved
 //! - [`put_record`] puts exactly the body of a record at the end, or answers want of memory and leaves the bytes as they were.
@@ -17,6 +17,8 @@
 //! - [`put_object_text`] and [`put_row`] put exactly the text of an object and a row as a snapshot has them, or a front of them;
 //!   [`take_object_text`] and [`take_rows`] take exactly an object's text and a table's rows, and what is behind them, None exactly
 //!   where there are none.
+//! - [`put_ends`] puts exactly the ends of a source's logs, or a front of them; [`take_ends`] takes exactly these, and what is behind
+//!   them, None exactly where there are none that may be; [`take_one`], [`take_four`] and [`take_eight`] take numbers.
 //!
 //! That a body is read as the record that it was put for is a law of `store_model`.
 //!
@@ -25,6 +27,7 @@
 #![tactic(auto)]
 
 mod changes;
+mod ends;
 mod putting;
 mod reading;
 mod rows;
@@ -32,7 +35,9 @@ mod snapshots;
 mod taking;
 mod writing;
 
+pub use ends::{put_ends, take_ends};
 pub use putting::put_row;
 pub use reading::record_of;
 pub use snapshots::{put_object_text, take_object_text, take_rows};
+pub use taking::{take_eight, take_four, take_one};
 pub use writing::put_record;

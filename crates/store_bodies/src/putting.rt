@@ -105,21 +105,21 @@ fn put_change(change: &Change, out: &mut Bytes) -> Result<(), NoMemory>
 {
     match change {
         Change::Insert { table, row } => {
-            put_named(1, table, out)?;
-            put_row(row, out)
+            put_named(1, table.get(), out)?;
+            put_row(row.get(), out)
         }
         Change::Update {
             table,
             before,
             after,
         } => {
-            put_named(2, table, out)?;
-            put_row(before, out)?;
-            put_row(after, out)
+            put_named(2, table.get(), out)?;
+            put_row(before.get(), out)?;
+            put_row(after.get(), out)
         }
         Change::Delete { table, row } => {
-            put_named(3, table, out)?;
-            put_row(row, out)
+            put_named(3, table.get(), out)?;
+            put_row(row.get(), out)
         }
     }
 }

@@ -5,6 +5,7 @@ ghost use Rattle.store_model.specs.Reading.{read_as, number_of, text_behind, so_
 ghost use Rattle.store_bodies.specs.Seen.{seen};
 
 use crate::taking::{take_one, take_signed, take_text};
+use sharing::Shared;
 use std::alloc::Global;
 use val_types::{Bytes, NoMemory, Row, Value};
 
@@ -70,11 +71,24 @@ fn take_values(alloc: Global, count: u8, bytes: &[u8]) -> Result<Option<(Row, &[
 
 /// A row, and what is behind it.
 #[tactic(auto, unfolding(store_model::specs::Reading::row_in))]
-pub fn take_row(alloc: Global, bytes: &[u8]) -> Result<Option<(Row, &[u8])>, NoMemory>
+fn take_row(alloc: Global, bytes: &[u8]) -> Result<Option<(Row, &[u8])>, NoMemory>
     ensures { IfOk result (λ o. seen o ≡ row_in bytes.now) }
 {
     match take_one(bytes) {
         Some((count, rest)) => take_values(alloc, count, rest),
         None => Ok(None),
     }
+}
+
+/// A row, for others to hold too, and what is behind it.
+pub fn take_shared_row(
+    alloc: Global,
+    bytes: &[u8],
+) -> Result<Option<(Shared<Row>, &[u8])>, NoMemory>
+    ensures { IfOk result (λ o. seen o ≡ row_in bytes.now) }
+{
+    let Some((row, rest)) = take_row(alloc, bytes)? else {
+        return Ok(None);
+    };
+    Ok(Some((Shared::new(alloc, row)?, rest)))
 }

@@ -5,9 +5,10 @@ ghost use Rattle.store_model.specs.Reading.{so_many, text_behind, all_behind, ro
 ghost use Rattle.store_model.specs.Bodies.{text_bytes};
 ghost use Rattle.store_bodies.specs.Seen.{seen, piece_seen};
 
-use crate::rows::take_row;
+use crate::rows::take_shared_row;
 use crate::taking::{take_eight, take_piece};
 use byte_fields::bytes_u64;
+use sharing::Shared;
 use std::alloc::Global;
 use val_types::{Bytes, List, NoMemory, Row};
 
@@ -36,13 +37,13 @@ fn take_each(
     alloc: Global,
     count: u64,
     bytes: &[u8],
-) -> Result<Option<(List<Row>, &[u8])>, NoMemory>
+) -> Result<Option<(List<Shared<Row>>, &[u8])>, NoMemory>
     ensures { IfOk result (λ o. seen o ≡ so_many row_in count bytes.now) }
 {
     let mut list = List::new(alloc);
     let mut rest = bytes;
     for _row in 0..count {
-        match take_row(alloc, rest)? {
+        match take_shared_row(alloc, rest)? {
             Some((row, next)) => {
                 list.push(row)?;
                 rest = next;
@@ -54,7 +55,10 @@ fn take_each(
 }
 
 /// The rows of a table behind their count of eight bytes.
-pub fn take_rows(alloc: Global, bytes: &[u8]) -> Result<Option<(List<Row>, &[u8])>, NoMemory>
+pub fn take_rows(
+    alloc: Global,
+    bytes: &[u8],
+) -> Result<Option<(List<Shared<Row>>, &[u8])>, NoMemory>
     ensures { IfOk result (λ o. seen o ≡ all_behind 8 row_in bytes.now) }
 {
     match take_eight(bytes) {
