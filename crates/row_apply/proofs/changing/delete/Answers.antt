@@ -18,5 +18,5 @@ take_out-requires c = λ t is.
 pub returns-clause-ends : goal.returns-clause-ends
 returns-clause-ends c =
     subst (λ (row : List Value). (m : Map) → table_code m c.args.work.now.tables (Delete c.args.table row) ≡ None
-        → Ends c.take_out.result (progress_in c.take_out.new.work) (change_carried c.args.pos m (Delete c.args.table row) (progress_in c.args.work.now)))
+    → Ends c.take_out.result (progress_in c.take_out.new.work) (change_carried c.args.pos m (Delete c.args.table row) (progress_in c.args.work.now)))
     c.get-3.ensures c.take_out.ensures.ends

@@ -18,5 +18,5 @@ replace_there-requires c = λ t is.
 pub returns-clause-ends : goal.returns-clause-ends
 returns-clause-ends c =
     subst (λ (row : List Value). (m : Map) → table_code m c.args.work.now.tables (Update c.args.table row c.args.after) ≡ None
-        → Ends c.replace_there.result (progress_in c.replace_there.new.work) (change_carried c.args.pos m (Update c.args.table row c.args.after) (progress_in c.args.work.now)))
+    → Ends c.replace_there.result (progress_in c.replace_there.new.work) (change_carried c.args.pos m (Update c.args.table row c.args.after) (progress_in c.args.work.now)))
     c.get-3.ensures c.replace_there.ensures.ends
