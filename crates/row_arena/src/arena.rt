@@ -11,8 +11,8 @@ use val_types::{NoMemory, Row};
 /// Rows, each under a number that it keeps, and the numbers that are free again.
 #[derive(Drop)]
 pub struct RowArena {
-    rows: Vec<Option<Shared<Row>>>,
-    free: Vec<u32>,
+    pub(crate) rows: Vec<Option<Shared<Row>>>,
+    pub(crate) free: Vec<u32>,
 }
 
 impl Model for RowArena {
