@@ -1,7 +1,9 @@
 pub mod Agreeing
+pub mod Copied
 pub mod Entering
 pub mod Keeping
 pub mod Looking
+pub mod OnKey
 pub mod Passing
 pub mod Refusing
 pub mod Settled

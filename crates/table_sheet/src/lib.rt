@@ -18,6 +18,7 @@
 //! - `reading`: all rows, and the keys in the way of one
 //! - `writing`: rows inserted, replaced and deleted
 //! - `settling`: rows that are shown made the committed ones
+//! - `whole`, `copying`: the definition, all rows dropped, and the sheet once more
 //!
 //! # Proved
 //! - [`Sheet::get`] and [`Sheet::get_same`] give exactly the row that is shown of a key, or of a row's key
@@ -26,12 +27,14 @@
 //!   before (`stored`). Whatever they answer, definition and committed rows stay, each entry is there still, and there is no less room
 //!   (`stays`)
 //! - [`Sheet::put_back_row`] and [`Sheet::take_same`] put a row into its entry or take it out, without memory: the two halves of taking
-//!   a change back
+//!   a change back; no entry comes or goes (`keys`)
 //! - [`Sheet::set_aside`], [`Sheet::put_back`] and [`Sheet::forget`] give exactly the page without entries, with those that were set
 //!   aside, and without; they take no memory
 //! - [`Sheet::settle`] makes exactly the rows that are shown the committed ones, so that the same are shown then; it takes no memory
 //! - [`Sheet::rows`], [`Sheet::committed_rows`] and [`Sheet::keys`] give the rows and keys in order, or want memory;
-//!   [`Sheet::key_in_way`] the number of the first key in the way
+//!   [`Sheet::key_in_way`] the number of the first key in the way, [`Sheet::row_on_key`] the row that has the key of a number
+//! - [`Sheet::clear`] leaves the definition alone, without memory; [`Sheet::copy`] has the same definition, committed rows and entries,
+//!   or wants memory
 //! - of each sheet: committed and shown rows are as those of a table have to be, and there is room to settle all that is new
 //!   (`page` of [`Sheet::definition`])
 //!
@@ -41,6 +44,7 @@
 
 mod committed;
 mod comparing;
+mod copying;
 mod entry;
 mod overlay;
 mod place;
@@ -49,6 +53,7 @@ mod refusal;
 mod settling;
 mod sheet;
 mod walking;
+mod whole;
 mod writing;
 
 pub use overlay::Overlay;

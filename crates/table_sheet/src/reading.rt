@@ -1,15 +1,15 @@
 //! Rows read where they stand: all that are shown, all that are committed, and those that have a key of another.
 
 use crate::sheet::Sheet;
-use crate::walking::{first_agreed, keys_from, rows_from, start, start_below};
+use crate::walking::{agreeing_from, first_agreed, keys_from, rows_from, start, start_below};
 use sharing::Shared;
 use std::alloc::Global;
 use val_types::{List, NoMemory, Row};
 
 impl Sheet {
-    ghost use Rattle.std.specs.Prelude.{◌≡◌, map, IfOk};
+    ghost use Rattle.std.specs.Prelude.{◌≡◌, find, map, option_copied, IfOk};
     ghost use Rattle.val_types.specs.Keys.{primary_key};
-    ghost use Rattle.table_rules.specs.Stored.{key_in_way};
+    ghost use Rattle.table_rules.specs.Stored.{has_key_in_way, key_in_way};
     ghost use Rattle.row_sheets.specs.Slots.{rows_in};
     ghost use Rattle.table_sheet.specs.Pages.{rows_on};
 
@@ -65,5 +65,27 @@ impl Sheet {
         }
         let from = start(&self.committed, &self.overlay);
         first_agreed(&self.definition, &self.committed, &self.overlay, from, row)
+    }
+
+    /// The first row that is shown that has the key of a number in common with a row.
+    pub fn row_on_key(&self, row: &Row, which: usize) -> Option<&Shared<Row>>
+        ensures { option_copied result ≡ find (has_key_in_way self.now.definition row.now which) (rows_on self.now) }
+    {
+        if which == 0 {
+            return self.get_same(row);
+        }
+        let uniques = &self.definition.get().uniques;
+        if which > uniques.len() {
+            return None;
+        }
+        let from = start(&self.committed, &self.overlay);
+        agreeing_from(
+            &self.definition,
+            &self.committed,
+            &self.overlay,
+            from,
+            &uniques[which - 1],
+            row,
+        )
     }
 }

@@ -35,7 +35,7 @@ impl Sheet {
     ghost use Rattle.val_types.specs.Keys.{collide, primary_key};
     ghost use Rattle.table_rules.specs.Changes.{with_row};
     ghost use Rattle.table_rules.specs.Stored.{row_of_key, rows_beside};
-    ghost use Rattle.row_sheets.specs.Slots.{rows_in};
+    ghost use Rattle.row_sheets.specs.Slots.{keys_in, rows_in};
     ghost use Rattle.table_sheet.specs.Pages.{has_entry, rows_on, IsPage, Stays};
     ghost use Rattle.table_sheet.specs.Parts.{entry_slots, Fits};
 
@@ -145,6 +145,7 @@ impl Sheet {
         requires fits { row_fits self.old.definition.columns row ≡ true }
         requires free { list_any (collide self.old.definition row) (rows_on self.old) ≡ false }
         ensures rows { rows_on self.new ≡ with_row self.old.definition row (rows_on self.old) }
+        ensures keys { keys_in self.new.entries ≡ keys_in self.old.entries }
         ensures stays { Stays self.old self.new }
     {
         match self.overlay.find_row(&self.definition, row.get()) {
@@ -160,6 +161,7 @@ impl Sheet {
     pub fn take_same(&mut self, row: &Row)
         requires { has_entry (primary_key self.old.definition row.now) self.old ≡ true }
         ensures rows { rows_on self.new ≡ rows_beside self.old.definition (primary_key self.old.definition row.now) (rows_on self.old) }
+        ensures keys { keys_in self.new.entries ≡ keys_in self.old.entries }
         ensures stays { Stays self.old self.new }
     {
         match self.overlay.find_row(&self.definition, row) {

@@ -1,6 +1,9 @@
 use Rattle.std.proofs.Common.{None, refl, sym, ap, subst, ◌∙◌, arith}
 use Rattle.val_types.specs.Keys.{primary_key}
+use Rattle.row_sheets.specs.Slots.{keys_in}
 use Rattle.table_sheet.specs.Pages.{Page, Stays, rows_on}
+use Rattle.table_sheet.specs.Parts.{entry_slots}
+use Rattle.table_sheet.proofs.Shown.{keys_filled}
 use Rattle.table_sheet.proofs.Turning.{set_stays, set_out_holds, set_out_rows, entry_found}
 use Rattle.table_rules.specs.Stored.{rows_beside}
 use Rattle.table_sheet.proofs.sheet.Sheet.take_same.Goals as goal
@@ -32,3 +35,14 @@ returns-in-Ok-clause-stays c =
 
 pub returns-in-Err-clause-rows : goal.returns-in-Err-clause-rows
 returns-in-Err-clause-rows c = entry_found c.self.inside.definition c.args.row.now c.self.inside.committed c.self.inside.overlay c.args.self.now c.in-Err.field-0 c.self.view_is c.in-Err.ensures.found c.requires
+
+pub returns-in-Ok-clause-keys : goal.returns-in-Ok-clause-keys
+returns-in-Ok-clause-keys c =
+    let keys =
+    ap keys_in (c.fill.ensures.slots c.self.inside.definition (primary_key c.self.inside.definition c.args.row.now) c.self.invariant.rising c.in-Ok.ensures.found)
+    ∙ keys_filled (primary_key c.self.inside.definition c.args.row.now) None (entry_slots c.self.inside.definition c.self.inside.overlay)
+    ∙ ap (λ (p : Page). keys_in p.entries) c.self.view_is in
+    elim c.match-fill.branch [
+      | in-Some-1 w ↦ ap (λ (p : Page). keys_in p.entries) w.self-is ∙ keys
+      | in-None-1 w ↦ ap (λ (p : Page). keys_in p.entries) w.self-is ∙ keys
+    ]
