@@ -5,7 +5,7 @@ use Rattle.std.specs.Option.{option_map, option_and_then}
 use Rattle.std.proofs.Math.ListN.{drop_of_length-le}
 use Rattle.std.proofs.Math.Seq.{drop-append_seam, take-append_seam}
 use Rattle.std.proofs.lemmas.List.{drop-append-le, take-append-le, take_all}
-use Rattle.std.proofs.lemmas.Bool.{cases_lt}
+use Rattle.std.proofs.lemmas.Bool.{cases_lt, and_from}
 use Rattle.val_types.specs.declared.value.Value.{Value}
 use Rattle.val_types.specs.declared.definitions.TableDef.{TableDef}
 use Rattle.val_types.specs.declared.change.Change.{Change}
@@ -23,8 +23,7 @@ use Rattle.table_rules.proofs.Places.{place_has_name}
 use Rattle.table_rules.proofs.Leading.{leads_nowhere, one_change_leads, no_change_leads, leads_back, leads_home, none_taken_back, last_step, back_last, rest_taken_back}
 use Rattle.row_store.specs.declared.refusal.RowRefusal.{RowRefusal}
 use Rattle.row_store.specs.declared.refusal.RowRefusal.TheVariants.{Taken, Absent, NoMemory}
-use Rattle.row_store.specs.Slots.{is_standing}
-use Rattle.row_store.specs.Stores.{Stores, exchange, exchange_in, removal, removal_in}
+use Rattle.row_store.specs.Stores.{Stores, is_standing, exchange, exchange_in, removal, removal_in}
 use Rattle.row_store.proofs.Exchanging.{exchange_by, removal_by}
 use Rattle.dml_rows.specs.Noted.{changes_of, StaysReversible}
 
@@ -118,19 +117,19 @@ no_name_there name ts at none e = let never : None ≡ Some name = none ∙ plac
 
 -- a row that was inserted leads on
 pub insert_leads : (old new : Store) (noted now : List Change) (name : List ℕ) (row : List Value) → IsWhole old → carried_out (insertion name row old.tables) old.tables ≡ Some new.tables
-    → KeepsAll old new → now ≡ noted ++ Insert name row ∷ [] → Leads old noted new now
-insert_leads old new noted now name row whole made keys is =
+    → keeps new name row ≡ true → KeepsAll old new → now ≡ noted ++ Insert name row ∷ [] → Leads old noted new now
+insert_leads old new noted now name row whole made kept keys is =
     subst (λ (cs : List Change). Leads old noted new cs) (sym is)
     (one_change_leads old new noted (Insert name row) whole.rows
-    (carried (insertion name row old.tables) (Insert name row) old.tables new.tables (inserted name row old.tables new.tables made) made) refl keys)
+    (carried (insertion name row old.tables) (Insert name row) old.tables new.tables (inserted name row old.tables new.tables made) made) kept keys)
 
 pub update_leads : (old new : Store) (noted now : List Change) (name : List ℕ) (key before row : List Value) → IsWhole old → row_at name key old.tables ≡ Some before
-    → carried_out (replacement name key row old.tables) old.tables ≡ Some new.tables → keeps new name before ≡ true
+    → carried_out (replacement name key row old.tables) old.tables ≡ Some new.tables → keeps new name row ≡ true → keeps new name before ≡ true
     → KeepsAll old new → now ≡ noted ++ Update name before row ∷ [] → Leads old noted new now
-update_leads old new noted now name key before row whole there made kept keys is =
+update_leads old new noted now name key before row whole there made after kept keys is =
     subst (λ (cs : List Change). Leads old noted new cs) (sym is)
     (one_change_leads old new noted (Update name before row) whole.rows
-    (carried (replacement name key row old.tables) (Update name before row) old.tables new.tables (replaced name key row before old.tables new.tables there made) made) kept keys)
+    (carried (replacement name key row old.tables) (Update name before row) old.tables new.tables (replaced name key row before old.tables new.tables there made) made) (and_from (keeps new name row) (keeps new name before) after kept) keys)
 
 pub delete_leads : (old new : Store) (noted now : List Change) (name : List ℕ) (key row : List Value) → IsWhole old → row_at name key old.tables ≡ Some row
     → carried_out (deletion name key old.tables) old.tables ≡ Some new.tables → keeps new name row ≡ true
@@ -141,12 +140,12 @@ delete_leads old new noted now name key row whole there made kept keys is =
     (carried (deletion name key old.tables) (Delete name row) old.tables new.tables (deletion_by_row name key old.tables (Some row) there) made) kept keys)
 
 pub exchange_leads : (old new : Store) (noted now : List Change) (name : List ℕ) (before row : List Value) → IsWhole old
-    → carried_out (exchange name before row old.tables) old.tables ≡ Some new.tables → keeps new name before ≡ true
+    → carried_out (exchange name before row old.tables) old.tables ≡ Some new.tables → keeps new name row ≡ true → keeps new name before ≡ true
     → KeepsAll old new → now ≡ noted ++ Update name before row ∷ [] → Leads old noted new now
-exchange_leads old new noted now name before row whole made kept keys is =
+exchange_leads old new noted now name before row whole made after kept keys is =
     subst (λ (cs : List Change). Leads old noted new cs) (sym is)
     (one_change_leads old new noted (Update name before row) whole.rows
-    (carried (exchange name before row old.tables) (Update name before row) old.tables new.tables (exchanged name before row old.tables new.tables made) made) kept keys)
+    (carried (exchange name before row old.tables) (Update name before row) old.tables new.tables (exchanged name before row old.tables new.tables made) made) (and_from (keeps new name row) (keeps new name before) after kept) keys)
 
 pub removal_leads : (old new : Store) (noted now : List Change) (name : List ℕ) (row : List Value) → IsWhole old
     → carried_out (removal name row old.tables) old.tables ≡ Some new.tables → keeps new name row ≡ true

@@ -27,6 +27,7 @@ mod storing;
 mod taking_back;
 
 pub use by_name::{delete_row, insert_row, update_row};
+pub use row_store;
 pub use standing::{remove_row_at, replace_row_at};
 pub use storing::{delete_row_at, insert_row_at, update_row_at};
 pub use taking_back::take_back_to;

@@ -15,9 +15,8 @@ use Rattle.table_rules.specs.Stores.{place_of, definitions_of, fits_at}
 use Rattle.table_rules.proofs.Equations.{insertion_by}
 use Rattle.table_rules.proofs.Places.{fits_by_place, place_has_name}
 use Rattle.table_rules.proofs.Storing.{applied_where, inserts_where}
-use Rattle.row_store.specs.Slots.{is_standing}
-use Rattle.row_store.specs.Stores.{exchange, removal}
-use Rattle.row_store.proofs.Exchanging.{exchange_as, removal_as}
+use Rattle.dml_rows.specs.row_store.Stores.{is_standing, exchange, removal}
+use Rattle.dml_rows.proofs.of_row_store.Exchanging.{exchange_as, removal_as}
 use Rattle.dml_rows.specs.Noted.{changes_of}
 use Rattle.sql_meaning.specs.Scenes.{Scene, Ending, Action, done, failed, then_do, ◌>>=◌, require, make, noted}
 use Rattle.sql_meaning.specs.Changing.{take_out, put_in_place}

@@ -4,8 +4,8 @@ ghost use Rattle.sql_meaning.specs.Scenes.{done, draw, next_uuid, table_now};
 ghost use Rattle.exec_state.specs.Stage.{EndsAs, EndsAsBy, LeadsOn, scene_of, table_of};
 
 use auto_inc::Counters;
+use dml_rows::row_store::Tables;
 use expr_ops::{rand_step, uuid_text};
-use row_store::Tables;
 use sharing::Shared;
 use std::alloc::Global;
 use undo_log::Undo;

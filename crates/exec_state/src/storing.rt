@@ -8,8 +8,8 @@ ghost use Rattle.sql_meaning.specs.Changing.{put_in_place, take_out};
 ghost use Rattle.exec_state.specs.Stage.{EndsAs, LeadsOn, scene_of};
 
 use crate::stage::Stage;
+use dml_rows::row_store::RowRefusal;
 use dml_rows::{insert_row_at, remove_row_at, replace_row_at};
-use row_store::RowRefusal;
 use sharing::Shared;
 use val_types::{Row, SqlError, SqlRefusal};
 

@@ -16,13 +16,12 @@ use Rattle.val_types.proofs.Lookup.{removed}
 use Rattle.table_rules.specs.Tables.{Table}
 use Rattle.table_rules.specs.Changes.{rows_after, applied}
 use Rattle.val_types.specs.Changes.{table_of, inverse}
-use Rattle.table_rules.specs.Stored.{row_put}
 use Rattle.table_rules.proofs.Places.{name_is, name_self}
 use Rattle.table_rules.proofs.Storing.{applied_where}
 use Rattle.row_store.specs.declared.shelf.Shelf.{Shelf}
-use Rattle.row_store.specs.Slots.{rows_in}
-use Rattle.row_store.specs.Shelves.{table_on, tables_on, is_named, has_slot, has_slot_for, has_slot_to_put}
-use Rattle.row_store.proofs.Swapping.{kept_on, shelf_named, swap, same_name, later_kept, named_same, keeps_here, kept_found}
+use Rattle.table_sheet.specs.Pages.{rows_on, has_entry}
+use Rattle.row_store.specs.Shelves.{table_on, tables_on, is_named, has_entry_for}
+use Rattle.row_store.proofs.Swapping.{kept_on, shelf_named, swap, same_name, later_kept, named_same, keeps_here}
 use Rattle.row_store.proofs.Storing.{table_found, no_table}
 
 -- ---- names
@@ -31,7 +30,7 @@ use Rattle.row_store.proofs.Storing.{table_found, no_table}
 other_named : (name other : List ℕ) (s : Shelf) → pointwise nat_eq name other ≡ false → is_named name s ≡ true → is_named other s ≡ false
 other_named name other s differ e =
     false_from_ne_true (is_named other s) (λ f.
-    let same : name ≡ other = name_is name s.definition.name e ∙ sym (name_is other s.definition.name f) in
+    let same : name ≡ other = name_is name s.sheet.definition.name e ∙ sym (name_is other s.sheet.definition.name f) in
     true≢false (sym (name_self name) ∙ ap (pointwise nat_eq name) same ∙ differ))
 
 beside_step : (here : Bool) (name other : List ℕ) (row : List Value) (s old new : Shelf) (ss : List Shelf) → pointwise nat_eq name other ≡ false → is_named name s ≡ here → same_name old new
@@ -43,7 +42,7 @@ beside_step true name other row s old new ss differ e same later found =
     let not_new : is_named other new ≡ false = named_same other old new same ∙ ap (is_named other) (sym first) ∙ other_named name other s differ e in
     later_kept other row new ss not_new ∙ sym (later_kept other row s ss (other_named name other s differ e))
 beside_step false name other row s old new ss differ e same later found =
-    ap (λ (b : Bool). cond (is_named other s) (has_slot_for row s) b) (later found)
+    ap (λ (b : Bool). cond (is_named other s) (has_entry_for row s) b) (later found)
 
 -- the keys of other tables stay as they were where a shelf is swapped
 pub beside_swap : (name other : List ℕ) (row : List Value) (old new : Shelf) (ss : List Shelf) → pointwise nat_eq name other ≡ false → shelf_named name ss ≡ Some old → same_name old new
@@ -56,7 +55,7 @@ left_step : (here : Bool) (name other : List ℕ) (row : List Value) (s : Shelf)
     → kept_on other row (remove_first (is_named name) ss) ≡ kept_on other row ss
     → kept_on other row (cond here ss (s ∷ remove_first (is_named name) ss)) ≡ kept_on other row (s ∷ ss)
 left_step true name other row s ss differ e later = sym (later_kept other row s ss (other_named name other s differ e))
-left_step false name other row s ss differ e later = ap (λ (b : Bool). cond (is_named other s) (has_slot_for row s) b) later
+left_step false name other row s ss differ e later = ap (λ (b : Bool). cond (is_named other s) (has_entry_for row s) b) later
 
 left : (name other : List ℕ) (row : List Value) (ss : List Shelf) → pointwise nat_eq name other ≡ false → kept_on other row (remove_first (is_named name) ss) ≡ kept_on other row ss
 left name other row [] differ = refl
@@ -74,13 +73,13 @@ more_step false here c d later e = later e
 pub kept_before : (name : List ℕ) (row : List Value) (ss : List Shelf) (last : Shelf) → kept_on name row ss ≡ true → kept_on name row (ss ++ last ∷ []) ≡ true
 kept_before name row [] last e = cc
 kept_before name row (s ∷ ss) last e =
-    more_step (is_named name s) (has_slot_for row s) (kept_on name row ss) (kept_on name row (ss ++ last ∷ [])) (kept_before name row ss last) e
+    more_step (is_named name s) (has_entry_for row s) (kept_on name row ss) (kept_on name row (ss ++ last ∷ [])) (kept_before name row ss last) e
 
 -- a shelf without rows put behind
-pub table_added : (ss : List Shelf) (last : Shelf) (d : TableDef) → last.definition ≡ d → rows_in last.slots.items ≡ [] → tables_on (ss ++ last ∷ []) ≡ tables_on ss ++ record { definition = d; rows = [] } ∷ []
+pub table_added : (ss : List Shelf) (last : Shelf) (d : TableDef) → last.sheet.definition ≡ d → rows_on last.sheet ≡ [] → tables_on (ss ++ last ∷ []) ≡ tables_on ss ++ record { definition = d; rows = [] } ∷ []
 table_added ss last d same none =
     map-append table_on ss (last ∷ [])
-    ∙ ap (λ (e : TableDef). tables_on ss ++ record { definition = e; rows = rows_in last.slots.items } ∷ []) same
+    ∙ ap (λ (e : TableDef). tables_on ss ++ record { definition = e; rows = rows_on last.sheet } ∷ []) same
     ∙ ap (λ (rows : List (List Value)). tables_on ss ++ record { definition = d; rows = rows } ∷ []) none
 
 set_same_step : (k : ℕ) (s new d : Shelf) (ss : List Shelf) → d ≡ get_or (s ∷ ss) k d → table_on new ≡ table_on d → ((j : ℕ) → d ≡ get_or ss j d → tables_on (slice_set ss j new) ≡ tables_on ss)
@@ -95,10 +94,10 @@ set_same (s ∷ ss) k new d e same = set_same_step k s new d ss e same (λ j f. 
 
 -- ---- keys kept here
 
-pub here_kept : (name : List ℕ) (row : List Value) (old new : Shelf) (ss : List Shelf) → shelf_named name ss ≡ Some old → same_name old new → has_slot (primary_key old.definition row) new ≡ true
+pub here_kept : (name : List ℕ) (row : List Value) (old new : Shelf) (ss : List Shelf) → shelf_named name ss ≡ Some old → same_name old new → has_entry (primary_key old.sheet.definition row) new.sheet ≡ true
     → kept_on name row (swap name new ss) ≡ true
 here_kept name row old new ss found same slot =
-    keeps_here name row old new ss found same ∙ ap (λ (d : TableDef). has_slot (primary_key d row) new) same ∙ slot
+    keeps_here name row old new ss found same ∙ ap (λ (d : TableDef). has_entry (primary_key d row) new.sheet) same ∙ slot
 
 pub on_ok : {A E : Type 0} (r : Result A E) (P Q : Type 0) → (P → Q) → OnOk r P → OnOk r Q
 on_ok (Ok a) P Q f p = f p
@@ -121,7 +120,7 @@ inverse_name (Delete name row) = refl
 
 -- a change that can be made to the tables can be made to the rows on its shelf
 pub step_here : (change : Change) (ss : List Shelf) (s : Shelf) → shelf_named (table_of change) ss ≡ Some s → is_some (applied change (tables_on ss)) ≡ true
-    → is_some (rows_after s.definition change (rows_in s.slots.items)) ≡ true
+    → is_some (rows_after s.sheet.definition change (rows_on s.sheet)) ≡ true
 step_here change ss s found e =
     sym (ap (λ (o : Option Table). option_map_or (λ (t : Table). is_some (rows_after t.definition change t.rows)) o false) (table_found (table_of change) ss s found))
     ∙ sym (applied_where change (tables_on ss)) ∙ e
@@ -130,12 +129,3 @@ pub no_step : (change : Change) (ss : List Shelf) → shelf_named (table_of chan
 no_step change ss none e =
     true≢false (sym e ∙ applied_where change (tables_on ss)
     ∙ ap (λ (o : Option Table). option_map_or (λ (t : Table). is_some (rows_after t.definition change t.rows)) o false) (no_table (table_of change) ss none))
-
-slot_of_put : (name : List ℕ) (ss : List Shelf) (s : Shelf) (o : Option (List Value)) → shelf_named name ss ≡ Some s → option_map_or (λ row. kept_on name row ss) o true ≡ true
-    → option_map_or (λ row. has_slot_for row s) o true ≡ true
-slot_of_put name ss s None found e = refl
-slot_of_put name ss s (Some row) found e = sym (kept_found name row s ss found) ∙ e
-
-pub slot_here : (change : Change) (ss : List Shelf) (s : Shelf) → shelf_named (table_of change) ss ≡ Some s → option_map_or (λ row. kept_on (table_of change) row ss) (row_put change) true ≡ true
-    → has_slot_to_put s change ≡ true
-slot_here change ss s found e = slot_of_put (table_of change) ss s (row_put change) found e

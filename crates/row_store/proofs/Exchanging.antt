@@ -16,9 +16,9 @@ use Rattle.table_rules.proofs.Taking.{same_is}
 use Rattle.row_store.specs.declared.refusal.RowRefusal.{RowRefusal}
 use Rattle.row_store.specs.declared.refusal.RowRefusal.TheVariants.{Absent}
 use Rattle.row_store.specs.declared.shelf.Shelf.{Shelf}
-use Rattle.row_store.specs.Slots.{rows_in, is_standing}
+use Rattle.table_sheet.specs.Pages.{rows_on}
 use Rattle.row_store.specs.Shelves.{table_on, tables_on, store_of, Replaced, Deleted}
-use Rattle.row_store.specs.Stores.{Stores, exchange, exchange_in, removal, removal_in}
+use Rattle.row_store.specs.Stores.{Stores, is_standing, exchange, exchange_in, removal, removal_in}
 use Rattle.row_store.proofs.Swapping.{shelf_named, swap, same_name}
 use Rattle.row_store.proofs.Storing.{table_found, shelf_same, update_stored}
 use Rattle.row_store.proofs.Shelved.{shelf_at, set_at, delete_by}
@@ -73,28 +73,28 @@ removal_deletes name row ts t e there =
 -- ---- on the shelf of the table
 
 exchange_case : (b : Bool) (r : Result (Unit {0}) RowRefusal) (name : List ℕ) (old new : List Value) (ss : List Shelf) (s after : Shelf)
-    → shelf_named name ss ≡ Some s → same_name s after → row_fits s.definition.columns new ≡ true → is_standing s.definition old (rows_in s.slots.items) ≡ b
-    → (b ≡ true → Replaced r s.definition (primary_key s.definition old) new (rows_in s.slots.items) (rows_in after.slots.items))
-    → (b ≡ false → (r ≡ Err Absent) × (rows_in after.slots.items ≡ rows_in s.slots.items))
+    → shelf_named name ss ≡ Some s → same_name s after → row_fits s.sheet.definition.columns new ≡ true → is_standing s.sheet.definition old (rows_on s.sheet) ≡ b
+    → (b ≡ true → Replaced r s.sheet.definition (primary_key s.sheet.definition old) new (rows_on s.sheet) (rows_on after.sheet))
+    → (b ≡ false → (r ≡ Err Absent) × (rows_on after.sheet ≡ rows_on s.sheet))
     → Stores r (exchange name old new (tables_on ss)) (tables_on ss) (tables_on (swap name after ss))
 exchange_case true r name old new ss s after found same fits e there absent =
     subst (λ (step : Result Change Obstacle). Stores r step (tables_on ss) (tables_on (swap name after ss)))
     (exchange_replaces name old new (tables_on ss) (table_on s) (table_found name ss s found) e)
-    (update_stored r name (primary_key s.definition old) new ss s after found same fits (there refl))
+    (update_stored r name (primary_key s.sheet.definition old) new ss s after found same fits (there refl))
 exchange_case false r name old new ss s after found same fits e there absent =
     let none = absent refl in
     subst (λ (q : Result (Unit {0}) RowRefusal). Stores q (exchange name old new (tables_on ss)) (tables_on ss) (tables_on (swap name after ss))) (sym none.0)
     (exchange_as name old new (tables_on ss) (table_on s) false (table_found name ss s found) e, shelf_same name ss s after found same none.1)
 
 removal_case : (b : Bool) (r : Result (Unit {0}) RowRefusal) (name : List ℕ) (row : List Value) (ss : List Shelf) (s after : Shelf)
-    → shelf_named name ss ≡ Some s → same_name s after → is_standing s.definition row (rows_in s.slots.items) ≡ b
-    → (b ≡ true → Deleted r s.definition (primary_key s.definition row) (rows_in s.slots.items) (rows_in after.slots.items))
-    → (b ≡ false → (r ≡ Err Absent) × (rows_in after.slots.items ≡ rows_in s.slots.items))
+    → shelf_named name ss ≡ Some s → same_name s after → is_standing s.sheet.definition row (rows_on s.sheet) ≡ b
+    → (b ≡ true → Deleted r s.sheet.definition (primary_key s.sheet.definition row) (rows_on s.sheet) (rows_on after.sheet))
+    → (b ≡ false → (r ≡ Err Absent) × (rows_on after.sheet ≡ rows_on s.sheet))
     → Stores r (removal name row (tables_on ss)) (tables_on ss) (tables_on (swap name after ss))
 removal_case true r name row ss s after found same e there absent =
     subst (λ (step : Result Change Obstacle). Stores r step (tables_on ss) (tables_on (swap name after ss)))
     (removal_deletes name row (tables_on ss) (table_on s) (table_found name ss s found) e)
-    (delete_by r name (primary_key s.definition row) ss s after found same (there refl))
+    (delete_by r name (primary_key s.sheet.definition row) ss s after found same (there refl))
 removal_case false r name row ss s after found same e there absent =
     let none = absent refl in
     subst (λ (q : Result (Unit {0}) RowRefusal). Stores q (removal name row (tables_on ss)) (tables_on ss) (tables_on (swap name after ss))) (sym none.0)
@@ -103,23 +103,23 @@ removal_case false r name row ss s after found same e there absent =
 -- ---- at a place
 
 pub stored_exchange : (r : Result (Unit {0}) RowRefusal) (old new : List Value) (ss : List Shelf) (at : ℕ) (s after : Shelf)
-    → s ≡ get_or ss at s → same_name s after → row_fits s.definition.columns new ≡ true
-    → (is_standing s.definition old (rows_in s.slots.items) ≡ true → Replaced r s.definition (primary_key s.definition old) new (rows_in s.slots.items) (rows_in after.slots.items))
-    → (is_standing s.definition old (rows_in s.slots.items) ≡ false → (r ≡ Err Absent) × (rows_in after.slots.items ≡ rows_in s.slots.items))
+    → s ≡ get_or ss at s → same_name s after → row_fits s.sheet.definition.columns new ≡ true
+    → (is_standing s.sheet.definition old (rows_on s.sheet) ≡ true → Replaced r s.sheet.definition (primary_key s.sheet.definition old) new (rows_on s.sheet) (rows_on after.sheet))
+    → (is_standing s.sheet.definition old (rows_on s.sheet) ≡ false → (r ≡ Err Absent) × (rows_on after.sheet ≡ rows_on s.sheet))
     → (name : List ℕ) → place_of name (store_of ss).tables ≡ Some at
     → Stores r (exchange name old new (store_of ss).tables) (store_of ss).tables (store_of (slice_set ss at after)).tables
 unfolding store_of
 stored_exchange r old new ss at s after is same fits there absent name e =
     subst (λ (shelves : List Shelf). Stores r (exchange name old new (tables_on ss)) (tables_on ss) (tables_on shelves)) (sym (set_at name ss at after e))
-    (exchange_case (is_standing s.definition old (rows_in s.slots.items)) r name old new ss s after (shelf_at name ss at s e is) same fits refl there absent)
+    (exchange_case (is_standing s.sheet.definition old (rows_on s.sheet)) r name old new ss s after (shelf_at name ss at s e is) same fits refl there absent)
 
 pub stored_removal : (r : Result (Unit {0}) RowRefusal) (row : List Value) (ss : List Shelf) (at : ℕ) (s after : Shelf)
     → s ≡ get_or ss at s → same_name s after
-    → (is_standing s.definition row (rows_in s.slots.items) ≡ true → Deleted r s.definition (primary_key s.definition row) (rows_in s.slots.items) (rows_in after.slots.items))
-    → (is_standing s.definition row (rows_in s.slots.items) ≡ false → (r ≡ Err Absent) × (rows_in after.slots.items ≡ rows_in s.slots.items))
+    → (is_standing s.sheet.definition row (rows_on s.sheet) ≡ true → Deleted r s.sheet.definition (primary_key s.sheet.definition row) (rows_on s.sheet) (rows_on after.sheet))
+    → (is_standing s.sheet.definition row (rows_on s.sheet) ≡ false → (r ≡ Err Absent) × (rows_on after.sheet ≡ rows_on s.sheet))
     → (name : List ℕ) → place_of name (store_of ss).tables ≡ Some at
     → Stores r (removal name row (store_of ss).tables) (store_of ss).tables (store_of (slice_set ss at after)).tables
 unfolding store_of
 stored_removal r row ss at s after is same there absent name e =
     subst (λ (shelves : List Shelf). Stores r (removal name row (tables_on ss)) (tables_on ss) (tables_on shelves)) (sym (set_at name ss at after e))
-    (removal_case (is_standing s.definition row (rows_in s.slots.items)) r name row ss s after (shelf_at name ss at s e is) same refl there absent)
+    (removal_case (is_standing s.sheet.definition row (rows_on s.sheet)) r name row ss s after (shelf_at name ss at s e is) same refl there absent)

@@ -1,15 +1,10 @@
-pub mod Agreeing
 pub mod Beside
-pub mod Counting
-pub mod Emptying
 pub mod Exchanging
-pub mod Halving
-pub mod Places
+pub mod Keeping
 pub mod Shelved
 pub mod Storing
 pub mod Swapping
-pub mod Tidying
+pub mod Telling
 pub mod Undoing
 pub mod Unnamed
 pub mod Walking
-pub mod Writing

@@ -8,6 +8,7 @@ use Rattle.std.proofs.lemmas.Bool.{and_parts, and_from, or_parts, or_from, not-t
 use Rattle.val_types.specs.declared.value.Value.{Value}
 use Rattle.val_types.specs.declared.definitions.TableDef.{TableDef}
 use Rattle.val_types.specs.declared.change.Change.{Change}
+use Rattle.val_types.specs.declared.change.Change.TheVariants.{Insert, Update, Delete}
 use Rattle.val_types.specs.Changes.{table_of, inverse}
 use Rattle.val_types.specs.Fitting.{row_fits}
 use Rattle.val_types.specs.Keys.{primary_key}
@@ -15,20 +16,20 @@ use Rattle.val_types.specs.Lookup.{remove_first}
 use Rattle.val_types.proofs.Lookup.{found, replaced, removed, place_mapped}
 use Rattle.table_rules.specs.Tables.{Table}
 use Rattle.table_rules.specs.Changes.{rows_after, applied}
-use Rattle.table_rules.specs.Stored.{has_name, table_named, row_of_key, row_at, insertion, replacement, deletion, row_put, tables_beside, tables_cleared, keys_at}
-use Rattle.table_rules.specs.Stores.{Store, place_of, definitions_of, names_differ, fits_at, is_among, kept_among, keeps, keeps_put, KeepsAll, KeepsSame, KeepsBeside, KeepsRows, IsWhole}
+use Rattle.table_rules.specs.Stored.{has_name, table_named, row_of_key, row_at, insertion, replacement, deletion, tables_beside, tables_cleared, keys_at}
+use Rattle.table_rules.specs.Stores.{place_of, definitions_of, names_differ, fits_at, kept_among, keeps, keeps_put, KeepsAll, KeepsSame, KeepsBeside, IsWhole}
 use Rattle.table_rules.proofs.Storing.{key_is}
 use Rattle.table_rules.proofs.Places.{name_is, name_self, place, at_place}
 use Rattle.row_store.specs.declared.refusal.RowRefusal.{RowRefusal}
 use Rattle.row_store.specs.declared.refusal.RowRefusal.TheVariants.{Taken, Absent, NoMemory}
 use Rattle.row_store.specs.declared.shelf.Shelf.{Shelf}
-use Rattle.row_store.specs.Slots.{rows_in, keys_in}
-use Rattle.row_store.specs.Shelves.{table_on, tables_on, definitions_on, keys_on, store_of, is_named, has_slot, has_slot_for, has_slot_to_put, KeepsSlots, Inserted, Replaced, Deleted}
+use Rattle.row_sheets.specs.Slots.{keys_in}
+use Rattle.table_sheet.specs.Pages.{rows_on, has_entry, KeepsEntries}
+use Rattle.row_store.specs.Shelves.{table_on, tables_on, definitions_on, keys_on, store_of, is_named, has_entry_for, has_entries_for, Inserted, Replaced, Deleted}
 use Rattle.row_store.specs.Stores.{Stores}
 use Rattle.row_store.proofs.Swapping.{kept_on, shelf_named, swap, same_name, keeps_swap, keeps_rows, equal_swap, same_rows, kept_found, dropped, cleared_swap, shelves_kept}
-use Rattle.row_store.proofs.Storing.{table_found, no_table, same_table, shelf_applied, shelf_same, insert_stored, update_stored, delete_stored, delete_absent, row_found, no_row_found, keys_found}
-use Rattle.row_store.proofs.Beside.{here_kept, on_ok, beside_swap, beside_removed, inverse_name, step_here, slot_here, kept_before, table_added, set_same}
-use Rattle.row_store.proofs.Writing.{among_of_row}
+use Rattle.row_store.proofs.Storing.{table_found, no_table, same_table, shelf_applied, shelf_same, insert_stored, update_stored, delete_stored, delete_absent, row_found, keys_found}
+use Rattle.row_store.proofs.Beside.{here_kept, on_ok, beside_swap, beside_removed, inverse_name, step_here, kept_before, table_added, set_same}
 
 -- ---- names and definitions
 
@@ -38,12 +39,12 @@ name_turned a b differ =
 
 pub definitions_same : (ss : List Shelf) → definitions_of (tables_on ss) ≡ definitions_on ss
 definitions_same [] = refl
-definitions_same (s ∷ ss) = ap (λ (ds : List TableDef). s.definition ∷ ds) (definitions_same ss)
+definitions_same (s ∷ ss) = ap (λ (ds : List TableDef). s.sheet.definition ∷ ds) (definitions_same ss)
 
 definitions_step : (k : ℕ) (s new d : Shelf) (ss : List Shelf) → d ≡ get_or (s ∷ ss) k d → same_name d new → ((j : ℕ) → d ≡ get_or ss j d → definitions_on (slice_set ss j new) ≡ definitions_on ss)
     → definitions_on (slice_set (s ∷ ss) k new) ≡ definitions_on (s ∷ ss)
-definitions_step zero s new d ss e same later = ap (λ (t : TableDef). t ∷ definitions_on ss) (same ∙ ap (λ (u : Shelf). u.definition) e)
-definitions_step (suc k) s new d ss e same later = ap (λ (ds : List TableDef). s.definition ∷ ds) (later k e)
+definitions_step zero s new d ss e same later = ap (λ (t : TableDef). t ∷ definitions_on ss) (same ∙ ap (λ (u : Shelf). u.sheet.definition) e)
+definitions_step (suc k) s new d ss e same later = ap (λ (ds : List TableDef). s.sheet.definition ∷ ds) (later k e)
 
 pub definitions_set : (ss : List Shelf) (k : ℕ) (new d : Shelf) → d ≡ get_or ss k d → same_name d new → definitions_on (slice_set ss k new) ≡ definitions_on ss
 definitions_set [] k new d e same = refl
@@ -56,46 +57,46 @@ names_set ss k new d differ e same = ap names_differ (definitions_set ss k new d
 abbrev has_name_of : TableDef → TableDef → Bool
 has_name_of a b = pointwise nat_eq a.name b.name
 
-other_at : (d : TableDef) (ss : List Shelf) (k : ℕ) (s : Shelf) → list_any (has_name_of d) (definitions_on ss) ≡ false → k < length ss → has_name_of d (get_or ss k s).definition ≡ false
+other_at : (d : TableDef) (ss : List Shelf) (k : ℕ) (s : Shelf) → list_any (has_name_of d) (definitions_on ss) ≡ false → k < length ss → has_name_of d (get_or ss k s).sheet.definition ≡ false
 other_at d [] k s e h = absurd (omega arith)
-other_at d (t ∷ ts) zero s e h = (or_parts (has_name_of d t.definition) (list_any (has_name_of d) (definitions_on ts)) e).0
-other_at d (t ∷ ts) (suc k) s e h = other_at d ts k s (or_parts (has_name_of d t.definition) (list_any (has_name_of d) (definitions_on ts)) e).1 (omega arith)
+other_at d (t ∷ ts) zero s e h = (or_parts (has_name_of d t.sheet.definition) (list_any (has_name_of d) (definitions_on ts)) e).0
+other_at d (t ∷ ts) (suc k) s e h = other_at d ts k s (or_parts (has_name_of d t.sheet.definition) (list_any (has_name_of d) (definitions_on ts)) e).1 (omega arith)
 
 -- each shelf stands at the place of its name
-pub named_at : (ss : List Shelf) (k : ℕ) (s : Shelf) → names_differ (definitions_on ss) ≡ true → k < length ss → position (is_named (get_or ss k s).definition.name) ss ≡ Some k
+pub named_at : (ss : List Shelf) (k : ℕ) (s : Shelf) → names_differ (definitions_on ss) ≡ true → k < length ss → position (is_named (get_or ss k s).sheet.definition.name) ss ≡ Some k
 named_at [] k s differ h = absurd (omega arith)
 named_at (t ∷ ts) zero s differ h =
-    place (is_named t.definition.name) t ts ∙ ap (λ (b : Bool). cond b (Some 0) (option_map suc (position (is_named t.definition.name) ts))) (name_self t.definition.name)
+    place (is_named t.sheet.definition.name) t ts ∙ ap (λ (b : Bool). cond b (Some 0) (option_map suc (position (is_named t.sheet.definition.name) ts))) (name_self t.sheet.definition.name)
 named_at (t ∷ ts) (suc k) s differ h =
-    let parts = and_parts (not (list_any (has_name_of t.definition) (definitions_on ts))) (names_differ (definitions_on ts)) differ in
-    let other : has_name_of t.definition (get_or ts k s).definition ≡ false = other_at t.definition ts k s (not-true (list_any (has_name_of t.definition) (definitions_on ts)) parts.0) (omega arith) in
-    place (is_named (get_or ts k s).definition.name) t ts
-    ∙ ap (λ (b : Bool). cond b (Some 0) (option_map suc (position (is_named (get_or ts k s).definition.name) ts))) (name_turned t.definition.name (get_or ts k s).definition.name other)
+    let parts = and_parts (not (list_any (has_name_of t.sheet.definition) (definitions_on ts))) (names_differ (definitions_on ts)) differ in
+    let other : has_name_of t.sheet.definition (get_or ts k s).sheet.definition ≡ false = other_at t.sheet.definition ts k s (not-true (list_any (has_name_of t.sheet.definition) (definitions_on ts)) parts.0) (omega arith) in
+    place (is_named (get_or ts k s).sheet.definition.name) t ts
+    ∙ ap (λ (b : Bool). cond b (Some 0) (option_map suc (position (is_named (get_or ts k s).sheet.definition.name) ts))) (name_turned t.sheet.definition.name (get_or ts k s).sheet.definition.name other)
     ∙ ap (option_map suc) (named_at ts k s parts.1 (omega arith))
 
 any_left : (d : TableDef) (name : List ℕ) (ss : List Shelf) → list_any (has_name_of d) (definitions_on ss) ≡ false → list_any (has_name_of d) (definitions_on (remove_first (is_named name) ss)) ≡ false
 any_left d name [] e = refl
 any_left d name (s ∷ ss) e =
-    let parts = or_parts (has_name_of d s.definition) (list_any (has_name_of d) (definitions_on ss)) e in
+    let parts = or_parts (has_name_of d s.sheet.definition) (list_any (has_name_of d) (definitions_on ss)) e in
     any_step (is_named name s) parts.0 parts.1 (any_left d name ss parts.1)
   where
-    any_step : (here : Bool) → has_name_of d s.definition ≡ false → list_any (has_name_of d) (definitions_on ss) ≡ false → list_any (has_name_of d) (definitions_on (remove_first (is_named name) ss)) ≡ false
+    any_step : (here : Bool) → has_name_of d s.sheet.definition ≡ false → list_any (has_name_of d) (definitions_on ss) ≡ false → list_any (has_name_of d) (definitions_on (remove_first (is_named name) ss)) ≡ false
         → list_any (has_name_of d) (definitions_on (cond here ss (s ∷ remove_first (is_named name) ss))) ≡ false
     any_step true first rest later = rest
-    any_step false first rest later = or_from (has_name_of d s.definition) (list_any (has_name_of d) (definitions_on (remove_first (is_named name) ss))) first later
+    any_step false first rest later = or_from (has_name_of d s.sheet.definition) (list_any (has_name_of d) (definitions_on (remove_first (is_named name) ss))) first later
 
 left_step : (here : Bool) (name : List ℕ) (s : Shelf) (ss : List Shelf) → names_differ (definitions_on (s ∷ ss)) ≡ true → names_differ (definitions_on (remove_first (is_named name) ss)) ≡ true
     → names_differ (definitions_on (cond here ss (s ∷ remove_first (is_named name) ss))) ≡ true
-left_step true name s ss differ later = (and_parts (not (list_any (has_name_of s.definition) (definitions_on ss))) (names_differ (definitions_on ss)) differ).1
+left_step true name s ss differ later = (and_parts (not (list_any (has_name_of s.sheet.definition) (definitions_on ss))) (names_differ (definitions_on ss)) differ).1
 left_step false name s ss differ later =
-    let parts = and_parts (not (list_any (has_name_of s.definition) (definitions_on ss))) (names_differ (definitions_on ss)) differ in
-    and_from (not (list_any (has_name_of s.definition) (definitions_on (remove_first (is_named name) ss)))) (names_differ (definitions_on (remove_first (is_named name) ss)))
-    (not_from_false _ (any_left s.definition name ss (not-true (list_any (has_name_of s.definition) (definitions_on ss)) parts.0))) later
+    let parts = and_parts (not (list_any (has_name_of s.sheet.definition) (definitions_on ss))) (names_differ (definitions_on ss)) differ in
+    and_from (not (list_any (has_name_of s.sheet.definition) (definitions_on (remove_first (is_named name) ss)))) (names_differ (definitions_on (remove_first (is_named name) ss)))
+    (not_from_false _ (any_left s.sheet.definition name ss (not-true (list_any (has_name_of s.sheet.definition) (definitions_on ss)) parts.0))) later
 
 names_left_first : (name : List ℕ) (ss : List Shelf) → names_differ (definitions_on ss) ≡ true → names_differ (definitions_on (remove_first (is_named name) ss)) ≡ true
 names_left_first name [] differ = refl
 names_left_first name (s ∷ ss) differ =
-    left_step (is_named name s) name s ss differ (names_left_first name ss (and_parts (not (list_any (has_name_of s.definition) (definitions_on ss))) (names_differ (definitions_on ss)) differ).1)
+    left_step (is_named name s) name s ss differ (names_left_first name ss (and_parts (not (list_any (has_name_of s.sheet.definition) (definitions_on ss))) (names_differ (definitions_on ss)) differ).1)
 
 -- ---- places
 
@@ -166,16 +167,16 @@ no_table_at : (ss : List Shelf) (at : ℕ) → length ss ≤ at → slice_get (s
 unfolding store_of
 no_table_at ss at past = get_mapped table_on ss at ∙ ap (option_map table_on) (get_past ss at past)
 
-pub definition_at : (ss : List Shelf) (at : ℕ) (s : Shelf) → at < length ss → s ≡ get_or ss at s → Some s.definition ≡ slice_get (definitions_of (store_of ss).tables) at
+pub definition_at : (ss : List Shelf) (at : ℕ) (s : Shelf) → at < length ss → s ≡ get_or ss at s → Some s.sheet.definition ≡ slice_get (definitions_of (store_of ss).tables) at
 definition_at ss at s h is = sym (get_mapped (λ (t : Table). t.definition) (store_of ss).tables at ∙ ap (option_map (λ (t : Table). t.definition)) (table_at ss at s h is))
 
 pub no_definition_at : (ss : List Shelf) (at : ℕ) → length ss ≤ at → None ≡ slice_get (definitions_of (store_of ss).tables) at
 no_definition_at ss at past = sym (get_mapped (λ (t : Table). t.definition) (store_of ss).tables at ∙ ap (option_map (λ (t : Table). t.definition)) (no_table_at ss at past))
 
-pub definition_place : (ss : List Shelf) (at : ℕ) (s : Shelf) → names_differ (definitions_on ss) ≡ true → at < length ss → s ≡ get_or ss at s → place_of s.definition.name (store_of ss).tables ≡ Some at
-definition_place ss at s differ h is = sym (place_is s.definition.name ss) ∙ ap (λ (t : Shelf). position (is_named t.definition.name) ss) is ∙ named_at ss at s differ h
+pub definition_place : (ss : List Shelf) (at : ℕ) (s : Shelf) → names_differ (definitions_on ss) ≡ true → at < length ss → s ≡ get_or ss at s → place_of s.sheet.definition.name (store_of ss).tables ≡ Some at
+definition_place ss at s differ h is = sym (place_is s.sheet.definition.name ss) ∙ ap (λ (t : Shelf). position (is_named t.sheet.definition.name) ss) is ∙ named_at ss at s differ h
 
-pub fits_shelf_at : (row : List Value) (ss : List Shelf) (at : ℕ) (s : Shelf) → at < length ss → s ≡ get_or ss at s → fits_at at row (store_of ss).tables ≡ row_fits s.definition.columns row
+pub fits_shelf_at : (row : List Value) (ss : List Shelf) (at : ℕ) (s : Shelf) → at < length ss → s ≡ get_or ss at s → fits_at at row (store_of ss).tables ≡ row_fits s.sheet.definition.columns row
 fits_shelf_at row ss at s h is = ap (λ (o : Option Table). option_map_or (λ (t : Table). row_fits t.definition.columns row) o true) (table_at ss at s h is)
 
 pub fits_past : (row : List Value) (ss : List Shelf) (at : ℕ) → length ss ≤ at → fits_at at row (store_of ss).tables ≡ true
@@ -185,67 +186,45 @@ fits_past row ss at past = ap (λ (o : Option Table). option_map_or (λ (t : Tab
 
 kept_shelves : (name : List ℕ) (row : List Value) (ss : List Shelf) → kept_among name row (tables_on ss) (map keys_on ss) ≡ kept_on name row ss
 kept_shelves name row [] = refl
-kept_shelves name row (s ∷ ss) = ap (cond (is_named name s) (has_slot_for row s)) (kept_shelves name row ss)
+kept_shelves name row (s ∷ ss) = ap (cond (is_named name s) (has_entry_for row s)) (kept_shelves name row ss)
 
 pub keeps_on : (name : List ℕ) (row : List Value) (ss : List Shelf) → keeps (store_of ss) name row ≡ kept_on name row ss
 unfolding keeps store_of
 keeps_on name row ss = kept_shelves name row ss
 
--- where the slots of a shelf stay, all keys are kept
-pub keeps_set : (ss : List Shelf) (at : ℕ) (s new : Shelf) → names_differ (definitions_on ss) ≡ true → at < length ss → s ≡ get_or ss at s → same_name s new → KeepsSlots s new
+-- where the entries of a shelf stay, all keys are kept
+pub keeps_set : (ss : List Shelf) (at : ℕ) (s new : Shelf) → names_differ (definitions_on ss) ≡ true → at < length ss → s ≡ get_or ss at s → same_name s new → KeepsEntries s.sheet new.sheet
     → KeepsAll (store_of ss) (store_of (slice_set ss at new))
 keeps_set ss at s new differ h is same slots n r kept =
-    let name : List ℕ = s.definition.name in
+    let name : List ℕ = s.sheet.definition.name in
     let at_name : place_of name (store_of ss).tables ≡ Some at = definition_place ss at s differ h is in
     keeps_on n r (slice_set ss at new)
     ∙ ap (kept_on n r) (set_at name ss at new at_name)
     ∙ keeps_swap name n r s new ss (shelf_at name ss at s at_name is) same (keeps_rows s new same slots) (sym (keeps_on n r ss) ∙ kept)
 
-pub keeps_same : (ss : List Shelf) (at : ℕ) (s new : Shelf) → names_differ (definitions_on ss) ≡ true → at < length ss → s ≡ get_or ss at s → same_name s new → keys_in new.slots.items ≡ keys_in s.slots.items
+pub keeps_same : (ss : List Shelf) (at : ℕ) (s new : Shelf) → names_differ (definitions_on ss) ≡ true → at < length ss → s ≡ get_or ss at s → same_name s new → keys_in new.sheet.entries ≡ keys_in s.sheet.entries
     → KeepsSame (store_of ss) (store_of (slice_set ss at new))
 keeps_same ss at s new differ h is same slots n r =
-    let name : List ℕ = s.definition.name in
+    let name : List ℕ = s.sheet.definition.name in
     let at_name : place_of name (store_of ss).tables ≡ Some at = definition_place ss at s differ h is in
     keeps_on n r (slice_set ss at new)
     ∙ ap (kept_on n r) (set_at name ss at new at_name)
     ∙ equal_swap name n r s new ss (shelf_at name ss at s at_name is) same (same_rows s new r same slots)
     ∙ sym (keeps_on n r ss)
 
-pub slots_kept : (old new : Shelf) → keys_in new.slots.items ≡ keys_in old.slots.items → KeepsSlots old new
-slots_kept old new same key h = ap (is_among key) same ∙ h
-
-rows_step : (name : List ℕ) (key row : List Value) (ss : List Shelf) (o : Option Shelf) → shelf_named name ss ≡ o → row_at name key (tables_on ss) ≡ Some row → kept_on name row ss ≡ true
-rows_step name key row ss None none e = absurd (some_none (sym e ∙ no_row_found name key ss none))
-  where
-    some_none : Some row ≡ None → ⊥
-    some_none f = cc
-rows_step name key row ss (Some s) found e =
-    let is : row_of_key s.definition key (rows_in s.slots.items) ≡ Some row = sym (row_found name key ss s found) ∙ e in
-    kept_found name row s ss found
-    ∙ ap (λ (k : List Value). has_slot k s) (sym (key_is s.definition key row (rows_in s.slots.items) is))
-    ∙ among_of_row s.definition key row s.slots.items s.sound is
-
-row_is : (ss : List Shelf) (name : List ℕ) (key row : List Value) → row_at name key (store_of ss).tables ≡ Some row → row_at name key (tables_on ss) ≡ Some row
-unfolding store_of
-row_is ss name key row e = e
-
--- the key of each row has a slot
-pub rows_keep : (ss : List Shelf) → KeepsRows (store_of ss)
-rows_keep ss name key row e = keeps_on name row ss ∙ rows_step name key row ss (shelf_named name ss) refl (row_is ss name key row e)
-
 pub whole : (ss : List Shelf) → names_differ (definitions_on ss) ≡ true → IsWhole (store_of ss)
 unfolding store_of
-whole ss differ = record { rows = shelves_kept ss; names = ap names_differ (definitions_same ss) ∙ differ; keys = rows_keep ss }
+whole ss differ = record { rows = shelves_kept ss; names = ap names_differ (definitions_same ss) ∙ differ }
 
 -- ---- rows stored
 
 pub got_row : (name : List ℕ) (key : List Value) (ss : List Shelf) (at : ℕ) (s : Shelf) → s ≡ get_or ss at s → place_of name (store_of ss).tables ≡ Some at
-    → row_of_key s.definition key (rows_in s.slots.items) ≡ row_at name key (store_of ss).tables
+    → row_of_key s.sheet.definition key (rows_on s.sheet) ≡ row_at name key (store_of ss).tables
 unfolding store_of
 got_row name key ss at s is e = sym (row_found name key ss s (shelf_at name ss at s e is))
 
-pub stored_insert : (r : Result (Unit {0}) RowRefusal) (row : List Value) (ss : List Shelf) (at : ℕ) (s new : Shelf) → s ≡ get_or ss at s → same_name s new → row_fits s.definition.columns row ≡ true
-    → Inserted r s.definition row (rows_in s.slots.items) (rows_in new.slots.items)
+pub stored_insert : (r : Result (Unit {0}) RowRefusal) (row : List Value) (ss : List Shelf) (at : ℕ) (s new : Shelf) → s ≡ get_or ss at s → same_name s new → row_fits s.sheet.definition.columns row ≡ true
+    → Inserted r s.sheet.definition row (rows_on s.sheet) (rows_on new.sheet)
     → (name : List ℕ) → place_of name (store_of ss).tables ≡ Some at → Stores r (insertion name row (store_of ss).tables) (store_of ss).tables (store_of (slice_set ss at new)).tables
 unfolding store_of
 stored_insert r row ss at s new is same fits p name e =
@@ -253,14 +232,14 @@ stored_insert r row ss at s new is same fits p name e =
     (insert_stored r name row ss s new (shelf_at name ss at s e is) same fits p)
 
 pub kept_here : (A : Type 0) (r : Result A RowRefusal) (row : List Value) (ss : List Shelf) (at : ℕ) (s new : Shelf) → s ≡ get_or ss at s → same_name s new
-    → OnOk r (has_slot (primary_key s.definition row) new ≡ true)
+    → OnOk r (has_entry (primary_key s.sheet.definition row) new.sheet ≡ true)
     → (name : List ℕ) → place_of name (store_of ss).tables ≡ Some at → OnOk r (keeps (store_of (slice_set ss at new)) name row ≡ true)
 kept_here A r row ss at s new is same slot name e =
-    on_ok r (has_slot (primary_key s.definition row) new ≡ true) (keeps (store_of (slice_set ss at new)) name row ≡ true)
+    on_ok r (has_entry (primary_key s.sheet.definition row) new.sheet ≡ true) (keeps (store_of (slice_set ss at new)) name row ≡ true)
     (λ has. keeps_on name row (slice_set ss at new) ∙ ap (kept_on name row) (set_at name ss at new e) ∙ here_kept name row s new ss (shelf_at name ss at s e is) same has) slot
 
-pub stored_update : (r : Result (Unit {0}) RowRefusal) (key row : List Value) (ss : List Shelf) (at : ℕ) (s new : Shelf) → s ≡ get_or ss at s → same_name s new → row_fits s.definition.columns row ≡ true
-    → Replaced r s.definition key row (rows_in s.slots.items) (rows_in new.slots.items)
+pub stored_update : (r : Result (Unit {0}) RowRefusal) (key row : List Value) (ss : List Shelf) (at : ℕ) (s new : Shelf) → s ≡ get_or ss at s → same_name s new → row_fits s.sheet.definition.columns row ≡ true
+    → Replaced r s.sheet.definition key row (rows_on s.sheet) (rows_on new.sheet)
     → (name : List ℕ) → place_of name (store_of ss).tables ≡ Some at → Stores r (replacement name key row (store_of ss).tables) (store_of ss).tables (store_of (slice_set ss at new)).tables
 unfolding store_of
 stored_update r key row ss at s new is same fits p name e =
@@ -272,15 +251,15 @@ some_row None e = cc
 some_row (Some row) e = (row, refl)
 
 pub delete_by : (r : Result (Unit {0}) RowRefusal) (name : List ℕ) (key : List Value) (ss : List Shelf) (old new : Shelf) → shelf_named name ss ≡ Some old → same_name old new
-    → Deleted r old.definition key (rows_in old.slots.items) (rows_in new.slots.items) → Stores r (deletion name key (tables_on ss)) (tables_on ss) (tables_on (swap name new ss))
+    → Deleted r old.sheet.definition key (rows_on old.sheet) (rows_on new.sheet) → Stores r (deletion name key (tables_on ss)) (tables_on ss) (tables_on (swap name new ss))
 delete_by (Ok done) name key ss old new found same p =
-    let row = some_row (row_of_key old.definition key (rows_in old.slots.items)) p.0 in delete_stored name key row.0 ss old new found same row.1 p.1
+    let row = some_row (row_of_key old.sheet.definition key (rows_on old.sheet)) p.0 in delete_stored name key row.0 ss old new found same row.1 p.1
 delete_by (Err (Taken which)) name key ss old new found same p = absurd p
 delete_by (Err Absent) name key ss old new found same p = (delete_absent name key ss old found p.0, shelf_same name ss old new found same p.1)
-delete_by (Err NoMemory) name key ss old new found same p = absurd p
+delete_by (Err NoMemory) name key ss old new found same p = shelf_same name ss old new found same p
 
 pub stored_delete : (r : Result (Unit {0}) RowRefusal) (key : List Value) (ss : List Shelf) (at : ℕ) (s new : Shelf) → s ≡ get_or ss at s → same_name s new
-    → Deleted r s.definition key (rows_in s.slots.items) (rows_in new.slots.items)
+    → Deleted r s.sheet.definition key (rows_on s.sheet) (rows_on new.sheet)
     → (name : List ℕ) → place_of name (store_of ss).tables ≡ Some at → Stores r (deletion name key (store_of ss).tables) (store_of ss).tables (store_of (slice_set ss at new)).tables
 unfolding store_of
 stored_delete r key ss at s new is same p name e =
@@ -288,8 +267,16 @@ stored_delete r key ss at s new is same p name e =
     (delete_by r name key ss s new (shelf_at name ss at s e is) same p)
 
 -- the key of the row that was there is kept
-pub before_kept : (old new : Store) → KeepsRows old → KeepsAll old new → (name : List ℕ) (key before : List Value) → row_at name key old.tables ≡ Some before → keeps new name before ≡ true
-before_kept old new rows keys name key before e = keys name before (rows name key before e)
+pub before_here : (r : Result (Unit {0}) RowRefusal) (key : List Value) (ss : List Shelf) (at : ℕ) (s new : Shelf) → s ≡ get_or ss at s → same_name s new → OnOk r (has_entry key new.sheet ≡ true)
+    → (name : List ℕ) → place_of name (store_of ss).tables ≡ Some at
+    → OnOk r ((before : List Value) → row_at name key (store_of ss).tables ≡ Some before → keeps (store_of (slice_set ss at new)) name before ≡ true)
+before_here r key ss at s new is same entry name e =
+    on_ok r (has_entry key new.sheet ≡ true) ((before : List Value) → row_at name key (store_of ss).tables ≡ Some before → keeps (store_of (slice_set ss at new)) name before ≡ true)
+    (λ has before there.
+    let its : key ≡ primary_key s.sheet.definition before = key_is s.sheet.definition key before (rows_on s.sheet) (got_row name key ss at s is e ∙ there) in
+    keeps_on name before (slice_set ss at new)
+    ∙ ap (kept_on name before) (set_at name ss at new e)
+    ∙ here_kept name before s new ss (shelf_at name ss at s e is) same (ap (λ (k : List Value). has_entry k new.sheet) (sym its) ∙ has)) entry
 
 -- ---- changes taken back
 
@@ -297,21 +284,26 @@ shelf_inverse : (change : Change) (ss : List Shelf) (at : ℕ) (s : Shelf) → s
 shelf_inverse change ss at s is e = ap (λ (n : List ℕ). shelf_named n ss) (inverse_name change) ∙ shelf_at (table_of change) ss at s e is
 
 pub back_step : (change : Change) (ss : List Shelf) (at : ℕ) (s : Shelf) → s ≡ get_or ss at s → place_of (table_of change) (store_of ss).tables ≡ Some at
-    → is_some (applied (inverse change) (store_of ss).tables) ≡ true → is_some (rows_after s.definition (inverse change) (rows_in s.slots.items)) ≡ true
+    → is_some (applied (inverse change) (store_of ss).tables) ≡ true → is_some (rows_after s.sheet.definition (inverse change) (rows_on s.sheet)) ≡ true
 unfolding store_of
 back_step change ss at s is e step = step_here (inverse change) ss s (shelf_inverse change ss at s is e) step
 
-put_on : (name : List ℕ) (ss : List Shelf) (o : Option (List Value)) → option_map_or (keeps (store_of ss) name) o true ≡ true → option_map_or (λ row. kept_on name row ss) o true ≡ true
-put_on name ss None e = refl
-put_on name ss (Some row) e = sym (keeps_on name row ss) ∙ e
+entry_for : (name : List ℕ) (row : List Value) (ss : List Shelf) (s : Shelf) → shelf_named name ss ≡ Some s → keeps (store_of ss) name row ≡ true → has_entry_for row s ≡ true
+entry_for name row ss s found kept = sym (keeps_on name row ss ∙ kept_found name row s ss found) ∙ kept
 
-pub back_slot : (change : Change) (ss : List Shelf) (at : ℕ) (s : Shelf) → s ≡ get_or ss at s → place_of (table_of change) (store_of ss).tables ≡ Some at
-    → keeps_put (store_of ss) (inverse change) ≡ true → has_slot_to_put s (inverse change) ≡ true
-back_slot change ss at s is e kept =
-    slot_here (inverse change) ss s (shelf_inverse change ss at s is e) (put_on (table_of (inverse change)) ss (row_put (inverse change)) kept)
+entries_for : (change : Change) (ss : List Shelf) (s : Shelf) → shelf_named (table_of change) ss ≡ Some s → keeps_put (store_of ss) change ≡ true → has_entries_for s.sheet change ≡ true
+entries_for (Insert name row) ss s found kept = entry_for name row ss s found kept
+entries_for (Update name before after) ss s found kept =
+    let parts = and_parts (keeps (store_of ss) name before) (keeps (store_of ss) name after) kept in
+    and_from (has_entry_for before s) (has_entry_for after s) (entry_for name before ss s found parts.0) (entry_for name after ss s found parts.1)
+entries_for (Delete name row) ss s found kept = entry_for name row ss s found kept
+
+pub back_entries : (change : Change) (ss : List Shelf) (at : ℕ) (s : Shelf) → s ≡ get_or ss at s → place_of (table_of change) (store_of ss).tables ≡ Some at
+    → keeps_put (store_of ss) (inverse change) ≡ true → has_entries_for s.sheet (inverse change) ≡ true
+back_entries change ss at s is e kept = entries_for (inverse change) ss s (shelf_inverse change ss at s is e) kept
 
 pub taken_back : (change : Change) (ss : List Shelf) (at : ℕ) (s new : Shelf) → s ≡ get_or ss at s → same_name s new → place_of (table_of change) (store_of ss).tables ≡ Some at
-    → rows_after s.definition (inverse change) (rows_in s.slots.items) ≡ Some (rows_in new.slots.items)
+    → rows_after s.sheet.definition (inverse change) (rows_on s.sheet) ≡ Some (rows_on new.sheet)
     → applied (inverse change) (store_of ss).tables ≡ Some (store_of (slice_set ss at new)).tables
 unfolding store_of
 taken_back change ss at s new is same e made =
@@ -321,7 +313,7 @@ taken_back change ss at s new is same e made =
 
 -- ---- whole tables
 
-pub cleared_at : (name : List ℕ) (ss : List Shelf) (at : ℕ) (s new : Shelf) → s ≡ get_or ss at s → same_name s new → rows_in new.slots.items ≡ [] → place_of name (store_of ss).tables ≡ Some at
+pub cleared_at : (name : List ℕ) (ss : List Shelf) (at : ℕ) (s new : Shelf) → s ≡ get_or ss at s → same_name s new → rows_on new.sheet ≡ [] → place_of name (store_of ss).tables ≡ Some at
     → (store_of (slice_set ss at new)).tables ≡ tables_cleared name (store_of ss).tables
 unfolding store_of
 cleared_at name ss at s new is same none e = ap tables_on (set_at name ss at new e) ∙ cleared_swap name s new ss (shelf_at name ss at s e is) same none
@@ -349,20 +341,20 @@ names_left name ss at differ e =
 none_named : (d : TableDef) (ss : List Shelf) (name : List ℕ) → name ≡ d.name → list_any (has_name_of d) (definitions_on ss) ≡ false → shelf_named name ss ≡ None
 none_named d [] name same e = refl
 none_named d (s ∷ ss) name same e =
-    let parts = or_parts (has_name_of d s.definition) (list_any (has_name_of d) (definitions_on ss)) e in
+    let parts = or_parts (has_name_of d s.sheet.definition) (list_any (has_name_of d) (definitions_on ss)) e in
     let not_here : is_named name s ≡ false = ap (λ (n : List ℕ). is_named n s) same ∙ parts.0 in
     rw not_here (none_named d ss name same parts.1)
 
 gone_step : (here : Bool) (name : List ℕ) (s : Shelf) (ss : List Shelf) → is_named name s ≡ here → names_differ (definitions_on (s ∷ ss)) ≡ true
     → shelf_named name (remove_first (is_named name) ss) ≡ None → shelf_named name (cond here ss (s ∷ remove_first (is_named name) ss)) ≡ None
 gone_step true name s ss e differ later =
-    none_named s.definition ss name (name_is name s.definition.name e) (not-true _ (and_parts (not (list_any (has_name_of s.definition) (definitions_on ss))) (names_differ (definitions_on ss)) differ).0)
+    none_named s.sheet.definition ss name (name_is name s.sheet.definition.name e) (not-true _ (and_parts (not (list_any (has_name_of s.sheet.definition) (definitions_on ss))) (names_differ (definitions_on ss)) differ).0)
 gone_step false name s ss e differ later = rw e later
 
 gone_first : (name : List ℕ) (ss : List Shelf) → names_differ (definitions_on ss) ≡ true → shelf_named name (remove_first (is_named name) ss) ≡ None
 gone_first name [] differ = refl
 gone_first name (s ∷ ss) differ =
-    gone_step (is_named name s) name s ss refl differ (gone_first name ss (and_parts (not (list_any (has_name_of s.definition) (definitions_on ss))) (names_differ (definitions_on ss)) differ).1)
+    gone_step (is_named name s) name s ss refl differ (gone_first name ss (and_parts (not (list_any (has_name_of s.sheet.definition) (definitions_on ss))) (names_differ (definitions_on ss)) differ).1)
 
 named_is : (name : List ℕ) (ss : List Shelf) → shelf_named name ss ≡ None → table_named name (store_of ss).tables ≡ None
 unfolding store_of
@@ -373,24 +365,24 @@ pub gone_at : (name : List ℕ) (ss : List Shelf) (at : ℕ) → names_differ (d
 gone_at name ss at differ e =
     named_is name (remove ss at) (ap (shelf_named name) (removed (is_named name) ss at (placed name ss at e)) ∙ gone_first name ss differ)
 
-any_more : (d : TableDef) (ss : List Shelf) (last : Shelf) → list_any (has_name_of d) (definitions_on ss) ≡ false → has_name_of d last.definition ≡ false
+any_more : (d : TableDef) (ss : List Shelf) (last : Shelf) → list_any (has_name_of d) (definitions_on ss) ≡ false → has_name_of d last.sheet.definition ≡ false
     → list_any (has_name_of d) (definitions_on (ss ++ last ∷ [])) ≡ false
-any_more d [] last e f = or_from (has_name_of d last.definition) false f refl
+any_more d [] last e f = or_from (has_name_of d last.sheet.definition) false f refl
 any_more d (s ∷ ss) last e f =
-    let parts = or_parts (has_name_of d s.definition) (list_any (has_name_of d) (definitions_on ss)) e in
-    or_from (has_name_of d s.definition) (list_any (has_name_of d) (definitions_on (ss ++ last ∷ []))) parts.0 (any_more d ss last parts.1 f)
+    let parts = or_parts (has_name_of d s.sheet.definition) (list_any (has_name_of d) (definitions_on ss)) e in
+    or_from (has_name_of d s.sheet.definition) (list_any (has_name_of d) (definitions_on (ss ++ last ∷ []))) parts.0 (any_more d ss last parts.1 f)
 
 none_here : (b : Bool) (s : Shelf) (o : Option Shelf) → cond b (Some s) o ≡ None → (b ≡ false) × (o ≡ None)
 none_here true s o e = cc
 none_here false s o e = (refl, e)
 
-names_behind : (ss : List Shelf) (last : Shelf) → names_differ (definitions_on ss) ≡ true → shelf_named last.definition.name ss ≡ None → names_differ (definitions_on (ss ++ last ∷ [])) ≡ true
+names_behind : (ss : List Shelf) (last : Shelf) → names_differ (definitions_on ss) ≡ true → shelf_named last.sheet.definition.name ss ≡ None → names_differ (definitions_on (ss ++ last ∷ [])) ≡ true
 names_behind [] last differ none = refl
 names_behind (s ∷ ss) last differ none =
-    let parts = and_parts (not (list_any (has_name_of s.definition) (definitions_on ss))) (names_differ (definitions_on ss)) differ in
-    let other = none_here (is_named last.definition.name s) s (shelf_named last.definition.name ss) none in
-    and_from (not (list_any (has_name_of s.definition) (definitions_on (ss ++ last ∷ [])))) (names_differ (definitions_on (ss ++ last ∷ [])))
-    (not_from_false _ (any_more s.definition ss last (not-true _ parts.0) (name_turned last.definition.name s.definition.name other.0)))
+    let parts = and_parts (not (list_any (has_name_of s.sheet.definition) (definitions_on ss))) (names_differ (definitions_on ss)) differ in
+    let other = none_here (is_named last.sheet.definition.name s) s (shelf_named last.sheet.definition.name ss) none in
+    and_from (not (list_any (has_name_of s.sheet.definition) (definitions_on (ss ++ last ∷ [])))) (names_differ (definitions_on (ss ++ last ∷ [])))
+    (not_from_false _ (any_more s.sheet.definition ss last (not-true _ parts.0) (name_turned last.sheet.definition.name s.sheet.definition.name other.0)))
     (names_behind ss last parts.1 other.1)
 
 named_none : (name : List ℕ) (ss : List Shelf) → table_named name (store_of ss).tables ≡ None → shelf_named name ss ≡ None
@@ -402,12 +394,12 @@ named_none name ss e = by_shelf (shelf_named name ss) refl
     by_shelf (Some s) f = let both : Some (table_on s) ≡ None = sym (table_found name ss s f) ∙ e in cc
 
 -- names differ still with a table of a name that was free
-pub names_more : (ss : List Shelf) (last : Shelf) (d : TableDef) → names_differ (definitions_on ss) ≡ true → table_named d.name (store_of ss).tables ≡ None → last.definition ≡ d
+pub names_more : (ss : List Shelf) (last : Shelf) (d : TableDef) → names_differ (definitions_on ss) ≡ true → table_named d.name (store_of ss).tables ≡ None → last.sheet.definition ≡ d
     → names_differ (definitions_on (ss ++ last ∷ [])) ≡ true
 names_more ss last d differ free same =
-    names_behind ss last differ (named_none last.definition.name ss (ap (λ (e : TableDef). table_named e.name (store_of ss).tables) same ∙ free))
+    names_behind ss last differ (named_none last.sheet.definition.name ss (ap (λ (e : TableDef). table_named e.name (store_of ss).tables) same ∙ free))
 
-pub created : (ss : List Shelf) (last : Shelf) (d : TableDef) → last.definition ≡ d → rows_in last.slots.items ≡ [] → (store_of (ss ++ last ∷ [])).tables ≡ (store_of ss).tables ++ record { definition = d; rows = [] } ∷ []
+pub created : (ss : List Shelf) (last : Shelf) (d : TableDef) → last.sheet.definition ≡ d → rows_on last.sheet ≡ [] → (store_of (ss ++ last ∷ [])).tables ≡ (store_of ss).tables ++ record { definition = d; rows = [] } ∷ []
 unfolding store_of
 created ss last d same none = table_added ss last d same none
 
@@ -415,11 +407,11 @@ pub keeps_more : (ss : List Shelf) (last : Shelf) → KeepsAll (store_of ss) (st
 keeps_more ss last n r h = keeps_on n r (ss ++ last ∷ []) ∙ kept_before n r ss last (sym (keeps_on n r ss) ∙ h)
 
 pub keys_of : (name : List ℕ) (ss : List Shelf) (at : ℕ) (s : Shelf) → s ≡ get_or ss at s → place_of name (store_of ss).tables ≡ Some at
-    → map (primary_key s.definition) (rows_in s.slots.items) ≡ keys_at name (store_of ss).tables
+    → map (primary_key s.sheet.definition) (rows_on s.sheet) ≡ keys_at name (store_of ss).tables
 unfolding store_of
 keys_of name ss at s is e = sym (keys_found name ss s (shelf_at name ss at s e is))
 
 -- another shelf of the same table
-pub same_set : (ss : List Shelf) (at : ℕ) (s new : Shelf) → s ≡ get_or ss at s → same_name s new → rows_in new.slots.items ≡ rows_in s.slots.items → (store_of (slice_set ss at new)).tables ≡ (store_of ss).tables
+pub same_set : (ss : List Shelf) (at : ℕ) (s new : Shelf) → s ≡ get_or ss at s → same_name s new → rows_on new.sheet ≡ rows_on s.sheet → (store_of (slice_set ss at new)).tables ≡ (store_of ss).tables
 unfolding store_of
 same_set ss at s new is same rows = set_same ss at new s is (same_table s new same rows)

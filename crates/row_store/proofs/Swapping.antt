@@ -14,12 +14,13 @@ use Rattle.table_rules.specs.Tables.{Table}
 use Rattle.table_rules.specs.Changes.{table_after, applied, AreKept}
 use Rattle.val_types.specs.Changes.{table_of}
 use Rattle.table_rules.specs.Stored.{has_name, table_named, tables_beside, tables_cleared}
-use Rattle.table_rules.proofs.Taking.{is_kept}
-use Rattle.row_store.specs.declared.shelf.Shelf.{Shelf}
+use Rattle.table_rules.proofs.Taking.{Kept, is_kept}
 use Rattle.table_rules.specs.Stores.{is_among}
-use Rattle.row_store.specs.Slots.{rows_in, keys_in}
-use Rattle.row_store.specs.Shelves.{table_on, tables_on, is_named, has_slot, has_slot_for, KeepsSlots}
-use Rattle.row_store.proofs.Emptying.{sound}
+use Rattle.row_sheets.specs.Slots.{keys_in}
+use Rattle.table_sheet.specs.Pages.{rows_on, has_entry, KeepsEntries}
+use Rattle.row_store.specs.declared.shelf.Shelf.{Shelf}
+use Rattle.row_store.specs.Shelves.{table_on, tables_on, is_named, has_entry_for}
+use Rattle.row_store.proofs.Keeping.{kept_by}
 
 -- the shelf of a table
 abbrev pub shelf_named : List ℕ → List Shelf → Option Shelf
@@ -29,10 +30,10 @@ shelf_named name ss = find (is_named name) ss
 abbrev pub swap : List ℕ → Shelf → List Shelf → List Shelf
 swap name new ss = change_first (is_named name) (λ s. new) ss
 
--- whether the first shelf of a name has a slot for a row
+-- whether the first shelf of a name has an entry for a row
 abbrev pub kept_on : List ℕ → List Value → List Shelf → Bool
 kept_on name row [] = false
-kept_on name row (shelf ∷ shelves) = cond (is_named name shelf) (has_slot_for row shelf) (kept_on name row shelves)
+kept_on name row (shelf ∷ shelves) = cond (is_named name shelf) (has_entry_for row shelf) (kept_on name row shelves)
 
 -- ---- tables
 
@@ -72,25 +73,25 @@ same_swap name old new (s ∷ ss) found same = same_step (is_named name s) s old
 -- ---- keys that are kept
 
 abbrev pub same_name : Shelf → Shelf → Type 0
-same_name old new = new.definition ≡ old.definition
+same_name old new = new.sheet.definition ≡ old.sheet.definition
 
 pub named_same : (name : List ℕ) (old new : Shelf) → same_name old new → is_named name new ≡ is_named name old
 named_same name old new e = ap (λ (d : TableDef). pointwise nat_eq name d.name) e
 
--- each row that had a slot has one still
+-- each row that had an entry has one still
 abbrev pub KeepsRows : Shelf → Shelf → Type 0
-KeepsRows old new = (row : List Value) → has_slot_for row old ≡ true → has_slot_for row new ≡ true
+KeepsRows old new = (row : List Value) → has_entry_for row old ≡ true → has_entry_for row new ≡ true
 
-pub keeps_rows : (old new : Shelf) → same_name old new → KeepsSlots old new → KeepsRows old new
+pub keeps_rows : (old new : Shelf) → same_name old new → KeepsEntries old.sheet new.sheet → KeepsRows old new
 keeps_rows old new same keeps row h =
-    ap (λ (d : TableDef). has_slot (primary_key d row) new) same ∙ keeps (primary_key old.definition row) h
+    ap (λ (d : TableDef). has_entry (primary_key d row) new.sheet) same ∙ keeps (primary_key old.sheet.definition row) h
 
-pub same_rows : (old new : Shelf) (row : List Value) → same_name old new → keys_in new.slots.items ≡ keys_in old.slots.items → has_slot_for row new ≡ has_slot_for row old
+pub same_rows : (old new : Shelf) (row : List Value) → same_name old new → keys_in new.sheet.entries ≡ keys_in old.sheet.entries → has_entry_for row new ≡ has_entry_for row old
 same_rows old new row same keys =
-    ap (λ (d : TableDef). has_slot (primary_key d row) new) same ∙ ap (is_among (primary_key old.definition row)) keys
+    ap (λ (d : TableDef). has_entry (primary_key d row) new.sheet) same ∙ ap (is_among (primary_key old.sheet.definition row)) keys
 
 -- what is kept under a name that the shelf has
-pub first_kept : (other : List ℕ) (row : List Value) (s : Shelf) (ss : List Shelf) → is_named other s ≡ true → kept_on other row (s ∷ ss) ≡ has_slot_for row s
+pub first_kept : (other : List ℕ) (row : List Value) (s : Shelf) (ss : List Shelf) → is_named other s ≡ true → kept_on other row (s ∷ ss) ≡ has_entry_for row s
 first_kept other row s ss e = rw e refl
 
 pub later_kept : (other : List ℕ) (row : List Value) (s : Shelf) (ss : List Shelf) → is_named other s ≡ false → kept_on other row (s ∷ ss) ≡ kept_on other row ss
@@ -103,7 +104,7 @@ more_step : (here there : Bool) (name other : List ℕ) (row : List Value) (s ol
 more_step true true name other row s old new ss e f same keeps later found kept =
     let first : s ≡ old = cc in
     let named : is_named other new ≡ true = named_same other old new same ∙ ap (is_named other) (sym first) ∙ f in
-    first_kept other row new ss named ∙ keeps row (ap (has_slot_for row) (sym first) ∙ sym (first_kept other row s ss f) ∙ kept)
+    first_kept other row new ss named ∙ keeps row (ap (has_entry_for row) (sym first) ∙ sym (first_kept other row s ss f) ∙ kept)
 more_step true false name other row s old new ss e f same keeps later found kept =
     let first : s ≡ old = cc in
     let named : is_named other new ≡ false = named_same other old new same ∙ ap (is_named other) (sym first) ∙ f in
@@ -121,13 +122,13 @@ keeps_swap name other row old new (s ∷ ss) found same keeps kept =
     more_step (is_named name s) (is_named other s) name other row s old new ss refl refl same keeps (λ e k. keeps_swap name other row old new ss e same keeps k) found kept
 
 equal_step : (here there : Bool) (name other : List ℕ) (row : List Value) (s old new : Shelf) (ss : List Shelf) → is_named name s ≡ here → is_named other s ≡ there
-    → same_name old new → has_slot_for row new ≡ has_slot_for row old
+    → same_name old new → has_entry_for row new ≡ has_entry_for row old
     → (shelf_named name ss ≡ Some old → kept_on other row (swap name new ss) ≡ kept_on other row ss)
     → cond here (Some s) (shelf_named name ss) ≡ Some old → kept_on other row (cond here (new ∷ ss) (s ∷ swap name new ss)) ≡ kept_on other row (s ∷ ss)
 equal_step true true name other row s old new ss e f same equal later found =
     let first : s ≡ old = cc in
     let named : is_named other new ≡ true = named_same other old new same ∙ ap (is_named other) (sym first) ∙ f in
-    first_kept other row new ss named ∙ equal ∙ ap (has_slot_for row) (sym first) ∙ sym (first_kept other row s ss f)
+    first_kept other row new ss named ∙ equal ∙ ap (has_entry_for row) (sym first) ∙ sym (first_kept other row s ss f)
 equal_step true false name other row s old new ss e f same equal later found =
     let first : s ≡ old = cc in
     let named : is_named other new ≡ false = named_same other old new same ∙ ap (is_named other) (sym first) ∙ f in
@@ -137,16 +138,16 @@ equal_step false true name other row s old new ss e f same equal later found =
 equal_step false false name other row s old new ss e f same equal later found =
     later_kept other row s (swap name new ss) f ∙ later found ∙ sym (later_kept other row s ss f)
 
--- a row is kept as before where the new shelf has its slot just where the old one has
-pub equal_swap : (name other : List ℕ) (row : List Value) (old new : Shelf) (ss : List Shelf) → shelf_named name ss ≡ Some old → same_name old new → has_slot_for row new ≡ has_slot_for row old
+-- a row is kept as before where the new shelf has its entry just where the old one has
+pub equal_swap : (name other : List ℕ) (row : List Value) (old new : Shelf) (ss : List Shelf) → shelf_named name ss ≡ Some old → same_name old new → has_entry_for row new ≡ has_entry_for row old
     → kept_on other row (swap name new ss) ≡ kept_on other row ss
 equal_swap name other row old new [] found same equal = cc
 equal_swap name other row old new (s ∷ ss) found same equal =
     equal_step (is_named name s) (is_named other s) name other row s old new ss refl refl same equal (λ e. equal_swap name other row old new ss e same equal) found
 
 here_step : (here : Bool) (name : List ℕ) (row : List Value) (s old new : Shelf) (ss : List Shelf) → is_named name s ≡ here → same_name old new
-    → (shelf_named name ss ≡ Some old → kept_on name row (swap name new ss) ≡ has_slot_for row new)
-    → cond here (Some s) (shelf_named name ss) ≡ Some old → kept_on name row (cond here (new ∷ ss) (s ∷ swap name new ss)) ≡ has_slot_for row new
+    → (shelf_named name ss ≡ Some old → kept_on name row (swap name new ss) ≡ has_entry_for row new)
+    → cond here (Some s) (shelf_named name ss) ≡ Some old → kept_on name row (cond here (new ∷ ss) (s ∷ swap name new ss)) ≡ has_entry_for row new
 here_step true name row s old new ss e same later found =
     let first : s ≡ old = cc in
     let named : is_named name new ≡ true = named_same name old new same ∙ ap (is_named name) (sym first) ∙ e in
@@ -154,16 +155,16 @@ here_step true name row s old new ss e same later found =
 here_step false name row s old new ss e same later found = later_kept name row s (swap name new ss) e ∙ later found
 
 -- the keys kept for a table are those of its new shelf
-pub keeps_here : (name : List ℕ) (row : List Value) (old new : Shelf) (ss : List Shelf) → shelf_named name ss ≡ Some old → same_name old new → kept_on name row (swap name new ss) ≡ has_slot_for row new
+pub keeps_here : (name : List ℕ) (row : List Value) (old new : Shelf) (ss : List Shelf) → shelf_named name ss ≡ Some old → same_name old new → kept_on name row (swap name new ss) ≡ has_entry_for row new
 keeps_here name row old new [] found same = cc
 keeps_here name row old new (s ∷ ss) found same = here_step (is_named name s) name row s old new ss refl same (λ e. keeps_here name row old new ss e same) found
 
-found_step : (here : Bool) (name : List ℕ) (row : List Value) (s old : Shelf) (ss : List Shelf) → is_named name s ≡ here → (shelf_named name ss ≡ Some old → kept_on name row ss ≡ has_slot_for row old)
-    → cond here (Some s) (shelf_named name ss) ≡ Some old → kept_on name row (s ∷ ss) ≡ has_slot_for row old
-found_step true name row s old ss e later found = let first : s ≡ old = cc in first_kept name row s ss e ∙ ap (has_slot_for row) first
+found_step : (here : Bool) (name : List ℕ) (row : List Value) (s old : Shelf) (ss : List Shelf) → is_named name s ≡ here → (shelf_named name ss ≡ Some old → kept_on name row ss ≡ has_entry_for row old)
+    → cond here (Some s) (shelf_named name ss) ≡ Some old → kept_on name row (s ∷ ss) ≡ has_entry_for row old
+found_step true name row s old ss e later found = let first : s ≡ old = cc in first_kept name row s ss e ∙ ap (has_entry_for row) first
 found_step false name row s old ss e later found = later_kept name row s ss e ∙ later found
 
-pub kept_found : (name : List ℕ) (row : List Value) (old : Shelf) (ss : List Shelf) → shelf_named name ss ≡ Some old → kept_on name row ss ≡ has_slot_for row old
+pub kept_found : (name : List ℕ) (row : List Value) (old : Shelf) (ss : List Shelf) → shelf_named name ss ≡ Some old → kept_on name row ss ≡ has_entry_for row old
 kept_found name row old [] found = cc
 kept_found name row old (s ∷ ss) found = found_step (is_named name s) name row s old ss refl (kept_found name row old ss) found
 
@@ -186,10 +187,10 @@ pub dropped : (name : List ℕ) (ss : List Shelf) (at : ℕ) → position (is_na
 dropped name ss at e = ap tables_on (removed (is_named name) ss at e) ∙ sym (left_mapped table_on (has_name name) ss)
 
 -- an empty shelf in the place of that of a table clears it
-pub cleared_swap : (name : List ℕ) (old new : Shelf) (ss : List Shelf) → shelf_named name ss ≡ Some old → same_name old new → rows_in new.slots.items ≡ [] → tables_on (swap name new ss) ≡ tables_cleared name (tables_on ss)
+pub cleared_swap : (name : List ℕ) (old new : Shelf) (ss : List Shelf) → shelf_named name ss ≡ Some old → same_name old new → rows_on new.sheet ≡ [] → tables_on (swap name new ss) ≡ tables_cleared name (tables_on ss)
 cleared_swap name old new ss found same none =
     sym (change_mapped table_on (has_name name) (λ table. record table { rows = [] }) (λ s. new) ss old found
-    (ap (λ (d : TableDef). record { definition = d; rows = [] }) (sym same) ∙ ap (λ (rows : List (List Value)). record { definition = new.definition; rows = rows }) (sym none)))
+    (ap (λ (d : TableDef). record { definition = d; rows = [] }) (sym same) ∙ ap (λ (rows : List (List Value)). record { definition = new.sheet.definition; rows = rows }) (sym none)))
 
 -- where there is no table of a name, nothing is dropped or cleared
 pub none_dropped : (name : List ℕ) (ss : List Shelf) → position (is_named name) ss ≡ None → tables_on ss ≡ tables_beside name (tables_on ss)
@@ -200,6 +201,10 @@ none_cleared name ss e = sym (unchanged (has_name name) (λ table. record table 
 
 -- ---- what holds of all that is stored
 
+-- the rows on a shelf fit, rise and are apart
+pub kept_rows : (s : Shelf) → Kept s.sheet.definition (rows_on s.sheet)
+kept_rows s = kept_by s.sheet.definition (rows_on s.sheet) s.kept
+
 pub shelves_kept : (ss : List Shelf) → AreKept (tables_on ss)
 shelves_kept [] = tt
-shelves_kept (s ∷ ss) = (is_kept s.definition (rows_in s.slots.items) (sound s.definition s.slots.items s.sound).kept, shelves_kept ss)
+shelves_kept (s ∷ ss) = (is_kept s.sheet.definition (rows_on s.sheet) (kept_rows s), shelves_kept ss)

@@ -1,4 +1,3 @@
 pub mod Refusals
 pub mod Shelves
-pub mod Slots
 pub mod Stores

@@ -1,23 +1,24 @@
 -- What the shelves stand for, and what is done with the rows on one.
-use Rattle.std.specs.Prelude.{◌≡◌, ℕ, Bool, true, nat_eq, List, map, Some, None, Result, Ok, Err, is_some}
-use Rattle.std.specs.Option.{option_map_or}
+use Rattle.std.specs.Prelude.{◌≡◌, ℕ, Bool, true, ◌&&◌, nat_eq, List, map, Some, None, Result, Ok, Err, is_some}
 use Rattle.std.specs.Cmp.Lexicographic.{pointwise}
 use Rattle.val_types.specs.declared.value.Value.{Value}
 use Rattle.val_types.specs.declared.definitions.TableDef.{TableDef}
+use Rattle.val_types.specs.declared.change.Change.{Change}
+use Rattle.val_types.specs.declared.change.Change.TheVariants.{Insert, Update, Delete}
 use Rattle.val_types.specs.Keys.{primary_key}
 use Rattle.table_rules.specs.Tables.{Table}
 use Rattle.table_rules.specs.Changes.{with_row}
-use Rattle.val_types.specs.declared.change.Change.{Change}
-use Rattle.table_rules.specs.Stored.{row_of_key, rows_beside, key_in_way, row_put}
+use Rattle.table_rules.specs.Stored.{row_of_key, rows_beside, key_in_way}
+use Rattle.table_rules.specs.Stores.{Store}
+use Rattle.row_sheets.specs.Slots.{keys_in}
+use Rattle.table_sheet.specs.Pages.{Page, rows_on, has_entry}
 use Rattle.row_store.specs.declared.refusal.RowRefusal.{RowRefusal}
 use Rattle.row_store.specs.declared.refusal.RowRefusal.TheVariants.{Taken, Absent, NoMemory}
 use Rattle.row_store.specs.declared.shelf.Shelf.{Shelf}
-use Rattle.table_rules.specs.Stores.{Store, is_among}
-use Rattle.row_store.specs.Slots.{rows_in, keys_in}
 
 -- the table that a shelf holds
 abbrev pub table_on : Shelf → Table
-table_on shelf = record { definition = shelf.definition; rows = rows_in shelf.slots.items }
+table_on shelf = record { definition = shelf.sheet.definition; rows = rows_on shelf.sheet }
 
 -- the tables on some shelves
 abbrev pub tables_on : List Shelf → List Table
@@ -25,35 +26,29 @@ tables_on shelves = map table_on shelves
 
 -- the definitions of the tables on some shelves
 abbrev pub definitions_on : List Shelf → List TableDef
-definitions_on shelves = map (λ shelf. shelf.definition) shelves
+definitions_on shelves = map (λ shelf. shelf.sheet.definition) shelves
 
--- the keys that a shelf has slots of
+-- the keys that a shelf has entries of
 abbrev pub keys_on : Shelf → List (List Value)
-keys_on shelf = keys_in shelf.slots.items
+keys_on shelf = keys_in shelf.sheet.entries
 
--- what some shelves store: their tables, and the keys that they have slots of
+-- what some shelves store: their tables, and the keys that they have entries of
 unfoldable pub store_of : List Shelf → Store
 store_of shelves = record { tables = tables_on shelves; kept = map keys_on shelves }
 
 -- whether a shelf holds the table of a name
 abbrev pub is_named : List ℕ → Shelf → Bool
-is_named name shelf = pointwise nat_eq name shelf.definition.name
+is_named name shelf = pointwise nat_eq name shelf.sheet.definition.name
 
--- whether a shelf has a slot of a key
-abbrev pub has_slot : List Value → Shelf → Bool
-has_slot key shelf = is_among key (keys_in shelf.slots.items)
+-- whether a shelf has an entry of the primary key of a row
+abbrev pub has_entry_for : List Value → Shelf → Bool
+has_entry_for row shelf = has_entry (primary_key shelf.sheet.definition row) shelf.sheet
 
--- whether each key that a shelf had a slot of has one still
-abbrev pub KeepsSlots : Shelf → Shelf → Type 0
-KeepsSlots old new = (key : List Value) → has_slot key old ≡ true → has_slot key new ≡ true
-
--- whether a shelf has a slot of the primary key of a row
-abbrev pub has_slot_for : List Value → Shelf → Bool
-has_slot_for row shelf = has_slot (primary_key shelf.definition row) shelf
-
--- whether a shelf has a slot for the row that a change puts
-abbrev pub has_slot_to_put : Shelf → Change → Bool
-has_slot_to_put shelf change = option_map_or (λ row. has_slot_for row shelf) (row_put change) true
+-- whether a page has entries of the keys of the rows that a change puts and takes out
+abbrev pub has_entries_for : Page → Change → Bool
+has_entries_for page (Insert name row) = has_entry (primary_key page.definition row) page
+has_entries_for page (Update name before after) = has_entry (primary_key page.definition before) page && has_entry (primary_key page.definition after) page
+has_entries_for page (Delete name row) = has_entry (primary_key page.definition row) page
 
 -- what inserting a row makes of rows: one more, or the first key in the way
 abbrev pub Inserted : Result (Unit {0}) RowRefusal → TableDef → List Value → List (List Value) → List (List Value) → Type 0
@@ -75,9 +70,9 @@ Replaced (Err (Taken which)) definition key row old new =
 Replaced (Err Absent) definition key row old new = (row_of_key definition key old ≡ None) × (new ≡ old)
 Replaced (Err NoMemory) definition key row old new = new ≡ old
 
--- what taking the row of a key out makes of rows
+-- what taking the row of a key out makes of rows; an entry for it may want memory
 abbrev pub Deleted : Result (Unit {0}) RowRefusal → TableDef → List Value → List (List Value) → List (List Value) → Type 0
 Deleted (Ok done) definition key old new = (is_some (row_of_key definition key old) ≡ true) × (new ≡ rows_beside definition key old)
 Deleted (Err (Taken which)) definition key old new = ⊥
 Deleted (Err Absent) definition key old new = (row_of_key definition key old ≡ None) × (new ≡ old)
-Deleted (Err NoMemory) definition key old new = ⊥
+Deleted (Err NoMemory) definition key old new = new ≡ old

@@ -27,7 +27,7 @@ impl Tables {
         ensures { IfOk result (λ keys. keys ≡ keys_at table.now self.now.tables) }
     {
         match self.place(table) {
-            Some(at) => self.shelves[at].keys(self.alloc),
+            Some(at) => self.shelves[at].sheet.keys(self.alloc),
             None => Ok(List::new(self.alloc)),
         }
     }

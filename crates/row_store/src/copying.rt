@@ -2,40 +2,19 @@
 ghost use Rattle.std.specs.Prelude.{◌≡◌, IfOk};
 
 use crate::shelf::Shelf;
-use crate::slots::Slot;
 use crate::tables::Tables;
 use std::alloc::Global;
-use val_types::{Duplicate, NoMemory};
-
-impl Slot {
-    fn copy(&self, alloc: Global) -> Result<Slot, NoMemory>
-        ensures { IfOk result (λ copy. copy ≡ self.now) }
-    {
-        let row = match &self.row {
-            Some(row) => Some(row.share()?),
-            None => None,
-        };
-        Ok(Slot {
-            key: self.key.duplicate(alloc)?,
-            row,
-        })
-    }
-}
+use val_types::NoMemory;
 
 impl Shelf {
     fn copy(&self, alloc: Global) -> Result<Shelf, NoMemory>
-        ensures definition { IfOk result (λ copy. copy.definition ≡ self.now.definition) }
-        ensures slots { IfOk result (λ copy. copy.slots.items ≡ self.now.slots.items) }
+        ensures definition { IfOk result (λ copy. copy.sheet.definition ≡ self.now.sheet.definition) }
+        ensures committed { IfOk result (λ copy. copy.sheet.committed ≡ self.now.sheet.committed) }
+        ensures entries { IfOk result (λ copy. copy.sheet.entries ≡ self.now.sheet.entries) }
     {
-        let mut slots = Vec::with_capacity(alloc, self.slots.len())?;
-        for slot in self.slots.as_slice() {
-            slots.push(slot.copy(alloc)?)?;
-        }
         Ok(Shelf {
             name: self.name.share()?,
-            definition: self.definition.share()?,
-            slots,
-            empties: self.empties,
+            sheet: self.sheet.copy(alloc)?,
         })
     }
 }

@@ -4,7 +4,7 @@ ghost use Rattle.table_rules.specs.Stores.{IsWhole};
 use crate::tables::Tables;
 
 /// A law: what is stored holds what tables have to: rows fit, rise by their primary keys and have no key
-/// in common, their keys are kept, and no two tables have the same name.
+/// in common, and no two tables have the same name.
 pub fn tables_are_kept(tables: &Tables)
     ensures { IsWhole tables.now }
 {

@@ -1,18 +1,17 @@
 //! The rows of tables by their keys.
 //!
 //! A contract sees [`Tables`] as plain data: the tables that the definitions of `table_rules` speak of, and
-//! for each the keys that are kept (`Store`). Each table has a shelf of slots that rise by key, in which a
-//! key is found by halves. The slot of a row that was taken out stays, empty, until [`Tables::tidy`], so
-//! that a change is taken back without memory. Unique keys are looked for by a walk over the rows.
+//! for each the keys that are kept (`Store`). Each table has a shelf: its name, and the sheet of `table_sheet`
+//! that its rows stand on. The keys that are kept are those of the sheet's entries: a change of a row makes
+//! one, where there is none, and it stays until [`Tables::tidy`], so that the change is taken back without
+//! memory.
 //!
 //! A statement asks for a table's place once ([`Tables::place`]), and calls by it for each row; a place is
 //! good while no table is made or dropped. Each such call has a form by the table's name too.
 //!
 //! - `refusal`: [`RowRefusal`]
-//! - `comparing`: keys of rows without copies of them
-//! - `slots`: a key with its row
-//! - `looking`: the slot of a key, and a key in the way
-//! - `shelf`: the slots of a table
+//! - `shelf`: a table's name and sheet
+//! - `taking_back`: a change on a sheet taken back
 //! - `named`: the shelf of a table
 //! - `tables`: [`Tables`], by places
 //! - `by_name`: the same by names
@@ -42,28 +41,26 @@
 //! - [`Tables::create`], [`Tables::drop_table`], [`Tables::clear`] and [`Tables::tidy`] their definitions;
 //!   only `create` wants memory, and then changes nothing; a name that was dropped is free (`gone`)
 //! - [`Tables::take_back`] makes the inverse of a change, without memory, where that change can be made
-//!   and the key of the row that it puts back is kept
-//! - which keys are kept after each call (`kept`, `before`, `keys`): those that were, those of rows that are
-//!   put and taken out, and always those of rows, until `tidy` lets others go
-//! - a law: what is stored fits, rises by primary key and has no key in common, the keys of rows are kept,
-//!   and no two tables have the same name ([`tables_are_kept`])
+//!   and the keys of the rows that it puts back and takes out are kept
+//! - which keys are kept after each call (`kept`, `before`, `keys`): those that were, and those of rows that
+//!   are put and taken out, until `tidy` lets them go
+//! - a law: what is stored fits, rises by primary key and has no key in common, and no two tables have the
+//!   same name ([`tables_are_kept`])
 //!
 //! # Only tested
 //! That calls succeed with ample memory, in `test_rows`.
 #![tactic(auto)]
 
 mod by_name;
-mod comparing;
 mod copying;
 mod laws;
-mod looking;
 mod named;
 mod reading;
 mod refusal;
 mod shelf;
-mod slots;
 mod standing;
 mod tables;
+mod taking_back;
 
 pub use laws::tables_are_kept;
 pub use refusal::RowRefusal;

@@ -12,5 +12,5 @@ pub(crate) fn shelf_of(shelves: &[Shelf], table: &Bytes) -> Option<usize>
 {
     shelves
         .iter()
-        .position(|shelf| *table == shelf.definition.get().name)
+        .position(|shelf| *table == shelf.sheet.definition().name)
 }

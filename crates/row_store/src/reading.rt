@@ -3,61 +3,10 @@ ghost use Rattle.std.specs.Prelude.{◌≡◌, ℕ, Some, find, option_copied, I
 ghost use Rattle.table_rules.specs.Tables.{Table};
 ghost use Rattle.table_rules.specs.Stored.{has_key_in_way, key_in_way, row_in_way, rows_of, table_named};
 ghost use Rattle.table_rules.specs.Stores.{place_of};
-ghost use Rattle.row_store.specs.Slots.{rows_in};
 
-use crate::looking::{agreeing, slot_for};
-use crate::shelf::Shelf;
 use crate::tables::Tables;
 use sharing::Shared;
-use std::alloc::Global;
 use val_types::{List, NoMemory, Row};
-
-impl Shelf {
-    /// The rows, each shared with the table.
-    fn rows(&self, alloc: Global) -> Result<List<Shared<Row>>, NoMemory>
-        ensures { IfOk result (λ rows. rows ≡ rows_in self.now.slots.items) }
-    {
-        let mut rows = List::with_capacity(alloc, self.slots.len())?;
-        for slot in self.slots.as_slice() {
-            if let Some(row) = &slot.row {
-                rows.push(row.share()?)?;
-            }
-        }
-        Ok(rows)
-    }
-
-    /// The first key of a row that another row has.
-    fn key_in_way(&self, row: &Row) -> Option<usize>
-        ensures { result ≡ key_in_way self.now.definition row.now (rows_in self.now.slots.items) }
-    {
-        self.in_way(row, slot_for(self.definition.get(), row, &self.slots))
-    }
-
-    /// The row with the primary key of a row.
-    fn row_on_primary(&self, row: &Row) -> Option<&Row>
-        ensures { option_copied result
-            ≡ find (has_key_in_way self.now.definition row.now 0) (rows_in self.now.slots.items) }
-    {
-        match slot_for(self.definition.get(), row, &self.slots) {
-            Ok(at) => self.slots[at].held(),
-            Err(_) => None,
-        }
-    }
-
-    /// The first row that has the key of a number in common with a row.
-    fn row_on_key(&self, row: &Row, which: usize) -> Option<&Row>
-        ensures { option_copied result
-            ≡ find (has_key_in_way self.now.definition row.now which) (rows_in self.now.slots.items) }
-    {
-        if which == 0 {
-            return self.row_on_primary(row);
-        }
-        if which > self.definition.get().uniques.len() {
-            return None;
-        }
-        agreeing(&self.definition.get().uniques[which - 1], row, &self.slots)
-    }
-}
 
 impl Tables {
     /// The rows of the table at a place, in their order, each shared with the table, so that they stay what
@@ -69,7 +18,7 @@ impl Tables {
         if at >= self.shelves.len() {
             return Ok(List::new(self.alloc));
         }
-        self.shelves[at].rows(self.alloc)
+        self.shelves[at].sheet.rows(self.alloc)
     }
 
     /// The number of the first key of a row that is in its way in the table at a place: 0 is the primary
@@ -82,7 +31,7 @@ impl Tables {
         if at >= self.shelves.len() {
             return None;
         }
-        self.shelves[at].key_in_way(row)
+        self.shelves[at].sheet.key_in_way(row)
     }
 
     /// The first row of the table at a place that has the key of a number in common with a row.
@@ -94,7 +43,10 @@ impl Tables {
         if at >= self.shelves.len() {
             return None;
         }
-        self.shelves[at].row_on_key(row, which)
+        match self.shelves[at].sheet.row_on_key(row, which) {
+            Some(other) => Some(other.get()),
+            None => None,
+        }
     }
 
     /// The first row of the table at a place that has the first key in the way of a row.

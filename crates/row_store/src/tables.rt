@@ -6,7 +6,7 @@ use crate::shelf::Shelf;
 use sharing::Shared;
 use std::alloc::Global;
 use std::marker::Model;
-use val_types::{Bytes, Change, Duplicate, NoMemory, Row, TableDef, row_fits};
+use val_types::{Bytes, Change, Duplicate, NoMemory, Row, TableDef};
 
 /// The tables with their rows, no two of the same name. A table's place is good while no table is made or
 /// dropped.
@@ -64,7 +64,7 @@ impl Tables {
         if at >= self.shelves.len() {
             return None;
         }
-        Some(self.shelves[at].definition.get())
+        Some(self.shelves[at].sheet.definition())
     }
 
     /// The same definition, for those who hold it on while rows change.
@@ -74,7 +74,7 @@ impl Tables {
         if at >= self.shelves.len() {
             return None;
         }
-        Some(&self.shelves[at].definition)
+        Some(self.shelves[at].sheet.shared_definition())
     }
 
     /// The row of a primary key in the table at a place, None where there is no such row.
@@ -82,10 +82,10 @@ impl Tables {
         ensures { (name : List ℕ) → place_of name self.now.tables ≡ Some at
             → option_copied result ≡ row_at name key.now self.now.tables }
     {
-        if at >= self.shelves.len() {
-            return None;
+        match self.held_at(at, key) {
+            Some(row) => Some(row.get()),
+            None => None,
         }
-        self.shelves[at].get(key)
     }
 
     /// Whether a row fits the table at a place; it does where there is no table.
@@ -95,7 +95,7 @@ impl Tables {
         if at >= self.shelves.len() {
             return true;
         }
-        row_fits(&self.shelves[at].definition.get().columns, row)
+        self.shelves[at].sheet.fits(row)
     }
 
     /// Inserts a row into the table at a place. The primary key is looked at first, then the unique keys in
@@ -121,8 +121,9 @@ impl Tables {
             → Stores result (replacement name key.now row self.old.tables) self.old.tables self.new.tables }
         ensures kept { (name : List ℕ) → place_of name self.old.tables ≡ Some at
             → OnOk result (keeps self.new name row ≡ true) }
-        ensures before { (name : List ℕ) → (before : List Value)
-            → row_at name key.now self.old.tables ≡ Some before → keeps self.new name before ≡ true }
+        ensures before { (name : List ℕ) → place_of name self.old.tables ≡ Some at
+            → OnOk result ((before : List Value)
+            → row_at name key.now self.old.tables ≡ Some before → keeps self.new name before ≡ true) }
         ensures keys { KeepsAll self.old self.new }
     {
         if at >= self.shelves.len() {
@@ -131,18 +132,19 @@ impl Tables {
         self.shelves[at].update(self.alloc, key, row)
     }
 
-    /// Takes the row of a key out of the table at a place, and drops it. It takes no memory.
+    /// Takes the row of a key out of the table at a place.
     pub fn delete_at(&mut self, at: usize, key: &Row) -> Result<(), RowRefusal>
         ensures stored { (name : List ℕ) → place_of name self.old.tables ≡ Some at
             → Stores result (deletion name key.now self.old.tables) self.old.tables self.new.tables }
-        ensures before { (name : List ℕ) → (before : List Value)
-            → row_at name key.now self.old.tables ≡ Some before → keeps self.new name before ≡ true }
+        ensures before { (name : List ℕ) → place_of name self.old.tables ≡ Some at
+            → OnOk result ((before : List Value)
+            → row_at name key.now self.old.tables ≡ Some before → keeps self.new name before ≡ true) }
         ensures keys { KeepsAll self.old self.new }
     {
         if at >= self.shelves.len() {
             return Err(RowRefusal::Absent);
         }
-        self.shelves[at].delete(key)
+        self.shelves[at].delete(self.alloc, key)
     }
 
     /// Takes a change back, without memory.
@@ -190,18 +192,18 @@ impl Tables {
         ensures keys { KeepsBeside table.now self.old self.new }
     {
         if let Some(at) = self.place(table) {
-            self.shelves[at].clear();
+            self.shelves[at].clear(self.alloc);
         }
     }
 
-    /// Lets the keys go that are kept for changes to be taken back, and keeps those of rows. It is called
-    /// where changes are there to stay.
+    /// Lets the keys go that are kept for changes to be taken back. It is called where changes are there to
+    /// stay, and takes no memory.
     pub fn tidy(&mut self)
         ensures tables { self.new.tables ≡ self.old.tables }
         ensures whole { IsWhole self.new }
     {
         for i in 0..self.shelves.len() {
-            self.shelves[i].tidy();
+            self.shelves[i].tidy(self.alloc);
         }
     }
 }

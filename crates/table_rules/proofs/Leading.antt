@@ -12,7 +12,7 @@ use Rattle.val_types.specs.Changes.{inverse}
 use Rattle.table_rules.specs.Tables.{Table}
 use Rattle.table_rules.specs.Changes.{applied}
 use Rattle.table_rules.specs.Stored.{all_applied, all_inverse}
-use Rattle.table_rules.specs.Stores.{Store, definitions_of, keeps_put, KeepsAll, keeps_inverses, can_take_back}
+use Rattle.table_rules.specs.Stores.{Store, definitions_of, keeps, keeps_put, KeepsAll, keeps_inverses, can_take_back}
 use Rattle.table_rules.specs.Leads.{Leads, LeadsNowhere, LeadsOn, OneChangeLeads, NoChangeLeads, StillTakenBack, NotedTakenBack, LastTakenBack, NoneTakenBack, LeadsBack, LeadsHome}
 use Rattle.table_rules.proofs.Taking.{tables_reversible}
 use Rattle.table_rules.proofs.Equations.{applied_none, applied_front, applied_one, all_applied_behind}
@@ -44,8 +44,10 @@ back_both xs ys ts = ap (λ (cs : List Change). all_applied cs ts) (all_inverse_
 
 put_more : (old new : Store) (change : Change) → KeepsAll old new → keeps_put old change ≡ true → keeps_put new change ≡ true
 put_more old new (Insert name row) more = more name row
-put_more old new (Update name before after) more = more name after
-put_more old new (Delete name row) more = λ e. refl
+put_more old new (Update name before after) more = λ e.
+    let parts = and_parts (keeps old name before) (keeps old name after) e in
+    and_from (keeps new name before) (keeps new name after) (more name before parts.0) (more name after parts.1)
+put_more old new (Delete name row) more = more name row
 
 kept_more : (old new : Store) (xs : List Change) → KeepsAll old new → keeps_inverses old xs ≡ true → keeps_inverses new xs ≡ true
 kept_more old new [] more e = refl

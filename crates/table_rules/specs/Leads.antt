@@ -29,7 +29,7 @@ LeadsOn =
     (old mid new : Store) (noted later now : List Change)
     → Leads old noted mid later → Leads mid later new now → Leads old noted new now
 
--- one change that was made and noted leads on, where the key of the row that taking it back puts is kept
+-- one change that was made and noted leads on, where the keys of the rows that taking it back puts and takes out are kept
 abbrev pub OneChangeLeads : Type 0
 OneChangeLeads =
     (old new : Store) (noted : List Change) (change : Change)

@@ -148,12 +148,6 @@ tables_beside name tables = remove_first (has_name name) tables
 abbrev pub tables_cleared : List ℕ → List Table → List Table
 tables_cleared name tables = change_first (has_name name) (λ table. record table { rows = [] }) tables
 
--- the row that a change puts, None for one that only takes out
-abbrev pub row_put : Change → Option (List Value)
-row_put (Insert name row) = Some row
-row_put (Update name before after) = Some after
-row_put (Delete name row) = None
-
 -- ---- laws
 
 -- a key is in the way just where a row has a key in common with one that is there

@@ -5,15 +5,16 @@ use Rattle.std.specs.Option.{option_map, option_map_or}
 use Rattle.std.specs.Cmp.Lexicographic.{pointwise}
 use Rattle.val_types.specs.declared.value.Value.{Value}
 use Rattle.val_types.specs.declared.change.Change.{Change}
+use Rattle.val_types.specs.declared.change.Change.TheVariants.{Insert, Update, Delete}
 use Rattle.val_types.specs.declared.definitions.TableDef.{TableDef}
-use Rattle.val_types.specs.Changes.{inverse, table_of}
+use Rattle.val_types.specs.Changes.{inverse}
 use Rattle.val_types.specs.Fitting.{row_fits}
 use Rattle.val_types.specs.Keys.{primary_key, same_values}
 use Rattle.table_rules.specs.Tables.{Table}
 use Rattle.table_rules.specs.Changes.{AreKept}
-use Rattle.table_rules.specs.Stored.{has_name, table_named, fits_table, row_at, row_put, all_applied, all_inverse}
+use Rattle.table_rules.specs.Stored.{has_name, table_named, fits_table, all_applied, all_inverse}
 
--- tables, and for each of them, in their order, the keys that are kept: a row of such a key can be put without memory
+-- tables, and for each of them, in their order, the keys that are kept: a row of such a key can be put and taken out without memory
 pub record Store : Type 0 where
   pub tables : List Table
   pub kept : List (List (List Value))
@@ -51,25 +52,20 @@ kept_among name row (table ∷ tables) (keys ∷ kept) =
     if has_name name table then is_among (primary_key table.definition row) keys
     else kept_among name row tables kept
 
--- whether the primary key of a row is kept in the table of a name, so that a change can put the row there without memory
+-- whether the primary key of a row is kept in the table of a name, so that a change can put the row there, and take it out, without memory
 unfoldable pub keeps : Store → List ℕ → List Value → Bool
 keeps store name row = kept_among name row store.tables store.kept
 
--- the key of each row is kept
-abbrev pub KeepsRows : Store → Type 0
-KeepsRows store =
-    (name : List ℕ) (key row : List Value) → row_at name key store.tables ≡ Some row → keeps store name row ≡ true
-
--- what holds of all that is stored: the rows of each table are as they have to be, their keys are kept, and no two tables
--- have the same name
+-- what holds of all that is stored: the rows of each table are as they have to be, and no two tables have the same name
 pub record IsWhole (store : Store) : Type 0 where
   pub rows : AreKept store.tables
   pub names : IsTrue (names_differ (definitions_of store.tables))
-  pub keys : KeepsRows store
 
--- whether the key of the row that a change puts, if it puts one, is kept
+-- whether the keys of the rows that a change puts and takes out are kept
 abbrev pub keeps_put : Store → Change → Bool
-keeps_put store change = option_map_or (keeps store (table_of change)) (row_put change) true
+keeps_put store (Insert name row) = keeps store name row
+keeps_put store (Update name before after) = keeps store name before && keeps store name after
+keeps_put store (Delete name row) = keeps store name row
 
 -- each key that was kept is kept still
 abbrev pub KeepsAll : Store → Store → Type 0
@@ -86,7 +82,7 @@ KeepsBeside name old new =
 
 -- ---- changes that can be taken back
 
--- whether the rows that taking some changes back puts have keys that are kept
+-- whether the rows that taking some changes back puts and takes out have keys that are kept
 abbrev pub keeps_inverses : Store → List Change → Bool
 keeps_inverses store changes = list_all (λ change. keeps_put store (inverse change)) changes
 

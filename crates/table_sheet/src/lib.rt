@@ -7,7 +7,7 @@
 //! first change of its key and set again by later ones, so that a change is taken back without memory. Unique keys are looked for
 //! by a walk over the rows.
 //!
-//! No program uses it yet. What is still to come: indexes of unique keys, and the count of comparisons as a clause.
+//! What is still to come: indexes of unique keys, and the count of comparisons as a clause.
 //!
 //! - `refusal`: [`SheetRefusal`]
 //! - `comparing`: keys of rows without copies of them

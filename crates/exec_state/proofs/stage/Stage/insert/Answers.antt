@@ -3,8 +3,8 @@ use Rattle.val_types.specs.declared.value.Value.{Value}
 use Rattle.val_types.specs.declared.change.Change.TheVariants.{Insert}
 use Rattle.table_rules.specs.Stored.{key_taken, row_absent, insertion}
 use Rattle.table_rules.specs.Stores.{fits_at}
-use Rattle.row_store.specs.declared.refusal.RowRefusal.{RowRefusal}
-use Rattle.row_store.specs.Stores.{Stores}
+use Rattle.dml_rows.specs.row_store.declared.refusal.RowRefusal.{RowRefusal}
+use Rattle.dml_rows.specs.row_store.Stores.{Stores}
 use Rattle.sql_meaning.specs.Scenes.{make}
 use Rattle.exec_state.specs.Stage.{scene_of}
 use Rattle.exec_state.proofs.Stored.{failed_so, insert_unfit, inserted, insert_refused}

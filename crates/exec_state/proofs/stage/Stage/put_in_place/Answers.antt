@@ -2,8 +2,8 @@ use Rattle.std.proofs.Common.{◌≡◌, List, true, false, Err, sym, ap, subst,
 use Rattle.val_types.specs.declared.value.Value.{Value}
 use Rattle.table_rules.specs.Stored.{key_taken, row_absent}
 use Rattle.table_rules.specs.Stores.{fits_at}
-use Rattle.row_store.specs.declared.refusal.RowRefusal.{RowRefusal}
-use Rattle.row_store.specs.Stores.{Stores, exchange}
+use Rattle.dml_rows.specs.row_store.declared.refusal.RowRefusal.{RowRefusal}
+use Rattle.dml_rows.specs.row_store.Stores.{Stores, exchange}
 use Rattle.sql_meaning.specs.Changing.{put_in_place}
 use Rattle.exec_state.specs.Stage.{scene_of}
 use Rattle.exec_state.proofs.Stored.{failed_so, unfit_in_place, not_in_place, put_there, key_there}

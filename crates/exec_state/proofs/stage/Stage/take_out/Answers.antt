@@ -1,7 +1,7 @@
 use Rattle.std.proofs.Common.{◌≡◌, Err, subst}
 use Rattle.table_rules.specs.Stored.{key_taken, row_absent}
-use Rattle.row_store.specs.declared.refusal.RowRefusal.{RowRefusal}
-use Rattle.row_store.specs.Stores.{Stores, removal}
+use Rattle.dml_rows.specs.row_store.declared.refusal.RowRefusal.{RowRefusal}
+use Rattle.dml_rows.specs.row_store.Stores.{Stores, removal}
 use Rattle.sql_meaning.specs.Changing.{take_out}
 use Rattle.exec_state.specs.Stage.{scene_of}
 use Rattle.exec_state.proofs.Stored.{failed_so, not_taken_out, taken_out}

@@ -1,4 +1,4 @@
-use Rattle.std.proofs.Common.{◌≡◌, ◌≤◌, take, vec_len, vec_capacity}
+use Rattle.std.proofs.Common.{◌≡◌, take}
 use Rattle.row_arena.proofs.arena.RowArena.copy.Given as goal
 
 -- the rows so far are shared

@@ -1,10 +1,21 @@
-use Rattle.std.proofs.Common.{rules, ◌≡◌, None, ◌∙◌}
-use Rattle.table_rules.specs.Stored.{row_of_key}
-use Rattle.row_store.specs.Slots.{rows_in}
-use Rattle.row_store.proofs.Emptying.{all_stay}
+use Rattle.std.proofs.Common.{sym, ap, ◌∙◌}
+use Rattle.val_types.specs.declared.definitions.TableDef.{TableDef}
+use Rattle.row_sheets.specs.Slots.{rows_are_kept}
+use Rattle.table_sheet.specs.Pages.{rows_on}
+use Rattle.row_store.proofs.Keeping.{deleted_kept}
+use Rattle.row_store.proofs.Telling.{deleted, told_well}
 use Rattle.row_store.proofs.shelf.Shelf.delete.Goals as goal
 
-pub returns-then-is_none-clause-stored : goal.returns-then-is_none-clause-stored
-returns-then-is_none-clause-stored c =
-    let none : row_of_key c.args.self.now.definition c.args.key.now (rows_in c.args.self.now.slots.items) ≡ None = search rules in
-    (none, c.take.ensures.rows ∙ all_stay c.args.self.now.definition c.args.key.now (rows_in c.args.self.now.slots.items) none)
+pub invariant_of-self : goal.invariant_of-self
+invariant_of-self c = record {
+  named = c.args.self.now.named ∙ ap (λ (d : TableDef). d.name) (sym c.delete.ensures.stays.definition);
+  kept =
+      ap (λ (d : TableDef). rows_are_kept d (rows_on c.delete.new.self)) c.delete.ensures.stays.definition
+      ∙ deleted_kept c.delete.result c.args.self.now.sheet.definition c.args.key.now (rows_on c.args.self.now.sheet) (rows_on c.delete.new.self) c.args.self.now.kept c.delete.ensures.stored;
+}
+
+pub returns-clause-stored : goal.returns-clause-stored
+returns-clause-stored c = deleted c.delete.result c.told.result c.args.self.now.sheet.definition c.args.key.now (rows_on c.args.self.now.sheet) (rows_on c.delete.new.self) c.told.ensures c.delete.ensures.stored
+
+pub returns-clause-before : goal.returns-clause-before
+returns-clause-before c = told_well c.delete.result c.told.result _ c.told.ensures c.delete.ensures.entry

@@ -1,28 +1,24 @@
-use Rattle.std.proofs.Common.{◌≡◌, Ok, Err, true, sym, refl}
-use Rattle.val_types.specs.Keys.{primary_key}
-use Rattle.row_store.specs.Slots.{Finds}
-use Rattle.row_store.specs.Shelves.{has_slot}
-use Rattle.row_store.proofs.Beside.{on_ok}
-use Rattle.row_store.proofs.Writing.{no_row, slot_within}
+use Rattle.std.proofs.Common.{sym, ap, ◌∙◌}
+use Rattle.val_types.specs.declared.definitions.TableDef.{TableDef}
+use Rattle.row_sheets.specs.Slots.{rows_are_kept}
+use Rattle.table_sheet.specs.Pages.{rows_on}
+use Rattle.row_store.proofs.Keeping.{replaced_kept}
+use Rattle.row_store.proofs.Telling.{replaced, told_well}
 use Rattle.row_store.proofs.shelf.Shelf.update.Goals as goal
 
-pub exchange-requires-clause-within : goal.exchange-requires-clause-within
-exchange-requires-clause-within c =
-    let found : Finds c.args.key.now c.args.self.now.slots.items (Ok c.in-Ok.at) = rw c.deref.ensures.value at c.in-Ok.ensures in
-    found.0
+pub invariant_of-self : goal.invariant_of-self
+invariant_of-self c = record {
+  named = c.args.self.now.named ∙ ap (λ (d : TableDef). d.name) (sym c.replace.ensures.stays.definition);
+  kept =
+      ap (λ (d : TableDef). rows_are_kept d (rows_on c.replace.new.self)) c.replace.ensures.stays.definition
+      ∙ replaced_kept c.replace.result c.args.self.now.sheet.definition c.args.key.now c.args.row (rows_on c.args.self.now.sheet) (rows_on c.replace.new.self) c.args.self.now.kept c.requires c.replace.ensures.stored;
+}
 
-pub returns-in-Ok-clause-stored : goal.returns-in-Ok-clause-stored
-returns-in-Ok-clause-stored c =
-    let found : Finds c.args.key.now c.args.self.now.slots.items (Ok c.in-Ok.at) = rw c.deref.ensures.value at c.in-Ok.ensures in
-    c.exchange.ensures.stored c.args.key.now found.1
+pub returns-clause-stored : goal.returns-clause-stored
+returns-clause-stored c = replaced c.replace.result c.told.result c.args.self.now.sheet.definition c.args.key.now c.args.row (rows_on c.args.self.now.sheet) (rows_on c.replace.new.self) c.told.ensures c.replace.ensures.stored
 
-pub returns-in-Ok-clause-slot : goal.returns-in-Ok-clause-slot
-returns-in-Ok-clause-slot c =
-    let found : Finds c.args.key.now c.args.self.now.slots.items (Ok c.in-Ok.at) = rw c.deref.ensures.value at c.in-Ok.ensures in
-    on_ok c.exchange.result (has_slot (primary_key c.args.self.now.definition c.args.row) c.exchange.new.self ≡ true) _
-    (λ slot. (c.exchange.ensures.slots c.args.key.now (slot_within c.args.key.now c.args.self.now.slots.items c.in-Ok.at found), slot)) c.exchange.ensures.slot
+pub returns-clause-before : goal.returns-clause-before
+returns-clause-before c = told_well c.replace.result c.told.result _ c.told.ensures c.replace.ensures.before
 
-pub returns-in-Err-clause-stored : goal.returns-in-Err-clause-stored
-returns-in-Err-clause-stored c =
-    let missed : Finds c.args.key.now c.args.self.now.slots.items (Err c.in-Err.field-0) = rw c.deref.ensures.value at c.in-Err.ensures in
-    (sym (no_row c.args.self.now.definition c.args.key.now c.args.self.now.slots.items c.args.self.now.sound missed.1), refl)
+pub returns-clause-entry : goal.returns-clause-entry
+returns-clause-entry c = told_well c.replace.result c.told.result _ c.told.ensures c.replace.ensures.entry

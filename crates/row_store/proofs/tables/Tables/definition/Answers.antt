@@ -16,12 +16,12 @@ returns-then-at-len-clause-whole c = rw (← c.self.view_is) (whole c.self.insid
 pub returns-clause-is : goal.returns-clause-is
 returns-clause-is c =
     let less : c.args.at < length c.self.inside.shelves.items = omega arith in
-    rw (← c.self.view_is) (ap Some c.get.ensures ∙ definition_at c.self.inside.shelves.items c.args.at c.index.result.now less c.index.ensures)
+    rw (← c.self.view_is) (ap Some c.definition.ensures.is ∙ definition_at c.self.inside.shelves.items c.args.at c.index.result.now less c.index.ensures)
 
 pub returns-clause-place : goal.returns-clause-place
 returns-clause-place c =
     let less : c.args.at < length c.self.inside.shelves.items = omega arith in
-    rw (← c.self.view_is) (subst (λ (d : TableDef). place_of d.name (store_of c.self.inside.shelves.items).tables ≡ Some c.args.at) (sym c.get.ensures)
+    rw (← c.self.view_is) (subst (λ (d : TableDef). place_of d.name (store_of c.self.inside.shelves.items).tables ≡ Some c.args.at) (sym c.definition.ensures.is)
     (definition_place c.self.inside.shelves.items c.args.at c.index.result.now c.self.invariant less c.index.ensures))
 
 pub returns-clause-whole : goal.returns-clause-whole

@@ -1,6 +1,4 @@
-use Rattle.std.proofs.Common.{◌<◌, ◌≤◌, length, sym, ap, ◌∙◌, arith}
-use Rattle.val_types.specs.declared.definitions.TableDef.{TableDef}
-use Rattle.val_types.specs.Fitting.{row_fits}
+use Rattle.std.proofs.Common.{◌<◌, ◌≤◌, length, sym, ◌∙◌, arith}
 use Rattle.row_store.proofs.Shelved.{fits_shelf_at, fits_past}
 use Rattle.row_store.proofs.tables.Tables.fits_at.Goals as goal
 
@@ -12,4 +10,4 @@ returns-then-at-len c =
 pub returns : goal.returns
 returns c =
     let less : c.args.at < length c.self.inside.shelves.items = omega arith in
-    rw (← c.self.view_is) (c.row_fits.ensures ∙ ap (λ (d : TableDef). row_fits d.columns c.args.row.now) c.get.ensures ∙ sym (fits_shelf_at c.args.row.now c.self.inside.shelves.items c.args.at c.index.result.now less c.index.ensures))
+    rw (← c.self.view_is) (c.fits.ensures ∙ sym (fits_shelf_at c.args.row.now c.self.inside.shelves.items c.args.at c.index.result.now less c.index.ensures))

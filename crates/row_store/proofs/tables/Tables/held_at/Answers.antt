@@ -9,4 +9,4 @@ returns-then-at-len c =
 
 pub returns : goal.returns
 returns c =
-    rw (← c.self.view_is) (λ name e. c.holder.ensures ∙ got_row name c.args.key.now c.self.inside.shelves.items c.args.at c.index.result.now c.index.ensures e)
+    rw (← c.self.view_is) (λ name e. c.get.ensures ∙ got_row name c.args.key.now c.self.inside.shelves.items c.args.at c.index.result.now c.index.ensures e)

@@ -17,23 +17,23 @@ insert-requires c =
     sym (fits_shelf_at c.args.row c.self.inside.shelves.items c.args.at c.index_mut.result.now less c.index_mut.ensures.value) ∙ fits
 
 pub invariant_of-self : goal.invariant_of-self
-invariant_of-self c = names_set c.self.inside.shelves.items c.args.at c.insert.new.self c.index_mut.result.now c.self.invariant c.index_mut.ensures.value c.insert.ensures.definition
+invariant_of-self c = names_set c.self.inside.shelves.items c.args.at c.insert.new.self c.index_mut.result.now c.self.invariant c.index_mut.ensures.value c.insert.ensures.stays.definition
 
 pub returns-clause-stored : goal.returns-clause-stored
 returns-clause-stored c =
     let less : c.args.at < length c.self.inside.shelves.items = omega arith in
     let fits : fits_at c.args.at c.args.row (store_of c.self.inside.shelves.items).tables ≡ true = rw c.self.view_is c.requires in
-    let row : row_fits c.index_mut.result.now.definition.columns c.args.row ≡ true = sym (fits_shelf_at c.args.row c.self.inside.shelves.items c.args.at c.index_mut.result.now less c.index_mut.ensures.value) ∙ fits in
+    let row : row_fits c.index_mut.result.now.sheet.definition.columns c.args.row ≡ true = sym (fits_shelf_at c.args.row c.self.inside.shelves.items c.args.at c.index_mut.result.now less c.index_mut.ensures.value) ∙ fits in
     rw (← c.self.view_is)
-    (stored_insert c.insert.result c.args.row c.self.inside.shelves.items c.args.at c.index_mut.result.now c.insert.new.self c.index_mut.ensures.value c.insert.ensures.definition row c.insert.ensures.stored)
+    (stored_insert c.insert.result c.args.row c.self.inside.shelves.items c.args.at c.index_mut.result.now c.insert.new.self c.index_mut.ensures.value c.insert.ensures.stays.definition row c.insert.ensures.stored)
 
 pub returns-clause-kept : goal.returns-clause-kept
 returns-clause-kept c =
     rw (← c.self.view_is)
-    (kept_here _ c.insert.result c.args.row c.self.inside.shelves.items c.args.at c.index_mut.result.now c.insert.new.self c.index_mut.ensures.value c.insert.ensures.definition c.insert.ensures.slot)
+    (kept_here _ c.insert.result c.args.row c.self.inside.shelves.items c.args.at c.index_mut.result.now c.insert.new.self c.index_mut.ensures.value c.insert.ensures.stays.definition c.insert.ensures.entry)
 
 pub returns-clause-keys : goal.returns-clause-keys
 returns-clause-keys c =
     let less : c.args.at < length c.self.inside.shelves.items = omega arith in
     rw (← c.self.view_is)
-    (keeps_set c.self.inside.shelves.items c.args.at c.index_mut.result.now c.insert.new.self c.self.invariant less c.index_mut.ensures.value c.insert.ensures.definition c.insert.ensures.slots)
+    (keeps_set c.self.inside.shelves.items c.args.at c.index_mut.result.now c.insert.new.self c.self.invariant less c.index_mut.ensures.value c.insert.ensures.stays.definition c.insert.ensures.stays.entries)

@@ -1,6 +1,6 @@
 use Rattle.std.proofs.Common.{◌<◌, ◌≤◌, length, arith}
 use Rattle.row_store.proofs.Exchanging.{stored_removal}
-use Rattle.row_store.proofs.Shelved.{none_past, names_set, kept_here, keeps_set, slots_kept}
+use Rattle.row_store.proofs.Shelved.{none_past, names_set, kept_here, keeps_set}
 use Rattle.row_store.proofs.tables.Tables.remove_at.Goals as goal
 
 pub returns-then-at-len-clause-stored : goal.returns-then-at-len-clause-stored
@@ -9,20 +9,20 @@ returns-then-at-len-clause-stored c =
     rw (← c.self.view_is) (λ name e. absurd (none_past name c.self.inside.shelves.items c.args.at past e))
 
 pub invariant_of-self : goal.invariant_of-self
-invariant_of-self c = names_set c.self.inside.shelves.items c.args.at c.remove.new.self c.index_mut.result.now c.self.invariant c.index_mut.ensures.value c.remove.ensures.definition
+invariant_of-self c = names_set c.self.inside.shelves.items c.args.at c.remove.new.self c.index_mut.result.now c.self.invariant c.index_mut.ensures.value c.remove.ensures.stays.definition
 
 pub returns-clause-stored : goal.returns-clause-stored
 returns-clause-stored c =
     rw (← c.self.view_is)
-    (stored_removal c.remove.result c.args.row.now c.self.inside.shelves.items c.args.at c.index_mut.result.now c.remove.new.self c.index_mut.ensures.value c.remove.ensures.definition c.remove.ensures.there c.remove.ensures.absent)
+    (stored_removal c.remove.result c.args.row.now c.self.inside.shelves.items c.args.at c.index_mut.result.now c.remove.new.self c.index_mut.ensures.value c.remove.ensures.stays.definition c.remove.ensures.there c.remove.ensures.absent)
 
 pub returns-clause-before : goal.returns-clause-before
 returns-clause-before c =
     rw (← c.self.view_is)
-    (kept_here _ c.remove.result c.args.row.now c.self.inside.shelves.items c.args.at c.index_mut.result.now c.remove.new.self c.index_mut.ensures.value c.remove.ensures.definition c.remove.ensures.slot)
+    (kept_here _ c.remove.result c.args.row.now c.self.inside.shelves.items c.args.at c.index_mut.result.now c.remove.new.self c.index_mut.ensures.value c.remove.ensures.stays.definition c.remove.ensures.before)
 
 pub returns-clause-keys : goal.returns-clause-keys
 returns-clause-keys c =
     let less : c.args.at < length c.self.inside.shelves.items = omega arith in
     rw (← c.self.view_is)
-    (keeps_set c.self.inside.shelves.items c.args.at c.index_mut.result.now c.remove.new.self c.self.invariant less c.index_mut.ensures.value c.remove.ensures.definition (slots_kept c.index_mut.result.now c.remove.new.self c.remove.ensures.slots))
+    (keeps_set c.self.inside.shelves.items c.args.at c.index_mut.result.now c.remove.new.self c.self.invariant less c.index_mut.ensures.value c.remove.ensures.stays.definition c.remove.ensures.stays.entries)

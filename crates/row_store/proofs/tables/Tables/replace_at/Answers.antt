@@ -1,9 +1,7 @@
 use Rattle.std.proofs.Common.{◌≡◌, ◌<◌, ◌≤◌, length, true, sym, ◌∙◌, arith}
 use Rattle.val_types.specs.Fitting.{row_fits}
-use Rattle.val_types.specs.Keys.{primary_key}
 use Rattle.table_rules.specs.Stores.{fits_at}
-use Rattle.row_store.specs.Shelves.{store_of, has_slot}
-use Rattle.row_store.proofs.Beside.{on_ok}
+use Rattle.row_store.specs.Shelves.{store_of}
 use Rattle.row_store.proofs.Exchanging.{stored_exchange}
 use Rattle.row_store.proofs.Shelved.{none_past, fits_shelf_at, names_set, kept_here, keeps_set}
 use Rattle.row_store.proofs.tables.Tables.replace_at.Goals as goal
@@ -20,30 +18,28 @@ replace-requires c =
     sym (fits_shelf_at c.args.new c.self.inside.shelves.items c.args.at c.index_mut.result.now less c.index_mut.ensures.value) ∙ fits
 
 pub invariant_of-self : goal.invariant_of-self
-invariant_of-self c = names_set c.self.inside.shelves.items c.args.at c.replace.new.self c.index_mut.result.now c.self.invariant c.index_mut.ensures.value c.replace.ensures.definition
+invariant_of-self c = names_set c.self.inside.shelves.items c.args.at c.replace.new.self c.index_mut.result.now c.self.invariant c.index_mut.ensures.value c.replace.ensures.stays.definition
 
 pub returns-clause-stored : goal.returns-clause-stored
 returns-clause-stored c =
     let less : c.args.at < length c.self.inside.shelves.items = omega arith in
     let fits : fits_at c.args.at c.args.new (store_of c.self.inside.shelves.items).tables ≡ true = rw c.self.view_is c.requires in
-    let row : row_fits c.index_mut.result.now.definition.columns c.args.new ≡ true = sym (fits_shelf_at c.args.new c.self.inside.shelves.items c.args.at c.index_mut.result.now less c.index_mut.ensures.value) ∙ fits in
+    let row : row_fits c.index_mut.result.now.sheet.definition.columns c.args.new ≡ true = sym (fits_shelf_at c.args.new c.self.inside.shelves.items c.args.at c.index_mut.result.now less c.index_mut.ensures.value) ∙ fits in
     rw (← c.self.view_is)
-    (stored_exchange c.replace.result c.args.old.now c.args.new c.self.inside.shelves.items c.args.at c.index_mut.result.now c.replace.new.self c.index_mut.ensures.value c.replace.ensures.definition row c.replace.ensures.there c.replace.ensures.absent)
+    (stored_exchange c.replace.result c.args.old.now c.args.new c.self.inside.shelves.items c.args.at c.index_mut.result.now c.replace.new.self c.index_mut.ensures.value c.replace.ensures.stays.definition row c.replace.ensures.there c.replace.ensures.absent)
 
 pub returns-clause-kept : goal.returns-clause-kept
 returns-clause-kept c =
     rw (← c.self.view_is)
-    (kept_here _ c.replace.result c.args.new c.self.inside.shelves.items c.args.at c.index_mut.result.now c.replace.new.self c.index_mut.ensures.value c.replace.ensures.definition
-    (on_ok c.replace.result ((has_slot (primary_key c.index_mut.result.now.definition c.args.old.now) c.replace.new.self ≡ true) × (has_slot (primary_key c.index_mut.result.now.definition c.args.new) c.replace.new.self ≡ true)) _ (λ slots. slots.1) c.replace.ensures.slot))
+    (kept_here _ c.replace.result c.args.new c.self.inside.shelves.items c.args.at c.index_mut.result.now c.replace.new.self c.index_mut.ensures.value c.replace.ensures.stays.definition c.replace.ensures.entry)
 
 pub returns-clause-before : goal.returns-clause-before
 returns-clause-before c =
     rw (← c.self.view_is)
-    (kept_here _ c.replace.result c.args.old.now c.self.inside.shelves.items c.args.at c.index_mut.result.now c.replace.new.self c.index_mut.ensures.value c.replace.ensures.definition
-    (on_ok c.replace.result ((has_slot (primary_key c.index_mut.result.now.definition c.args.old.now) c.replace.new.self ≡ true) × (has_slot (primary_key c.index_mut.result.now.definition c.args.new) c.replace.new.self ≡ true)) _ (λ slots. slots.0) c.replace.ensures.slot))
+    (kept_here _ c.replace.result c.args.old.now c.self.inside.shelves.items c.args.at c.index_mut.result.now c.replace.new.self c.index_mut.ensures.value c.replace.ensures.stays.definition c.replace.ensures.before)
 
 pub returns-clause-keys : goal.returns-clause-keys
 returns-clause-keys c =
     let less : c.args.at < length c.self.inside.shelves.items = omega arith in
     rw (← c.self.view_is)
-    (keeps_set c.self.inside.shelves.items c.args.at c.index_mut.result.now c.replace.new.self c.self.invariant less c.index_mut.ensures.value c.replace.ensures.definition c.replace.ensures.slots)
+    (keeps_set c.self.inside.shelves.items c.args.at c.index_mut.result.now c.replace.new.self c.self.invariant less c.index_mut.ensures.value c.replace.ensures.stays.definition c.replace.ensures.stays.entries)

@@ -4,7 +4,7 @@ use Rattle.val_types.specs.Changes.{inverse, table_of}
 use Rattle.table_rules.specs.Changes.{applied}
 use Rattle.table_rules.specs.Stores.{place_of, keeps_put}
 use Rattle.row_store.specs.Shelves.{store_of}
-use Rattle.row_store.proofs.Shelved.{place_within, names_set, back_step, back_slot, taken_back, keeps_same, whole}
+use Rattle.row_store.proofs.Shelved.{place_within, names_set, back_step, back_entries, taken_back, keeps_same, whole}
 use Rattle.row_store.proofs.Unnamed.{none_applied}
 use Rattle.row_store.proofs.tables.Tables.take_back.Goals as goal
 
@@ -20,11 +20,11 @@ take_back-requires-clause-step c =
     let step : is_some (applied (inverse c.args.change) (store_of c.self.inside.shelves.items).tables) ≡ true = rw c.self.view_is c.requires.step in
     back_step c.args.change c.self.inside.shelves.items c.in-Some.at c.index_mut.result.now c.index_mut.ensures.value at step
 
-pub take_back-requires-clause-slot : goal.take_back-requires-clause-slot
-take_back-requires-clause-slot c =
+pub take_back-requires-clause-entries : goal.take_back-requires-clause-entries
+take_back-requires-clause-entries c =
     let at : place_of (table_of c.args.change) (store_of c.self.inside.shelves.items).tables ≡ Some c.in-Some.at = rw (c.self.view_is, ← c.table.ensures) (sym c.place.ensures ∙ c.in-Some.is) in
     let kept : keeps_put (store_of c.self.inside.shelves.items) (inverse c.args.change) ≡ true = rw c.self.view_is c.requires.kept in
-    back_slot c.args.change c.self.inside.shelves.items c.in-Some.at c.index_mut.result.now c.index_mut.ensures.value at kept
+    back_entries c.args.change c.self.inside.shelves.items c.in-Some.at c.index_mut.result.now c.index_mut.ensures.value at kept
 
 pub invariant_of-self : goal.invariant_of-self
 invariant_of-self c = names_set c.self.inside.shelves.items c.in-Some.at c.take_back.new.self c.index_mut.result.now c.self.invariant c.index_mut.ensures.value c.take_back.ensures.definition
@@ -40,7 +40,7 @@ returns-in-Some-clause-keys c =
     let at : place_of (table_of c.args.change) (store_of c.self.inside.shelves.items).tables ≡ Some c.in-Some.at = rw (c.self.view_is, ← c.table.ensures) (sym c.place.ensures ∙ c.in-Some.is) in
     let less : c.in-Some.at < length c.self.inside.shelves.items = place_within (table_of c.args.change) c.self.inside.shelves.items c.in-Some.at at in
     rw (← c.self.view_is)
-    (keeps_same c.self.inside.shelves.items c.in-Some.at c.index_mut.result.now c.take_back.new.self c.self.invariant less c.index_mut.ensures.value c.take_back.ensures.definition c.take_back.ensures.slots)
+    (keeps_same c.self.inside.shelves.items c.in-Some.at c.index_mut.result.now c.take_back.new.self c.self.invariant less c.index_mut.ensures.value c.take_back.ensures.definition c.take_back.ensures.keys)
 
 pub returns-in-Some-clause-whole : goal.returns-in-Some-clause-whole
 returns-in-Some-clause-whole c =

@@ -1,20 +1,14 @@
 use Rattle.std.proofs.Common.{◌≡◌, ◌<◌, ◌≤◌, length, true, sym, ◌∙◌, arith}
 use Rattle.val_types.specs.Fitting.{row_fits}
-use Rattle.val_types.specs.Keys.{primary_key}
 use Rattle.table_rules.specs.Stores.{fits_at}
-use Rattle.row_store.specs.Shelves.{store_of, has_slot}
-use Rattle.row_store.proofs.Beside.{on_ok}
-use Rattle.row_store.proofs.Shelved.{none_past, fits_shelf_at, names_set, stored_update, kept_here, keeps_set, rows_keep, before_kept}
+use Rattle.row_store.specs.Shelves.{store_of}
+use Rattle.row_store.proofs.Shelved.{none_past, fits_shelf_at, names_set, stored_update, kept_here, keeps_set, before_here}
 use Rattle.row_store.proofs.tables.Tables.update_at.Goals as goal
 
 pub returns-then-at-len-clause-stored : goal.returns-then-at-len-clause-stored
 returns-then-at-len-clause-stored c =
     let past : length c.self.inside.shelves.items ≤ c.args.at = omega arith in
     rw (← c.self.view_is) (λ name e. absurd (none_past name c.self.inside.shelves.items c.args.at past e))
-
-pub returns-then-at-len-clause-before : goal.returns-then-at-len-clause-before
-returns-then-at-len-clause-before c =
-    rw (← c.self.view_is) (λ name before e. rows_keep c.self.inside.shelves.items name c.args.key.now before e)
 
 pub update-requires : goal.update-requires
 update-requires c =
@@ -23,31 +17,28 @@ update-requires c =
     sym (fits_shelf_at c.args.row c.self.inside.shelves.items c.args.at c.index_mut.result.now less c.index_mut.ensures.value) ∙ fits
 
 pub invariant_of-self : goal.invariant_of-self
-invariant_of-self c = names_set c.self.inside.shelves.items c.args.at c.update.new.self c.index_mut.result.now c.self.invariant c.index_mut.ensures.value c.update.ensures.definition
+invariant_of-self c = names_set c.self.inside.shelves.items c.args.at c.update.new.self c.index_mut.result.now c.self.invariant c.index_mut.ensures.value c.update.ensures.stays.definition
 
 pub returns-clause-stored : goal.returns-clause-stored
 returns-clause-stored c =
     let less : c.args.at < length c.self.inside.shelves.items = omega arith in
     let fits : fits_at c.args.at c.args.row (store_of c.self.inside.shelves.items).tables ≡ true = rw c.self.view_is c.requires in
-    let row : row_fits c.index_mut.result.now.definition.columns c.args.row ≡ true = sym (fits_shelf_at c.args.row c.self.inside.shelves.items c.args.at c.index_mut.result.now less c.index_mut.ensures.value) ∙ fits in
+    let row : row_fits c.index_mut.result.now.sheet.definition.columns c.args.row ≡ true = sym (fits_shelf_at c.args.row c.self.inside.shelves.items c.args.at c.index_mut.result.now less c.index_mut.ensures.value) ∙ fits in
     rw (← c.self.view_is)
-    (stored_update c.update.result c.args.key.now c.args.row c.self.inside.shelves.items c.args.at c.index_mut.result.now c.update.new.self c.index_mut.ensures.value c.update.ensures.definition row c.update.ensures.stored)
+    (stored_update c.update.result c.args.key.now c.args.row c.self.inside.shelves.items c.args.at c.index_mut.result.now c.update.new.self c.index_mut.ensures.value c.update.ensures.stays.definition row c.update.ensures.stored)
 
 pub returns-clause-kept : goal.returns-clause-kept
 returns-clause-kept c =
     rw (← c.self.view_is)
-    (kept_here _ c.update.result c.args.row c.self.inside.shelves.items c.args.at c.index_mut.result.now c.update.new.self c.index_mut.ensures.value c.update.ensures.definition
-    (on_ok c.update.result ((has_slot c.args.key.now c.update.new.self ≡ true) × (has_slot (primary_key c.index_mut.result.now.definition c.args.row) c.update.new.self ≡ true)) _ (λ slots. slots.1) c.update.ensures.slot))
+    (kept_here _ c.update.result c.args.row c.self.inside.shelves.items c.args.at c.index_mut.result.now c.update.new.self c.index_mut.ensures.value c.update.ensures.stays.definition c.update.ensures.entry)
 
 pub returns-clause-before : goal.returns-clause-before
 returns-clause-before c =
-    let less : c.args.at < length c.self.inside.shelves.items = omega arith in
     rw (← c.self.view_is)
-    (λ name before e. before_kept _ _ (rows_keep c.self.inside.shelves.items)
-    (keeps_set c.self.inside.shelves.items c.args.at c.index_mut.result.now c.update.new.self c.self.invariant less c.index_mut.ensures.value c.update.ensures.definition c.update.ensures.slots) name c.args.key.now before e)
+    (before_here c.update.result c.args.key.now c.self.inside.shelves.items c.args.at c.index_mut.result.now c.update.new.self c.index_mut.ensures.value c.update.ensures.stays.definition c.update.ensures.before)
 
 pub returns-clause-keys : goal.returns-clause-keys
 returns-clause-keys c =
     let less : c.args.at < length c.self.inside.shelves.items = omega arith in
     rw (← c.self.view_is)
-    (keeps_set c.self.inside.shelves.items c.args.at c.index_mut.result.now c.update.new.self c.self.invariant less c.index_mut.ensures.value c.update.ensures.definition c.update.ensures.slots)
+    (keeps_set c.self.inside.shelves.items c.args.at c.index_mut.result.now c.update.new.self c.self.invariant less c.index_mut.ensures.value c.update.ensures.stays.definition c.update.ensures.stays.entries)
