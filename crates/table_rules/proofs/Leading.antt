@@ -12,7 +12,7 @@ use Rattle.val_types.specs.Changes.{inverse}
 use Rattle.table_rules.specs.Tables.{Table}
 use Rattle.table_rules.specs.Changes.{applied}
 use Rattle.table_rules.specs.Stored.{all_applied, all_inverse}
-use Rattle.table_rules.specs.Stores.{Store, definitions_of, keeps, keeps_put, KeepsAll, keeps_inverses, can_take_back}
+use Rattle.table_rules.specs.Stores.{Store, definitions_of, keeps, keeps_put, KeepsAll, AreNoLess, Still, keeps_inverses, can_take_back}
 use Rattle.table_rules.specs.Leads.{Leads, LeadsNowhere, LeadsOn, OneChangeLeads, NoChangeLeads, StillTakenBack, NotedTakenBack, LastTakenBack, NoneTakenBack, LeadsBack, LeadsHome}
 use Rattle.table_rules.proofs.Taking.{tables_reversible}
 use Rattle.table_rules.proofs.Equations.{applied_none, applied_front, applied_one, all_applied_behind}
@@ -58,6 +58,28 @@ kept_more old new (x ∷ xs) more e =
 kept_both : (store : Store) (xs ys : List Change) → keeps_inverses store (xs ++ ys) ≡ (keeps_inverses store xs && keeps_inverses store ys)
 kept_both store xs ys = list_all-append (λ (c : Change). keeps_put store (inverse c)) xs ys
 
+-- ---- rows that are there to stay
+
+pub no_less : (counts : List ℕ) → AreNoLess counts counts
+no_less [] = tt
+no_less (count ∷ counts) = (omega arith, no_less counts)
+
+no_less_on : (old mid new : List ℕ) → AreNoLess old mid → AreNoLess mid new → AreNoLess old new
+no_less_on [] [] [] p q = tt
+no_less_on [] [] (c ∷ new) p q = absurd q
+no_less_on [] (b ∷ mid) new p q = absurd p
+no_less_on (a ∷ old) [] new p q = absurd p
+no_less_on (a ∷ old) (b ∷ mid) [] p q = absurd q
+no_less_on (a ∷ old) (b ∷ mid) (c ∷ new) p q = let first : a ≤ b = p.0 in let second : b ≤ c = q.0 in (omega arith, no_less_on old mid new p.1 q.1)
+
+-- nothing changed
+pub still_same : (store : Store) → Still store store
+still_same store = record { committed = refl; room = no_less store.room }
+
+-- one call and then another
+pub still_on : (old mid new : Store) → Still old mid → Still mid new → Still old new
+still_on old mid new p q = record { committed = q.committed ∙ p.committed; room = no_less_on old.room mid.room new.room p.room q.room }
+
 -- ---- leading on
 
 pub leads_nowhere : LeadsNowhere
@@ -69,6 +91,7 @@ leads_nowhere store noted = record {
   kept = refl;
   keys = λ name row h. h;
   same = refl;
+  still = still_same store;
 }
 
 pub leads_on : LeadsOn
@@ -80,6 +103,7 @@ leads_on old mid new noted later now p q = record {
   kept = kept_both new p.more q.more ∙ and_from (keeps_inverses new p.more) (keeps_inverses new q.more) (kept_more mid new p.more q.keys p.kept) q.kept;
   keys = λ name row h. q.keys name row (p.keys name row h);
   same = q.same ∙ p.same;
+  still = still_on old mid new p.still q.still;
 }
 
 -- the same from the last step, of which a search knows where it ends
@@ -93,7 +117,7 @@ pub leads_by_four : (a b c d e : Store) (k l m n o : List Change) → Leads d n 
 leads_by_four a b c d e k l m n o s r q p = leads_on a b e k l o p (leads_by_three b c d e l m n o s r q)
 
 pub one_change_leads : OneChangeLeads
-one_change_leads old new noted change all made kept keys = record {
+one_change_leads old new noted change all made kept keys still = record {
   more = change ∷ [];
   added = refl;
   made = applied_one change old.tables ∙ made;
@@ -101,10 +125,11 @@ one_change_leads old new noted change all made kept keys = record {
   kept = and_from (keeps_put new (inverse change)) true kept refl;
   keys = keys;
   same = definitions_kept change old.tables new.tables made;
+  still = still;
 }
 
 pub no_change_leads : NoChangeLeads
-no_change_leads old new noted tables keys = record {
+no_change_leads old new noted tables keys still = record {
   more = [];
   added = sym (append-nil noted);
   made = applied_none old.tables ∙ ap (λ (ts : List Table). Some ts) (sym tables);
@@ -112,6 +137,7 @@ no_change_leads old new noted tables keys = record {
   kept = refl;
   keys = keys;
   same = ap definitions_of tables;
+  still = still;
 }
 
 -- ---- what can be taken back
@@ -206,7 +232,7 @@ all_definitions (x ∷ xs) ts after e =
     all_definitions xs mid.0 after mid.2 ∙ definitions_kept x ts mid.0 mid.1
 
 pub leads_back : LeadsBack
-leads_back start old new noted later now mark all p past gone left keys =
+leads_back start old new noted later now mark all p past gone left keys still =
     let k : ℕ = mark - length noted in
     let sum : mark ≡ length noted + k = omega arith in
     let front : List Change = take k p.more in
@@ -229,6 +255,7 @@ leads_back start old new noted later now mark all p past gone left keys =
       kept = kept_more old new front keys (and_parts (keeps_inverses old front) (keeps_inverses old behind) (sym (kept_both old front behind) ∙ ap (keeps_inverses old) whole ∙ p.kept)).0;
       keys = λ name row h. keys name row (p.keys name row h);
       same = all_definitions front start.tables new.tables made;
+      still = still_on start old new p.still still;
     }
 
 pub leads_home : LeadsHome

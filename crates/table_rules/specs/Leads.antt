@@ -4,10 +4,11 @@ use Rattle.val_types.specs.declared.change.Change.{Change}
 use Rattle.val_types.specs.Changes.{inverse}
 use Rattle.table_rules.specs.Changes.{applied, AreKept}
 use Rattle.table_rules.specs.Stored.{all_applied, all_inverse}
-use Rattle.table_rules.specs.Stores.{Store, definitions_of, keeps_put, KeepsAll, keeps_inverses, can_take_back}
+use Rattle.table_rules.specs.Stores.{Store, definitions_of, keeps_put, KeepsAll, Still, keeps_inverses, can_take_back}
 
 -- Changes were noted behind those that were, and they lead from the old tables to the new; taking them back leads to the old
--- ones and needs no memory, keys that were kept are kept still, and the tables are of the same definitions.
+-- ones and needs no memory, keys that were kept are kept still, the tables are of the same definitions, and what is there to stay
+-- is as it was.
 pub record Leads (old : Store) (noted : List Change) (new : Store) (now : List Change) : Type 0 where
   pub more : List Change
   pub added : now ≡ noted ++ more
@@ -16,6 +17,7 @@ pub record Leads (old : Store) (noted : List Change) (new : Store) (now : List C
   pub kept : keeps_inverses new more ≡ true
   pub keys : KeepsAll old new
   pub same : definitions_of new.tables ≡ definitions_of old.tables
+  pub still : Still old new
 
 -- ---- laws
 
@@ -34,11 +36,13 @@ abbrev pub OneChangeLeads : Type 0
 OneChangeLeads =
     (old new : Store) (noted : List Change) (change : Change)
     → AreKept old.tables → applied change old.tables ≡ Some new.tables → keeps_put new (inverse change) ≡ true → KeepsAll old new
+    → Still old new
     → Leads old noted new (noted ++ change ∷ [])
 
 -- where no change was made and none noted, more keys may be kept
 abbrev pub NoChangeLeads : Type 0
-NoChangeLeads = (old new : Store) (noted : List Change) → new.tables ≡ old.tables → KeepsAll old new → Leads old noted new noted
+NoChangeLeads =
+    (old new : Store) (noted : List Change) → new.tables ≡ old.tables → KeepsAll old new → Still old new → Leads old noted new noted
 
 -- what could be taken back before can be taken back after it, whatever the mark
 abbrev pub StillTakenBack : Type 0
@@ -66,7 +70,7 @@ abbrev pub LeadsBack : Type 0
 LeadsBack =
     (start old new : Store) (noted later now : List Change) (mark : ℕ)
     → AreKept new.tables → Leads start noted old later → length noted ≤ mark
-    → all_applied (all_inverse (drop mark later)) old.tables ≡ Some new.tables → now ≡ take mark later → KeepsAll old new
+    → all_applied (all_inverse (drop mark later)) old.tables ≡ Some new.tables → now ≡ take mark later → KeepsAll old new → Still old new
     → Leads start noted new now
 
 -- taking back to where it began leads to the tables and the list that were there

@@ -1,5 +1,5 @@
--- Tables with the keys that are kept for taking changes back, and when changes can be.
-use Rattle.std.specs.Prelude.{◌≡◌, ℕ, Bool, true, false, not, ◌&&◌, nat_eq, is_some, if◌then◌else◌, List, [], ◌∷◌, map, Option, Some, position, slice_get, IsTrue}
+-- Tables with the keys that are kept for taking changes back, the rows that are there to stay, and when changes can be taken back.
+use Rattle.std.specs.Prelude.{◌≡◌, ℕ, ◌≤◌, Bool, true, false, not, ◌&&◌, nat_eq, is_some, if◌then◌else◌, List, [], ◌∷◌, map, Option, Some, position, slice_get, IsTrue}
 use Rattle.std.specs.List.{list_any, list_all}
 use Rattle.std.specs.Option.{option_map, option_map_or}
 use Rattle.std.specs.Cmp.Lexicographic.{pointwise}
@@ -14,10 +14,13 @@ use Rattle.table_rules.specs.Tables.{Table}
 use Rattle.table_rules.specs.Changes.{AreKept}
 use Rattle.table_rules.specs.Stored.{has_name, table_named, fits_table, all_applied, all_inverse}
 
--- tables, and for each of them, in their order, the keys that are kept: a row of such a key can be put and taken out without memory
+-- Tables as they are shown; for each of them, in their order, the keys that are kept: a row of such a key can be put and taken out
+-- without memory; the same tables with the rows that are there to stay; and for how many new rows each has room.
 pub record Store : Type 0 where
   pub tables : List Table
   pub kept : List (List (List Value))
+  pub committed : List Table
+  pub room : List ℕ
 
 -- ---- names and definitions
 
@@ -56,10 +59,13 @@ kept_among name row (table ∷ tables) (keys ∷ kept) =
 unfoldable pub keeps : Store → List ℕ → List Value → Bool
 keeps store name row = kept_among name row store.tables store.kept
 
--- what holds of all that is stored: the rows of each table are as they have to be, and no two tables have the same name
+-- what holds of all that is stored: the rows of each table are as they have to be, no two tables have the same name, and the rows
+-- that are there to stay are in tables of the same definitions, and as they have to be
 pub record IsWhole (store : Store) : Type 0 where
   pub rows : AreKept store.tables
   pub names : IsTrue (names_differ (definitions_of store.tables))
+  pub committed : AreKept store.committed
+  pub same : definitions_of store.committed ≡ definitions_of store.tables
 
 -- whether the keys of the rows that a change puts and takes out are kept
 abbrev pub keeps_put : Store → Change → Bool
@@ -79,6 +85,21 @@ KeepsSame old new = (name : List ℕ) (row : List Value) → keeps new name row 
 abbrev pub KeepsBeside : List ℕ → Store → Store → Type 0
 KeepsBeside name old new =
     (other : List ℕ) (row : List Value) → pointwise nat_eq name other ≡ false → keeps new other row ≡ keeps old other row
+
+-- ---- rows that are there to stay
+
+-- each number is no less than the one at its place, and there are as many
+abbrev pub AreNoLess : List ℕ → List ℕ → Type 0
+AreNoLess [] [] = Unit {0}
+AreNoLess [] (new ∷ news) = ⊥
+AreNoLess (old ∷ olds) [] = ⊥
+AreNoLess (old ∷ olds) (new ∷ news) = (old ≤ new) × AreNoLess olds news
+
+-- the rows that are there to stay are the same, and for each table there is no less room: what was set aside of one can be put back
+-- into the other
+pub record Still (old new : Store) : Type 0 where
+  pub committed : new.committed ≡ old.committed
+  pub room : AreNoLess old.room new.room
 
 -- ---- changes that can be taken back
 
