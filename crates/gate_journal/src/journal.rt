@@ -7,7 +7,7 @@ ghost use Rattle.disk_model.specs.Answers.{HasDiskCause};
 ghost use Rattle.gate_journal.specs.Records.{Opened, records, with_last};
 ghost use Rattle.gate_journal.specs.Journal.{Rests, HasStaged, IsPrepared, IsFound, SameRecords, MaybeOneMore};
 
-use byte_fields::bytes_u32;
+use crate::framing::frame;
 use disk_model::{Disk, DiskRefusal, put};
 use std::alloc::Global;
 use val_types::{Bytes, List, NoMemory};
@@ -90,11 +90,15 @@ impl Journal {
         ensures gate { self.new.gate ≡ self.old.gate }
         ensures fresh { self.new.fresh ≡ self.old.fresh }
     {
-        let mut ready = List::from_slice(self.alloc, &bytes_u32(body.len() as u64))?;
-        ready.extend_from_slice(body.as_slice())?;
-        ready.push(0)?;
-        self.ready = ready;
+        self.ready = frame(self.alloc, body.as_slice())?;
         Ok(())
+    }
+
+    /// Takes over the bytes of a record that [`frame`] made before, without memory.
+    pub fn take_prepared(&mut self, ready: Bytes)
+        ensures { self.new ≡ record self.old { ready = ready } }
+    {
+        self.ready = ready;
     }
 
     /// Writes the record behind the present gate, which stays closed, and syncs.

@@ -11,8 +11,9 @@
 //! - `record`: [`next_record`], the record at a gate, the end, or the damage
 //! - `scanning`: [`scan`], all open records of a file with its journal; who reads record by record makes the journal
 //!   at their end by [`Journal::found`]
-//! - `journal`: [`Journal`] with [`Journal::start`], [`Journal::prepare`], [`Journal::stage`] and
-//!   [`Journal::open_gate`]
+//! - `framing`: [`frame`], the bytes of a record
+//! - `journal`: [`Journal`] with [`Journal::start`], [`Journal::prepare`], [`Journal::take_prepared`], [`Journal::stage`]
+//!   and [`Journal::open_gate`]
 //! - `worked`: journals by hand
 //! - `specs/Records`: what a file of records stands for; `specs/Journal`: a journal on a disk
 //!
@@ -23,7 +24,8 @@
 //!   the old records, or those and the staged one; after Ok the file is durable with that one more, and the next
 //!   gate behind it. That holds whichever call of the disk fails, so at an error a crash leaves what it may leave
 //!   inside the call; other files stay as they were.
-//! - [`Journal::prepare`] takes all memory; [`Journal::stage`] and [`Journal::open_gate`] make two calls of the
+//! - [`Journal::prepare`] takes all memory; so does [`frame`], whose bytes [`Journal::take_prepared`] takes over
+//!   without any; [`Journal::stage`] and [`Journal::open_gate`] make two calls of the
 //!   disk each, a write and a sync. A refusal of theirs is the disk's own, and Failed comes only where its count
 //!   of faults rose.
 //! - [`journals_by_hand`], [`damage_by_hand`]: records and places of damage, byte by byte
@@ -33,11 +35,13 @@
 //! disks in which each call fails in turn, with what four crashes leave.
 #![tactic(auto)]
 
+mod framing;
 mod journal;
 mod record;
 mod scanning;
 mod worked;
 
+pub use framing::frame;
 pub use journal::Journal;
 pub use record::{HEAD, NextRecord, next_record};
 pub use scanning::{Records, scan};
