@@ -1,5 +1,6 @@
 pub mod Agreeing
 pub mod Copied
+pub mod Costing
 pub mod Entering
 pub mod Keeping
 pub mod Looking

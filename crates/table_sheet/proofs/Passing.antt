@@ -1,6 +1,6 @@
 -- A walk over entries and committed rows: what its next slot is.
 use Rattle.std.proofs.Common.{◌≡◌, ℕ, zero, suc, ◌+◌, List, [], ◌∷◌, length, drop, Bool, true, false, ◌||◌, cond, ◌≤◌, ◌<◌, Ordering, Option, Some, None, Less, Equal, Greater, refl, sym, ap, ◌∙◌, arith}
-use Rattle.std.specs.Prelude.{slice_get, map, is_some, find, IfNone}
+use Rattle.std.specs.Prelude.{slice_get, map, is_some, find, IfNone, IfSome}
 use Rattle.std.specs.List.{list_any}
 use Rattle.std.specs.Option.{option_and_then}
 use Rattle.std.proofs.lemmas.Option.{slice_get-get_or, slice_get_past, slice_get_within}
@@ -220,3 +220,8 @@ pub compared : (x d : TableDef) (b e r s : List Value) (found order : Ordering) 
 compared x d b e r s found order same one other is o =
     sym (is ∙ ap (λ (y : TableDef). key_order (primary_key y b) (primary_key y r)) same ∙ ap (λ (k : List Value). key_order (primary_key d k) (primary_key d r)) one
     ∙ ap (λ (k : List Value). key_order (primary_key d e) (primary_key d k)) other) ∙ o
+
+-- the first row that is shown from a place on
+pub first_row : (o : Option (List Value)) (old new : List Slot) → IfSome o (λ row. IsFirst row old new) → IfNone o (rows_in old ≡ []) → o ≡ slice_get (rows_in old) 0
+first_row None old new some none = sym (ap (λ (rows : List (List Value)). slice_get rows 0) none)
+first_row (Some row) old new some none = sym (ap (λ (rows : List (List Value)). slice_get rows 0) some.rows)

@@ -1,4 +1,5 @@
 pub mod Agreeing
+pub mod Costs
 pub mod Numbered
 pub mod Pages
 pub mod Parts

@@ -40,6 +40,17 @@ impl Committed {
         }
     }
 
+    /// How the key of a number's row stands to a key.
+    pub(crate) fn key_cmp(&self, definition: &Shared<TableDef>, key: &Row, number: u32) -> Ordering
+        ensures { result ≡ by_key (row_slot definition.now self.now.rows.rows) key.now number }
+    {
+        let table = definition.get();
+        match self.rows.get(number) {
+            Some(row) => row_key_cmp(table, row, key),
+            None => nothing_key_cmp(key),
+        }
+    }
+
     /// Where the number of a key stands, or belongs.
     fn find(&self, definition: &Shared<TableDef>, key: &Row) -> Result<Spot, Spot>
         requires { keys_rise (keys_in (committed_slots definition.now self.now)) ≡ true }
@@ -48,13 +59,7 @@ impl Committed {
     {
         let compare = |number: u32| -> Ordering
             ensures { result ≡ by_key (row_slot definition.entry.now self.entry.now.rows.rows) key.entry.now number }
-        {
-            let table = definition.get();
-            match self.rows.get(number) {
-                Some(row) => row_key_cmp(table, row, key),
-                None => nothing_key_cmp(key),
-            }
-        };
+        { self.key_cmp(definition, key, number) };
         self.order.find(&compare)
     }
 

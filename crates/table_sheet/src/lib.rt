@@ -7,13 +7,14 @@
 //! first change of its key and set again by later ones, so that a change is taken back without memory. Unique keys are looked for
 //! by a walk over the rows.
 //!
-//! What is still to come: indexes of unique keys, and the count of comparisons as a clause.
+//! What is still to come: indexes of unique keys.
 //!
 //! - `refusal`: [`SheetRefusal`]
 //! - `comparing`: keys of rows without copies of them
 //! - `committed`: rows by numbers, and the numbers in order
 //! - `entry`, `overlay`: what a transaction has of each key that it changed, and [`Overlay`], all of it
 //! - `sheet`: [`Sheet`], its calls by key, and the overlay set aside, put back and forgotten
+//! - `finding`: rows found by key in counted comparisons
 //! - `place`, `walking`: entries and committed rows walked side by side
 //! - `reading`: all rows, and the keys in the way of one
 //! - `writing`: rows inserted, replaced and deleted
@@ -22,6 +23,8 @@
 //!
 //! # Proved
 //! - [`Sheet::get`] and [`Sheet::get_same`] give exactly the row that is shown of a key, or of a row's key
+//! - [`Sheet::find`] does so in at most two comparisons more than the counts of entries and of committed rows have binary digits
+//!   together
 //! - [`Sheet::insert`], [`Sheet::replace`] and [`Sheet::delete`] make exactly the change of the rows that the definitions say, or refuse
 //!   with exactly the first key in the way or that the row is not there; then, and where memory is wanted, what is shown is as
 //!   before (`stored`). Whatever they answer, definition and committed rows stay, each entry is there still, and there is no less room
@@ -31,8 +34,9 @@
 //! - [`Sheet::set_aside`], [`Sheet::put_back`] and [`Sheet::forget`] give exactly the page without entries, with those that were set
 //!   aside, and without; they take no memory
 //! - [`Sheet::settle`] makes exactly the rows that are shown the committed ones, so that the same are shown then; it takes no memory
-//! - [`Sheet::rows`], [`Sheet::committed_rows`] and [`Sheet::keys`] give the rows and keys in order, or want memory;
-//!   [`Sheet::key_in_way`] the number of the first key in the way, [`Sheet::row_on_key`] the row that has the key of a number
+//! - [`Sheet::first`] is the first row that is shown; [`Sheet::rows`], [`Sheet::committed_rows`] and [`Sheet::keys`] give the rows
+//!   and keys in order, or want memory; [`Sheet::key_in_way`] the number of the first key in the way, [`Sheet::row_on_key`] the row
+//!   that has the key of a number
 //! - [`Sheet::clear`] leaves the definition alone, without memory; [`Sheet::copy`] has the same definition, committed rows and entries,
 //!   or wants memory
 //! - of each sheet: committed and shown rows are as those of a table have to be, and there is room to settle all that is new
@@ -46,6 +50,7 @@ mod committed;
 mod comparing;
 mod copying;
 mod entry;
+mod finding;
 mod overlay;
 mod place;
 mod reading;

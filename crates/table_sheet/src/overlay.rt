@@ -52,6 +52,20 @@ impl Overlay {
         self.entries.get(number as usize)
     }
 
+    /// How the key of a number's entry stands to a key.
+    pub(crate) fn key_cmp(&self, definition: &Shared<TableDef>, key: &Row, number: u32) -> Ordering
+        ensures { result ≡ by_key (entry_slot definition.now self.now.entries.items) key.now number }
+    {
+        let table = definition.get();
+        match self.entry(number) {
+            Some(entry) => {
+                let bearer = entry.bearer.get();
+                row_key_cmp(table, bearer, key)
+            }
+            None => nothing_key_cmp(key),
+        }
+    }
+
     /// Where the number of the entry of a key stands, or belongs.
     pub(crate) fn find(&self, definition: &Shared<TableDef>, key: &Row) -> Result<Spot, Spot>
         requires { keys_rise (keys_in (entry_slots definition.now self.now)) ≡ true }
@@ -60,16 +74,7 @@ impl Overlay {
     {
         let compare = |number: u32| -> Ordering
             ensures { result ≡ by_key (entry_slot definition.entry.now self.entry.now.entries.items) key.entry.now number }
-        {
-            let table = definition.get();
-            match self.entry(number) {
-                Some(entry) => {
-                    let bearer = entry.bearer.get();
-                    row_key_cmp(table, bearer, key)
-                }
-                None => nothing_key_cmp(key),
-            }
-        };
+        { self.key_cmp(definition, key, number) };
         self.ranks.find(&compare)
     }
 

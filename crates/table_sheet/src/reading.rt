@@ -1,13 +1,15 @@
 //! Rows read where they stand: all that are shown, all that are committed, and those that have a key of another.
 
 use crate::sheet::Sheet;
-use crate::walking::{agreeing_from, first_agreed, keys_from, rows_from, start, start_below};
+use crate::walking::{
+    agreeing_from, first_agreed, keys_from, next, rows_from, start, start_below,
+};
 use sharing::Shared;
 use std::alloc::Global;
 use val_types::{List, NoMemory, Row};
 
 impl Sheet {
-    ghost use Rattle.std.specs.Prelude.{◌≡◌, find, map, option_copied, IfOk};
+    ghost use Rattle.std.specs.Prelude.{◌≡◌, find, map, option_copied, slice_get, IfOk};
     ghost use Rattle.val_types.specs.Keys.{primary_key};
     ghost use Rattle.table_rules.specs.Stored.{has_key_in_way, key_in_way};
     ghost use Rattle.row_sheets.specs.Slots.{rows_in};
@@ -39,6 +41,14 @@ impl Sheet {
             &self.overlay,
             from,
         )
+    }
+
+    /// The first row that is shown.
+    pub fn first(&self) -> Option<&Shared<Row>>
+        ensures { option_copied result ≡ slice_get (rows_on self.now) 0 }
+    {
+        let mut at = start(&self.committed, &self.overlay);
+        next(&self.definition, &self.committed, &self.overlay, &mut at)
     }
 
     /// The primary keys of the rows that are shown, in their order.

@@ -1,5 +1,5 @@
 use Rattle.table_sheet.specs.Parts.{committed_slots, entry_slots, room_of}
-use Rattle.std.proofs.Common.{◌≡◌, ◌∷◌, ap, subst, sym, ◌∙◌, List}
+use Rattle.std.proofs.Common.{ap, subst, sym, ◌∙◌, List}
 use Rattle.val_types.specs.Keys.{primary_key}
 use Rattle.row_sheets.specs.Slots.{Slot, rows_in}
 use Rattle.row_sheets.specs.Over.{over}

@@ -1,4 +1,4 @@
-use Rattle.std.proofs.Common.{length, arith}
+use Rattle.std.proofs.Common.{arith}
 use Rattle.std.proofs.lemmas.List.{length-map}
 use Rattle.val_types.specs.Keys.{primary_key}
 use Rattle.block_list.specs.Layouts.{flat}

@@ -1,4 +1,4 @@
-use Rattle.std.proofs.Common.{List, Option, None, ap, ◌∙◌}
+use Rattle.std.proofs.Common.{List, Option, ap, ◌∙◌}
 use Rattle.val_types.specs.declared.value.Value.{Value}
 use Rattle.block_list.specs.Layouts.{flat}
 use Rattle.row_sheets.specs.Orders.{slots_of}

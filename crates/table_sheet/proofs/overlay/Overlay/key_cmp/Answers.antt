@@ -1,0 +1,10 @@
+use Rattle.table_sheet.proofs.Slotted.{entry_compared, no_entry_compared}
+use Rattle.table_sheet.proofs.overlay.Overlay.key_cmp.Goals as goal
+
+pub returns-in-Some : goal.returns-in-Some
+returns-in-Some c =
+    entry_compared c.get-table.result.now c.args.definition.now c.args.self.now.entries.items c.args.number (λ d. c.args.key.now) c.in-Some.entry.now c.get-bearer.result.now c.row_key_cmp.result c.get-table.ensures c.get-bearer.ensures c.in-Some.ensures c.row_key_cmp.ensures
+
+pub returns-in-None : goal.returns-in-None
+returns-in-None c =
+    no_entry_compared c.get-table.result.now c.args.definition.now c.args.self.now.entries.items c.args.number (λ d. c.args.key.now) c.nothing_key_cmp.result c.get-table.ensures c.in-None.ensures c.nothing_key_cmp.ensures
