@@ -1,6 +1,7 @@
 pub mod Agreeing
 pub mod Copied
 pub mod Costing
+pub mod Counted
 pub mod Entering
 pub mod Keeping
 pub mod Looking

@@ -45,7 +45,7 @@ found_entry d key entries blocks spot o rises found is =
     ∙ ap (λ (p : Option (List Value)). Some p)
     (entry_row d entries (slice_index (flat blocks) (place blocks spot)) o (is ∙ ap (option_and_then (slice_get entries)) (number_here blocks spot found.0)))
 
-row_here : (d : TableDef) (rows : List (Option (List Value))) (n : ℕ) (o : Option (List Value)) → o ≡ row_of rows n → (row_slot d rows n).row ≡ o
+pub row_here : (d : TableDef) (rows : List (Option (List Value))) (n : ℕ) (o : Option (List Value)) → o ≡ row_of rows n → (row_slot d rows n).row ≡ o
 row_here d rows n None e = sym (ap (λ (s : Slot). s.row) (row_slot_is d rows n None e))
 row_here d rows n (Some row) e = sym (ap (λ (s : Slot). s.row) (row_slot_is d rows n (Some row) e))
 

@@ -225,3 +225,25 @@ compared x d b e r s found order same one other is o =
 pub first_row : (o : Option (List Value)) (old new : List Slot) → IfSome o (λ row. IsFirst row old new) → IfNone o (rows_in old ≡ []) → o ≡ slice_get (rows_in old) 0
 first_row None old new some none = sym (ap (λ (rows : List (List Value)). slice_get rows 0) none)
 first_row (Some row) old new some none = sym (ap (λ (rows : List (List Value)). slice_get rows 0) some.rows)
+
+-- ---- the entries from a place on
+
+pub entry_next : (d : TableDef) (o : Overlay) (i : ℕ) (e : Entry) → Some e ≡ option_and_then (slice_get o.entries.items) (slice_get (flat o.ranks.blocks) i)
+    → drop i (entry_slots d o) ≡ record { key = primary_key d e.bearer; row = e.present } ∷ drop (suc i) (entry_slots d o)
+entry_next d o i e is = step (slice_get (flat o.ranks.blocks) i) refl is
+  where
+    step : (n : Option ℕ) → slice_get (flat o.ranks.blocks) i ≡ n → Some e ≡ option_and_then (slice_get o.entries.items) n
+        → drop i (entry_slots d o) ≡ record { key = primary_key d e.bearer; row = e.present } ∷ drop (suc i) (entry_slots d o)
+    step None at_i there = cc
+    step (Some n) at_i there =
+        drop_here (entry_slot d o.entries.items) (flat o.ranks.blocks) i n at_i
+        ∙ ap (λ (s : Slot). s ∷ drop (suc i) (entry_slots d o)) (sym (entry_slot_is d o.entries.items n (Some e) there))
+
+pub entries_over : (d : TableDef) (o : Overlay) (i : ℕ) → None ≡ option_and_then (slice_get o.entries.items) (slice_get (flat o.ranks.blocks) i) → drop i (entry_slots d o) ≡ []
+entries_over d o i is = step (slice_get (flat o.ranks.blocks) i) refl is
+  where
+    step : (n : Option ℕ) → slice_get (flat o.ranks.blocks) i ≡ n → None ≡ option_and_then (slice_get o.entries.items) n → drop i (entry_slots d o) ≡ []
+    step None at_i there = drop_past (entry_slot d o.entries.items) (flat o.ranks.blocks) i at_i
+    step (Some n) at_i there =
+        let within = ranked_here o.entries.items (flat o.ranks.blocks) i n o.ranked at_i in
+        let never : None ≡ Some _ = there ∙ slice_get-get_or o.entries.items n (record { bearer = []; present = None }) within in cc

@@ -30,7 +30,7 @@ use Rattle.table_sheet.proofs.Slotted.{row_slot_is}
 -- ---- slots dropped and put
 
 -- where a key has no slot, none is dropped
-dropped_none : (key : List Value) (ss : List Slot) → held key ss ≡ None → drop_slot key ss ≡ ss
+pub dropped_none : (key : List Value) (ss : List Slot) → held key ss ≡ None → drop_slot key ss ≡ ss
 dropped_none key [] none = refl
 dropped_none key (s ∷ ss) none = step (is_slot_of key s) none (dropped_none key ss)
   where
@@ -39,7 +39,7 @@ dropped_none key (s ∷ ss) none = step (is_slot_of key s) none (dropped_none ke
     step false e later = ap (λ (rest : List Slot). s ∷ rest) (later e)
 
 -- the first slot dropped leaves the others
-dropped_first : (s : Slot) (ss : List Slot) → drop_slot s.key (s ∷ ss) ≡ ss
+pub dropped_first : (s : Slot) (ss : List Slot) → drop_slot s.key (s ∷ ss) ≡ ss
 dropped_first s ss = ap (λ (t : Bool). cond t ss (s ∷ drop_slot s.key ss)) (same_self s.key)
 
 own_dropped : (d : TableDef) (key : List Value) (ss : List Slot) → list_all (has_own_key d) ss ≡ true → list_all (has_own_key d) (drop_slot key ss) ≡ true
@@ -63,7 +63,7 @@ own_settled d key (Some row) cs rises new own = own_over d key (Some row) cs (he
 
 -- ---- how many there are
 
-length-filled : (key : List Value) (p : Option (List Value)) (ss : List Slot) → length (fill key p ss) ≡ length ss
+pub length-filled : (key : List Value) (p : Option (List Value)) (ss : List Slot) → length (fill key p ss) ≡ length ss
 length-filled key p [] = refl
 length-filled key p (s ∷ ss) = step (is_slot_of key s) (length-filled key p ss)
   where
@@ -71,7 +71,7 @@ length-filled key p (s ∷ ss) = step (is_slot_of key s) (length-filled key p ss
     step true later = refl
     step false later = ap suc later
 
-length-with : (key : List Value) (ss : List Slot) → length (with_slot key ss) ≡ suc (length ss)
+pub length-with : (key : List Value) (ss : List Slot) → length (with_slot key ss) ≡ suc (length ss)
 length-with key [] = refl
 length-with key (s ∷ ss) = step (is_not_before key s) (length-with key ss)
   where
@@ -96,7 +96,7 @@ length-settled : (key : List Value) (p : Option (List Value)) (cs : List Slot) �
 length-settled key None cs rises = omega (arith, dropped_fewer key cs)
 length-settled key (Some row) cs rises = length-over key (Some row) cs (held key cs) rises refl
 
-held_settled : (key other : List Value) (p : Option (List Value)) (cs : List Slot) → same_values other key ≡ false → held other (settled_by key p cs) ≡ held other cs
+pub held_settled : (key other : List Value) (p : Option (List Value)) (cs : List Slot) → same_values other key ≡ false → held other (settled_by key p cs) ≡ held other cs
 held_settled key other None cs e = dropped_other key other cs e
 held_settled key other (Some row) cs e =
     held-over other (one key (Some row)) cs refl ∙ ap (λ (o : Option (Option (List Value))). option_or o (held other cs)) (ap (λ (t : Bool). cond t (Some (Some row)) None) e)
