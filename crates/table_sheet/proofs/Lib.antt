@@ -4,6 +4,7 @@ pub mod Costing
 pub mod Counted
 pub mod Entering
 pub mod Keeping
+pub mod Lasting
 pub mod Looking
 pub mod OnKey
 pub mod Passing

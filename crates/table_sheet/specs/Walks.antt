@@ -1,5 +1,5 @@
 -- A walk over entries and committed rows, side by side in the order of keys.
-use Rattle.std.specs.Prelude.{◌≡◌, ◌<◌, List, ◌∷◌, ◌++◌, length, drop, Option, option_to_list}
+use Rattle.std.specs.Prelude.{◌≡◌, ◌+◌, ◌<◌, ℕ, List, ◌∷◌, ◌++◌, length, take, drop, Option, option_to_list}
 use Rattle.val_types.specs.declared.value.Value.{Value}
 use Rattle.val_types.specs.declared.definitions.TableDef.{TableDef}
 use Rattle.block_list.specs.Spots.{place, IsSpot}
@@ -18,6 +18,15 @@ IsPlace committed overlay at = IsSpot overlay.ranks.blocks at.entry × IsSpot co
 unfoldable pub left : TableDef → Committed → Overlay → Place → List Slot
 left definition committed overlay at =
     over (drop (place overlay.ranks.blocks at.entry) (entry_slots definition overlay)) (drop (place committed.order.blocks at.row) (committed_slots definition committed))
+
+-- the slots that stand before a place
+unfoldable pub passed : TableDef → Committed → Overlay → Place → List Slot
+passed definition committed overlay at =
+    over (take (place overlay.ranks.blocks at.entry) (entry_slots definition overlay)) (take (place committed.order.blocks at.row) (committed_slots definition committed))
+
+-- how many entries and committed rows stand before a place
+abbrev pub depth : Committed → Overlay → Place → ℕ
+depth committed overlay at = place overlay.ranks.blocks at.entry + place committed.order.blocks at.row
 
 -- a slot with a row or none, and the slots behind it
 pub record AreNext (row : Option (List Value)) (old new : List Slot) : Type 0 where

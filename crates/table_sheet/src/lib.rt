@@ -18,6 +18,7 @@
 //! - `place`, `walking`: entries and committed rows walked side by side
 //! - `reading`: all rows, and the keys in the way of one
 //! - `counting`: how many rows are shown
+//! - `ending`: the last row
 //! - `writing`: rows inserted, replaced and deleted
 //! - `settling`: rows that are shown made the committed ones
 //! - `whole`, `copying`: the definition, all rows dropped, and the sheet once more
@@ -35,9 +36,9 @@
 //! - [`Sheet::set_aside`], [`Sheet::put_back`] and [`Sheet::forget`] give exactly the page without entries, with those that were set
 //!   aside, and without; they take no memory
 //! - [`Sheet::settle`] makes exactly the rows that are shown the committed ones, so that the same are shown then; it takes no memory
-//! - [`Sheet::count`] is how many rows are shown, [`Sheet::first`] the first of them; [`Sheet::rows`], [`Sheet::committed_rows`] and
-//!   [`Sheet::keys`] give the rows and keys in order, or want memory; [`Sheet::key_in_way`] the number of the first key in the way,
-//!   [`Sheet::row_on_key`] the row that has the key of a number
+//! - [`Sheet::count`] is how many rows are shown, [`Sheet::first`] and [`Sheet::last`] the first and the last of them
+//! - [`Sheet::rows`], [`Sheet::committed_rows`] and [`Sheet::keys`] give the rows and keys in order, or want memory;
+//!   [`Sheet::key_in_way`] the number of the first key in the way, [`Sheet::row_on_key`] the row that has the key of a number
 //! - [`Sheet::clear`] leaves the definition alone, without memory; [`Sheet::copy`] has the same definition, committed rows and entries,
 //!   or wants memory
 //! - of each sheet: committed and shown rows are as those of a table have to be, and there is room to settle all that is new
@@ -51,6 +52,7 @@ mod committed;
 mod comparing;
 mod copying;
 mod counting;
+mod ending;
 mod entry;
 mod finding;
 mod overlay;
