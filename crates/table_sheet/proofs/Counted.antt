@@ -10,7 +10,6 @@ use Rattle.val_types.specs.declared.definitions.TableDef.{TableDef}
 use Rattle.val_types.specs.Order.{key_order}
 use Rattle.val_types.specs.Keys.{primary_key}
 use Rattle.block_list.specs.Layouts.{flat}
-use Rattle.block_list.specs.Spots.{place}
 use Rattle.row_sheets.specs.Slots.{Slot, all_above, held, with_slot, drop_slot, is_slot_of, keys_in, keys_rise, rows_in}
 use Rattle.row_sheets.specs.Over.{by_order, over_step, over, settled_by}
 use Rattle.row_sheets.specs.Orders.{slots_of}

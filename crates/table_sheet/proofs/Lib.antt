@@ -3,6 +3,7 @@ pub mod Copied
 pub mod Costing
 pub mod Counted
 pub mod Entering
+pub mod Exchanged
 pub mod Keeping
 pub mod Lasting
 pub mod Looking

@@ -45,13 +45,13 @@ same_committed d c c' rows order =
 
 module _ (d : TableDef) (c c' : Committed) (o o' : Overlay) (page : Page) (h : Holds d (committed_slots d c) (entry_slots d o) (room_of c) o.fresh) (view : page_of d c o ≡ page)
     (below : committed_slots d c' ≡ committed_slots d c) (space : room_of c ≤ room_of c') where
-  moved : (es : List Slot) (fresh : ℕ) → entry_slots d o' ≡ es → o'.fresh ≡ fresh → Holds d (committed_slots d c) es (room_of c') fresh → Holds d (committed_slots d c') (entry_slots d o') (room_of c') o'.fresh
+  pub moved : (es : List Slot) (fresh : ℕ) → entry_slots d o' ≡ es → o'.fresh ≡ fresh → Holds d (committed_slots d c) es (room_of c') fresh → Holds d (committed_slots d c') (entry_slots d o') (room_of c') o'.fresh
   moved es fresh entries same holds =
       subst (λ (cs : List Slot). Holds d cs (entry_slots d o') (room_of c') o'.fresh) (sym below)
       (subst (λ (xs : List Slot). Holds d (committed_slots d c) xs (room_of c') o'.fresh) (sym entries)
       (subst (λ (n : ℕ). Holds d (committed_slots d c) es (room_of c') n) (sym same) holds))
 
-  shown_as : (es : List Slot) → entry_slots d o' ≡ es → rows_on (page_of d c' o') ≡ rows_in (over es (committed_slots d c))
+  pub shown_as : (es : List Slot) → entry_slots d o' ≡ es → rows_on (page_of d c' o') ≡ rows_in (over es (committed_slots d c))
   shown_as es entries =
       ap (λ (xs : List Slot). rows_in (over xs (committed_slots d c'))) entries ∙ ap (λ (cs : List Slot). rows_in (over es cs)) below
 

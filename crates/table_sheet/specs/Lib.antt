@@ -7,4 +7,5 @@ pub mod Parts
 pub mod Ranked
 pub mod Refusals
 pub mod Settling
+pub mod Standing
 pub mod Walks

@@ -3,8 +3,9 @@ ghost use Rattle.std.specs.Prelude.{◌≡◌, ◌&&◌, [], not, slice_index_or
 ghost use Rattle.std.specs.Ordering.{is_eq};
 ghost use Rattle.val_types.specs.declared.value.Value.TheVariants.{Null};
 ghost use Rattle.val_types.specs.Fitting.{is_null};
-ghost use Rattle.val_types.specs.Keys.{agree_on, primary_key};
+ghost use Rattle.val_types.specs.Keys.{agree_on, primary_key, same_values, values_at};
 ghost use Rattle.val_types.specs.Order.{key_order, value_order};
+ghost use Rattle.table_sheet.specs.Standing.{have_same_keys};
 
 use std::cmp::Ordering;
 use val_types::{KeyDef, Row, TableDef, Value, value_at};
@@ -83,6 +84,34 @@ pub(crate) fn agree_on(a: &Row, b: &Row, key: &KeyDef) -> bool
 {
     for column in key.columns.as_slice() {
         if !agree_in(a, b, *column) {
+            return false;
+        }
+    }
+    true
+}
+
+/// Whether two rows have the same values in the columns of a unique key.
+fn same_on(a: &Row, b: &Row, key: &KeyDef) -> bool
+    ensures { result ≡ same_values (values_at key.now.columns a.now) (values_at key.now.columns b.now) }
+{
+    for column in key.columns.as_slice() {
+        let own = value_at(a, *column, &Value::Null);
+        if !own.cmp(value_at(b, *column, &Value::Null)).is_eq() {
+            return false;
+        }
+    }
+    true
+}
+
+/// Whether two rows have the same primary key, and the same values in the columns of each unique key.
+pub(crate) fn same_keys(definition: &TableDef, a: &Row, b: &Row) -> bool
+    ensures { result ≡ have_same_keys definition.now a.now b.now }
+{
+    if !rows_cmp(definition, a, b).is_eq() {
+        return false;
+    }
+    for key in definition.uniques.as_slice() {
+        if !same_on(a, b, key) {
             return false;
         }
     }

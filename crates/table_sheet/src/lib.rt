@@ -20,6 +20,7 @@
 //! - `counting`: how many rows are shown
 //! - `ending`: the last row
 //! - `writing`: rows inserted, replaced and deleted
+//! - `standing`: rows that stand just so, replaced and taken out
 //! - `settling`: rows that are shown made the committed ones
 //! - `whole`, `copying`: the definition, all rows dropped, and the sheet once more
 //!
@@ -31,6 +32,8 @@
 //!   with exactly the first key in the way or that the row is not there; then, and where memory is wanted, what is shown is as
 //!   before (`stored`). Whatever they answer, definition and committed rows stay, each entry is there still, and there is no less room
 //!   (`stays`)
+//! - [`Sheet::replace_same`] and [`Sheet::remove_same`] do so where just the row that they are given stands (`there`), and change nothing
+//!   where it does not (`absent`)
 //! - [`Sheet::put_back_row`] and [`Sheet::take_same`] put a row into its entry or take it out, without memory: the two halves of taking
 //!   a change back; no entry comes or goes (`keys`)
 //! - [`Sheet::set_aside`], [`Sheet::put_back`] and [`Sheet::forget`] give exactly the page without entries, with those that were set
@@ -61,6 +64,7 @@ mod reading;
 mod refusal;
 mod settling;
 mod sheet;
+mod standing;
 mod walking;
 mod whole;
 mod writing;

@@ -9,7 +9,7 @@ use block_list::{Blocks, Spot};
 use sharing::Shared;
 use std::alloc::{AllocError, Global};
 use std::cmp::Ordering;
-use val_types::{NoMemory, Row, TableDef};
+use val_types::{NoMemory, Row, TableDef, key_cmp};
 
 /// Entries in the order of first touch, their numbers in the order of keys, and how many are of keys that no committed row has.
 #[derive(Drop)]
@@ -21,11 +21,11 @@ pub struct Overlay {
 }
 
 impl Overlay {
-    ghost use Rattle.std.specs.Prelude.{◌≡◌, ◌+◌, ◌^◌, ◌<◌, ◌≤◌, ℕ, [], ◌∷◌, true, length, option_copied, slice_get, slice_index, Some, None, Ok, Err, List, MatchResult, OnOk, OnErr};
-    ghost use Rattle.std.specs.Option.{option_and_then};
+    ghost use Rattle.std.specs.Prelude.{◌≡◌, ◌+◌, ◌^◌, ◌<◌, ◌≤◌, ℕ, [], ◌∷◌, true, false, length, option_copied, slice_get, slice_index, Some, None, Ok, Err, List, MatchResult, OnOk, OnErr};
+    ghost use Rattle.std.specs.Option.{option_and_then, option_map_or};
     ghost use Rattle.val_types.specs.declared.value.Value.{Value};
     ghost use Rattle.val_types.specs.declared.definitions.TableDef.{TableDef as Definition};
-    ghost use Rattle.val_types.specs.Keys.{primary_key};
+    ghost use Rattle.val_types.specs.Keys.{primary_key, same_values};
     ghost use Rattle.block_list.specs.Spots.{place, IsAt, IsFound, IsSpot};
     ghost use Rattle.row_sheets.specs.Slots.{fill, keys_in, keys_rise};
     ghost use Rattle.row_sheets.specs.Orders.{by_key};
@@ -105,6 +105,21 @@ impl Overlay {
         ensures { option_copied result ≡ option_and_then (slice_get self.now.entries.items) (slice_get (flat self.now.ranks.blocks) (place self.now.ranks.blocks spot)) }
     {
         self.entry(self.ranks.get(spot)?)
+    }
+
+    /// Whether the entry at a spot shows just this row.
+    pub(crate) fn shows(&self, spot: Spot, row: &Row) -> bool
+        requires { IsSpot self.now.ranks.blocks spot }
+        ensures { result ≡ option_map_or (λ shown. same_values shown row.now)
+            (option_and_then (λ entry. entry.present) (option_and_then (slice_get self.now.entries.items) (slice_get (flat self.now.ranks.blocks) (place self.now.ranks.blocks spot)))) false }
+    {
+        match self.at(spot) {
+            Some(entry) => match entry.shown() {
+                Some(shown) => key_cmp(shown.get(), row).is_eq(),
+                None => false,
+            },
+            None => false,
+        }
     }
 
     /// Gives the entry at a spot another row or none, and answers with what it had. It takes no memory.

@@ -1,9 +1,7 @@
 //! Rows read where they stand: all that are shown, all that are committed, and those that have a key of another.
 
 use crate::sheet::Sheet;
-use crate::walking::{
-    agreeing_from, first_agreed, keys_from, next, rows_from, start, start_below,
-};
+use crate::walking::{agreeing_from, first_agreed, keys_from, next, rows_from, start, start_below};
 use sharing::Shared;
 use std::alloc::Global;
 use val_types::{List, NoMemory, Row};
