@@ -1,36 +1,25 @@
 -- A row that stands just so, put in the place of and taken out.
-use Rattle.std.proofs.Common.{◌≡◌, ℕ, List, get_or, Bool, true, false, cond, Option, Some, None, Result, Ok, Err, refl, sym, ap, subst, ◌∙◌}
+use Rattle.std.proofs.Common.{◌≡◌, ℕ, List, get_or, Bool, true, false, cond, Option, Some, Result, Ok, Err, refl, sym, ap, subst, ◌∙◌}
 use Rattle.std.specs.Prelude.{slice_set}
-use Rattle.std.specs.Option.{option_map_or}
 use Rattle.val_types.specs.declared.value.Value.{Value}
-use Rattle.val_types.specs.declared.definitions.TableDef.{TableDef}
 use Rattle.val_types.specs.declared.change.Change.{Change}
 use Rattle.val_types.specs.declared.change.Change.TheVariants.{Update, Delete}
 use Rattle.val_types.specs.Fitting.{row_fits}
-use Rattle.val_types.specs.Keys.{primary_key, same_values}
+use Rattle.val_types.specs.Keys.{primary_key}
 use Rattle.table_rules.specs.Tables.{Table}
-use Rattle.table_rules.specs.Stored.{Obstacle, row_absent, table_named, row_of_key, rows_beside, key_in_way, where_found, unless_taken, replacement, deletion}
+use Rattle.table_rules.specs.Stored.{Obstacle, row_absent, table_named, rows_beside, key_in_way, where_found, unless_taken, replacement, deletion}
 use Rattle.table_rules.specs.Stores.{place_of}
 use Rattle.table_rules.proofs.Equations.{replacement_by, deletion_by}
-use Rattle.table_rules.proofs.Taking.{same_is}
 use Rattle.row_store.specs.declared.refusal.RowRefusal.{RowRefusal}
 use Rattle.row_store.specs.declared.refusal.RowRefusal.TheVariants.{Absent}
 use Rattle.row_store.specs.declared.shelf.Shelf.{Shelf}
 use Rattle.table_sheet.specs.Pages.{rows_on}
+use Rattle.table_sheet.proofs.Exchanged.{row_standing}
 use Rattle.row_store.specs.Shelves.{table_on, tables_on, store_of, Replaced, Deleted}
 use Rattle.row_store.specs.Stores.{Stores, is_standing, exchange, exchange_in, removal, removal_in}
 use Rattle.row_store.proofs.Swapping.{shelf_named, swap, same_name}
 use Rattle.row_store.proofs.Storing.{table_found, shelf_same, update_stored}
 use Rattle.row_store.proofs.Shelved.{shelf_at, set_at, delete_by}
-
--- ---- the row of its key is just it
-
-same_row : (row : List Value) (standing : Option (List Value)) → option_map_or (λ s. same_values s row) standing false ≡ true → standing ≡ Some row
-same_row row None e = cc
-same_row row (Some s) e = ap (λ (r : List Value). Some r) (same_is s row e)
-
-pub row_standing : (d : TableDef) (row : List Value) (rows : List (List Value)) → is_standing d row rows ≡ true → row_of_key d (primary_key d row) rows ≡ Some row
-row_standing d row rows e = same_row row (row_of_key d (primary_key d row) rows) e
 
 -- ---- by the table that is found
 

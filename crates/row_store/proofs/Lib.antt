@@ -1,7 +1,10 @@
+pub mod Asides
 pub mod Beside
 pub mod Exchanging
 pub mod Keeping
+pub mod Setting
 pub mod Shelved
+pub mod Staying
 pub mod Storing
 pub mod Swapping
 pub mod Telling

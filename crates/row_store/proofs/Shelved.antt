@@ -27,7 +27,7 @@ use Rattle.row_sheets.specs.Slots.{keys_in}
 use Rattle.table_sheet.specs.Pages.{rows_on, has_entry, KeepsEntries}
 use Rattle.row_store.specs.Shelves.{table_on, tables_on, definitions_on, keys_on, store_of, is_named, has_entry_for, has_entries_for, Inserted, Replaced, Deleted}
 use Rattle.row_store.specs.Stores.{Stores}
-use Rattle.row_store.proofs.Swapping.{kept_on, shelf_named, swap, same_name, keeps_swap, keeps_rows, equal_swap, same_rows, kept_found, dropped, cleared_swap, shelves_kept}
+use Rattle.row_store.proofs.Swapping.{kept_on, shelf_named, swap, same_name, keeps_swap, keeps_rows, equal_swap, same_rows, kept_found, dropped, cleared_swap, shelves_kept, committed_kept, same_definitions}
 use Rattle.row_store.proofs.Storing.{table_found, no_table, same_table, shelf_applied, shelf_same, insert_stored, update_stored, delete_stored, delete_absent, row_found, keys_found}
 use Rattle.row_store.proofs.Beside.{here_kept, on_ok, beside_swap, beside_removed, inverse_name, step_here, kept_before, table_added, set_same}
 
@@ -100,7 +100,7 @@ names_left_first name (s ∷ ss) differ =
 
 -- ---- places
 
-placed : (name : List ℕ) (ss : List Shelf) (at : ℕ) → place_of name (store_of ss).tables ≡ Some at → position (is_named name) ss ≡ Some at
+pub placed : (name : List ℕ) (ss : List Shelf) (at : ℕ) → place_of name (store_of ss).tables ≡ Some at → position (is_named name) ss ≡ Some at
 unfolding store_of
 placed name ss at e = sym (place_mapped table_on (has_name name) ss) ∙ e
 
@@ -214,7 +214,7 @@ keeps_same ss at s new differ h is same slots n r =
 
 pub whole : (ss : List Shelf) → names_differ (definitions_on ss) ≡ true → IsWhole (store_of ss)
 unfolding store_of
-whole ss differ = record { rows = shelves_kept ss; names = ap names_differ (definitions_same ss) ∙ differ }
+whole ss differ = record { rows = shelves_kept ss; names = ap names_differ (definitions_same ss) ∙ differ; committed = committed_kept ss; same = same_definitions ss }
 
 -- ---- rows stored
 

@@ -1,5 +1,5 @@
 -- The shelf of a table among others, and what a change on it makes of the tables.
-use Rattle.std.proofs.Common.{◌≡◌, ℕ, List, [], ◌∷◌, Bool, true, false, cond, Option, Some, None, refl, sym, ap, ◌∙◌}
+use Rattle.std.proofs.Common.{◌≡◌, ℕ, List, [], ◌∷◌, map, Bool, true, false, cond, Option, Some, None, refl, sym, ap, ◌∙◌}
 use Rattle.std.specs.Prelude.{nat_eq, find, position}
 use Rattle.std.specs.List.{remove}
 use Rattle.std.specs.Option.{option_map}
@@ -15,11 +15,11 @@ use Rattle.table_rules.specs.Changes.{table_after, applied, AreKept}
 use Rattle.val_types.specs.Changes.{table_of}
 use Rattle.table_rules.specs.Stored.{has_name, table_named, tables_beside, tables_cleared}
 use Rattle.table_rules.proofs.Taking.{Kept, is_kept}
-use Rattle.table_rules.specs.Stores.{is_among}
-use Rattle.row_sheets.specs.Slots.{keys_in}
+use Rattle.table_rules.specs.Stores.{definitions_of, is_among}
+use Rattle.row_sheets.specs.Slots.{keys_in, rows_in}
 use Rattle.table_sheet.specs.Pages.{rows_on, has_entry, KeepsEntries}
 use Rattle.row_store.specs.declared.shelf.Shelf.{Shelf}
-use Rattle.row_store.specs.Shelves.{table_on, tables_on, is_named, has_entry_for}
+use Rattle.row_store.specs.Shelves.{table_on, tables_on, committed_on, is_named, has_entry_for}
 use Rattle.row_store.proofs.Keeping.{kept_by}
 
 -- the shelf of a table
@@ -203,8 +203,17 @@ none_cleared name ss e = sym (unchanged (has_name name) (λ table. record table 
 
 -- the rows on a shelf fit, rise and are apart
 pub kept_rows : (s : Shelf) → Kept s.sheet.definition (rows_on s.sheet)
-kept_rows s = kept_by s.sheet.definition (rows_on s.sheet) s.kept
+kept_rows s = kept_by s.sheet.definition (rows_on s.sheet) s.rows.shown
 
 pub shelves_kept : (ss : List Shelf) → AreKept (tables_on ss)
 shelves_kept [] = tt
 shelves_kept (s ∷ ss) = (is_kept s.sheet.definition (rows_on s.sheet) (kept_rows s), shelves_kept ss)
+
+-- and so do the rows that are there to stay, in tables of the same definitions
+pub committed_kept : (ss : List Shelf) → AreKept (map committed_on ss)
+committed_kept [] = tt
+committed_kept (s ∷ ss) = (is_kept s.sheet.definition (rows_in s.sheet.committed) (kept_by s.sheet.definition (rows_in s.sheet.committed) s.rows.committed), committed_kept ss)
+
+pub same_definitions : (ss : List Shelf) → definitions_of (map committed_on ss) ≡ definitions_of (tables_on ss)
+same_definitions [] = refl
+same_definitions (s ∷ ss) = ap (λ (ds : List TableDef). s.sheet.definition ∷ ds) (same_definitions ss)

@@ -65,3 +65,11 @@ told_well (Ok done) (Ok too) P answers p = p
 told_well (Ok done) (Err told) P answers p = absurd answers
 told_well (Err refusal) (Ok done) P answers p = absurd answers
 told_well (Err refusal) (Err told) P answers p = tt
+
+-- where there is no such row, none is told
+pub told_absent : (answer : Result (Unit {0}) SheetRefusal) (told : Result (Unit {0}) RowRefusal) → Answers answer told → answer ≡ Err SheetAbsent → told ≡ Err Absent
+told_absent answer told answers is = absent_told told (subst (λ (a : Result (Unit {0}) SheetRefusal). Answers a told) is answers)
+  where
+    absent_told : (told : Result (Unit {0}) RowRefusal) → Answers (Err SheetAbsent) told → told ≡ Err Absent
+    absent_told (Ok done) a = absurd a
+    absent_told (Err refusal) a = ap (λ (r : RowRefusal). Err r) a

@@ -45,23 +45,28 @@ pub record Seen : Type 0 where
 abbrev pub seen : Shelf → Seen
 seen s = record { definition = s.sheet.definition; committed = s.sheet.committed; entries = s.sheet.entries }
 
-twice : {X Y Z : Type 0} (f : X → Y) (g : Y → Z) (xs : List X) → map g (map f xs) ≡ map (λ x. g (f x)) xs
+pub twice : {X Y Z : Type 0} (f : X → Y) (g : Y → Z) (xs : List X) → map g (map f xs) ≡ map (λ x. g (f x)) xs
 twice f g [] = refl
 twice {Z = Z} f g (x ∷ xs) = ap (λ (zs : List Z). g (f x) ∷ zs) (twice f g xs)
 
 abbrev table_seen : Seen → Table
 table_seen s = record { definition = s.definition; rows = rows_in (over s.entries s.committed) }
 
-store_by : (ss : List Shelf) → store_of ss ≡ record { tables = map table_seen (map seen ss); kept = map (λ (s : Seen). keys_in s.entries) (map seen ss) }
-unfolding store_of
-store_by ss =
-    ap (λ (ts : List Table). record { tables = ts; kept = map (λ (s : Shelf). keys_in s.sheet.entries) ss }) (sym (twice seen table_seen ss))
-    ∙ ap (λ (ks : List (List (List Value))). record { tables = map table_seen (map seen ss); kept = ks }) (sym (twice seen (λ (s : Seen). keys_in s.entries) ss))
+abbrev committed_seen : Seen → Table
+committed_seen s = record { definition = s.definition; rows = rows_in s.committed }
 
--- shelves of the same definitions, committed rows and entries store the same
-pub same_seen : (ss ts : List Shelf) → map seen ss ≡ map seen ts → store_of ss ≡ store_of ts
-same_seen ss ts e =
-    store_by ss ∙ ap (λ (all : List Seen). record { tables = map table_seen all; kept = map (λ (s : Seen). keys_in s.entries) all }) e ∙ sym (store_by ts)
+-- shelves of the same definitions, committed rows and entries store the same, but for room
+pub same_tables : (ss ts : List Shelf) → map seen ss ≡ map seen ts → (store_of ss).tables ≡ (store_of ts).tables
+unfolding store_of
+same_tables ss ts e = sym (twice seen table_seen ss) ∙ ap (map table_seen) e ∙ twice seen table_seen ts
+
+pub same_kept : (ss ts : List Shelf) → map seen ss ≡ map seen ts → (store_of ss).kept ≡ (store_of ts).kept
+unfolding store_of
+same_kept ss ts e = sym (twice seen (λ (s : Seen). keys_in s.entries) ss) ∙ ap (map (λ (s : Seen). keys_in s.entries)) e ∙ twice seen (λ (s : Seen). keys_in s.entries) ts
+
+pub same_committed : (ss ts : List Shelf) → map seen ss ≡ map seen ts → (store_of ss).committed ≡ (store_of ts).committed
+unfolding store_of
+same_committed ss ts e = sym (twice seen committed_seen ss) ∙ ap (map committed_seen) e ∙ twice seen committed_seen ts
 
 pub names_seen : (ss ts : List Shelf) → map seen ss ≡ map seen ts → names_differ (definitions_on ts) ≡ true → names_differ (definitions_on ss) ≡ true
 names_seen ss ts e differ =

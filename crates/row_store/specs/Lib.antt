@@ -1,3 +1,5 @@
+pub mod Asides
 pub mod Refusals
+pub mod Rows
 pub mod Shelves
 pub mod Stores

@@ -10,7 +10,7 @@ use Rattle.table_rules.specs.Tables.{Table}
 use Rattle.table_rules.specs.Changes.{with_row}
 use Rattle.table_rules.specs.Stored.{row_of_key, rows_beside, key_in_way}
 use Rattle.table_rules.specs.Stores.{Store}
-use Rattle.row_sheets.specs.Slots.{keys_in}
+use Rattle.row_sheets.specs.Slots.{keys_in, rows_in}
 use Rattle.table_sheet.specs.Pages.{Page, rows_on, has_entry}
 use Rattle.row_store.specs.declared.refusal.RowRefusal.{RowRefusal}
 use Rattle.row_store.specs.declared.refusal.RowRefusal.TheVariants.{Taken, Absent, NoMemory}
@@ -32,9 +32,22 @@ definitions_on shelves = map (λ shelf. shelf.sheet.definition) shelves
 abbrev pub keys_on : Shelf → List (List Value)
 keys_on shelf = keys_in shelf.sheet.entries
 
--- what some shelves store: their tables, and the keys that they have entries of
+-- the table that a shelf holds, with the rows that are there to stay
+abbrev pub committed_on : Shelf → Table
+committed_on shelf = record { definition = shelf.sheet.definition; rows = rows_in shelf.sheet.committed }
+
+-- for how many new rows a shelf has room
+abbrev pub room_on : Shelf → ℕ
+room_on shelf = shelf.sheet.room
+
+-- what some shelves store: their tables, the keys that they have entries of, the rows that are there to stay, and their room
 unfoldable pub store_of : List Shelf → Store
-store_of shelves = record { tables = tables_on shelves; kept = map keys_on shelves }
+store_of shelves = record {
+  tables = tables_on shelves;
+  kept = map keys_on shelves;
+  committed = map committed_on shelves;
+  room = map room_on shelves;
+}
 
 -- whether a shelf holds the table of a name
 abbrev pub is_named : List ℕ → Shelf → Bool

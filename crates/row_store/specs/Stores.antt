@@ -1,19 +1,14 @@
 -- What storing a row answers, and what replacing or taking out a row that stands just so comes to.
-use Rattle.std.specs.Prelude.{◌≡◌, ℕ, Bool, false, if◌then◌else◌, List, Some, Result, Ok, Err}
-use Rattle.std.specs.Option.{option_map_or}
+use Rattle.std.specs.Prelude.{◌≡◌, ℕ, if◌then◌else◌, List, Some, Result, Ok, Err}
 use Rattle.val_types.specs.declared.value.Value.{Value}
 use Rattle.val_types.specs.declared.change.Change.{Change}
 use Rattle.val_types.specs.declared.change.Change.TheVariants.{Update, Delete}
-use Rattle.val_types.specs.declared.definitions.TableDef.{TableDef}
-use Rattle.val_types.specs.Keys.{primary_key, same_values}
+use Rattle.val_types.specs.Keys.{primary_key}
 use Rattle.table_rules.specs.Tables.{Table}
-use Rattle.table_rules.specs.Stored.{Obstacle, key_taken, row_absent, carried_out, key_in_way, row_of_key, rows_beside, table_named, unless_taken, where_found}
+use Rattle.table_rules.specs.Stored.{Obstacle, key_taken, row_absent, carried_out, key_in_way, rows_beside, table_named, unless_taken, where_found}
+pub use Rattle.table_sheet.specs.Standing.{is_standing}
 use Rattle.row_store.specs.declared.refusal.RowRefusal.{RowRefusal}
 use Rattle.row_store.specs.declared.refusal.RowRefusal.TheVariants.{Taken, Absent, NoMemory}
-
--- whether just this row stands at its key
-abbrev pub is_standing : TableDef → List Value → List (List Value) → Bool
-is_standing definition row rows = option_map_or (λ standing. same_values standing row) (row_of_key definition (primary_key definition row) rows) false
 
 -- the change that puts a row in the place of another in a table: just that one has to stand there; then the keys of the rows beside it may be in the way
 abbrev pub exchange_in : List ℕ → List Value → List Value → Table → Result Change Obstacle

@@ -9,7 +9,7 @@ impl Tables {
     ghost use Rattle.std.specs.Prelude.{◌≡◌, true, Some, option_copied, IfOk, List, OnOk};
     ghost use Rattle.val_types.specs.declared.value.Value.{Value};
     ghost use Rattle.table_rules.specs.Stored.{deletion, fits_table, insertion, keys_at, replacement, row_at};
-    ghost use Rattle.table_rules.specs.Stores.{keeps, KeepsAll};
+    ghost use Rattle.table_rules.specs.Stores.{keeps, KeepsAll, Still};
     ghost use Rattle.row_store.specs.Stores.{Stores};
 
     /// The row of a primary key in a table, None where there is no such row or table.
@@ -49,6 +49,7 @@ impl Tables {
             self.old.tables self.new.tables }
         ensures kept { OnOk result (keeps self.new table.now row ≡ true) }
         ensures keys { KeepsAll self.old self.new }
+        ensures still { Still self.old self.new }
     {
         match self.place(table) {
             Some(at) => self.insert_at(at, row),
@@ -66,6 +67,7 @@ impl Tables {
             → row_at table.now key.now self.old.tables ≡ Some before
             → keeps self.new table.now before ≡ true) }
         ensures keys { KeepsAll self.old self.new }
+        ensures still { Still self.old self.new }
     {
         match self.place(table) {
             Some(at) => self.update_at(at, key, row),
@@ -80,6 +82,7 @@ impl Tables {
         ensures row { IfOk result (λ row. row_at table.now key.now self.old.tables ≡ Some row) }
         ensures kept { IfOk result (λ row. keeps self.new table.now row ≡ true) }
         ensures keys { KeepsAll self.old self.new }
+        ensures still { Still self.old self.new }
     {
         let Some(at) = self.place(table) else {
             return Err(RowRefusal::Absent);

@@ -20,9 +20,11 @@ impl Shelf {
 }
 
 impl Tables {
-    /// Equal tables, in which the same keys are kept.
+    /// Equal tables, in which the same keys are kept and the same rows are there to stay; their room is their own.
     pub fn copy(&self) -> Result<Tables, NoMemory>
-        ensures { IfOk result (λ copy. copy ≡ self.now) }
+        ensures tables { IfOk result (λ copy. copy.tables ≡ self.now.tables) }
+        ensures kept { IfOk result (λ copy. copy.kept ≡ self.now.kept) }
+        ensures committed { IfOk result (λ copy. copy.committed ≡ self.now.committed) }
     {
         let mut shelves = Vec::with_capacity(self.alloc, self.shelves.len())?;
         for shelf in self.shelves.as_slice() {

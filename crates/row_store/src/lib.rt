@@ -1,10 +1,11 @@
 //! The rows of tables by their keys.
 //!
-//! A contract sees [`Tables`] as plain data: the tables that the definitions of `table_rules` speak of, and
-//! for each the keys that are kept (`Store`). Each table has a shelf: its name, and the sheet of `table_sheet`
-//! that its rows stand on. The keys that are kept are those of the sheet's entries: a change of a row makes
-//! one, where there is none, and it stays until [`Tables::tidy`], so that the change is taken back without
-//! memory.
+//! A contract sees [`Tables`] as plain data (`Store`): the tables that the definitions of `table_rules` speak
+//! of, for each the keys that are kept, the same tables with the rows that are there to stay, and room. Each
+//! table has a shelf: its name, and the sheet of `table_sheet` that its rows stand on. The rows that are there
+//! to stay are the sheet's committed ones, and the keys that are kept are those of its entries: a change of a
+//! row makes one, where there is none, and it stays until [`Tables::tidy`], so that the change is taken back
+//! without memory.
 //!
 //! A statement asks for a table's place once ([`Tables::place`]), and calls by it for each row; a place is
 //! good while no table is made or dropped. Each such call has a form by the table's name too.
@@ -18,6 +19,7 @@
 //! - `standing`: rows that stand just so
 //! - `reading`: rows read where they stand
 //! - `copying`: tables once more
+//! - `setting_aside`: [`Aside`], what a transaction shows set aside and put back, or forgotten
 //! - `laws`: what holds of all that is stored
 //!
 //! # Proved
@@ -35,7 +37,8 @@
 //!   row does; [`Tables::held_at`] and [`Tables::name_at`] give the row of a key and a table's name as they
 //!   are held
 //! - [`Tables::rows`] gives the rows in their order, shared with the table, without copies, or wants memory;
-//!   [`Tables::copy`] gives equal tables that keep the same keys
+//!   [`Tables::committed_rows`] those that are there to stay; [`Tables::copy`] gives equal tables that keep the
+//!   same keys, with the same rows that are there to stay
 //! - [`Tables::key_in_way`], [`Tables::row_in_way`] and [`Tables::row_on_key`] give the number of the first
 //!   key in the way, the row that has it, and the row that has the key of a number, without memory
 //! - [`Tables::create`], [`Tables::drop_table`], [`Tables::clear`] and [`Tables::tidy`] their definitions;
@@ -44,8 +47,14 @@
 //!   and the keys of the rows that it puts back and takes out are kept
 //! - which keys are kept after each call (`kept`, `before`, `keys`): those that were, and those of rows that
 //!   are put and taken out, until `tidy` lets them go
-//! - a law: what is stored fits, rises by primary key and has no key in common, and no two tables have the
-//!   same name ([`tables_are_kept`])
+//! - calls that store rows and take changes back leave the rows that are there to stay, and no table has less
+//!   room (`still`); `create`, `drop_table` and `clear` do with them as with the rows that are shown, and
+//!   `tidy` makes those that are shown the ones that are there to stay (`committed`)
+//! - [`Tables::set_aside`] leaves nothing shown but the rows that are there to stay, or changes nothing where it
+//!   wants memory; [`Tables::put_back`] shows exactly what was set aside again where these are the same and no
+//!   table has less room ([`asides_return`]), and [`Tables::forget`] drops what is shown; both without memory
+//! - laws: what is stored fits, rises by primary key and has no key in common, no two tables have the same
+//!   name, and so it is with the rows that are there to stay ([`tables_are_kept`])
 //!
 //! # Only tested
 //! That calls succeed with ample memory, in `test_rows`.
@@ -57,11 +66,13 @@ mod laws;
 mod named;
 mod reading;
 mod refusal;
+mod setting_aside;
 mod shelf;
 mod standing;
 mod tables;
 mod taking_back;
 
-pub use laws::tables_are_kept;
+pub use laws::{asides_return, tables_are_kept};
 pub use refusal::RowRefusal;
+pub use setting_aside::Aside;
 pub use tables::Tables;

@@ -21,6 +21,18 @@ impl Tables {
         self.shelves[at].sheet.rows(self.alloc)
     }
 
+    /// The rows of the table at a place that are there to stay, whatever is shown, in their order and shared with the
+    /// table; none where there is no table.
+    pub fn committed_rows(&self, at: usize) -> Result<List<Shared<Row>>, NoMemory>
+        ensures { (name : List ℕ) → place_of name self.now.tables ≡ Some at
+            → IfOk result (λ rows. rows ≡ rows_of name self.now.committed) }
+    {
+        if at >= self.shelves.len() {
+            return Ok(List::new(self.alloc));
+        }
+        self.shelves[at].sheet.committed_rows(self.alloc)
+    }
+
     /// The number of the first key of a row that is in its way in the table at a place: 0 is the primary
     /// key, then come the unique keys in order of definition.
     pub fn key_in_way(&self, at: usize, row: &Row) -> Option<usize>

@@ -1,7 +1,7 @@
 //! One table: its name, and the sheet that its rows stand on.
-ghost use Rattle.std.specs.Prelude.{◌≡◌, IsTrue};
-ghost use Rattle.row_sheets.specs.Slots.{rows_are_kept};
+ghost use Rattle.std.specs.Prelude.{◌≡◌};
 ghost use Rattle.table_sheet.specs.Pages.{rows_on};
+ghost use Rattle.row_store.specs.Rows.{HoldsRows};
 
 use crate::refusal::{RowRefusal, told};
 use crate::taking_back::take_back_on;
@@ -17,7 +17,7 @@ pub struct Shelf {
     pub name: Shared<Bytes>,
     pub sheet: Sheet,
     pub ghost named: { name ≡ sheet.definition.name },
-    pub ghost kept: { IsTrue (rows_are_kept sheet.definition (rows_on sheet)) },
+    pub ghost rows: { HoldsRows sheet },
 }
 
 impl Shelf {
@@ -26,7 +26,7 @@ impl Shelf {
     ghost use Rattle.val_types.specs.Fitting.{row_fits};
     ghost use Rattle.val_types.specs.Keys.{primary_key};
     ghost use Rattle.table_rules.specs.Changes.{rows_after};
-    ghost use Rattle.row_sheets.specs.Slots.{keys_in};
+    ghost use Rattle.row_sheets.specs.Slots.{keys_in, rows_in};
     ghost use Rattle.table_sheet.specs.Pages.{has_entry, Stays};
     ghost use Rattle.row_store.specs.Shelves.{has_entries_for, Deleted, Inserted, Replaced};
 
@@ -35,6 +35,7 @@ impl Shelf {
         requires { name ≡ definition.name }
         ensures definition { result.sheet.definition ≡ definition }
         ensures rows { rows_on result.sheet ≡ [] }
+        ensures committed { result.sheet.committed ≡ [] }
     {
         Shelf {
             name,
@@ -84,7 +85,7 @@ impl Shelf {
         ensures rows { rows_after self.old.sheet.definition (inverse change) (rows_on self.old.sheet)
             ≡ Some (rows_on self.new.sheet) }
         ensures keys { keys_in self.new.sheet.entries ≡ keys_in self.old.sheet.entries }
-        ensures definition { self.new.sheet.definition ≡ self.old.sheet.definition }
+        ensures stays { Stays self.old.sheet self.new.sheet }
     {
         take_back_on(&mut self.sheet, change);
     }
@@ -92,6 +93,7 @@ impl Shelf {
     /// Makes the rows that are shown those that are there to stay.
     pub(crate) fn tidy(&mut self, alloc: Global)
         ensures rows { rows_on self.new.sheet ≡ rows_on self.old.sheet }
+        ensures committed { rows_in self.new.sheet.committed ≡ rows_on self.old.sheet }
         ensures definition { self.new.sheet.definition ≡ self.old.sheet.definition }
     {
         self.sheet.settle(alloc);
@@ -100,6 +102,7 @@ impl Shelf {
     /// Drops all rows.
     pub(crate) fn clear(&mut self, alloc: Global)
         ensures rows { rows_on self.new.sheet ≡ [] }
+        ensures committed { self.new.sheet.committed ≡ [] }
         ensures definition { self.new.sheet.definition ≡ self.old.sheet.definition }
     {
         self.sheet.clear(alloc);

@@ -4,30 +4,20 @@ ghost use Rattle.std.specs.Option.{option_map};
 ghost use Rattle.val_types.specs.Fitting.{row_fits};
 ghost use Rattle.val_types.specs.Keys.{primary_key};
 ghost use Rattle.table_rules.specs.Stored.{row_at};
-ghost use Rattle.table_rules.specs.Stores.{definitions_of, fits_at, keeps, place_of, IsWhole, KeepsAll};
+ghost use Rattle.table_rules.specs.Stores.{definitions_of, fits_at, keeps, place_of, IsWhole, KeepsAll, Still};
 ghost use Rattle.table_sheet.specs.Pages.{has_entry, rows_on, Stays};
 ghost use Rattle.row_store.specs.Shelves.{Deleted, Replaced};
 ghost use Rattle.row_store.specs.Stores.{exchange, is_standing, removal, Stores};
 ghost use Rattle.row_store.specs.declared.refusal.RowRefusal.TheVariants.{Absent};
 
-use crate::refusal::RowRefusal;
+use crate::refusal::{RowRefusal, told};
 use crate::shelf::Shelf;
 use crate::tables::Tables;
 use sharing::Shared;
 use std::alloc::Global;
-use val_types::{Bytes, Row, key_cmp, key_of};
+use val_types::{Bytes, Row};
 
 impl Shelf {
-    /// Whether just this row stands.
-    fn has_just(&self, row: &Row) -> bool
-        ensures { result ≡ is_standing self.now.sheet.definition row.now (rows_on self.now.sheet) }
-    {
-        match self.sheet.get_same(row) {
-            Some(standing) => key_cmp(standing.get(), row).is_eq(),
-            None => false,
-        }
-    }
-
     /// Replaces a row that stands just so.
     fn replace(&mut self, alloc: Global, old: &Row, new: Shared<Row>) -> Result<(), RowRefusal>
         requires { row_fits self.old.sheet.definition.columns new ≡ true }
@@ -40,11 +30,7 @@ impl Shelf {
         ensures entry { OnOk result (has_entry (primary_key self.old.sheet.definition new) self.new.sheet ≡ true) }
         ensures stays { Stays self.old.sheet self.new.sheet }
     {
-        if !self.has_just(old) {
-            return Err(RowRefusal::Absent);
-        }
-        let key = key_of(alloc, self.sheet.definition(), old)?;
-        self.update(alloc, &key, new)
+        told(self.sheet.replace_same(alloc, old, new))
     }
 
     /// Takes a row out that stands just so.
@@ -57,11 +43,7 @@ impl Shelf {
         ensures before { OnOk result (has_entry (primary_key self.old.sheet.definition row.now) self.new.sheet ≡ true) }
         ensures stays { Stays self.old.sheet self.new.sheet }
     {
-        if !self.has_just(row) {
-            return Err(RowRefusal::Absent);
-        }
-        let key = key_of(alloc, self.sheet.definition(), row)?;
-        self.delete(alloc, &key)
+        told(self.sheet.remove_same(alloc, row))
     }
 }
 
@@ -101,6 +83,7 @@ impl Tables {
         ensures before { (name : List ℕ) → place_of name self.old.tables ≡ Some at
             → OnOk result (keeps self.new name old.now ≡ true) }
         ensures keys { KeepsAll self.old self.new }
+        ensures still { Still self.old self.new }
     {
         if at >= self.shelves.len() {
             return Err(RowRefusal::Absent);
@@ -115,6 +98,7 @@ impl Tables {
         ensures before { (name : List ℕ) → place_of name self.old.tables ≡ Some at
             → OnOk result (keeps self.new name row.now ≡ true) }
         ensures keys { KeepsAll self.old self.new }
+        ensures still { Still self.old self.new }
     {
         if at >= self.shelves.len() {
             return Err(RowRefusal::Absent);

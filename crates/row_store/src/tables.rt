@@ -35,12 +35,12 @@ impl Tables {
     ghost use Rattle.val_types.specs.Changes.{inverse};
     ghost use Rattle.table_rules.specs.Changes.{applied};
     ghost use Rattle.table_rules.specs.Stored.{deletion, insertion, replacement, row_at, table_named, tables_beside, tables_cleared};
-    ghost use Rattle.table_rules.specs.Stores.{definitions_of, fits_at, keeps, keeps_put, place_of, IsWhole, KeepsAll, KeepsBeside, KeepsSame};
+    ghost use Rattle.table_rules.specs.Stores.{definitions_of, fits_at, keeps, keeps_put, place_of, IsWhole, KeepsAll, KeepsBeside, KeepsSame, Still};
     ghost use Rattle.row_store.specs.Stores.{Stores};
 
     /// No table, which takes no memory.
     pub fn new(alloc: Global) -> Tables
-        ensures { result ≡ record { tables = []; kept = [] } }
+        ensures { result ≡ record { tables = []; kept = []; committed = []; room = [] } }
     {
         Tables {
             alloc,
@@ -107,6 +107,7 @@ impl Tables {
         ensures kept { (name : List ℕ) → place_of name self.old.tables ≡ Some at
             → OnOk result (keeps self.new name row ≡ true) }
         ensures keys { KeepsAll self.old self.new }
+        ensures still { Still self.old self.new }
     {
         if at >= self.shelves.len() {
             return Err(RowRefusal::Absent);
@@ -125,6 +126,7 @@ impl Tables {
             → OnOk result ((before : List Value)
             → row_at name key.now self.old.tables ≡ Some before → keeps self.new name before ≡ true) }
         ensures keys { KeepsAll self.old self.new }
+        ensures still { Still self.old self.new }
     {
         if at >= self.shelves.len() {
             return Err(RowRefusal::Absent);
@@ -140,6 +142,7 @@ impl Tables {
             → OnOk result ((before : List Value)
             → row_at name key.now self.old.tables ≡ Some before → keeps self.new name before ≡ true) }
         ensures keys { KeepsAll self.old self.new }
+        ensures still { Still self.old self.new }
     {
         if at >= self.shelves.len() {
             return Err(RowRefusal::Absent);
@@ -153,6 +156,7 @@ impl Tables {
         requires kept { keeps_put self.old (inverse change) ≡ true }
         ensures tables { applied (inverse change) self.old.tables ≡ Some self.new.tables }
         ensures keys { KeepsSame self.old self.new }
+        ensures still { Still self.old self.new }
         ensures whole { IsWhole self.new }
     {
         if let Some(at) = self.place(change.table()) {
@@ -165,6 +169,8 @@ impl Tables {
         requires { table_named definition.now.name self.old.tables ≡ None }
         ensures ok { OnOk result (self.new.tables
             ≡ self.old.tables ++ record { definition = definition.now; rows = [] } ∷ []) }
+        ensures committed { OnOk result (self.new.committed
+            ≡ self.old.committed ++ record { definition = definition.now; rows = [] } ∷ []) }
         ensures err { OnErr result (self.new ≡ self.old) }
         ensures keys { KeepsAll self.old self.new }
     {
@@ -178,6 +184,7 @@ impl Tables {
     /// Drops a table with its rows.
     pub fn drop_table(&mut self, table: &Bytes)
         ensures tables { self.new.tables ≡ tables_beside table.now self.old.tables }
+        ensures committed { self.new.committed ≡ tables_beside table.now self.old.committed }
         ensures gone { table_named table.now self.new.tables ≡ None }
         ensures keys { KeepsBeside table.now self.old self.new }
     {
@@ -189,6 +196,7 @@ impl Tables {
     /// Drops the rows of a table.
     pub fn clear(&mut self, table: &Bytes)
         ensures tables { self.new.tables ≡ tables_cleared table.now self.old.tables }
+        ensures committed { self.new.committed ≡ tables_cleared table.now self.old.committed }
         ensures keys { KeepsBeside table.now self.old self.new }
     {
         if let Some(at) = self.place(table) {
@@ -196,10 +204,11 @@ impl Tables {
         }
     }
 
-    /// Lets the keys go that are kept for changes to be taken back. It is called where changes are there to
-    /// stay, and takes no memory.
+    /// Makes the rows that are shown those that are there to stay, and lets the keys go that are kept for changes
+    /// to be taken back. It takes no memory.
     pub fn tidy(&mut self)
         ensures tables { self.new.tables ≡ self.old.tables }
+        ensures committed { self.new.committed ≡ self.new.tables }
         ensures whole { IsWhole self.new }
     {
         for i in 0..self.shelves.len() {

@@ -3,7 +3,7 @@ ghost use Rattle.std.specs.Prelude.{◌≡◌, true, Some, IsSome, IsTrue};
 ghost use Rattle.val_types.specs.Changes.{inverse};
 ghost use Rattle.table_rules.specs.Changes.{rows_after};
 ghost use Rattle.row_sheets.specs.Slots.{keys_in, rows_are_kept};
-ghost use Rattle.table_sheet.specs.Pages.{rows_on};
+ghost use Rattle.table_sheet.specs.Pages.{rows_on, Stays};
 ghost use Rattle.row_store.specs.Shelves.{has_entries_for};
 
 use table_sheet::Sheet;
@@ -16,7 +16,7 @@ pub(crate) fn take_back_on(sheet: &mut Sheet, change: Change)
     requires entries { has_entries_for sheet.old (inverse change) ≡ true }
     ensures rows { rows_after sheet.old.definition (inverse change) (rows_on sheet.old) ≡ Some (rows_on sheet.new) }
     ensures keys { keys_in sheet.new.entries ≡ keys_in sheet.old.entries }
-    ensures definition { sheet.new.definition ≡ sheet.old.definition }
+    ensures stays { Stays sheet.old sheet.new }
 {
     match change {
         Change::Insert { row, .. } => sheet.take_same(row.get()),

@@ -1,17 +1,16 @@
 use Rattle.std.proofs.Common.{sym, ap, ◌∙◌}
 use Rattle.val_types.specs.declared.definitions.TableDef.{TableDef}
-use Rattle.row_sheets.specs.Slots.{rows_are_kept}
 use Rattle.table_sheet.specs.Pages.{rows_on}
-use Rattle.row_store.proofs.Keeping.{replaced_kept}
+use Rattle.row_store.proofs.Keeping.{replaced_kept, shown_holds}
 use Rattle.row_store.proofs.Telling.{replaced, told_well}
 use Rattle.row_store.proofs.shelf.Shelf.update.Goals as goal
 
 pub invariant_of-self : goal.invariant_of-self
 invariant_of-self c = record {
   named = c.args.self.now.named ∙ ap (λ (d : TableDef). d.name) (sym c.replace.ensures.stays.definition);
-  kept =
-      ap (λ (d : TableDef). rows_are_kept d (rows_on c.replace.new.self)) c.replace.ensures.stays.definition
-      ∙ replaced_kept c.replace.result c.args.self.now.sheet.definition c.args.key.now c.args.row (rows_on c.args.self.now.sheet) (rows_on c.replace.new.self) c.args.self.now.kept c.requires c.replace.ensures.stored;
+  rows =
+      shown_holds c.args.self.now.sheet c.replace.new.self c.args.self.now.rows c.replace.ensures.stays.definition c.replace.ensures.stays.committed
+      (replaced_kept c.replace.result c.args.self.now.sheet.definition c.args.key.now c.args.row (rows_on c.args.self.now.sheet) (rows_on c.replace.new.self) c.args.self.now.rows.shown c.requires c.replace.ensures.stored);
 }
 
 pub returns-clause-stored : goal.returns-clause-stored

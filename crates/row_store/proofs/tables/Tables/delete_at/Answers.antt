@@ -1,5 +1,7 @@
 use Rattle.std.proofs.Common.{◌<◌, ◌≤◌, length, arith}
 use Rattle.row_store.proofs.Shelved.{none_past, names_set, stored_delete, keeps_set, before_here}
+use Rattle.table_rules.proofs.Leading.{still_same}
+use Rattle.row_store.proofs.Setting.{still_set}
 use Rattle.row_store.proofs.tables.Tables.delete_at.Goals as goal
 
 pub returns-then-at-len-clause-stored : goal.returns-then-at-len-clause-stored
@@ -25,3 +27,10 @@ returns-clause-keys c =
     let less : c.args.at < length c.self.inside.shelves.items = omega arith in
     rw (← c.self.view_is)
     (keeps_set c.self.inside.shelves.items c.args.at c.index_mut.result.now c.delete.new.self c.self.invariant less c.index_mut.ensures.value c.delete.ensures.stays.definition c.delete.ensures.stays.entries)
+
+pub returns-then-at-len-clause-still : goal.returns-then-at-len-clause-still
+returns-then-at-len-clause-still c = still_same c.args.self.now
+
+pub returns-clause-still : goal.returns-clause-still
+returns-clause-still c =
+    rw (← c.self.view_is) (still_set c.self.inside.shelves.items c.args.at c.index_mut.result.now c.delete.new.self c.index_mut.ensures.value c.delete.ensures.stays)

@@ -1,6 +1,7 @@
 use Rattle.std.proofs.Common.{refl, sym, ◌∙◌}
 use Rattle.table_rules.proofs.Places.{nothing_inserted}
 use Rattle.row_store.proofs.Unnamed.{fits_place}
+use Rattle.table_rules.proofs.Leading.{still_same}
 use Rattle.row_store.proofs.tables.Tables.insert.Goals as goal
 
 pub insert_at-requires : goal.insert_at-requires
@@ -8,3 +9,6 @@ insert_at-requires c = fits_place c.args.table.now c.args.row c.args.self.now.ta
 
 pub returns-in-None-clause-stored : goal.returns-in-None-clause-stored
 returns-in-None-clause-stored c = (nothing_inserted c.args.table.now c.args.row c.args.self.now.tables (sym c.place.ensures ∙ c.in-None.is), refl)
+
+pub returns-in-None-clause-still : goal.returns-in-None-clause-still
+returns-in-None-clause-still c = still_same c.args.self.now

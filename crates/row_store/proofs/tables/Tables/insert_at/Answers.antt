@@ -3,6 +3,8 @@ use Rattle.val_types.specs.Fitting.{row_fits}
 use Rattle.table_rules.specs.Stores.{fits_at}
 use Rattle.row_store.specs.Shelves.{store_of}
 use Rattle.row_store.proofs.Shelved.{none_past, fits_shelf_at, names_set, stored_insert, kept_here, keeps_set}
+use Rattle.table_rules.proofs.Leading.{still_same}
+use Rattle.row_store.proofs.Setting.{still_set}
 use Rattle.row_store.proofs.tables.Tables.insert_at.Goals as goal
 
 pub returns-then-at-len-clause-stored : goal.returns-then-at-len-clause-stored
@@ -37,3 +39,10 @@ returns-clause-keys c =
     let less : c.args.at < length c.self.inside.shelves.items = omega arith in
     rw (← c.self.view_is)
     (keeps_set c.self.inside.shelves.items c.args.at c.index_mut.result.now c.insert.new.self c.self.invariant less c.index_mut.ensures.value c.insert.ensures.stays.definition c.insert.ensures.stays.entries)
+
+pub returns-then-at-len-clause-still : goal.returns-then-at-len-clause-still
+returns-then-at-len-clause-still c = still_same c.args.self.now
+
+pub returns-clause-still : goal.returns-clause-still
+returns-clause-still c =
+    rw (← c.self.view_is) (still_set c.self.inside.shelves.items c.args.at c.index_mut.result.now c.insert.new.self c.index_mut.ensures.value c.insert.ensures.stays)

@@ -1,12 +1,11 @@
-use Rattle.std.proofs.Common.{◌≡◌, length, true}
-use Rattle.table_rules.specs.Stores.{names_differ}
-use Rattle.row_store.specs.Shelves.{store_of, definitions_on}
+use Rattle.std.proofs.Common.{◌≡◌, length}
+use Rattle.row_store.proofs.Setting.{GoesOn}
+use Rattle.row_store.proofs.Staying.{IsTidied}
 use Rattle.row_store.proofs.tables.Tables.tidy.Given as goal
 
--- the tables are as they were
+-- the shelves so far are tidied
 abbrev pub invariant-loop-i : goal.invariant-loop-i
 invariant-loop-i l = record {
   long : length l.self-inside.shelves.items ≡ l.i-end;
-  same : (store_of l.self-inside.shelves.items).tables ≡ l.fn.self.tables;
-  names : names_differ (definitions_on l.self-inside.shelves.items) ≡ true;
+  tidied : GoesOn IsTidied l.fn.self l.i l.self-inside.shelves.items;
 }
