@@ -9,13 +9,13 @@ use Rattle.table_rules.specs.Stored.{table_named, row_at, rows_of, row_of_key}
 use Rattle.table_rules.specs.Stores.{place_of, definitions_of, Store, IsWhole}
 use Rattle.table_rules.proofs.Places.{place_is_of_name, none_named}
 use Rattle.table_rules.proofs.Storing.{named_kept}
-use Rattle.sql_tree.specs.Tree.{Tree, Part, part}
+use Rattle.sql_tree.specs.Tree.{Tree, Part, no_part, part}
 use Rattle.where_keys.specs.sql_meaning.Scenes.{kept_by}
 use Rattle.where_keys.specs.where_laws.Laws.{kept_where}
 use Rattle.where_keys.specs.declared.outside.Outside.{Outside}
 use Rattle.where_keys.specs.Keys.{key_in}
 use Rattle.where_keys.proofs.Named.{named_keys_are_enough}
-use Rattle.where_candidates.specs.Candidates.{AreCandidates}
+use Rattle.where_candidates.specs.Candidates.{AreCandidates, key_of_part}
 
 -- ---- the table of a name, at its place
 
@@ -58,13 +58,25 @@ row_there key d (Some t) here = let same : t.definition ≡ d = cc in ap (λ (e 
 -- ---- candidates
 
 -- all rows are enough
-pub all_so : (o : Outside) (name : List ℕ) (d : TableDef) (p : Part) (tables : List Table) (at : ℕ) (rows : List (List Value)) → place_of name tables ≡ Some at
+all_so : (o : Outside) (name : List ℕ) (d : TableDef) (p : Part) (tables : List Table) (at : ℕ) (rows : List (List Value)) → key_of_part o d p ≡ None → place_of name tables ≡ Some at
     → slice_get (definitions_of tables) at ≡ Some d → rows ≡ rows_of name tables → AreCandidates o name d p tables rows
-all_so o name d p tables at rows place there is = record {
+all_so o name d p tables at rows none place there is = record {
   all = rows_of name tables;
   there = table_is d (table_named name tables) (sym (definition_there name tables at place) ∙ there);
   enough = λ world frame round scene. ap (λ (left : List (List Value)). kept_by (kept_where world frame d p) left scene) (sym is);
+  alone = λ key named. cc;
 }
+
+pub without_so : (o : Outside) (name : List ℕ) (d : TableDef) (tables : List Table) (at : ℕ) (rows : List (List Value)) → place_of name tables ≡ Some at
+    → slice_get (definitions_of tables) at ≡ Some d → rows ≡ rows_of name tables → AreCandidates o name d no_part tables rows
+without_so o name d tables at rows place there is = all_so o name d no_part tables at rows refl place there is
+
+pub unkeyed_so : (o : Outside) (name : List ℕ) (d : TableDef) (t : Tree) (tables : List Table) (at : ℕ) (rows : List (List Value)) → key_in o d t d.primary ≡ None
+    → place_of name tables ≡ Some at → slice_get (definitions_of tables) at ≡ Some d → rows ≡ rows_of name tables → AreCandidates o name d (part t) tables rows
+unkeyed_so o name d t tables at rows none place there is = all_so o name d (part t) tables at rows none place there is
+
+some_is : (a b : List Value) → Some a ≡ Some b → a ≡ b
+some_is a b e = cc
 
 -- so is the row of a key that the condition names
 pub keyed_so : (o : Outside) (name : List ℕ) (d : TableDef) (t : Tree) (store : Store) (at : ℕ) (key : List Value) (rows : List (List Value)) → IsWhole store
@@ -81,8 +93,9 @@ keyed_so o name d t store at key rows whole place there named is =
       enough = λ world frame round scene.
           (named_keys_are_enough o d t key named).gives world frame round (rows_of name store.tables) kept scene
           ∙ ap (λ (left : List (List Value)). kept_by (kept_where world frame d (part t)) left scene) (sym same);
+      alone = λ other again. is ∙ ap (λ (k : List Value). option_to_list (row_at name k store.tables)) (some_is key other (sym named ∙ again));
     }
 
-pub ruleset seeing = (all_so, keyed_so)
+pub ruleset seeing = (without_so, unkeyed_so, keyed_so)
 
 pub ruleset missing = (not_at, not_placed)

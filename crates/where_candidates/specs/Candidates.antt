@@ -1,12 +1,12 @@
 -- What the rows are that a WHERE has to look at.
-use Rattle.std.specs.Prelude.{◌≡◌, ℕ, List, Option, Some, None, Result, Ok, Err}
+use Rattle.std.specs.Prelude.{◌≡◌, ℕ, List, Option, Some, None, option_to_list, Result, Ok, Err}
 use Rattle.std.specs.Borrow.{Bor}
 use Rattle.val_types.specs.declared.value.Value.{Value}
 use Rattle.val_types.specs.declared.refusal.SqlRefusal.{SqlRefusal}
 use Rattle.val_types.specs.declared.refusal.SqlRefusal.TheVariants.{Sql, NoMemory}
 use Rattle.val_types.specs.declared.definitions.TableDef.{TableDef}
 use Rattle.table_rules.specs.Tables.{Table}
-use Rattle.table_rules.specs.Stored.{table_named}
+use Rattle.table_rules.specs.Stored.{row_at, table_named}
 use Rattle.sql_tree.specs.Tree.{Part, no_part, part}
 use Rattle.sql_tree.specs.View.{view_tree}
 use Rattle.sql_tree.specs.declared.expressions.Expr.{Expr}
@@ -15,6 +15,7 @@ use Rattle.where_keys.specs.sql_meaning.Frames.{World, Frame}
 use Rattle.where_keys.specs.where_laws.Laws.{kept_where}
 use Rattle.where_keys.specs.declared.outside.Outside.{Outside}
 use Rattle.where_keys.specs.Sides.{IsRound}
+use Rattle.where_keys.specs.Keys.{key_in}
 use Rattle.where_candidates.specs.declared.seeing.SeenTable.{SeenTable}
 
 -- a condition that may be none
@@ -22,14 +23,20 @@ abbrev pub part_if : Option (Bor Expr) → Part
 part_if None = no_part
 part_if (Some e) = part (view_tree e.now)
 
+-- the primary key that a WHERE names
+abbrev pub key_of_part : Outside → TableDef → Part → Option (List Value)
+key_of_part outside d no_part = None
+key_of_part outside d (part t) = key_in outside d t d.primary
+
 -- Rows that are all that a WHERE over the table of a name has to look at: of them it keeps the same ones as of all rows, with the same
--- scene or error behind it, in whatever scene, and whatever else is round it.
+-- scene or error behind it, in whatever scene, and whatever else is round it. Where it names a primary key, they are the row of that key alone.
 pub record AreCandidates (outside : Outside) (name : List ℕ) (d : TableDef) (p : Part) (tables : List Table) (rows : List (List Value)) : Type 0 where
   pub all : List (List Value)
   pub there : table_named name tables ≡ Some (record { definition = d; rows = all })
   pub enough :
       (world : World) (frame : Frame) → IsRound outside world frame → (scene : Scene)
       → kept_by (kept_where world frame d p) all scene ≡ kept_by (kept_where world frame d p) rows scene
+  pub alone : (key : List Value) → key_of_part outside d p ≡ Some key → rows ≡ option_to_list (row_at name key tables)
 
 -- a table with its candidates, or 1146 where there is none of the name; or memory is short
 abbrev pub Sees : Outside → List ℕ → Part → List Table → Result SeenTable SqlRefusal → Type 0
