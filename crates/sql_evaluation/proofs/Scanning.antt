@@ -21,13 +21,16 @@ use Rattle.sql_tree.specs.declared.expressions.Arm.{Arm}
 use Rattle.sql_tree.specs.View.{view_aggregate, view_arm, view_tree, view_selected, view_origin, view_from, view_order, view_orders, view_part, view_query, aggregate_step, tree_step, selected_step, arm_step, origin_step, order_step, query_step}
 use Rattle.table_rules.specs.Tables.{Table}
 use Rattle.value_rules.specs.Selecting.{by_items, in_order, put_in_order, first_value}
-use Rattle.session_ctx.specs.sql_meaning.Scenes.{Scene, Ending, Action, done, failed, then_do, pure, each, kept_by, table_now, ◌>>=◌}
-use Rattle.session_ctx.specs.sql_meaning.Frames.{sees, limited}
-use Rattle.session_ctx.specs.sql_meaning.Values.{is_kept, order_values, shown_rows, sorted, directions, only_value}
-use Rattle.exec_state.specs.Stage.{EndsAs}
+use Rattle.where_candidates.specs.session_ctx.sql_meaning.Scenes.{Scene, Ending, Action, done, failed, then_do, pure, needed, each, kept_by, table_now, ◌>>=◌}
+use Rattle.where_candidates.specs.session_ctx.sql_meaning.Frames.{sees, limited}
+use Rattle.where_candidates.specs.session_ctx.sql_meaning.Values.{is_kept, order_values, shown_rows, sorted, directions, only_value}
+use Rattle.exec_state.specs.declared.stage.Stage.{Stage}
+use Rattle.exec_state.specs.Stage.{EndsAs, scene_of}
+use Rattle.where_candidates.specs.Candidates.{AreCandidates, Sees}
+use Rattle.where_candidates.specs.where_keys.declared.outside.Outside.{Outside}
 use Rattle.sql_evaluation.specs.declared.world.View.{View as Shown}
 use Rattle.sql_evaluation.specs.declared.world.Around.{Around}
-use Rattle.sql_evaluation.specs.Seen.{value_in, values_in, holds_in, kept_in, where_in, keyed_in, ordered_in, order_in, items_in, shown_in, rows_in, alone_in, from_in, aggregated_in, seen, with_row, Inside, Anywhere, world_of, frame_of}
+use Rattle.sql_evaluation.specs.Seen.{value_in, values_in, holds_in, kept_in, where_in, keyed_in, ordered_in, order_in, items_in, shown_in, rows_in, alone_in, from_in, aggregated_in, seen, with_row, Inside, IsOutside, Anywhere, world_of, frame_of}
 use Rattle.sql_evaluation.proofs.Loops.{rest_of, each_starts, each_more, each_fails, each_ends}
 use Rattle.sql_evaluation.proofs.Branching.{rest_is, ends_through}
 
@@ -318,6 +321,18 @@ unfolding frame_of
 where_is a vs d no_part rows scene = kept_all rows scene
 where_is a vs d (part t) rows scene = refl
 
+-- WHERE keeps the same of its candidates as of all rows
+pub where_same : (a : Around) (vs : List Shown) (o : Outside) (name : List ℕ) (d : TableDef) (p : Part) (tables : List Table) (rows : List (List Value)) (scene : Scene) → IsOutside a o
+    → (seen : AreCandidates o name d p tables rows) → where_in a vs d p seen.all scene ≡ where_in a vs d p rows scene
+where_same a vs o name d p tables rows scene outside seen =
+    sym (where_is a vs d p seen.all scene) ∙ seen.enough (world_of a) (frame_of a vs) (outside.round vs) scene ∙ where_is a vs d p rows scene
+
+-- they are of the table as it stands
+pub seen_there : (o : Outside) (name : List ℕ) (d : TableDef) (p : Part) (stage : Stage) (rows : List (List Value)) → (seen : AreCandidates o name d p stage.tables.tables rows)
+    → table_now name (scene_of stage) ≡ done (record { definition = d; rows = seen.all }) (scene_of stage)
+unfolding scene_of
+seen_there o name d p stage rows seen = ap (λ (t : Option Table). needed 1146 t (scene_of stage)) seen.there
+
 mapped_done : {A B C : Type 0} (e : Ending A) (f : A → B) (g : B → Action C) (b : B) (next : Scene) → then_do e (λ x. pure (f x)) ≡ done b next → then_do e (λ x. g (f x)) ≡ g b next
 mapped_done (done x scene) f g b next h = let same : f x ≡ b = cc in let here : scene ≡ next = cc in rw (same, here) refl
 mapped_done (failed code scene) f g b next h = cc
@@ -400,6 +415,23 @@ pub from_not_ordered_at : (a : Around) (vs : List Shown) (what : Selected) (f : 
     → where_in a vs table.definition (view_part (out-FromClause f).filter) table.rows s1 ≡ done rows s2
     → EndsAs {A = List (List Value)} (Err e) last (ordered_in a vs table.definition (view_orders (out-FromClause f).order) rows s2) → EndsAs {A = List (List Value)} (Err e) last (from_in a vs what (view_from f) scene)
 from_not_ordered_at a vs what f table rows e scene s1 s2 last found kept h = from_not_ordered a vs what f table rows e (Err e) scene s1 s2 last refl found kept h
+
+-- of rows of which WHERE keeps the same
+pub from_not_kept_of : (a : Around) (vs : List Shown) (what : Selected) (f : FromClause) (table : Table) (rows : List (List Value)) (e : SqlRefusal) (scene s1 last : Scene)
+    → table_now (out-FromClause f).table scene ≡ done table s1
+    → where_in a vs table.definition (view_part (out-FromClause f).filter) table.rows s1 ≡ where_in a vs table.definition (view_part (out-FromClause f).filter) rows s1
+    → EndsAs {A = List (List Value)} (Err e) last (where_in a vs table.definition (view_part (out-FromClause f).filter) rows s1)
+    → EndsAs {A = List (List Value)} (Err e) last (from_in a vs what (view_from f) scene)
+from_not_kept_of a vs what f table rows e scene s1 last found same h =
+    from_not_kept_at a vs what f table e scene s1 last found (subst (λ (m : Ending (List (List Value))). EndsAs {A = List (List Value)} (Err e) last m) (sym same) h)
+
+pub from_not_seen_at : (a : Around) (vs : List Shown) (what : Selected) (f : FromClause) (o : Outside) (p : Part) (e : SqlRefusal) (stage : Stage)
+    → Sees o (out-FromClause f).table p stage.tables.tables (Err e) → EndsAs {A = List (List Value)} (Err e) (scene_of stage) (from_in a vs what (view_from f) (scene_of stage))
+unfolding scene_of
+from_not_seen_at a vs what f o p NoMemory stage h = tt
+from_not_seen_at a vs what f o p (Sql code) stage h =
+    from_no_table a vs what f (Sql code) (Err (Sql code)) (scene_of stage) (scene_of stage) refl
+    (ap (λ (t : Option Table). needed 1146 t (scene_of stage)) h.1 ∙ ap (λ (c : ℕ). failed c (scene_of stage)) (sym h.0))
 
 pub ruleset clauses = (from_done, from_no_table, from_not_kept, from_not_ordered)
 

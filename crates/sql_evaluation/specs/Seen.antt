@@ -10,21 +10,23 @@ use Rattle.sql_tree.specs.Tree.{Tree, name, column, new_column, old_column, valu
 use Rattle.sql_tree.specs.declared.expressions.Expr.{Expr}
 use Rattle.sql_tree.specs.View.{view_tree}
 use Rattle.std.specs.declared.cmp.Ordering.{Ordering}
-use Rattle.session_ctx.specs.sql_meaning.Scenes.{Scene, Action, done, answered, pure, each, kept_by, ◌>>=◌}
+use Rattle.where_candidates.specs.session_ctx.sql_meaning.Scenes.{Scene, Action, done, answered, pure, each, kept_by, ◌>>=◌}
 use Rattle.val_types.specs.declared.ops.BinOp.{BinOp}
 use Rattle.value_rules.specs.Operators.{decided, binary_value, comparison, with_value, truth_of}
-use Rattle.session_ctx.specs.sql_meaning.Frames.{World, Frame, View, Running, Setting, named_value, qualified_value, column_if}
-use Rattle.session_ctx.specs.sql_meaning.Values.{value, values, unless_known, holds, found_among, rows_of_query, order_values, sorted, directions, argument_values, formed, functions_of, shown_rows, value_of_part, row_alone}
+use Rattle.where_candidates.specs.session_ctx.sql_meaning.Frames.{World, Frame, View, Running, Setting, named_value, qualified_value, column_if}
+use Rattle.where_candidates.specs.session_ctx.sql_meaning.Values.{value, values, unless_known, holds, found_among, rows_of_query, order_values, sorted, directions, argument_values, formed, functions_of, shown_rows, value_of_part, row_alone}
 use Rattle.value_rules.specs.Functions.{is_known_true}
 use Rattle.value_rules.specs.Selecting.{by_items, aggregate_value}
 use Rattle.std.specs.Ordering.{is_lt}
 use Rattle.val_types.specs.declared.ops.Agg.{Agg}
-use Rattle.session_ctx.specs.sql_meaning.Running.{level_of}
+use Rattle.where_candidates.specs.session_ctx.sql_meaning.Running.{level_of}
 use Rattle.exec_state.specs.declared.stage.Stage.{Stage}
 use Rattle.exec_state.specs.declared.running.Running.{Running as UnderWay}
 use Rattle.exec_state.specs.UnderWay.{under_way}
 use Rattle.catalog_objects.specs.Keys.{objects_of}
 use Rattle.exec_state.specs.Stage.{scene_of, EndsAs, LeadsOn}
+use Rattle.where_candidates.specs.where_keys.declared.outside.Outside.{Outside}
+use Rattle.where_candidates.specs.where_keys.Sides.{IsRound}
 use Rattle.sql_evaluation.specs.declared.world.View.{View as Shown}
 use Rattle.sql_evaluation.specs.declared.world.Around.{Around}
 
@@ -59,6 +61,10 @@ frame_of a vs = record {
   old_row = view_if a.old_row;
   inserted = view_if a.inserted;
 }
+
+-- that a WHERE has this outside of its table, whatever rows are in view
+pub record IsOutside (a : Around) (o : Outside) : Type 0 where
+  pub round : (vs : List Shown) → IsRound o (world_of a) (frame_of a vs)
 
 -- the value of a tree there
 abbrev pub value_in : Around → List Shown → Tree → Action Value

@@ -5,7 +5,7 @@
 //! function that takes the evaluation of its parts as a closure; [`value`] ties them in one cycle of two. What a call
 //! of a stored function does is handed in (`run`), so that programs stand above this crate, as changes do.
 //!
-//! - `world`, `views`: what is round an expression, and the rows that it sees
+//! - `world`, `views`: what is round an expression, and the rows that it sees; `outside`: what of it a WHERE may name
 //! - `expressions`: [`value`]
 //! - `operators`: unary and binary operators, IN; `choices`: CASE, IF, IFNULL, COALESCE, conditions
 //! - `built_ins`: built-in functions, by their number of arguments; `session_values`: what the session gives
@@ -34,6 +34,7 @@ mod expressions;
 mod functions;
 mod lookup;
 mod operators;
+mod outside;
 mod queries;
 mod session_values;
 mod sorting;
@@ -49,8 +50,8 @@ pub use expressions::value;
 pub use functions::{call_value, floor_rand_value};
 pub use lookup::copied;
 pub use operators::{binary_value, membership, unary_value};
+pub use outside::outside_of;
 pub use queries::{exists_value, kept_rows, ordered_rows, rows_of_query, subquery_value};
-pub use session_ctx;
 pub use session_values::{
     capped, connection_id, last_insert_id, now, row_count, sys_date, system_variable,
     unix_timestamp, user, user_variable, uuid,
@@ -58,4 +59,6 @@ pub use session_values::{
 pub use sorting::{count_of, cut};
 pub use value_lists::values;
 pub use views::{Views, seeing};
+pub use where_candidates;
+pub use where_candidates::session_ctx;
 pub use world::{Around, View};

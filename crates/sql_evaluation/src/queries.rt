@@ -3,22 +3,24 @@ ghost use Rattle.std.specs.Prelude.{◌≡◌, IfOk};
 ghost use Rattle.value_rules.specs.Selecting.{first_value};
 ghost use Rattle.sql_tree.specs.Tree.{exists, subquery};
 ghost use Rattle.sql_tree.specs.View.{view_aggregates, view_from, view_orders, view_origin, view_part, view_query, view_selected, view_tree, view_trees};
-ghost use Rattle.session_ctx.specs.sql_meaning.Values.{has_rows, only_value};
+ghost use Rattle.where_candidates.specs.session_ctx.sql_meaning.Values.{has_rows, only_value};
 ghost use Rattle.exec_state.specs.Stage.{EndsAs, LeadsOn, scene_of};
 ghost use Rattle.sql_evaluation.specs.Seen.{Anywhere, Evaluates, LeadsAlways, alone_in, from_in, items_in, kept_in, keyed_in, ordered_in, rows_in, shown_in, value_in, where_in};
 
 use crate::aggregates::aggregate_rows;
 use crate::choices::holds;
+use crate::outside::outside_of;
 use crate::sorting::{in_order, limited, order_values};
 use crate::value_lists::values;
 use crate::views::{Views, seeing};
 use crate::world::Around;
-use exec_state::{Snapshot, Stage};
+use exec_state::Stage;
 use expr_ops::value_of_truth;
 use sharing::Shared;
 use sql_tree::{Expr, FromClause, OrderItem, Select, Selection};
 use std::alloc::Global;
 use val_types::{Boxed, Duplicate, List, NoMemory, Row, SqlRefusal, TableDef, Value};
+use where_candidates::{SeenTable, rows_to_see};
 
 /// A copy of the first value of a row, NULL where there is none.
 fn first_value(alloc: Global, row: &Row) -> Result<Value, NoMemory>
@@ -145,7 +147,7 @@ fn row_alone<V: Fn(&mut Stage, &Expr, &Views) -> Result<Value, SqlRefusal>>(
     }
 }
 
-/// WHERE for all rows, then ORDER BY for those kept, then LIMIT, then the items.
+/// WHERE for all rows that it has to look at, then ORDER BY for those kept, then LIMIT, then the items.
 #[tactic(auto, using(crate::proofs::Steps::steps, crate::proofs::Scanning::clauses, crate::proofs::Steps::stage_on_twice))]
 fn rows_from<V: Fn(&mut Stage, &Expr, &Views) -> Result<Value, SqlRefusal>>(
     alloc: Global,
@@ -162,7 +164,14 @@ fn rows_from<V: Fn(&mut Stage, &Expr, &Views) -> Result<Value, SqlRefusal>>(
     ensures gives { EndsAs result (scene_of stage.new) (from_in around.now views.now (view_selected what.now) (view_from from.now) (scene_of stage.old)) }
     ensures leads { LeadsOn stage.old stage.new }
 {
-    let Snapshot { definition, rows } = stage.table(&from.table)?;
+    let outside = outside_of(around);
+    let SeenTable { definition, rows } = rows_to_see(
+        alloc,
+        &stage.tables,
+        &outside,
+        &from.table,
+        &from.filter,
+    )?;
     let rows = where_rows(
         alloc,
         evaluate,
