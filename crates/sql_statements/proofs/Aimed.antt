@@ -42,16 +42,7 @@ pub ruleset aiming = (not_there, no_definition, found_so)
 
 -- ---- its rows
 
-pub read_so : (target : Target) (name : List ℕ) (stage : Stage) (rows : List (List Value)) → IsTarget target name stage → rows ≡ rows_of name stage.tables.tables
-    → table_now name (scene_of stage) ≡ done (record { definition = target.definition; rows = rows }) (scene_of stage)
-read_so target name stage rows h is = h.table rows is
-
 pub stands_there : (target : Target) (name : List ℕ) (stage : Stage) → IsTarget target name stage → StandsAt target.at target.definition stage
 stands_there target name stage h = h.stands
 
-pub placed_there : (target : Target) (name : List ℕ) (stage : Stage) → IsTarget target name stage → place_of name stage.tables.tables ≡ Some target.at
-placed_there target name stage h = h.place
-
 pub ruleset found = (stands_there)
-
-pub ruleset reading = (read_so, placed_there)

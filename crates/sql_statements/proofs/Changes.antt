@@ -1,5 +1,5 @@
 -- UPDATE and DELETE, one step at a time.
-use Rattle.std.proofs.Common.{◌≡◌, ℕ, ◌+◌, ◌<◌, ◌≤◌, List, [], length, get_or, drop, refl, subst, Err}
+use Rattle.std.proofs.Common.{◌≡◌, ℕ, ◌+◌, ◌<◌, ◌≤◌, List, [], length, get_or, drop, refl, sym, subst, Err}
 use Rattle.val_types.specs.declared.value.Value.{Value}
 use Rattle.val_types.specs.declared.refusal.SqlRefusal.{SqlRefusal}
 use Rattle.val_types.specs.declared.refusal.SqlRefusal.TheVariants.{Sql, NoMemory}
@@ -79,6 +79,14 @@ update_not_chosen a vs u table NoMemory scene s1 last found none h = tt
 update_not_chosen a vs u table (Sql code) scene s1 last found none h =
     let stopped : picked a [] u table s1 ≡ failed code last = subst (λ (ws : List Shown). picked a ws u table s1 ≡ failed code last) none h in rw (found, stopped) refl
 
+-- of rows of which it picks the same
+pub update_not_chosen_of : (a : Around) (vs : List Shown) (u : UpdateStmt) (table : Table) (rows : List (List Value)) (e : SqlRefusal) (scene s1 last : Scene)
+    → table_now u.table scene ≡ done table s1 → vs ≡ [] → picked a vs u table s1 ≡ picked a vs u (record table { rows = rows }) s1
+    → EndsAs {A = List (List Value)} (Err e) last (picked a vs u (record table { rows = rows }) s1)
+    → EndsAsBy {A = Done} {B = Did} did_of (Err e) last (update_in a u scene)
+update_not_chosen_of a vs u table rows e scene s1 last found none same h =
+    update_not_chosen a vs u table e scene s1 last found none (subst (λ (m : Ending (List (List Value))). EndsAs {A = List (List Value)} (Err e) last m) (sym same) h)
+
 pub update_not_all : (a : Around) (vs : List Shown) (u : UpdateStmt) (table : Table) (chosen rows : List (List Value)) (e : SqlRefusal) (scene s1 s2 last : Scene)
     → table_now u.table scene ≡ done table s1 → vs ≡ [] → picked a vs u table s1 ≡ done chosen s2 → rows ≡ chosen
     → EndsAs {A = ℕ} (Err e) last (updates_in a table.definition (view_sets u.sets) rows s2)
@@ -156,6 +164,14 @@ unfolding delete_in chosen_in
 delete_not_chosen a vs u table NoMemory scene s1 last found none h = tt
 delete_not_chosen a vs u table (Sql code) scene s1 last found none h =
     let stopped : taken a [] u table s1 ≡ failed code last = subst (λ (ws : List Shown). taken a ws u table s1 ≡ failed code last) none h in rw (found, stopped) refl
+
+-- of rows of which it picks the same
+pub delete_not_chosen_of : (a : Around) (vs : List Shown) (u : DeleteStmt) (table : Table) (rows : List (List Value)) (e : SqlRefusal) (scene s1 last : Scene)
+    → table_now u.table scene ≡ done table s1 → vs ≡ [] → taken a vs u table s1 ≡ taken a vs u (record table { rows = rows }) s1
+    → EndsAs {A = List (List Value)} (Err e) last (taken a vs u (record table { rows = rows }) s1)
+    → EndsAsBy {A = Done} {B = Did} did_of (Err e) last (delete_in a u scene)
+delete_not_chosen_of a vs u table rows e scene s1 last found none same h =
+    delete_not_chosen a vs u table e scene s1 last found none (subst (λ (m : Ending (List (List Value))). EndsAs {A = List (List Value)} (Err e) last m) (sym same) h)
 
 pub delete_not_all : (a : Around) (vs : List Shown) (u : DeleteStmt) (table : Table) (chosen rows : List (List Value)) (e : SqlRefusal) (scene s1 s2 last : Scene)
     → table_now u.table scene ≡ done table s1 → vs ≡ [] → taken a vs u table s1 ≡ done chosen s2 → rows ≡ chosen

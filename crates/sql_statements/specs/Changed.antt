@@ -13,14 +13,14 @@ use Rattle.sql_tree.specs.StatementView.{view_sets}
 use Rattle.sql_tree.specs.declared.expressions.Count.{Count}
 use Rattle.sql_tree.specs.declared.statements.UpdateStmt.{UpdateStmt}
 use Rattle.sql_tree.specs.declared.statements.DeleteStmt.{DeleteStmt}
-use Rattle.changed_rows.specs.sql_meaning.Scenes.{Action, ◌>>=◌, pure, done, failed, each, counted, carried_on, table_now}
+use Rattle.changed_rows.specs.sql_meaning.Scenes.{Scene, Action, ◌>>=◌, pure, done, failed, each, counted, carried_on, table_now}
 use Rattle.changed_rows.specs.sql_meaning.Running.{rows_shown}
 use Rattle.changed_rows.specs.sql_meaning.Changing.{Did, affected_rows, Inserting, Manner, chosen_rows, update_table, delete_from_table, insert_supply, insert_into_table}
 use Rattle.exec_state.specs.declared.stage.Stage.{Stage}
 use Rattle.exec_state.specs.Stage.{scene_of}
 use Rattle.changed_rows.specs.sql_evaluation.declared.world.View.{View as Shown}
 use Rattle.changed_rows.specs.sql_evaluation.declared.world.Around.{Around}
-use Rattle.changed_rows.specs.sql_evaluation.Seen.{frame_of, values_in, world_of}
+use Rattle.changed_rows.specs.sql_evaluation.Seen.{frame_of, values_in, where_in, world_of}
 use Rattle.changed_rows.specs.sql_evaluation.Seen.{rows_in as query_in}
 use Rattle.changed_rows.specs.Changed.{StandsAt, deleted_in, inserted_in, updated_in}
 use Rattle.sql_statements.specs.declared.target.Target.{Target}
@@ -40,6 +40,12 @@ TargetFound (Err (Sql code)) name stage = table_now name (scene_of stage) ≡ fa
 TargetFound (Err NoMemory) name stage = Unit {0}
 
 -- ---- UPDATE and DELETE
+
+-- Rows of the table of a name of which a WHERE keeps just those that it keeps of all rows.
+pub record ArePicked (a : Around) (name : List ℕ) (d : TableDef) (p : Part) (stage : Stage) (rows : List (List Value)) : Type 0 where
+  pub all : List (List Value)
+  pub there : table_now name (scene_of stage) ≡ done (record { definition = d; rows = all }) (scene_of stage)
+  pub same : (vs : List Shown) (scene : Scene) → where_in a vs d p all scene ≡ where_in a vs d p rows scene
 
 -- the rows of a table that a change picks
 unfoldable pub chosen_in : Around → List Shown → TableDef → Part → Orders → Option Count → List (List Value) → Action (List (List Value))

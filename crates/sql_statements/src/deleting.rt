@@ -53,7 +53,14 @@ pub(crate) fn delete<V: Fn(&mut Stage, &Expr, &Views) -> Result<Value, SqlRefusa
     ensures leads { LeadsOn stage.old stage.new }
 {
     let target = find_target(stage, &statement.table)?;
-    let rows = rows_there(stage, &statement.table, &target)?;
+    let rows = rows_there(
+        alloc,
+        around,
+        stage,
+        &statement.table,
+        &target,
+        &statement.filter,
+    )?;
     let views = Views::new(alloc);
     let chosen = chosen_rows(
         alloc,

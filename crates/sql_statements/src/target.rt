@@ -1,11 +1,14 @@
 //! The table that a statement changes, looked up once by its name.
 ghost use Rattle.std.specs.Prelude.{◌≡◌, IfOk};
-ghost use Rattle.changed_rows.specs.sql_meaning.Scenes.{done, table_now};
-ghost use Rattle.exec_state.specs.Stage.{scene_of};
-ghost use Rattle.sql_statements.specs.Changed.{IsTarget, TargetFound};
+ghost use Rattle.sql_tree.specs.View.{view_part};
+ghost use Rattle.sql_statements.specs.Changed.{ArePicked, IsTarget, TargetFound};
 
+use changed_rows::sql_evaluation::where_candidates::candidates;
+use changed_rows::sql_evaluation::{Around, outside_of};
 use exec_state::Stage;
 use sharing::Shared;
+use sql_tree::Expr;
+use std::alloc::Global;
 use val_types::{Bytes, List, NoMemory, Row, SqlError, SqlRefusal, TableDef};
 
 /// A name that is no table's.
@@ -33,15 +36,26 @@ pub(crate) fn find_target(stage: &Stage, name: &Bytes) -> Result<Target, SqlRefu
     Ok(Target { at, definition })
 }
 
-/// Its rows as they stand, without a copy.
-#[tactic(auto, using(crate::proofs::Aimed::reading))]
+/// The rows of it that a WHERE has to look at, without a copy.
+#[tactic(auto, using(crate::proofs::Picked::picking))]
 pub(crate) fn rows_there(
+    alloc: Global,
+    around: &Around<'_>,
     stage: &Stage,
     name: &Bytes,
     target: &Target,
+    filter: &Option<Expr>,
 ) -> Result<List<Shared<Row>>, NoMemory>
     requires { IsTarget target.now name.now stage.now }
-    ensures { IfOk result (λ rows. table_now name.now (scene_of stage.now) ≡ done (record { definition = target.now.definition; rows = rows }) (scene_of stage.now)) }
+    ensures { IfOk result (λ rows. ArePicked around.now name.now target.now.definition (view_part filter.now) stage.now rows) }
 {
-    stage.tables.rows(target.at)
+    let _ = name;
+    candidates(
+        alloc,
+        &stage.tables,
+        &outside_of(around),
+        target.at,
+        target.definition.get(),
+        filter,
+    )
 }
