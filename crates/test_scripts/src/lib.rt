@@ -6,6 +6,7 @@
 //! - `answers`: scripts and what they write: transactions, generated values, limits of trees, errors and their order
 //! - `refusals`: statements, SETs, CALLs and definitions with one cause to be refused, and SELECTs of the replica
 //! - `programs`: stored functions and triggers; `settings`: SET that is refused behind its evaluation
+//! - `keys`: conditions that name the key of a row, or seem to
 //! - `replication`: logs fetched in pieces and carried out in groups
 //! - `logs`: the source's log in place of the answers
 //! - `texts`: that log printed and replayed: what each statement carries, by its text and by its rows, and what a procedure leaves
@@ -16,6 +17,8 @@
 
 #[cfg(test)]
 mod answers;
+#[cfg(test)]
+mod keys;
 #[cfg(test)]
 mod logs;
 #[cfg(test)]

@@ -1,0 +1,87 @@
+//! Conditions that name the key of a row, and conditions that may seem to.
+
+use crate::playing::{Frame, expect_all, held};
+
+/// Behind a table `t` of three rows, whose key is `id`, a table `w` of three rows, whose key is `a` and `b`, and a function that notes
+/// its calls in a table `l`.
+static KEYS: Frame = Frame {
+    before: "s1: CREATE TABLE t (id INT, v INT, PRIMARY KEY (id)) //\ns1: CREATE TABLE w (a INT, b VARCHAR(5), v INT, PRIMARY KEY (a, b)) //\ns1: CREATE TABLE l (n INT, PRIMARY KEY (n)) //\ns1: CREATE FUNCTION c(n INT) RETURNS INT BEGIN INSERT INTO l VALUES (n); RETURN n; END //\ns1: INSERT INTO t VALUES (1, 10), (2, 20), (3, 30) //\ns1: INSERT INTO w VALUES (1, 'a', 1), (1, 'b', 2), (2, 'a', 3) //\n",
+    behind: "",
+    first: "1 ok 0\n2 ok 0\n3 ok 0\n4 ok 0\n5 ok 3\n6 ok 3\n",
+    last: "",
+};
+
+/// Scripts behind them, and the lines behind theirs.
+static SCRIPTS: [(&str, &str); 12] = [
+    // a key, either way round, with more behind it
+    (
+        "s1: SELECT v FROM t WHERE id = 2 //\ns1: SELECT v FROM t WHERE 3 <=> id //\ns1: UPDATE t SET v = v + 1 WHERE t.id = 1 AND v = 10 //\ns1: DELETE FROM t WHERE id = 2 AND v = 21 //\ns1: DELETE FROM t WHERE id = 2 //\ns1: SELECT * FROM t WHERE id = 2 //\ns1: SELECT COUNT(*) FROM t WHERE id = 2 //\ns1: SELECT v FROM t WHERE id = 3 ORDER BY v DESC LIMIT 1 //\ns1: SELECT * FROM t //\n",
+        "7 row 20\n7 rows 1\n8 row 30\n8 rows 1\n9 ok 1\n10 ok 0\n11 ok 1\n12 rows 0\n13 row 0\n13 rows 1\n14 row 30\n14 rows 1\n15 row 1, 11\n15 row 3, 30\n15 rows 2\n",
+    ),
+    // OR and NOT name no key
+    (
+        "s1: SELECT id FROM t WHERE id = 2 OR v = 30 //\ns1: SELECT id FROM t WHERE NOT (id = 2) //\ns1: SELECT id FROM t WHERE (id = 2 OR id = 3) AND v = 30 //\ns1: UPDATE t SET v = 0 WHERE NOT (id = 1) OR id = 1 //\ns1: DELETE FROM t WHERE id = 1 OR id = 3 //\ns1: SELECT * FROM t //\n",
+        "7 row 2\n7 row 3\n7 rows 2\n8 row 1\n8 row 3\n8 rows 2\n9 row 3\n9 rows 1\n10 ok 3\n11 ok 2\n12 row 2, 0\n12 rows 1\n",
+    ),
+    // a local hides the column, but not the one with its table's name; the value of a local is a key
+    (
+        "s1: CREATE FUNCTION h(id INT) RETURNS INT RETURN (SELECT COUNT(*) FROM t WHERE id = 2) //\ns1: CREATE FUNCTION k(id INT) RETURNS INT RETURN (SELECT v FROM t WHERE t.id = id) //\ns1: CREATE FUNCTION m(n INT) RETURNS INT BEGIN DECLARE x INT DEFAULT 0; WHILE x < n DO SET x = x + 1; UPDATE w SET v = v + 10 WHERE b = 'a' AND a = x; END WHILE; RETURN x; END //\ns1: SELECT h(2), h(1), k(3), k(4), m(2) //\ns1: SELECT v FROM w //\n",
+        "7 ok 0\n8 ok 0\n9 ok 0\n10 row 3, 0, 30, NULL, 2\n10 rows 1\n11 row 11\n11 row 2\n11 row 13\n11 rows 3\n",
+    ),
+    // NULL is no key, and what stands behind it is evaluated; a user variable
+    (
+        "s1: SELECT id FROM t WHERE id = NULL //\ns1: SELECT id FROM t WHERE id <=> NULL //\ns1: SELECT id FROM t WHERE id = @k //\ns1: SET @k = 3 //\ns1: SELECT id FROM t WHERE id = @k AND c(id) = 3 //\ns1: SELECT id FROM t WHERE id = NULL AND c(id + 10) = 0 //\ns1: SELECT n FROM l //\n",
+        "7 rows 0\n8 rows 0\n9 rows 0\n10 ok 0\n11 row 3\n11 rows 1\n12 rows 0\n13 row 3\n13 row 11\n13 row 12\n13 row 13\n13 rows 4\n",
+    ),
+    // a value of the other kind is refused where a row is compared with it, also as the second column of a key
+    (
+        "s1: SELECT id FROM t WHERE id = 'a' //\ns1: SELECT id FROM t WHERE id = 5 AND v = 'a' //\ns1: SELECT id FROM t WHERE id = 2 AND v = 'a' //\ns1: SELECT id FROM t WHERE v = 'a' AND id = 5 //\ns1: SELECT a FROM w WHERE a = 1 AND b = 2 //\ns1: SELECT a FROM w WHERE a = 9 AND b = 2 //\ns1: DELETE FROM t WHERE id = 'a' //\ns1: DELETE FROM t //\ns1: SELECT id FROM t WHERE id = 'a' //\ns1: UPDATE t SET v = 0 WHERE id = 'a' //\n",
+        "7 error 30002\n8 rows 0\n9 error 30002\n10 error 30002\n11 error 30002\n12 rows 0\n13 error 30002\n14 ok 3\n15 rows 0\n16 ok 0\n",
+    ),
+    // an error behind the key comes for its row alone, one before it for any row
+    (
+        "s1: SELECT id FROM t WHERE id = 2 AND 1 DIV (v - 20) = 1 //\ns1: SELECT id FROM t WHERE id = 3 AND 1 DIV (v - 20) = 1 //\ns1: SELECT id FROM t WHERE 1 DIV (v - 20) = 1 AND id = 3 //\ns1: UPDATE t SET v = 1 WHERE id = 2 AND v + 9223372036854775807 = 1 //\ns1: UPDATE t SET v = 1 WHERE id = 4 AND v + 9223372036854775807 = 1 //\n",
+        "7 error 1365\n8 rows 0\n9 error 1365\n10 error 1690\n11 ok 0\n",
+    ),
+    // a function that changes rows is called for the row of the key behind it, and for each row before it
+    (
+        "s1: SELECT id FROM t WHERE id = 2 AND c(id) = 2 //\ns1: SELECT id FROM t WHERE c(id + 10) = 12 AND id = 2 //\ns1: SELECT n FROM l //\ns1: CREATE FUNCTION d(n INT) RETURNS INT BEGIN INSERT INTO t VALUES (n, 0); RETURN n; END //\ns1: SELECT id FROM t WHERE id = 9 AND d(7) = 7 //\ns1: SELECT id FROM t WHERE id = 2 AND d(7) = 7 //\ns1: SELECT COUNT(*) FROM t //\n",
+        "7 row 2\n7 rows 1\n8 row 2\n8 rows 1\n9 row 2\n9 row 11\n9 row 12\n9 row 13\n9 rows 4\n10 ok 0\n11 rows 0\n12 error 1442\n13 row 3\n13 rows 1\n",
+    ),
+    // RAND() is drawn once behind the key, and for each row before it
+    (
+        "s1: SET rand_seed1 = 1, rand_seed2 = 2 //\ns1: SELECT id FROM t WHERE id = 2 AND FLOOR(RAND() * 1073741823) = 5 //\ns1: SELECT FLOOR(RAND() * 1073741823) //\ns1: SET rand_seed1 = 1, rand_seed2 = 2 //\ns1: SELECT id FROM t WHERE FLOOR(RAND() * 1073741823) > 0 AND id = 2 //\ns1: SELECT FLOOR(RAND() * 1073741823) //\n",
+        "7 ok 0\n8 row 2\n8 rows 1\n9 row 55\n9 rows 1\n10 ok 0\n11 row 2\n11 rows 1\n12 row 1333\n12 rows 1\n",
+    ),
+    // subqueries: as the value of a key, and behind it for its row alone
+    (
+        "s1: SELECT v FROM t WHERE id = (SELECT MAX(id) FROM t) //\ns1: SELECT id FROM t WHERE id = 9 AND v = (SELECT id FROM t) //\ns1: SELECT id FROM t WHERE id = 2 AND v = (SELECT id FROM t) //\ns1: SELECT id FROM t WHERE EXISTS (SELECT 1 FROM w WHERE a = 2 AND b = 'a') AND id = 1 //\n",
+        "7 row 30\n7 rows 1\n8 rows 0\n9 error 1242\n10 row 1\n10 rows 1\n",
+    ),
+    // columns of rows in view outside: another name, the same name, and with their table's name
+    (
+        "s1: SELECT id, (SELECT v FROM w WHERE a = id AND b = 'a') FROM t //\ns1: SELECT a, (SELECT COUNT(*) FROM t WHERE t.id = id) FROM w WHERE b = 'b' //\ns1: SELECT v, (SELECT COUNT(*) FROM t WHERE v = 20) FROM w //\ns1: SELECT v, (SELECT t.v FROM t WHERE id = w.v) FROM w //\n",
+        "7 row 1, 1\n7 row 2, 3\n7 row 3, NULL\n7 rows 3\n8 row 1, 3\n8 rows 1\n9 row 1, 1\n9 row 2, 1\n9 row 3, 1\n9 rows 3\n10 row 1, 10\n10 row 2, 20\n10 row 3, 30\n10 rows 3\n",
+    ),
+    // NAME_CONST; NEW and OLD in a trigger
+    (
+        "s1: SELECT v FROM t WHERE id = NAME_CONST('x', 2) //\ns1: CREATE TRIGGER g AFTER UPDATE ON t FOR EACH ROW UPDATE w SET v = v + NEW.v WHERE a = OLD.id AND b = 'a' //\ns1: UPDATE t SET v = 100 WHERE id = 2 //\ns1: UPDATE t SET id = 4 WHERE id = 3 //\ns1: SELECT * FROM w //\n",
+        "7 row 20\n7 rows 1\n8 ok 0\n9 ok 1\n10 ok 1\n11 row 1, 'a', 1\n11 row 1, 'b', 2\n11 row 2, 'a', 103\n11 rows 3\n",
+    ),
+    // keys of two columns, in either order, with more between and behind; one column alone names none
+    (
+        "s1: SELECT v FROM w WHERE a = 1 AND b = 'b' //\ns1: SELECT v FROM w WHERE b = 'a' AND a = 2 //\ns1: SELECT v FROM w WHERE a = 1 //\ns1: SELECT v FROM w WHERE a = 1 AND b = 'a' AND a = 2 //\ns1: UPDATE w SET v = 9 WHERE b = 'b' AND v = 2 AND a = 1 //\ns1: DELETE FROM w WHERE a = 2 AND b = 'c' //\ns1: SELECT v FROM w WHERE b = 'b' //\n",
+        "7 row 2\n7 rows 1\n8 row 3\n8 rows 1\n9 row 1\n9 row 2\n9 rows 2\n10 rows 0\n11 ok 1\n12 ok 0\n13 row 9\n13 rows 1\n",
+    ),
+];
+
+#[test]
+fn keys_named(rt: HostRuntime) {
+    let alloc = rt.alloc();
+    expect_all(
+        &rt,
+        "conditions that may name a key",
+        held(alloc, &KEYS, &SCRIPTS),
+        SCRIPTS.len(),
+    );
+}
