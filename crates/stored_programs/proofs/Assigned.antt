@@ -21,6 +21,7 @@ use Rattle.sql_statements.specs.sql_meaning.Frames.{World}
 use Rattle.sql_statements.specs.sql_meaning.Values.{value}
 use Rattle.sql_statements.specs.sql_meaning.Changing.{fitted, put_at}
 use Rattle.sql_statements.specs.sql_meaning.Running.{Body, Ended, also_running, assign_local, assign_new, assign_one, body_checked, frame_of, goes_on, with_new_row}
+use Rattle.sql_statements.proofs.of_changed_rows.Fitted.{put_nowhere, put_unfit, put_fit}
 use Rattle.exec_state.specs.declared.running.Running.{Running as Chain}
 use Rattle.exec_state.specs.Stage.{EndsAs, EndsAsBy}
 use Rattle.sql_evaluation.specs.declared.world.Around.{Around}
@@ -65,6 +66,8 @@ local_set b b' n v fit l u there h locals new old = record {
 pub ruleset locals = (no_local, local_unfit, local_set)
 
 -- ---- a column of NEW
+
+pub ruleset putting = (put_nowhere, put_unfit, put_fit)
 
 pub column_nowhere : (view : Shown) (c : List ℕ) (v : Value) → None ≡ place_among (columns_of view.definition) c → Anywhere (Err (Sql 1054)) (put_in_column view c v)
 column_nowhere view c v none = record { ends = λ scene. rw (← none) refl }

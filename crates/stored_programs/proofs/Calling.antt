@@ -25,7 +25,7 @@ use Rattle.sql_evaluation.specs.declared.world.Around.{Around}
 use Rattle.sql_evaluation.specs.declared.world.View.{View as Shown}
 use Rattle.sql_evaluation.specs.Seen.{Anywhere, world_of}
 use Rattle.sql_evaluation.proofs.Branching.{rest_is}
-use Rattle.changed_rows.specs.Firing.{left_of}
+use Rattle.sql_statements.specs.changed_rows.Firing.{left_of}
 use Rattle.stored_programs.specs.Bodies.{ended_at, view_in}
 use Rattle.stored_programs.specs.Steps.{locals_for, row_of_view, step_in, triggered_in}
 use Rattle.stored_programs.proofs.Acting.{Same, ends_so}

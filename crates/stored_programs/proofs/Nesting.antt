@@ -21,7 +21,7 @@ use Rattle.exec_state.specs.declared.running.Running.{Running as Chain, Function
 use Rattle.exec_state.specs.UnderWay.{under_way}
 use Rattle.sql_evaluation.specs.declared.world.Around.{Around}
 use Rattle.sql_evaluation.specs.Seen.{running_of, setting_of, world_of}
-use Rattle.changed_rows.specs.Firing.{left_of}
+use Rattle.sql_statements.specs.changed_rows.Firing.{left_of}
 use Rattle.stored_programs.specs.Steps.{triggered_in}
 use Rattle.stored_programs.proofs.Acting.{ends_so, ends_so_by}
 

@@ -11,10 +11,10 @@ ghost use Rattle.stored_programs.specs.Steps.{all_assigned, assigned_values, ste
 
 use crate::body::{Body, fit, take_first};
 use crate::evaluating::{check_statement_here, value_here, with_statement};
-use changed_rows::place_of;
 use exec_state::{Running, Stage};
 use sharing::Shared;
 use sql_evaluation::{Around, View};
+use sql_statements::changed_rows::place_of;
 use sql_tree::{Assignment, Stmt, Target};
 use std::alloc::Global;
 use val_types::{Bytes, Duplicate, List, Row, SqlError, SqlRefusal, TableDef, Value, type_fits};
@@ -53,7 +53,7 @@ fn put(mut row: Row, place: usize, value: Value) -> Row
 }
 
 /// A copy of a row with a value put at a place: 1054 where there is no column, or why the value does not fit.
-#[tactic(auto, using(changed_rows::proofs::Fitted::columns))]
+#[tactic(auto, using(crate::proofs::Assigned::putting))]
 fn with_value(
     alloc: Global,
     definition: &TableDef,

@@ -5,7 +5,7 @@ ghost use Rattle.sql_tree.specs.StatementView.{view_program, view_trigger};
 ghost use Rattle.sql_statements.specs.sql_meaning.Running.{function_body, in_function};
 ghost use Rattle.exec_state.specs.Stage.{EndsAs, EndsAsBy, LeadsOn, scene_of};
 ghost use Rattle.sql_evaluation.specs.Seen.{running_of, setting_of, world_of};
-ghost use Rattle.changed_rows.specs.Firing.{left_of};
+ghost use Rattle.sql_statements.specs.changed_rows.Firing.{left_of};
 ghost use Rattle.stored_programs.specs.Steps.{triggered_in};
 
 use crate::programs::{function_body, trigger_body};

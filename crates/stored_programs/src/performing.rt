@@ -4,7 +4,7 @@ ghost use Rattle.sql_tree.specs.StatementView.{view};
 ghost use Rattle.sql_statements.specs.sql_meaning.Running.{body_perform, frame_of, perform};
 ghost use Rattle.exec_state.specs.Stage.{EndsAsBy, LeadsOn, scene_of};
 ghost use Rattle.sql_evaluation.specs.Seen.{Calls, CallsLead, world_of};
-ghost use Rattle.changed_rows.specs.Firing.{Fires, FiresLead};
+ghost use Rattle.sql_statements.specs.changed_rows.Firing.{Fires, FiresLead};
 ghost use Rattle.sql_statements.specs.Did.{did_of};
 ghost use Rattle.stored_programs.specs.Bodies.{body_of, ended_at, world_with};
 

@@ -6,7 +6,7 @@ ghost use Rattle.sql_tree.specs.StatementView.{view_program, view_trigger};
 ghost use Rattle.sql_statements.specs.sql_meaning.Running.{fitted_result, function_body, local_for};
 ghost use Rattle.exec_state.specs.Stage.{EndsAs, EndsAsBy, LeadsOn, scene_of};
 ghost use Rattle.sql_evaluation.specs.Seen.{Anywhere, Calls, CallsLead, world_of};
-ghost use Rattle.changed_rows.specs.Firing.{Fires, FiresLead, left_of};
+ghost use Rattle.sql_statements.specs.changed_rows.Firing.{Fires, FiresLead, left_of};
 ghost use Rattle.stored_programs.specs.Bodies.{view_in};
 ghost use Rattle.stored_programs.specs.Steps.{locals_for, row_of_view, triggered_in};
 

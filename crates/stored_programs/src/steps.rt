@@ -5,7 +5,7 @@ ghost use Rattle.sql_tree.specs.StatementView.{view, view_branches, view_declara
 ghost use Rattle.sql_tree.specs.View.{view_tree};
 ghost use Rattle.exec_state.specs.Stage.{EndsAsBy, LeadsOn, scene_of};
 ghost use Rattle.sql_evaluation.specs.Seen.{Calls, CallsLead};
-ghost use Rattle.changed_rows.specs.Firing.{Fires, FiresLead};
+ghost use Rattle.sql_statements.specs.changed_rows.Firing.{Fires, FiresLead};
 ghost use Rattle.stored_programs.specs.Bodies.{body_of, ended_at};
 ghost use Rattle.stored_programs.specs.Steps.{is_other, otherwise_in, step_in, steps_in, taken_at, taken_in};
 
