@@ -13,7 +13,7 @@ use Rattle.sql_tree.specs.declared.statements.Cause.TheVariants as causes
 use Rattle.sql_evaluation.specs.sql_meaning.Scenes.{Scene, Ending, Action, done, failed, then_do, pure, needed, carried_on, ◌>>=◌}
 use Rattle.sql_evaluation.specs.sql_meaning.Frames.{World, Frame}
 use Rattle.sql_evaluation.specs.sql_meaning.Changing.{Manner, refusing, ignoring, replacing, updating, Inserting, Counted, put_at, left_out_row, before_row, none_missing, asked_place, count_row, put_row, clear_way, delete_row, settle, place_row, update_row}
-use Rattle.exec_state.specs.Stage.{EndsAs, EndsAsBy}
+use Rattle.sql_evaluation.specs.exec_state.Stage.{EndsAs, EndsAsBy}
 use Rattle.sql_evaluation.specs.declared.world.View.{View as Shown}
 use Rattle.sql_evaluation.specs.declared.world.Around.{Around}
 use Rattle.sql_evaluation.specs.Seen.{Anywhere, world_of, frame_of}

@@ -5,9 +5,9 @@ use Rattle.val_types.specs.declared.definitions.TableDef.{TableDef}
 use Rattle.table_rules.specs.Leads.{Leads}
 use Rattle.table_rules.specs.Stores.{place_of, definitions_of}
 use Rattle.table_rules.proofs.Places.{places_stay}
-use Rattle.exec_state.specs.declared.stage.Stage.{Stage}
-use Rattle.exec_state.specs.Stage.{LeadsOn}
-use Rattle.exec_state.proofs.Leading.{rows_led, stage_stays, stage_on}
+use Rattle.sql_evaluation.specs.exec_state.declared.stage.Stage.{Stage}
+use Rattle.sql_evaluation.specs.exec_state.Stage.{LeadsOn}
+use Rattle.sql_evaluation.proofs.of_exec_state.Leading.{rows_led, stage_stays, stage_on}
 use Rattle.changed_rows.specs.Changed.{StandsAt}
 
 -- it has the place of its name
@@ -34,3 +34,6 @@ stands_on at d a b h p =
     }
 
 pub ruleset standing = (stage_stays, stage_on, stands_place, stands_on)
+
+-- the stage leads on from itself, and behind what led on
+pub ruleset leading = (stage_stays, stage_on)

@@ -16,7 +16,7 @@ use Rattle.sql_evaluation.specs.sql_meaning.Scenes.{Scene, Ending, Action, done,
 use Rattle.sql_evaluation.specs.sql_meaning.Frames.{sees}
 use Rattle.sql_evaluation.specs.sql_meaning.Values.{value}
 use Rattle.sql_evaluation.specs.sql_meaning.Changing.{assign_column, put_at, before_row, after_row, none_missing, store_update}
-use Rattle.exec_state.specs.Stage.{EndsAs}
+use Rattle.sql_evaluation.specs.exec_state.Stage.{EndsAs}
 use Rattle.sql_evaluation.specs.declared.world.View.{View as Shown}
 use Rattle.sql_evaluation.specs.declared.world.Around.{Around}
 use Rattle.sql_evaluation.specs.Seen.{value_in, seen, with_row, Inside, Anywhere, world_of, frame_of}

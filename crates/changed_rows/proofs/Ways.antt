@@ -9,9 +9,9 @@ use Rattle.table_rules.specs.Tables.{Table}
 use Rattle.table_rules.specs.Stored.{table_named, has_key_in_way, row_in_way}
 use Rattle.table_rules.specs.Stores.{place_of}
 use Rattle.sql_evaluation.specs.sql_meaning.Scenes.{Scene, done, needed, then_do, pure}
-use Rattle.exec_state.specs.declared.stage.Stage.{Stage}
-use Rattle.exec_state.specs.Stage.{scene_of}
-use Rattle.exec_state.proofs.Snapshots.{definition_there}
+use Rattle.sql_evaluation.specs.exec_state.declared.stage.Stage.{Stage}
+use Rattle.sql_evaluation.specs.exec_state.Stage.{scene_of}
+use Rattle.sql_evaluation.proofs.of_exec_state.Snapshots.{definition_there}
 use Rattle.changed_rows.specs.Changed.{StandsAt}
 use Rattle.changed_rows.specs.Inserted.{InWay, found_by, way_of}
 use Rattle.changed_rows.proofs.Places.{stands_place, stands_there}

@@ -12,7 +12,7 @@ use Rattle.sql_evaluation.specs.catalog_rules.Objects.{columns_of}
 use Rattle.sql_evaluation.specs.sql_meaning.Scenes.{Action, ◌>>=◌, pure, needed, carried_on}
 use Rattle.sql_evaluation.specs.sql_meaning.Frames.{Frame}
 use Rattle.sql_evaluation.specs.sql_meaning.Changing.{Manner, refusing, ignoring, replacing, updating, Inserting, delete_row, update_row, insert_row, updating_frame, put_at, before_row, after_row, assign_column, none_missing, store_update}
-use Rattle.exec_state.specs.declared.stage.Stage.{Stage}
+use Rattle.sql_evaluation.specs.exec_state.declared.stage.Stage.{Stage}
 use Rattle.sql_evaluation.specs.declared.world.View.{View as Shown}
 use Rattle.sql_evaluation.specs.declared.world.Around.{Around}
 use Rattle.sql_evaluation.specs.Seen.{frame_of, world_of}

@@ -7,9 +7,9 @@ use Rattle.val_types.specs.declared.refusal.SqlRefusal.{SqlRefusal}
 use Rattle.val_types.specs.declared.definitions.TableDef.{TableDef}
 use Rattle.sql_tree.specs.declared.statements.Time.{Time}
 use Rattle.sql_tree.specs.declared.statements.Cause.{Cause}
-use Rattle.exec_state.specs.declared.stage.Stage.{Stage}
-use Rattle.exec_state.specs.declared.running.Running.{Running as UnderWay}
-use Rattle.exec_state.specs.Stage.{EndsAsBy, LeadsOn, scene_of}
+use Rattle.sql_evaluation.specs.exec_state.declared.stage.Stage.{Stage}
+use Rattle.sql_evaluation.specs.exec_state.declared.running.Running.{Running as UnderWay}
+use Rattle.sql_evaluation.specs.exec_state.Stage.{EndsAsBy, LeadsOn, scene_of}
 use Rattle.sql_evaluation.specs.declared.world.Around.{Around}
 use Rattle.sql_evaluation.specs.Seen.{running_of, world_of}
 

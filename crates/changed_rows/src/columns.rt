@@ -5,15 +5,13 @@ ghost use Rattle.std.specs.Prelude.{◌≡◌, ◌==◌, false, IfOk, slice_inde
 ghost use Rattle.val_types.specs.declared.value.Value.TheVariants.{Null};
 ghost use Rattle.val_types.specs.Fitting.{is_null};
 ghost use Rattle.std.specs.Option.{option_map_or};
-ghost use Rattle.sql_evaluation.specs.catalog_rules.Names.{place_among};
-ghost use Rattle.sql_evaluation.specs.catalog_rules.Objects.{columns_of};
 ghost use Rattle.sql_evaluation.specs.Seen.{Anywhere};
 ghost use Rattle.sql_evaluation.specs.sql_meaning.Changing.{asked_place, asks, has_missing, is_missing, left_out_row, left_out_value, none_missing, put_at};
 
 use std::alloc::Global;
 use val_types::{
-    Bytes, ColumnDef, Duplicate, List, NoMemory, Row, SqlError, SqlRefusal, TableDef, Value,
-    type_fits, value_at,
+    ColumnDef, Duplicate, List, NoMemory, Row, SqlError, SqlRefusal, TableDef, Value, type_fits,
+    value_at,
 };
 
 /// A column that is not there.
@@ -21,18 +19,6 @@ pub(crate) const NO_SUCH_COLUMN: SqlError = 1054;
 
 /// A NULL in a NOT NULL column.
 const NULL_GIVEN: SqlError = 1048;
-
-/// The place of a column, counted from 0.
-pub fn place_of(definition: &TableDef, name: &Bytes) -> Option<usize>
-    ensures { result ≡ place_among (columns_of definition.now) name.now }
-{
-    for (place, column) in definition.columns.as_slice().iter().enumerate() {
-        if *name == column.name {
-            return Some(place);
-        }
-    }
-    None
-}
 
 /// A row with a value in the place of another.
 pub(crate) fn with_value(mut row: Row, place: usize, value: Value) -> Row

@@ -4,14 +4,14 @@ ghost use Rattle.val_types.specs.declared.value.Value.TheVariants.{Null};
 ghost use Rattle.auto_inc.specs.Generating.{after_generated, next_value};
 ghost use Rattle.sql_evaluation.specs.sql_meaning.Changing.{count_row, generate_at, generated_next, given_value};
 ghost use Rattle.sql_evaluation.specs.sql_meaning.Scenes.{done};
-ghost use Rattle.exec_state.specs.Stage.{EndsAsBy, LeadsOn, scene_of};
+ghost use Rattle.sql_evaluation.specs.exec_state.Stage.{EndsAsBy, LeadsOn, scene_of};
 ghost use Rattle.sql_evaluation.specs.Seen.{world_of};
 ghost use Rattle.changed_rows.specs.Inserted.{counted_of};
 
 use crate::columns::{NO_SUCH_COLUMN, asks, with_value};
 use auto_inc::StmtSeq;
-use exec_state::Stage;
 use sql_evaluation::Around;
+use sql_evaluation::exec_state::Stage;
 use val_types::{Row, SqlError, SqlRefusal, TableDef, Value, greatest, value_at};
 
 /// No value can be generated that the column's type holds.
@@ -78,7 +78,7 @@ fn generated_next(
 }
 
 /// A value generated at a place: 1467 past the column's type.
-#[tactic(auto, using(exec_state::proofs::Leading::leading, crate::proofs::Numbering::generating))]
+#[tactic(auto, using(crate::proofs::Places::leading, crate::proofs::Numbering::generating))]
 fn generate_at(
     around: &Around<'_>,
     forced: Option<i64>,
@@ -109,7 +109,7 @@ fn generate_at(
 }
 
 /// A value that was given: it moves the counter and the sequence.
-#[tactic(auto, using(exec_state::proofs::Leading::leading, crate::proofs::Numbering::generating))]
+#[tactic(auto, using(crate::proofs::Places::leading, crate::proofs::Numbering::generating))]
 fn given_value(
     stage: &mut Stage,
     definition: &TableDef,
@@ -140,7 +140,7 @@ fn given_value(
 }
 
 /// The AUTO_INCREMENT value of a row, generated where it asks for one.
-#[tactic(auto, using(exec_state::proofs::Leading::leading, crate::proofs::Numbering::generating))]
+#[tactic(auto, using(crate::proofs::Places::leading, crate::proofs::Numbering::generating))]
 pub(crate) fn count_row(
     around: &Around<'_>,
     forced: Option<i64>,

@@ -1,6 +1,5 @@
 //! One row deleted.
-ghost use Rattle.std.specs.Prelude.{◌≡◌};
-ghost use Rattle.exec_state.specs.Stage.{EndsAs, LeadsOn, scene_of};
+ghost use Rattle.sql_evaluation.specs.exec_state.Stage.{EndsAs, LeadsOn, scene_of};
 ghost use Rattle.sql_evaluation.specs.Seen.{world_of};
 ghost use Rattle.changed_rows.specs.Changed.{StandsAt, deleted_in};
 
@@ -8,8 +7,8 @@ use crate::executor::Executor;
 use crate::firing::{after, before};
 use crate::standing::take_out;
 use crate::table::ChangedTable;
-use exec_state::Stage;
 use sharing::Shared;
+use sql_evaluation::exec_state::Stage;
 use sql_tree::Cause;
 use val_types::{Row, SqlRefusal};
 

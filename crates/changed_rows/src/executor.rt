@@ -2,12 +2,12 @@
 ghost use Rattle.std.specs.Option.{option_copied};
 ghost use Rattle.sql_evaluation.specs.sql_meaning.Frames.{Below};
 ghost use Rattle.sql_tree.specs.View.{view_tree};
-ghost use Rattle.exec_state.specs.Stage.{EndsAs, EndsAsBy, LeadsOn, scene_of};
+ghost use Rattle.sql_evaluation.specs.exec_state.Stage.{EndsAs, EndsAsBy, LeadsOn, scene_of};
 ghost use Rattle.sql_evaluation.specs.Seen.{value_in, world_of};
 ghost use Rattle.changed_rows.specs.Firing.{left_of};
 
-use exec_state::Stage;
 use sharing::Shared;
+use sql_evaluation::exec_state::Stage;
 use sql_evaluation::{Around, Views};
 use sql_tree::{Cause, Expr, Time};
 use val_types::{Row, SqlRefusal, TableDef, Value};

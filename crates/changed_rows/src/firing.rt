@@ -1,17 +1,17 @@
 //! The triggers of a table, before and after a row is changed.
-ghost use Rattle.std.specs.Prelude.{◌≡◌, None, Some};
+ghost use Rattle.std.specs.Prelude.{None, Some};
 ghost use Rattle.std.specs.Option.{option_copied};
 ghost use Rattle.sql_tree.specs.declared.statements.Cause.TheVariants as causes;
 ghost use Rattle.sql_evaluation.specs.sql_meaning.Changing.{after_row, before_row};
-ghost use Rattle.exec_state.specs.Stage.{EndsAs, EndsAsBy, LeadsOn, scene_of};
+ghost use Rattle.sql_evaluation.specs.exec_state.Stage.{EndsAs, EndsAsBy, LeadsOn, scene_of};
 ghost use Rattle.sql_evaluation.specs.Seen.{world_of};
 ghost use Rattle.changed_rows.specs.Changed.{left_in};
 ghost use Rattle.changed_rows.specs.Firing.{left_of};
 
 use crate::executor::Executor;
 use crate::table::ChangedTable;
-use exec_state::Stage;
 use sharing::Shared;
+use sql_evaluation::exec_state::Stage;
 use sql_tree::{Cause, Time};
 use val_types::{Row, SqlRefusal};
 

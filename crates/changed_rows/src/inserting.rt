@@ -1,6 +1,6 @@
 //! One row inserted.
 ghost use Rattle.std.specs.Prelude.{◌≡◌, reverse};
-ghost use Rattle.exec_state.specs.Stage.{EndsAsBy, LeadsOn, scene_of};
+ghost use Rattle.sql_evaluation.specs.exec_state.Stage.{EndsAsBy, LeadsOn, scene_of};
 ghost use Rattle.changed_rows.specs.Changed.{StandsAt, inserted_in, inserting_of, manner_of};
 ghost use Rattle.changed_rows.specs.Inserted.{entered_in, filled_in};
 ghost use Rattle.sql_evaluation.specs.Seen.{Anywhere, world_of};
@@ -12,7 +12,7 @@ use crate::firing::before_insert;
 use crate::placing::place_row;
 use crate::table::ChangedTable;
 use auto_inc::StmtSeq;
-use exec_state::Stage;
+use sql_evaluation::exec_state::Stage;
 use sql_tree::ColumnSet;
 use std::alloc::Global;
 use val_types::{List, Row, SqlRefusal, TableDef, Value};

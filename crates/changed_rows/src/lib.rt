@@ -30,7 +30,6 @@
 //!   equal row is not stored and counts 0; the AUTO_INCREMENT value is generated from the statement's own sequence;
 //!   the first key in the way decides, the primary one first; REPLACE deletes for each key in turn and counts each
 //!   row; ON DUPLICATE KEY UPDATE counts 2, or 0
-//! - [`place_of`] is the place of the first column of a name, None where there is none
 //! - a table stands where it stood whatever is done by these calls (`stands_on` of proofs/Places)
 //!
 //! # Only tested
@@ -50,9 +49,7 @@ mod table;
 mod updating;
 
 // What is its own, and the crates below that it speaks of, passed on: who stands above names them through it.
-pub use columns::place_of;
 pub use deleting::delete_row;
-pub use exec_state;
 pub use executor::Executor;
 pub use inserting::{Inserting, Insertion, Manner, insert_row};
 pub use sql_evaluation;

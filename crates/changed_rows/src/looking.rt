@@ -5,12 +5,12 @@ ghost use Rattle.std.specs.Prelude.{◌≡◌, false, true, None, Some, IfOk};
 ghost use Rattle.std.specs.Option.{option_copied};
 ghost use Rattle.table_rules.specs.Stored.{has_key_in_way};
 ghost use Rattle.sql_evaluation.specs.sql_meaning.Scenes.{done};
-ghost use Rattle.exec_state.specs.Stage.{scene_of};
+ghost use Rattle.sql_evaluation.specs.exec_state.Stage.{scene_of};
 ghost use Rattle.changed_rows.specs.Changed.{StandsAt};
 ghost use Rattle.changed_rows.specs.Inserted.{InWay, found_by, way_of};
 
-use exec_state::Stage;
 use sharing::Shared;
+use sql_evaluation::exec_state::Stage;
 use std::alloc::Global;
 use val_types::{Duplicate, NoMemory, Row, TableDef};
 

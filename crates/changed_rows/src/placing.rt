@@ -5,7 +5,7 @@ ghost use Rattle.std.specs.Prelude.{◌≡◌, ◌≤◌, ◌+◌, ◌*◌, [], 
 ghost use Rattle.table_rules.specs.Stored.{has_key_in_way, key_tests};
 ghost use Rattle.sql_tree.specs.StatementView.{view_sets};
 ghost use Rattle.sql_evaluation.specs.sql_meaning.Changing.{clear_way, replacing, update_row, updating};
-ghost use Rattle.exec_state.specs.Stage.{EndsAs, EndsAsBy, LeadsOn, scene_of};
+ghost use Rattle.sql_evaluation.specs.exec_state.Stage.{EndsAs, EndsAsBy, LeadsOn, scene_of};
 ghost use Rattle.sql_evaluation.specs.Seen.{world_of};
 ghost use Rattle.changed_rows.specs.Changed.{StandsAt, frame_behind, inserting_of, manner_of};
 ghost use Rattle.changed_rows.specs.Inserted.{IsBehind, InWay, cleared_by, counted_of, placed_in, put_row_in};
@@ -19,8 +19,8 @@ use crate::looking::{is_in_way, row_met, row_on_key};
 use crate::standing::put_in;
 use crate::table::ChangedTable;
 use crate::updating::update_row;
-use exec_state::Stage;
 use sharing::Shared;
+use sql_evaluation::exec_state::Stage;
 use sql_evaluation::{Around, View};
 use sql_tree::{Cause, ColumnSet};
 use std::alloc::Global;

@@ -1,15 +1,15 @@
 //! The table at a place, as the definitions' actions by its name.
 #![tactic(auto, using(crate::proofs::Places::standing))]
 
-ghost use Rattle.std.specs.Prelude.{◌≡◌, ◌≤◌, IfOk};
+ghost use Rattle.std.specs.Prelude.{◌≤◌, IfOk};
 ghost use Rattle.sql_evaluation.specs.sql_meaning.Changing.{put_in_place, store_update, take_out};
 ghost use Rattle.sql_evaluation.specs.sql_meaning.Scenes.{make};
 ghost use Rattle.val_types.specs.declared.change.Change.TheVariants as changes;
-ghost use Rattle.exec_state.specs.Stage.{EndsAs, LeadsOn, scene_of};
+ghost use Rattle.sql_evaluation.specs.exec_state.Stage.{EndsAs, LeadsOn, scene_of};
 ghost use Rattle.changed_rows.specs.Changed.{StandsAt};
 
-use exec_state::Stage;
 use sharing::Shared;
+use sql_evaluation::exec_state::Stage;
 use val_types::{Row, SqlRefusal, TableDef, key_cmp};
 
 /// Puts a row in; 1062 where it cannot be put there.

@@ -1,19 +1,19 @@
 //! One row updated.
 ghost use Rattle.std.specs.Prelude.{◌≡◌, ◌≤◌, [], IfOk};
 ghost use Rattle.sql_tree.specs.StatementView.{view_set, view_sets};
-ghost use Rattle.exec_state.specs.Stage.{EndsAs, LeadsOn, scene_of};
+ghost use Rattle.sql_evaluation.specs.exec_state.Stage.{EndsAs, LeadsOn, scene_of};
 ghost use Rattle.sql_evaluation.specs.sql_meaning.Changing.{assign_column};
 ghost use Rattle.sql_evaluation.specs.Seen.{Anywhere, frame_of, seen, world_of};
 ghost use Rattle.changed_rows.specs.Changed.{StandsAt, assigned_in, put_named, stored_in, updated_in};
 
-use crate::columns::{NO_SUCH_COLUMN, none_missing, place_of, put_at};
+use crate::columns::{NO_SUCH_COLUMN, none_missing, put_at};
 use crate::executor::Executor;
 use crate::firing::{after, before_update};
 use crate::standing::store_update;
 use crate::table::ChangedTable;
-use exec_state::Stage;
 use sharing::Shared;
-use sql_evaluation::{Views, seeing};
+use sql_evaluation::exec_state::Stage;
+use sql_evaluation::{Views, place_of, seeing};
 use sql_tree::{Cause, ColumnSet};
 use std::alloc::Global;
 use val_types::{Bytes, Duplicate, List, Row, SqlRefusal, TableDef, Value};

@@ -8,3 +8,4 @@ pub mod Scanning
 pub mod Forming
 -- the crates below that this one speaks of, passed on
 pub use Rattle.exec_state.proofs.of_dml_rows as of_dml_rows
+pub use Rattle.exec_state.proofs as of_exec_state

@@ -1,5 +1,5 @@
 -- Steps of evaluating, as the code takes them.
-use Rattle.std.proofs.Common.{◌≡◌, List, Option, refl, sym, subst, Result}
+use Rattle.std.proofs.Common.{◌≡◌, List, refl, sym, subst, Result}
 use Rattle.val_types.specs.declared.value.Value.{Value}
 use Rattle.val_types.specs.declared.refusal.SqlRefusal.{SqlRefusal}
 use Rattle.sql_tree.specs.Tree.{Tree}
@@ -9,7 +9,6 @@ use Rattle.exec_state.specs.Stage.{EndsAs, LeadsOn}
 use Rattle.exec_state.proofs.Leading.{stage_stays, stage_on}
 use Rattle.sql_evaluation.specs.declared.world.View.{View as Shown}
 use Rattle.sql_evaluation.specs.declared.world.Around.{Around}
-use Rattle.where_candidates.specs.session_ctx.sql_meaning.Frames.{View}
 use Rattle.where_candidates.specs.where_keys.declared.outside.Outside.{Outside}
 use Rattle.where_candidates.specs.where_keys.Sides.{row_if}
 use Rattle.sql_evaluation.specs.Seen.{value_in, Stands, Anywhere, IsOutside, view_if, world_of, frame_of, running_of}

@@ -1,5 +1,5 @@
 //! The value of an expression.
-ghost use Rattle.std.specs.Prelude.{◌≡◌, ◌<◌};
+ghost use Rattle.std.specs.Prelude.{◌<◌};
 ghost use Rattle.sql_tree.specs.View.{view_tree};
 ghost use Rattle.exec_state.specs.Stage.{EndsAs, LeadsOn, scene_of};
 ghost use Rattle.sql_evaluation.specs.Seen.{Calls, CallsLead, value_in};

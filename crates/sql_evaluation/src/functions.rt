@@ -1,5 +1,4 @@
 //! Calls of stored functions, and FLOOR(RAND() * n).
-ghost use Rattle.std.specs.Prelude.{◌≡◌};
 ghost use Rattle.sql_tree.specs.Tree.{call, floor_rand};
 ghost use Rattle.sql_tree.specs.View.{view_tree, view_trees};
 ghost use Rattle.exec_state.specs.Stage.{EndsAs, LeadsOn, scene_of};

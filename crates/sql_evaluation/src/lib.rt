@@ -10,7 +10,7 @@
 //! - `operators`: unary and binary operators, IN; `choices`: CASE, IF, IFNULL, COALESCE, conditions
 //! - `built_ins`: built-in functions, by their number of arguments; `session_values`: what the session gives
 //! - `functions`: calls of stored functions, and RAND()
-//! - `lookup`: what names mean; `value_lists`: lists of expressions
+//! - `lookup`: what names mean, [`place_of`] a column; `value_lists`: lists of expressions
 //! - `queries`: SELECT with WHERE, EXISTS and scalar subqueries; `sorting`: ORDER BY and LIMIT; `aggregates`
 //!
 //! The definitions in specs/ say what the code's values stand for (`Seen`).
@@ -22,6 +22,7 @@
 //! - on every way out the stage leads on from the one before: changes that calls made lead from the old rows to the
 //!   new and can be taken back, no counter is lower, no turn came back (`leads`)
 //! - [`rows_of_query`] and each kind of expression by itself the same, for every evaluation that is handed in
+//! - [`place_of`] is the place of the first column of a name, None where there is none
 //!
 //! # Only tested
 //! That statements run with ample memory, in `test_scripts` and the stored runs of the programs.
@@ -46,9 +47,10 @@ mod world;
 pub use built_ins::{of_many, of_none, of_one, of_three, of_two};
 pub use choices::{case_value, first_known, first_of_two, if_value};
 pub use exec_state;
+pub use exec_state;
 pub use expressions::value;
 pub use functions::{call_value, floor_rand_value};
-pub use lookup::copied;
+pub use lookup::{copied, place_of};
 pub use operators::{binary_value, membership, unary_value};
 pub use outside::outside_of;
 pub use queries::{exists_value, kept_rows, ordered_rows, rows_of_query, subquery_value};

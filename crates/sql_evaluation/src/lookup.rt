@@ -1,8 +1,8 @@
 //! What names mean: local variables and columns of the rows in view.
 #![tactic(auto, using(crate::proofs::Meanings::meanings), unfolding(crate::specs::Seen::frame_of))]
 
-ghost use Rattle.std.specs.Prelude.{◌≡◌, map, find, slice_get};
-ghost use Rattle.std.specs.Option.{option_copied, option_map};
+ghost use Rattle.std.specs.Prelude.{◌≡◌, find};
+ghost use Rattle.std.specs.Option.{option_copied};
 ghost use Rattle.sql_tree.specs.View.{view_tree};
 ghost use Rattle.catalog_objects.specs.catalog_rules.Names.{place_among, same_name};
 ghost use Rattle.catalog_objects.specs.catalog_rules.Objects.{columns_of};
@@ -15,10 +15,10 @@ use crate::views::Views;
 use crate::world::{Around, View};
 use sql_tree::Expr;
 use std::alloc::Global;
-use val_types::{Bytes, ColumnDef, Duplicate, SqlRefusal, TableDef, Value};
+use val_types::{Bytes, Duplicate, SqlRefusal, TableDef, Value};
 
-/// The place of a column, counted from 0.
-fn place_of(definition: &TableDef, name: &Bytes) -> Option<usize>
+/// The place of the first column of a name, counted from 0.
+pub fn place_of(definition: &TableDef, name: &Bytes) -> Option<usize>
     ensures { result ≡ place_among (columns_of definition.now) name.now }
 {
     for (place, column) in definition.columns.as_slice().iter().enumerate() {

@@ -2,7 +2,7 @@
 ghost use Rattle.std.specs.Prelude.{◌≡◌, IfOk};
 ghost use Rattle.value_rules.specs.Selecting.{first_value};
 ghost use Rattle.sql_tree.specs.Tree.{exists, subquery};
-ghost use Rattle.sql_tree.specs.View.{view_aggregates, view_from, view_orders, view_origin, view_part, view_query, view_selected, view_tree, view_trees};
+ghost use Rattle.sql_tree.specs.View.{view_from, view_orders, view_part, view_query, view_selected, view_tree, view_trees};
 ghost use Rattle.where_candidates.specs.session_ctx.sql_meaning.Values.{has_rows, only_value};
 ghost use Rattle.exec_state.specs.Stage.{EndsAs, LeadsOn, scene_of};
 ghost use Rattle.sql_evaluation.specs.Seen.{Anywhere, Evaluates, LeadsAlways, alone_in, from_in, items_in, kept_in, keyed_in, ordered_in, rows_in, shown_in, value_in, where_in};

@@ -1,5 +1,5 @@
 //! The rows in view.
-ghost use Rattle.std.specs.Prelude.{◌≡◌, ◌++◌, ◌∷◌, [], IfOk, OnOk, take};
+ghost use Rattle.std.specs.Prelude.{◌≡◌, ◌++◌, ◌∷◌, [], IfOk, OnOk};
 ghost use Rattle.sql_evaluation.specs.Seen.{Inside, with_row};
 
 use crate::world::View;

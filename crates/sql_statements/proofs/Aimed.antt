@@ -2,13 +2,10 @@
 use Rattle.std.proofs.Common.{◌≡◌, ℕ, List, Some, sym, ap, ◌∙◌}
 use Rattle.std.specs.Prelude.{slice_get}
 use Rattle.std.specs.Option.{option_map}
-use Rattle.val_types.specs.declared.value.Value.{Value}
 use Rattle.val_types.specs.declared.definitions.TableDef.{TableDef}
 use Rattle.table_rules.specs.Tables.{Table}
-use Rattle.table_rules.specs.Stored.{rows_of}
 use Rattle.table_rules.specs.Stores.{place_of, definitions_of}
 use Rattle.changed_rows.proofs.of_dml_rows.Noting.{name_there}
-use Rattle.changed_rows.specs.sql_meaning.Scenes.{done, table_now}
 use Rattle.exec_state.specs.declared.stage.Stage.{Stage}
 use Rattle.exec_state.specs.Stage.{scene_of}
 use Rattle.exec_state.proofs.Snapshots.{not_there, no_definition, found_there}

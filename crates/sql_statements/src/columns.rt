@@ -4,7 +4,7 @@ ghost use Rattle.changed_rows.specs.catalog_rules.Checks.{given_columns};
 ghost use Rattle.changed_rows.specs.catalog_rules.Defined.{places_of};
 ghost use Rattle.changed_rows.specs.catalog_rules.Objects.{columns_of};
 
-use changed_rows::place_of;
+use changed_rows::sql_evaluation::place_of;
 use std::alloc::Global;
 use val_types::{Bytes, List, NoMemory, TableDef};
 

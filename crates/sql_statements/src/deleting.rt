@@ -1,5 +1,4 @@
 //! DELETE.
-ghost use Rattle.std.specs.Prelude.{◌≡◌};
 ghost use Rattle.exec_state.specs.Stage.{EndsAs, EndsAsBy, LeadsOn, scene_of};
 ghost use Rattle.changed_rows.specs.sql_evaluation.Seen.{Evaluates, LeadsAlways, world_of};
 ghost use Rattle.changed_rows.specs.Changed.{StandsAt};

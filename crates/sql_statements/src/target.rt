@@ -1,5 +1,5 @@
 //! The table that a statement changes, looked up once by its name.
-ghost use Rattle.std.specs.Prelude.{◌≡◌, IfOk};
+ghost use Rattle.std.specs.Prelude.{IfOk};
 ghost use Rattle.sql_tree.specs.View.{view_part};
 ghost use Rattle.sql_statements.specs.Changed.{ArePicked, IsTarget, TargetFound};
 
@@ -49,7 +49,6 @@ pub(crate) fn rows_there(
     requires { IsTarget target.now name.now stage.now }
     ensures { IfOk result (λ rows. ArePicked around.now name.now target.now.definition (view_part filter.now) stage.now rows) }
 {
-    let _ = name;
     candidates(
         alloc,
         &stage.tables,

@@ -1,7 +1,5 @@
 //! The rows of a table that a WHERE has to look at.
 ghost use Rattle.std.specs.Prelude.{◌≡◌, ℕ, Some, IfOk, List, option_to_list, slice_get};
-ghost use Rattle.std.specs.Option.{option_copied};
-ghost use Rattle.val_types.specs.declared.value.Value.{Value};
 ghost use Rattle.table_rules.specs.Stored.{row_at};
 ghost use Rattle.table_rules.specs.Stores.{definitions_of, place_of};
 ghost use Rattle.sql_tree.specs.View.{view_part};

@@ -4,7 +4,7 @@ use Rattle.std.proofs.lemmas.Result.{err_from_is_err_and}
 use Rattle.table_rules.specs.Stored.{key_tests}
 use Rattle.sql_evaluation.specs.sql_meaning.Changing.{clear_way}
 use Rattle.sql_evaluation.specs.Seen.{world_of}
-use Rattle.exec_state.specs.Stage.{scene_of}
+use Rattle.sql_evaluation.specs.exec_state.Stage.{scene_of}
 use Rattle.changed_rows.proofs.Inserts.{cleared_fail_at}
 use Rattle.changed_rows.proofs.placing.clear_way.Goals as goal
 

@@ -1,7 +1,7 @@
 use Rattle.std.proofs.Common.{◌≡◌, ◌≤◌, drop}
 use Rattle.table_rules.specs.Stored.{key_tests}
 use Rattle.sql_evaluation.specs.sql_meaning.Changing.{clear_way}
-use Rattle.exec_state.specs.Stage.{LeadsOn, scene_of}
+use Rattle.sql_evaluation.specs.exec_state.Stage.{LeadsOn, scene_of}
 use Rattle.sql_evaluation.specs.Seen.{world_of}
 use Rattle.changed_rows.proofs.Inserts.{cleared_left}
 use Rattle.changed_rows.proofs.placing.clear_way.Given as goal

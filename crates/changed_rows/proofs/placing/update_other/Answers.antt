@@ -1,6 +1,6 @@
 use Rattle.std.proofs.lemmas.Result.{err_from_is_err_and}
 use Rattle.sql_tree.specs.StatementView.{view_sets}
-use Rattle.exec_state.specs.Stage.{scene_of}
+use Rattle.sql_evaluation.specs.exec_state.Stage.{scene_of}
 use Rattle.changed_rows.specs.Inserted.{counted_of}
 use Rattle.changed_rows.proofs.Inserts.{placed_updating, placed_not_updated}
 use Rattle.changed_rows.proofs.placing.update_other.Goals as goal

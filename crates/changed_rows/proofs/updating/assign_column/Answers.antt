@@ -1,5 +1,5 @@
 use Rattle.std.proofs.lemmas.Result.{err_from_is_err_and}
-use Rattle.exec_state.specs.Stage.{scene_of}
+use Rattle.sql_evaluation.specs.exec_state.Stage.{scene_of}
 use Rattle.changed_rows.proofs.Updates.{assign_no_value, assign_ends}
 use Rattle.changed_rows.proofs.updating.assign_column.Goals as goal
 

@@ -1,6 +1,6 @@
 use Rattle.std.proofs.Common.{◌≡◌, [], drop}
 use Rattle.sql_tree.specs.StatementView.{view_sets}
-use Rattle.exec_state.specs.Stage.{LeadsOn, scene_of}
+use Rattle.sql_evaluation.specs.exec_state.Stage.{LeadsOn, scene_of}
 use Rattle.sql_evaluation.specs.Seen.{Inside}
 use Rattle.changed_rows.specs.Changed.{assigned_in}
 use Rattle.changed_rows.proofs.Updates.{assigned_left}

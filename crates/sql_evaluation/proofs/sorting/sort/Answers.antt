@@ -1,4 +1,4 @@
-use Rattle.std.proofs.Common.{rules, List, drop, refl}
+use Rattle.std.proofs.Common.{rules, List}
 use Rattle.std.specs.Cmp.{IsStrictWeakOrder}
 use Rattle.std.proofs.lemmas.Result.{on_ok_weaker}
 use Rattle.std.proofs.lemmas.Fn.{always_returns_same}
