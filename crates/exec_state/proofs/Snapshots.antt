@@ -49,5 +49,3 @@ pub found_there : (name : List ℕ) (scene : Scene) (at : ℕ) (d : TableDef) (r
     → table_now name scene ≡ done (record { definition = d; rows = rows }) scene
 found_there name scene at d rows e definition same =
     as_found name scene (table_named name scene.tables) d rows refl (sym (definition_there name scene at e) ∙ definition) same
-
-pub ruleset standing = (not_there, no_definition, found_there)

@@ -4,15 +4,9 @@ use Rattle.val_types.specs.declared.refusal.SqlRefusal.{SqlRefusal}
 use Rattle.val_types.specs.declared.refusal.SqlRefusal.TheVariants.{Sql, NoMemory}
 use Rattle.auto_inc.specs.declared.counters.Counter.{Counter}
 use Rattle.auto_inc.specs.Counting.{value_for, tables_of}
-use Rattle.table_rules.specs.Tables.{Table}
 use Rattle.table_rules.specs.Leads.{Leads}
 use Rattle.sql_meaning.specs.Scenes.{Scene, Ending, done, failed}
-use Rattle.exec_state.specs.declared.stage.Snapshot.{Snapshot}
 use Rattle.exec_state.specs.declared.stage.Stage.{Stage}
-
--- a table with its rows
-abbrev pub table_of : Snapshot → Table
-table_of t = record { definition = t.definition; rows = t.rows }
 
 -- the scene that the state stands for
 unfoldable pub scene_of : Stage → Scene

@@ -3,12 +3,11 @@
 //! The evaluators of expressions and of changes hand one [`Stage`] on; contracts see it as the scene of the
 //! definitions (`scene_of`). This crate stands on the rows and the counters, the evaluators stand on it.
 //!
-//! - `stage`: [`Stage`] and [`Snapshot`], a table as it stood when a statement began to read it
+//! - `stage`: [`Stage`]
 //! - `storing`: rows put in, taken out and put in the place of others
 //! - `running`: [`Running`], what is under way around an expression
 //!
 //! # Proved
-//! - [`Stage::table`] gives the table of a name as it stands, without a copy of a row or a definition, or 1146
 //! - [`Stage::draw`] and [`Stage::next_uuid`] are the definitions' draw of RAND() and their next UUID
 //! - [`Stage::insert`], [`Stage::take_out`] and [`Stage::put_in_place`] are the definitions' actions on one row, which
 //!   table, change and caller hold together
@@ -24,4 +23,4 @@ mod storing;
 // What is its own, and the crates below that it speaks of, passed on: who stands above names them through it.
 pub use dml_rows;
 pub use running::Running;
-pub use stage::{Snapshot, Stage};
+pub use stage::Stage;
