@@ -7,6 +7,7 @@
 //! # Proved
 //! - keeping rows by the condition is the same action over the [`candidates`] as over all rows of the table: the same rows are kept,
 //!   in their order, with the same scene behind them, or the same error ends it
+//! - where the condition names the primary key whole, the [`candidates`] are the row of that key alone, if there is one
 //! - [`rows_to_see`] gives the definition and the candidates of the table of a name, or the error that there is none
 #![tactic(auto)]
 
