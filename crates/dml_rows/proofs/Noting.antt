@@ -15,12 +15,12 @@ use Rattle.val_types.specs.Keys.{primary_key}
 use Rattle.table_rules.specs.Tables.{Table}
 use Rattle.table_rules.specs.Changes.{applied}
 use Rattle.table_rules.specs.Stored.{table_named, row_of_key, row_at, rows_beside, key_in_way, Obstacle, row_absent, where_found, unless_taken, insertion_in, replacement_in, insertion, replacement, deletion, carried_out, all_applied, all_inverse}
-use Rattle.table_rules.specs.Stores.{Store, place_of, definitions_of, keeps, keeps_put, KeepsAll, KeepsSame, IsWhole, can_take_back}
+use Rattle.table_rules.specs.Stores.{Store, place_of, definitions_of, keeps, keeps_put, KeepsAll, KeepsSame, Still, IsWhole, can_take_back}
 use Rattle.table_rules.specs.Leads.{Leads}
 use Rattle.table_rules.proofs.Equations.{insertion_by, replacement_by, deletion_by_row, applied_none, applied_one}
 use Rattle.table_rules.proofs.Storing.{some_same}
 use Rattle.table_rules.proofs.Places.{place_has_name}
-use Rattle.table_rules.proofs.Leading.{leads_nowhere, one_change_leads, no_change_leads, leads_back, leads_home, none_taken_back, last_step, back_last, rest_taken_back}
+use Rattle.table_rules.proofs.Leading.{still_same, still_on, leads_nowhere, one_change_leads, no_change_leads, leads_back, leads_home, none_taken_back, last_step, back_last, rest_taken_back}
 use Rattle.row_store.specs.declared.refusal.RowRefusal.{RowRefusal}
 use Rattle.row_store.specs.declared.refusal.RowRefusal.TheVariants.{Taken, Absent, NoMemory}
 use Rattle.row_store.specs.Stores.{Stores, is_standing, exchange, exchange_in, removal, removal_in}
@@ -117,43 +117,43 @@ no_name_there name ts at none e = let never : None ≡ Some name = none ∙ plac
 
 -- a row that was inserted leads on
 pub insert_leads : (old new : Store) (noted now : List Change) (name : List ℕ) (row : List Value) → IsWhole old → carried_out (insertion name row old.tables) old.tables ≡ Some new.tables
-    → keeps new name row ≡ true → KeepsAll old new → now ≡ noted ++ Insert name row ∷ [] → Leads old noted new now
-insert_leads old new noted now name row whole made kept keys is =
+    → keeps new name row ≡ true → KeepsAll old new → Still old new → now ≡ noted ++ Insert name row ∷ [] → Leads old noted new now
+insert_leads old new noted now name row whole made kept keys still is =
     subst (λ (cs : List Change). Leads old noted new cs) (sym is)
     (one_change_leads old new noted (Insert name row) whole.rows
-    (carried (insertion name row old.tables) (Insert name row) old.tables new.tables (inserted name row old.tables new.tables made) made) kept keys)
+    (carried (insertion name row old.tables) (Insert name row) old.tables new.tables (inserted name row old.tables new.tables made) made) kept keys still)
 
 pub update_leads : (old new : Store) (noted now : List Change) (name : List ℕ) (key before row : List Value) → IsWhole old → row_at name key old.tables ≡ Some before
     → carried_out (replacement name key row old.tables) old.tables ≡ Some new.tables → keeps new name row ≡ true → keeps new name before ≡ true
-    → KeepsAll old new → now ≡ noted ++ Update name before row ∷ [] → Leads old noted new now
-update_leads old new noted now name key before row whole there made after kept keys is =
+    → KeepsAll old new → Still old new → now ≡ noted ++ Update name before row ∷ [] → Leads old noted new now
+update_leads old new noted now name key before row whole there made after kept keys still is =
     subst (λ (cs : List Change). Leads old noted new cs) (sym is)
     (one_change_leads old new noted (Update name before row) whole.rows
-    (carried (replacement name key row old.tables) (Update name before row) old.tables new.tables (replaced name key row before old.tables new.tables there made) made) (and_from (keeps new name row) (keeps new name before) after kept) keys)
+    (carried (replacement name key row old.tables) (Update name before row) old.tables new.tables (replaced name key row before old.tables new.tables there made) made) (and_from (keeps new name row) (keeps new name before) after kept) keys still)
 
 pub delete_leads : (old new : Store) (noted now : List Change) (name : List ℕ) (key row : List Value) → IsWhole old → row_at name key old.tables ≡ Some row
     → carried_out (deletion name key old.tables) old.tables ≡ Some new.tables → keeps new name row ≡ true
-    → KeepsAll old new → now ≡ noted ++ Delete name row ∷ [] → Leads old noted new now
-delete_leads old new noted now name key row whole there made kept keys is =
+    → KeepsAll old new → Still old new → now ≡ noted ++ Delete name row ∷ [] → Leads old noted new now
+delete_leads old new noted now name key row whole there made kept keys still is =
     subst (λ (cs : List Change). Leads old noted new cs) (sym is)
     (one_change_leads old new noted (Delete name row) whole.rows
-    (carried (deletion name key old.tables) (Delete name row) old.tables new.tables (deletion_by_row name key old.tables (Some row) there) made) kept keys)
+    (carried (deletion name key old.tables) (Delete name row) old.tables new.tables (deletion_by_row name key old.tables (Some row) there) made) kept keys still)
 
 pub exchange_leads : (old new : Store) (noted now : List Change) (name : List ℕ) (before row : List Value) → IsWhole old
     → carried_out (exchange name before row old.tables) old.tables ≡ Some new.tables → keeps new name row ≡ true → keeps new name before ≡ true
-    → KeepsAll old new → now ≡ noted ++ Update name before row ∷ [] → Leads old noted new now
-exchange_leads old new noted now name before row whole made after kept keys is =
+    → KeepsAll old new → Still old new → now ≡ noted ++ Update name before row ∷ [] → Leads old noted new now
+exchange_leads old new noted now name before row whole made after kept keys still is =
     subst (λ (cs : List Change). Leads old noted new cs) (sym is)
     (one_change_leads old new noted (Update name before row) whole.rows
-    (carried (exchange name before row old.tables) (Update name before row) old.tables new.tables (exchanged name before row old.tables new.tables made) made) (and_from (keeps new name row) (keeps new name before) after kept) keys)
+    (carried (exchange name before row old.tables) (Update name before row) old.tables new.tables (exchanged name before row old.tables new.tables made) made) (and_from (keeps new name row) (keeps new name before) after kept) keys still)
 
 pub removal_leads : (old new : Store) (noted now : List Change) (name : List ℕ) (row : List Value) → IsWhole old
     → carried_out (removal name row old.tables) old.tables ≡ Some new.tables → keeps new name row ≡ true
-    → KeepsAll old new → now ≡ noted ++ Delete name row ∷ [] → Leads old noted new now
-removal_leads old new noted now name row whole made kept keys is =
+    → KeepsAll old new → Still old new → now ≡ noted ++ Delete name row ∷ [] → Leads old noted new now
+removal_leads old new noted now name row whole made kept keys still is =
     subst (λ (cs : List Change). Leads old noted new cs) (sym is)
     (one_change_leads old new noted (Delete name row) whole.rows
-    (carried (removal name row old.tables) (Delete name row) old.tables new.tables (removed name row old.tables new.tables made) made) kept keys)
+    (carried (removal name row old.tables) (Delete name row) old.tables new.tables (removed name row old.tables new.tables made) made) kept keys still)
 
 -- what was noted is the change of storing the row
 pub insert_notes : (old new : List Table) (noted now : List Change) (name : List ℕ) (row : List Value) → carried_out (insertion name row old) old ≡ Some new → now ≡ noted ++ Insert name row ∷ []
@@ -177,17 +177,17 @@ pub removal_notes : (old new : List Table) (noted now : List Change) (name : Lis
 removal_notes old new noted now name row made is = is ∙ ap (λ (s : Result Change Obstacle). noted ++ changes_of s) (sym (removed name row old new made))
 
 -- what was refused leads on, with more keys at most
-pub refused_leads : (refusal : RowRefusal) (step : Result Change Obstacle) (old new : Store) (noted now : List Change) → Stores {A = Unit {0}} (Err refusal) step old.tables new.tables → KeepsAll old new → now ≡ noted
+pub refused_leads : (refusal : RowRefusal) (step : Result Change Obstacle) (old new : Store) (noted now : List Change) → Stores {A = Unit {0}} (Err refusal) step old.tables new.tables → KeepsAll old new → Still old new → now ≡ noted
     → Leads old noted new now
-refused_leads refusal step old new noted now p keys is =
-    subst (λ (cs : List Change). Leads old noted new cs) (sym is) (no_change_leads old new noted (refused refusal step old.tables new.tables p) keys)
+refused_leads refusal step old new noted now p keys still is =
+    subst (λ (cs : List Change). Leads old noted new cs) (sym is) (no_change_leads old new noted (refused refusal step old.tables new.tables p) keys still)
 
 pub nothing_leads : (store : Store) (noted now : List Change) → now ≡ noted → Leads store noted store now
 nothing_leads store noted now is = subst (λ (cs : List Change). Leads store noted store cs) (sym is) (leads_nowhere store noted)
 
 -- where no change was made and none noted
-pub unchanged_leads : (old new : Store) (noted now : List Change) → new.tables ≡ old.tables → KeepsAll old new → now ≡ noted → Leads old noted new now
-unchanged_leads old new noted now tables keys is = subst (λ (cs : List Change). Leads old noted new cs) (sym is) (no_change_leads old new noted tables keys)
+pub unchanged_leads : (old new : Store) (noted now : List Change) → new.tables ≡ old.tables → KeepsAll old new → Still old new → now ≡ noted → Leads old noted new now
+unchanged_leads old new noted now tables keys still is = subst (λ (cs : List Change). Leads old noted new cs) (sym is) (no_change_leads old new noted tables keys still)
 
 -- ---- taking back to a mark
 
@@ -198,7 +198,13 @@ pub record TakenSoFar (mark : ℕ) (first : Store) (all : List Change) (store : 
   pub can : can_take_back store (drop mark changes) ≡ true
   pub still : StaysReversible first all store changes
   pub same : KeepsSame first store
+  pub stays : Still first store
   pub leads : (start : Store) (noted : List Change) → Leads start noted first all → length noted ≤ mark → Leads start noted store changes
+
+-- nothing is taken back yet
+pub taken_none : (mark : ℕ) (first : Store) (all : List Change) → can_take_back first (drop mark all) ≡ true → TakenSoFar mark first all first all
+taken_none mark first all can =
+    record { back = refl; front = refl; can = can; still = λ other can. can; same = λ name row. refl; stays = still_same first; leads = λ start noted leads past. leads }
 
 behind_mark : (mark : ℕ) (store : Store) (changes mid : List Change) (last : Change) → changes ≡ mid ++ last ∷ [] → mark < length changes → mark ≤ length mid
 behind_mark mark store changes mid last is h =
@@ -222,9 +228,9 @@ still_step mark store after changes mid last is made keys (inr within) can =
     rest_taken_back store after (drop mark mid) last made keys (can_last mark store changes mid last is within can)
 
 pub taken_one : (mark : ℕ) (first store after : Store) (all changes mid : List Change) (last : Change) → TakenSoFar mark first all store changes
-    → changes ≡ mid ++ last ∷ [] → mark < length changes → applied (inverse last) store.tables ≡ Some after.tables → KeepsSame store after → IsWhole after
+    → changes ≡ mid ++ last ∷ [] → mark < length changes → applied (inverse last) store.tables ≡ Some after.tables → KeepsSame store after → Still store after → IsWhole after
     → TakenSoFar mark first all after mid
-taken_one mark first store after all changes mid last so is h made same whole =
+taken_one mark first store after all changes mid last so is h made same stays whole =
     let within : mark ≤ length mid = behind_mark mark store changes mid last is h in
     let keys : KeepsAll store after = λ name row kept. same name row ∙ kept in
     record {
@@ -236,12 +242,13 @@ taken_one mark first store after all changes mid last so is h made same whole =
       can = still_step mark store after changes mid last is made keys (inr within) so.can;
       still = λ other can. still_step other store after changes mid last is made keys (cases_lt (length mid) other) (so.still other can);
       same = λ name row. same name row ∙ so.same name row;
+      stays = still_on first store after so.stays stays;
       leads = λ start noted leads past. leads_back start store after noted changes mid (length mid) whole.rows (so.leads start noted leads past) (omega arith)
           (ap (λ (cs : List Change). all_applied (all_inverse (drop (length mid) cs)) store.tables) is
           ∙ ap (λ (cs : List Change). all_applied (all_inverse cs) store.tables) (drop-append_seam mid (last ∷ []))
           ∙ applied_one (inverse last) store.tables
           ∙ made)
-          (sym (ap (take (length mid)) is ∙ take-append_seam mid (last ∷ []))) keys;
+          (sym (ap (take (length mid)) is ∙ take-append_seam mid (last ∷ []))) keys stays;
     }
 
 -- where none is left behind the mark, all were taken back

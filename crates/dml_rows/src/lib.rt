@@ -16,6 +16,8 @@
 //!   one first, and leaves the list up to the mark; it takes no memory. What leads to it from a beginning
 //!   before the mark still does (`leads`), and at the mark of the beginning tables and list are as they were
 //!   there (`home`)
+//! - whatever they answer, the rows that are there to stay are the same, and no table has less room (`leads`,
+//!   `still`)
 //!
 //! # Only tested
 //! That calls succeed with ample memory, in `test_rows`.

@@ -31,7 +31,7 @@ returns-in-Ok-clause-leads c =
     let at : place_of named c.args.tables.now.tables ≡ Some c.args.at = search rules in
     removal_leads c.args.tables.now c.remove_at.new.self c.args.undo.now c.push.new.self named c.args.row.now c.name_at.ensures.whole
     (subst (λ (row : List Value). carried_out (removal named row c.args.tables.now.tables) c.args.tables.now.tables ≡ Some c.remove_at.new.self.tables) c.get.ensures (c.in-Ok.ensures.stored named at))
-    (subst (λ (row : List Value). keeps c.remove_at.new.self named row ≡ true) c.get.ensures (c.in-Ok.ensures.before named at)) c.in-Ok.ensures.keys noted
+    (subst (λ (row : List Value). keeps c.remove_at.new.self named row ≡ true) c.get.ensures (c.in-Ok.ensures.before named at)) c.in-Ok.ensures.keys c.in-Ok.ensures.still noted
 
 pub returns-in-Err-clause-stored : goal.returns-in-Err-clause-stored
 returns-in-Err-clause-stored c =

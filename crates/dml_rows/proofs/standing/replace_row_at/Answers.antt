@@ -32,7 +32,7 @@ returns-in-Ok-clause-leads c =
     exchange_leads c.args.tables.now c.replace_at.new.self c.args.undo.now c.push.new.self named c.args.old.now c.args.new c.name_at.ensures.whole
     (subst (λ (row : List Value). carried_out (exchange named row c.args.new c.args.tables.now.tables) c.args.tables.now.tables ≡ Some c.replace_at.new.self.tables) c.get.ensures (c.in-Ok.ensures.stored named at))
     (c.in-Ok.ensures.kept named at)
-    (subst (λ (row : List Value). keeps c.replace_at.new.self named row ≡ true) c.get.ensures (c.in-Ok.ensures.before named at)) c.in-Ok.ensures.keys noted
+    (subst (λ (row : List Value). keeps c.replace_at.new.self named row ≡ true) c.get.ensures (c.in-Ok.ensures.before named at)) c.in-Ok.ensures.keys c.in-Ok.ensures.still noted
 
 pub returns-in-Err-clause-stored : goal.returns-in-Err-clause-stored
 returns-in-Err-clause-stored c =

@@ -27,7 +27,7 @@ returns-in-Ok-clause-leads c =
     let noted : c.push.new.self ≡ c.args.undo.now ++ Delete named row ∷ [] = search rules in
     let at : place_of named c.args.tables.now.tables ≡ Some c.args.at = search rules in
     let there : row_at named c.args.key.now c.args.tables.now.tables ≡ Some row = search rules in
-    delete_leads c.args.tables.now c.delete_at.new.self c.args.undo.now c.push.new.self named c.args.key.now row c.name_at.ensures.whole there (c.in-Ok.ensures.stored named at) (c.in-Ok.ensures.before named at row there) c.in-Ok.ensures.keys noted
+    delete_leads c.args.tables.now c.delete_at.new.self c.args.undo.now c.push.new.self named c.args.key.now row c.name_at.ensures.whole there (c.in-Ok.ensures.stored named at) (c.in-Ok.ensures.before named at row there) c.in-Ok.ensures.keys c.in-Ok.ensures.still noted
 
 pub returns-in_default-held_at-clause-stored : goal.returns-in_default-held_at-clause-stored
 returns-in_default-held_at-clause-stored c =

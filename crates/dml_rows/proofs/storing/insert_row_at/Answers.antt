@@ -20,4 +20,4 @@ returns-in-Ok-clause-leads c =
     let named = c.in-Some.name.now in
     let noted : c.push.new.self ≡ c.args.undo.now ++ Insert named c.args.row ∷ [] = search rules in
     let at : place_of named c.args.tables.now.tables ≡ Some c.args.at = search rules in
-    insert_leads c.args.tables.now c.insert_at.new.self c.args.undo.now c.push.new.self named c.args.row c.name_at.ensures.whole (c.in-Ok.ensures.stored named at) (c.in-Ok.ensures.kept named at) c.in-Ok.ensures.keys noted
+    insert_leads c.args.tables.now c.insert_at.new.self c.args.undo.now c.push.new.self named c.args.row c.name_at.ensures.whole (c.in-Ok.ensures.stored named at) (c.in-Ok.ensures.kept named at) c.in-Ok.ensures.keys c.in-Ok.ensures.still noted

@@ -27,7 +27,7 @@ returns-in-Ok-clause-leads c =
     let noted : c.push.new.self ≡ c.args.undo.now ++ Update named before c.args.row ∷ [] = search rules in
     let at : place_of named c.args.tables.now.tables ≡ Some c.args.at = search rules in
     let there : row_at named c.args.key.now c.args.tables.now.tables ≡ Some before = search rules in
-    update_leads c.args.tables.now c.update_at.new.self c.args.undo.now c.push.new.self named c.args.key.now before c.args.row c.name_at.ensures.whole there (c.in-Ok.ensures.stored named at) (c.in-Ok.ensures.kept named at) (c.in-Ok.ensures.before named at before there) c.in-Ok.ensures.keys noted
+    update_leads c.args.tables.now c.update_at.new.self c.args.undo.now c.push.new.self named c.args.key.now before c.args.row c.name_at.ensures.whole there (c.in-Ok.ensures.stored named at) (c.in-Ok.ensures.kept named at) (c.in-Ok.ensures.before named at before there) c.in-Ok.ensures.keys c.in-Ok.ensures.still noted
 
 pub returns-in_default-held_at-clause-stored : goal.returns-in_default-held_at-clause-stored
 returns-in_default-held_at-clause-stored c =

@@ -1,6 +1,9 @@
 use Rattle.std.proofs.Common.{rules, ◌≡◌, ◌<◌, ◌≤◌, [], ◌∷◌, ◌++◌, length, arith}
-use Rattle.dml_rows.proofs.Noting.{one_step, taken_one, taken_all, taken_home}
+use Rattle.dml_rows.proofs.Noting.{taken_none, one_step, taken_one, taken_all, taken_home}
 use Rattle.dml_rows.proofs.taking_back.take_back_to.Goals as goal
+
+pub loop-undo-init : goal.loop-undo-init
+loop-undo-init c = taken_none c.args.mark c.args.tables.now c.args.undo.now c.requires
 
 pub take_back-requires-clause-step : goal.take_back-requires-clause-step
 take_back-requires-clause-step c =
@@ -18,7 +21,7 @@ pub loop-undo-preserved-in-Some : goal.loop-undo-preserved-in-Some
 loop-undo-preserved-in-Some c =
     let is : c.loop-undo.undo ≡ c.pop.new.self ++ c.in-Some.change ∷ [] = search rules in
     let more : c.args.mark < length c.loop-undo.undo = omega arith in
-    taken_one c.args.mark c.args.tables.now c.loop-undo.tables c.take_back.new.self c.args.undo.now c.loop-undo.undo c.pop.new.self c.in-Some.change c.loop-undo.invariant is more c.take_back.ensures.tables c.take_back.ensures.keys c.take_back.ensures.whole
+    taken_one c.args.mark c.args.tables.now c.loop-undo.tables c.take_back.new.self c.args.undo.now c.loop-undo.undo c.pop.new.self c.in-Some.change c.loop-undo.invariant is more c.take_back.ensures.tables c.take_back.ensures.keys c.take_back.ensures.still c.take_back.ensures.whole
 
 pub returns-clause-tables : goal.returns-clause-tables
 returns-clause-tables c =
