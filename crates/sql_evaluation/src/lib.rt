@@ -47,7 +47,6 @@ mod world;
 pub use built_ins::{of_many, of_none, of_one, of_three, of_two};
 pub use choices::{case_value, first_known, first_of_two, if_value};
 pub use exec_state;
-pub use exec_state;
 pub use expressions::value;
 pub use functions::{call_value, floor_rand_value};
 pub use lookup::{copied, place_of};
