@@ -1,5 +1,5 @@
 -- What a commit leaves, before its gate is open and behind that.
-use Rattle.std.proofs.Common.{◌≡◌, ◌≢◌, inl, inr, ℕ, Option, sym, ◌∙◌, subst}
+use Rattle.std.proofs.Common.{◌≡◌, ◌≢◌, inl, inr, ℕ, Option, refl, sym, ◌∙◌, subst}
 use Rattle.std.specs.Prelude.{IfSome}
 use Rattle.disk_model.specs.Story.{Image, Story, count, seen}
 use Rattle.disk_model.specs.Moments.{Always, Only, OthersOf}
@@ -28,8 +28,15 @@ keeps_passed : (u : Option Story) (n : Next) (store : Store) (now : Held) → st
     → Shows (passed n store) now → HasEnds store.node now.ends → Rests u store.journal → Keeps u (passed n store) now
 keeps_passed u Nothing store now file durable stands shows own rests = record { holds = record { file = file; durable = durable; stands = stands; shows = shows; own = own }; rests = rests }
 keeps_passed u (Committed head) store now file durable stands shows own rests = record { holds = record { file = file; durable = durable; stands = stands; shows = shows; own = own }; rests = rests }
-keeps_passed u (LogBegun ends) store now file durable stands shows own rests = record { holds = record { file = file; durable = durable; stands = stands; shows = shows; own = own }; rests = rests }
+keeps_passed u (LogBegun old_end pos) store now file durable stands shows own rests = record { holds = record { file = file; durable = durable; stands = stands; shows = shows; own = own }; rests = rests }
 keeps_passed u (CarriedOut head) store now file durable stands shows own rests = record { holds = record { file = file; durable = durable; stands = stands; shows = shows; own = own }; rests = rests }
+
+-- the journal stays as it is
+pub passed_journal : (n : Next) (store : Store) → (passed n store).journal ≡ store.journal
+passed_journal Nothing store = refl
+passed_journal (Committed head) store = refl
+passed_journal (LogBegun old_end pos) store = refl
+passed_journal (CarriedOut head) store = refl
 
 module _ (t : Option Story) (store : Store) (r : AnyRecord) (held now : Held) (leads : LeadsOn t store r held now) where
   own : HasEnds store.node now.ends
@@ -66,7 +73,7 @@ module _ (t : Option Story) (store : Store) (r : AnyRecord) (held now : Held) (l
     commit_keeps journal named rests read =
         let holds = leads.keeps.holds in
         subst (λ (n : Next). Keeps u (passed n (record store { journal = journal })) now) (sym leads.ready.next)
-        (keeps_passed u (next_of r store.ends) (record store { journal = journal }) now (named ∙ holds.file)
+        (keeps_passed u (next_of r) (record store { journal = journal }) now (named ∙ holds.file)
         (durable_on t u store.node store.journal.file holds.durable steps.others steps.reads (subst (λ f. Only u f (seen u f)) named rests.durable))
         (if_on t u (StandsFor store now (seen u)) (StandsFor store now (seen u)) steps.on
         (if_both t There (records (seen u store.journal.file) ≡ with_last (body_of r) (records (seen t store.journal.file))) (StandsFor store now (seen u)) there read

@@ -2,3 +2,6 @@ pub mod Setting
 pub mod Standing
 pub mod Committing
 pub mod Elsewhere
+pub mod Taking
+-- the crate below that this one speaks of, passed on
+pub use Rattle.store_model.proofs as of_store_model

@@ -59,7 +59,7 @@ module _ (store : Store) (held now : Held) (shows : Shows store held) where
   }
 
   -- a log that begins
-  begun_shows : (head : Head) (old_end : ℕ) → now ≡ log_begun head old_end held → Shows (passed (LogBegun (with_last old_end store.ends ++ head.pos ∷ [])) store) now
+  begun_shows : (head : Head) (old_end : ℕ) → now ≡ log_begun head old_end held → Shows (passed (LogBegun old_end head.pos) store) now
   begun_shows head old_end is = record {
     number = shows.number ∙ sym (ap (λ (h : Held). h.number) is);
     ends =
@@ -80,7 +80,7 @@ module _ (store : Store) (held now : Held) (shows : Shows store held) where
     pos = sym (ap (λ (h : Held). h.place.pos) made.is);
   }
 
-  pub passed_shows : (r : AnyRecord) → applied r held ≡ Some now → Shows (passed (next_of r store.ends) store) now
+  pub passed_shows : (r : AnyRecord) → applied r held ≡ Some now → Shows (passed (next_of r) store) now
   unfolding applied
   passed_shows (Transaction head cs) e = committed_shows head (made_of (committed head held) (changed cs held.base) now (so_made (is_next_commit head held) (option_map (committed head held) (changed cs held.base)) now e))
   passed_shows (Definition head text) e = committed_shows head (made_of (committed head held) (defined_by text held.base) now (so_made (is_next_commit head held) (option_map (committed head held) (defined_by text held.base)) now e))

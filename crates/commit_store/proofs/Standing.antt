@@ -21,6 +21,7 @@ use Rattle.store_model.proofs.Standing.{still_stands, long, there}
 use Rattle.commit_store.specs.declared.next.Next.{Next}
 use Rattle.commit_store.specs.declared.next.Next.TheVariants.{Nothing}
 use Rattle.commit_store.specs.declared.store.Store.{Store}
+use Rattle.commit_store.specs.Reserved.{LogEnds}
 use Rattle.commit_store.specs.Keeping.{IsKept, AreDurable, HasEnds, StandsFor, Holds, Keeps, MovesTo}
 
 -- ---- files and logs
@@ -108,7 +109,7 @@ module _ (t : Option Story) (store : Store) (held : Held) (holds : Holds t store
 -- ---- calls of no disk
 
 -- a journal at the same gate of the same file rests where the other does
-rests_too : (t : Option Story) (j k : Journal) → k.file ≡ j.file → k.gate ≡ j.gate → Rests t j → Rests t k
+pub rests_too : (t : Option Story) (j k : Journal) → k.file ≡ j.file → k.gate ≡ j.gate → Rests t j → Rests t k
 rests_too t j k file gate rests = record {
   durable = subst (λ f. Only t f (seen t f)) (sym file) rests.durable;
   room = omega (arith, gate, rests.room);
@@ -127,6 +128,20 @@ keeps_prepared t store held journal next file gate keeps =
         own = holds.own;
       };
       rests = rests_too t store.journal journal file gate keeps.rests;
+    }
+
+-- so does a store with other room for ends
+pub keeps_roomy : (t : Option Story) (store : Store) (held : Held) (ends : LogEnds) → ends.list ≡ store.ends.list → Keeps t store held → Keeps t (record store { ends = ends }) held
+keeps_roomy t store held ends same keeps =
+    let holds = keeps.holds in record {
+      holds = record {
+        file = holds.file;
+        durable = holds.durable;
+        stands = holds.stands;
+        shows = record { number = holds.shows.number; ends = same ∙ holds.shows.ends; log = holds.shows.log; pos = holds.shows.pos };
+        own = holds.own;
+      };
+      rests = keeps.rests;
     }
 
 pub keeps_moved : (t : Option Story) (store : Store) (generation : ℕ) (held : Held) (journal : Journal) → journal.file ≡ journal_of generation → journal.gate ≡ 0 → MovesTo t store generation held

@@ -37,7 +37,7 @@ positions ends = map (λ (e : LogEnd). e.pos) ends
 -- a store's readers give what is held
 pub record Shows (store : Store) (held : Held) : Type 0 where
   pub number : store.number ≡ held.number
-  pub ends : store.ends ≡ positions held.ends
+  pub ends : store.ends.list ≡ positions held.ends
   pub log : store.log ≡ held.place.log
   pub pos : store.pos ≡ held.place.pos
 
@@ -70,7 +70,7 @@ pub record Keeps (t : Option Story) (store : Store) (held : Held) : Type 0 where
 pub record IsReady (store : Store) (r : Record) : Type 0 where
   pub form : IsRecord store.node r
   pub bytes : IsPrepared store.journal (body_of r)
-  pub next : store.next ≡ next_of r store.ends
+  pub next : store.next ≡ next_of r
 
 -- a prepared record is staged and leads on from what is held; the logs that it speaks of are as long as it says
 pub record LeadsOn (t : Option Story) (store : Store) (r : Record) (held now : Held) : Type 0 where

@@ -1,5 +1,5 @@
 //! The store.
-ghost use Rattle.std.specs.Prelude.{◌≡◌, ℕ, ◌+◌, ◌%◌, ◌^◌, ◌<◌, [], List as Items, length, Option, OnOk, OnErr, IfSome, if◌then◌else◌};
+ghost use Rattle.std.specs.Prelude.{◌≡◌, ℕ, ◌+◌, ◌%◌, ◌^◌, ◌<◌, ◌≤◌, [], List as Items, length, Option, OnOk, OnErr, IfSome, if◌then◌else◌};
 ghost use Rattle.disk_model.specs.Story.{Story, count, seen};
 ghost use Rattle.disk_model.specs.Moments.{Always, Only};
 ghost use Rattle.disk_model.specs.Claims.{WorksOn};
@@ -10,15 +10,15 @@ ghost use Rattle.store_model.specs.Bodies.{IsRecord, body_of};
 ghost use Rattle.store_model.specs.Held.{Held};
 ghost use Rattle.store_model.specs.Stores.{journal_of};
 ghost use Rattle.commit_store.specs.Keeping.{Either, Holds, IsReady, Keeps, LeadsOn, MovesTo, StandsFor};
-ghost use Rattle.commit_store.specs.Next.{passed};
+ghost use Rattle.commit_store.specs.Next.{HasRoom, passed, prepared_of};
 
-use crate::next::{Next, next_of, set_last};
+use crate::next::Next;
+use crate::prepared::Prepared;
+use crate::reserved::Ends;
 use disk_model::{Disk, DiskRefusal};
 use gate_journal::Journal;
 use std::alloc::Global;
-use std::mem;
-use store_bodies::put_record;
-use store_model::{Head, Kind, Record};
+use store_model::{Kind, Record};
 use val_types::{List, NoMemory};
 
 /// A store's journal, and what its records have set.
@@ -29,7 +29,7 @@ pub struct Store {
     generation: u64,
     number: u64,
     /// Where each log of a source ends, from the first on.
-    ends: List<u32>,
+    ends: Ends,
     /// The log and the position up to which a replica has carried out its source's logs.
     log: u32,
     pos: u32,
@@ -61,12 +61,13 @@ impl Store {
           node = node;
           generation = generation;
           number = number;
-          ends = ends;
+          ends = result.ends;
           log = log;
           pos = pos;
           journal = result.journal;
           next = Next.Nothing;
         } }
+        ensures ends { result.ends.list ≡ ends }
         ensures file { result.journal.file ≡ journal_of generation }
         ensures found { (t : Option Story) → IfSome t (λ _. seen t (journal_of generation) ≡ []) → IsFound t result.journal }
     {
@@ -75,10 +76,47 @@ impl Store {
             node,
             generation,
             number,
-            ends,
+            ends: Ends::of_places(ends),
             log,
             pos,
             journal: Journal::found(alloc, journal_file(generation), &[], 0),
+            next: Next::Nothing,
+        }
+    }
+
+    /// A store whose records have set these, with the journal that goes on behind them.
+    pub fn found(
+        alloc: Global,
+        node: Kind,
+        generation: u64,
+        number: u64,
+        ends: List<u32>,
+        log: u32,
+        pos: u32,
+        journal: Journal,
+    ) -> Store
+        ensures readers { result ≡ record {
+          alloc = alloc;
+          node = node;
+          generation = generation;
+          number = number;
+          ends = result.ends;
+          log = log;
+          pos = pos;
+          journal = journal;
+          next = Next.Nothing;
+        } }
+        ensures ends { result.ends.list ≡ ends }
+    {
+        Store {
+            alloc,
+            node,
+            generation,
+            number,
+            ends: Ends::of_places(ends),
+            log,
+            pos,
+            journal,
             next: Next::Nothing,
         }
     }
@@ -105,10 +143,10 @@ impl Store {
     }
 
     /// Where each log of a source ends, from the first on.
-    pub fn ends(&self) -> &List<u32>
-        ensures { result.now ≡ self.now.ends }
+    pub fn ends(&self) -> &[u32]
+        ensures { result.now ≡ self.now.ends.list }
     {
-        &self.ends
+        self.ends.as_slice()
     }
 
     /// The log of the place up to which a replica has carried out its source's logs.
@@ -131,6 +169,8 @@ impl Store {
         requires durable { Only (D.told d.old) self.old.journal.file (seen (D.told d.old) self.old.journal.file) }
         requires found { IsFound (D.told d.old) self.old.journal }
         ensures rest { self.new ≡ record self.old { journal = self.new.journal } }
+        ensures file { self.new.journal.file ≡ self.old.journal.file }
+        ensures rests { OnOk result (Rests (D.told d.new) self.new.journal) }
         ensures keeps { (held : Held) → Holds (D.told d.old) self.old held → OnOk result (Keeps (D.told d.new) self.new held) }
         ensures images { (held : Held) → Holds (D.told d.old) self.old held
             → Always (count (D.told d.old)) (D.told d.new) (StandsFor self.old held) }
@@ -141,20 +181,50 @@ impl Store {
         self.journal.start(d)
     }
 
+    /// Makes room for the ends of so many logs more, so that the commits that begin them take no memory.
+    pub fn make_room(&mut self, logs: usize) -> Result<(), NoMemory>
+        ensures made { OnOk result (logs ≤ self.new.ends.room) }
+        ensures grown { self.old.ends.room ≤ self.new.ends.room }
+        ensures keeps { (t : Option Story) (held : Held) → Keeps t self.old held → Keeps t self.new held }
+        ensures rest { self.new ≡ record self.old { ends = record self.old.ends { room = self.new.ends.room } } }
+        ensures err { OnErr result (self.new ≡ self.old) }
+    {
+        self.ends.make_room(logs)
+    }
+
+    /// Takes over a record that was made before, in the place of one that is prepared. It takes no memory, and calls no disk.
+    pub fn take(&mut self, p: Prepared)
+        ensures ready { (r : AnyRecord) → p ≡ prepared_of r → IsRecord self.old.node r → length (body_of r) < 2 ^ 32 → IsReady self.new r }
+        ensures file { self.new.journal.file ≡ self.old.journal.file }
+        ensures rests { (t : Option Story) → Rests t self.old.journal → Rests t self.new.journal }
+        ensures keeps { (t : Option Story) (held : Held) → Keeps t self.old held → Keeps t self.new held }
+        ensures rest { self.new ≡ record self.old { journal = self.new.journal; next = p.next } }
+    {
+        let Prepared { ready, next } = p;
+        self.journal.take_prepared(ready);
+        self.next = next;
+    }
+
     /// Makes the bytes of a record and all that its commit needs, so that it takes no more memory. It calls no disk.
     pub fn prepare(&mut self, r: &Record) -> Result<(), NoMemory>
         requires form { IsRecord self.old.node r.now }
         requires fits { length (body_of r.now) < 2 ^ 32 }
         ensures ready { OnOk result (IsReady self.new r.now) }
+        ensures room { OnOk result (HasRoom self.new.next self.new.ends) }
+        ensures grown { self.old.ends.room ≤ self.new.ends.room }
+        ensures file { self.new.journal.file ≡ self.old.journal.file }
+        ensures rests { (t : Option Story) → Rests t self.old.journal → Rests t self.new.journal }
         ensures keeps { (t : Option Story) (held : Held) → Keeps t self.old held → Keeps t self.new held }
-        ensures rest { self.new ≡ record self.old { journal = self.new.journal; next = self.new.next } }
+        ensures rest { self.new ≡ record self.old {
+          ends = record self.old.ends { room = self.new.ends.room };
+          journal = self.new.journal;
+          next = self.new.next;
+        } }
         ensures err { OnErr result (self.new ≡ self.old) }
     {
-        let next = next_of(self.alloc, &self.ends, r)?;
-        let mut body = List::new(self.alloc);
-        put_record(r, &mut body)?;
-        self.journal.prepare(&body)?;
-        self.next = next;
+        let prepared = Prepared::new(self.alloc, r)?;
+        self.make_room(1)?;
+        self.take(prepared);
         Ok(())
     }
 
@@ -177,19 +247,25 @@ impl Store {
 
     /// Lets the readers give what the prepared record sets.
     fn pass(&mut self)
+        requires { HasRoom self.old.next self.old.ends }
         ensures { self.new ≡ passed self.old.next self.old }
     {
-        match mem::replace(&mut self.next, Next::Nothing) {
+        let next = self.next;
+        self.next = Next::Nothing;
+        match next {
             Next::Nothing => {}
-            Next::Committed(Head { number, pos, .. }) => {
-                self.number = number;
-                set_last(&mut self.ends, pos);
+            Next::Committed(head) => {
+                self.number = head.number;
+                self.ends.set_last(head.pos);
             }
-            Next::LogBegun(ends) => self.ends = ends,
-            Next::CarriedOut(Head { number, log, pos }) => {
-                self.number = number;
-                self.log = log;
-                self.pos = pos;
+            Next::LogBegun { old_end, pos } => {
+                self.ends.set_last(old_end);
+                self.ends.put(pos);
+            }
+            Next::CarriedOut(head) => {
+                self.number = head.number;
+                self.log = head.log;
+                self.pos = head.pos;
             }
         }
     }
@@ -198,6 +274,9 @@ impl Store {
     /// or for what the staged record makes of it, and after Ok all do so; then the readers give what is held behind it.
     pub fn commit<D: Disk>(&mut self, d: &mut D) -> Result<(), DiskRefusal>
         requires staged { (body : Items ℕ) × HasStaged (D.told d.old) self.old.journal body }
+        requires room { HasRoom self.old.next self.old.ends }
+        ensures file { self.new.journal.file ≡ self.old.journal.file }
+        ensures rests { OnOk result (Rests (D.told d.new) self.new.journal) }
         ensures keeps { (r : AnyRecord) (held now : Held) → LeadsOn (D.told d.old) self.old r held now → OnOk result (Keeps (D.told d.new) self.new now) }
         ensures images { (r : AnyRecord) (held now : Held) → LeadsOn (D.told d.old) self.old r held now
             → Always (count (D.told d.old)) (D.told d.new) (Either self.old held now) }
