@@ -7,6 +7,8 @@
 //! - [`change_each`], [`change_often`]: what was changed leads on from the beginning, at every exit
 //! - [`change_or_not`]: where there is an error, the tables and the list of changes are as before, and at
 //!   every exit what was changed leads on
+//! - [`change_beside`]: whatever another does over the rows that are there to stay, what was shown is shown
+//!   again then
 #![tactic(auto, using(table_rules::proofs::Leading::leading))]
 
 ghost use Rattle.std.specs.Prelude.{◌≡◌, OnErr};
@@ -17,7 +19,7 @@ use row_store::{RowRefusal, Tables};
 use sharing::Shared;
 use std::alloc::Global;
 use undo_log::Undo;
-use val_types::{Duplicate, List, Row};
+use val_types::{Duplicate, List, NoMemory, Row};
 
 /// Inserts a row, if it fits.
 fn insert_fitting(
@@ -115,4 +117,23 @@ pub fn change_or_not(
             Err(refusal)
         }
     }
+}
+
+/// Does so over the rows that are there to stay, beside what is shown, and shows that again.
+pub fn change_beside(
+    alloc: Global,
+    tables: &mut Tables,
+    at: usize,
+    keys: &List<Row>,
+    rows: &List<Row>,
+) -> Result<(), NoMemory>
+    ensures tables { tables.new.tables ≡ tables.old.tables }
+    ensures kept { tables.new.kept ≡ tables.old.kept }
+    ensures committed { tables.new.committed ≡ tables.old.committed }
+{
+    let aside = tables.set_aside()?;
+    let mut undo = Undo::new(alloc);
+    let _ = change_often(alloc, tables, &mut undo, at, keys, rows);
+    tables.put_back(aside);
+    Ok(())
 }

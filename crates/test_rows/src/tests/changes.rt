@@ -1,6 +1,7 @@
-//! Rows stored and taken back, by hand.
+//! Rows stored, taken back and set aside, by hand.
 ghost use Rattle.std.specs.Prelude.{◌≡◌, []};
 ghost use Rattle.table_rules.specs.Leads.{Leads};
+ghost use Rattle.table_rules.specs.Stores.{Still};
 
 use super::storing::definition;
 use super::{bytes, number};
@@ -166,6 +167,50 @@ fn goes_back_in_table(alloc: Global, tables: &mut Tables, undo: &mut Undo) -> bo
 {
     let created = tables.create(&definition(alloc, &[0])).is_ok();
     created && goes_back(alloc, tables, undo, &bytes(alloc, b"t"))
+}
+
+/// Whether a row that another puts over the rows that are there to stay is beside these alone.
+fn is_put_beside(alloc: Global, tables: &mut Tables, table: &Bytes) -> bool
+    ensures { Still tables.old tables.new }
+{
+    let mut undo = Undo::new(alloc);
+    let alone = has_rows(alloc, tables, table, &[(1, 11), (2, 20)]);
+    let put = insert(alloc, tables, &mut undo, table, row(alloc, 7, 70)).is_ok();
+    alone && put && has_rows(alloc, tables, table, &[(1, 11), (2, 20), (7, 70)])
+}
+
+/// Whether what is shown is shown again behind that, and is gone once it is forgotten.
+fn is_shown_again(alloc: Global, tables: &mut Tables, table: &Bytes) -> bool {
+    let Ok(aside) = tables.set_aside() else {
+        return false;
+    };
+    let beside = is_put_beside(alloc, tables, table);
+    tables.put_back(aside);
+    let again = has_rows(alloc, tables, table, &[(1, 12), (5, 20)]);
+    tables.forget();
+    beside && again && has_rows(alloc, tables, table, &[(1, 11), (2, 20)])
+}
+
+/// Steps of which the first four are there to stay.
+fn stand_aside(alloc: Global, tables: &mut Tables) -> bool
+    requires { tables.old.tables ≡ [] }
+{
+    let mut answered = tables.create(&definition(alloc, &[0])).is_ok();
+    let mut undo = Undo::new(alloc);
+    let table = bytes(alloc, b"t");
+    for (i, step) in STEPS.iter().enumerate() {
+        if i == 4 {
+            tables.tidy();
+        }
+        answered = answers(alloc, tables, &mut undo, &table, step) && answered;
+    }
+    answered && is_shown_again(alloc, tables, &table)
+}
+
+#[test]
+fn rows_set_aside(rt: HostRuntime) {
+    let mut tables = Tables::new(rt.alloc());
+    assert!(rt; stand_aside(rt.alloc(), &mut tables));
 }
 
 #[test]
