@@ -4,7 +4,6 @@ use Rattle.std.specs.Prelude.{OnErr}
 use Rattle.val_types.specs.declared.value.Value.{Value}
 use Rattle.val_types.specs.declared.refusal.SqlRefusal.{SqlRefusal}
 use Rattle.val_types.specs.declared.refusal.SqlRefusal.TheVariants.{Sql, NoMemory}
-use Rattle.table_rules.proofs.Leading.{still_taken_back}
 use Rattle.port_traits.specs.declared.identity.Draw.{Draw}
 use Rattle.sql_tree.specs.Tree.{Trees}
 use Rattle.sql_tree.specs.Statement.{Statement, evaluate}
@@ -23,16 +22,14 @@ use Rattle.statement_names.specs.sql_reach.Defining.{number_of_bytes}
 use Rattle.prog_work.specs.declared.meter.Meter.{Meter}
 use Rattle.prog_work.specs.declared.meter.Outcome.{Outcome}
 use Rattle.prog_work.specs.Contents.{contents_of}
+use Rattle.prog_work.proofs.Carried.{together_counted, together_led}
 use Rattle.prog_run.specs.Runs.{moment, scene_at, setting_at, Runs, Evaluated, LeavesAll, Comes, Gives}
 use Rattle.prog_work.specs.Together.{AreTogether}
 
 -- what holds stays where a stage leads on
 pub together_on : (objects : List Object) (a b : Stage) → AreTogether objects a.tables a.undo a.counters → LeadsOn a b → AreTogether objects b.tables b.undo b.counters
-together_on objects a b h p = record {
-  reversible = still_taken_back a.tables b.tables a.undo b.undo (rows_led a b p) 0 h.reversible;
-  theirs = (rows_led a b p).same ∙ h.theirs;
-  counted = names_led a b p ∙ h.counted;
-}
+together_on objects a b h p =
+    together_counted objects b.tables b.undo a.counters b.counters (together_led objects a.tables b.tables a.undo b.undo a.counters h (rows_led a b p)) (names_led a b p)
 
 pub leaves_all : (objects : List Object) (a b : Stage) → LeadsOn a b → IsBack a b → LeavesAll (contents_of objects a) (contents_of objects b)
 leaves_all objects a b p h = record { objects = refl; tables = h.tables; changes = h.undo; counters = counters_led a b p }

@@ -14,7 +14,7 @@ use Rattle.sql_reach.specs.catalog_rules.Objects.{table, table_in}
 use Rattle.sql_reach.specs.catalog_rules.Objects as rules
 use Rattle.sql_reach.specs.catalog_rules.Defined.{definition_of}
 use Rattle.sql_reach.specs.catalog_rules.Creating.{ddl_refusal, catalog_after, goes_with_table, objects_but}
-use Rattle.sql_reach.specs.catalog_rules.Bases.{Base, tables_after}
+use Rattle.sql_reach.specs.catalog_rules.Bases.{Base, table_without_rows, tables_after}
 use Rattle.catalog.specs.Answers.{Lets, Makes as Made}
 use Rattle.catalog.specs.catalog_objects.declared.object.Object.{Object}
 use Rattle.catalog.specs.catalog_objects.Keys.{objects_of}
@@ -25,7 +25,6 @@ use Rattle.prog_work.specs.Defining.{Makes, definition_refusal}
 use Rattle.prog_work.specs.Outcomes.{outcome_of_none}
 use Rattle.prog_work.specs.Together.{AreTogether}
 use Rattle.prog_work.proofs.Definitions.{together_made, together_dropped, together_cleared, no_table_yet, no_counter_yet, not_there_yet, found_made}
-use Rattle.prog_work.proofs.Holding.{together_committed}
 use Rattle.table_rules.proofs.Storing.{some_same}
 use Rattle.prog_work.specs.declared.meter.Outcome.{Outcome}
 
@@ -75,29 +74,31 @@ refused_by s objects now a code refusal same = (refusal, ap (λ (o : List Object
 -- ---- what holds, where no change is open
 
 made_where : (changes : List Change) (objects now : List Object) (store new : Store) (counters after : List Counter) (d : TableDef) → changes ≡ [] → AreTogether objects store changes counters
-    → objects_of now ≡ objects_of objects ++ table d ∷ [] → new.tables ≡ store.tables ++ record { definition = d; rows = [] } ∷ [] → after ≡ counters_with d counters
-    → AreTogether now new changes after
-made_where changes objects now store new counters after d none h os ts cs =
+    → objects_of now ≡ objects_of objects ++ table d ∷ [] → new.tables ≡ store.tables ++ table_without_rows d ∷ [] → new.committed ≡ store.committed ++ table_without_rows d ∷ []
+    → after ≡ counters_with d counters → AreTogether now new changes after
+made_where changes objects now store new counters after d none h os ts committed cs =
     subst (λ (ch : List Change). AreTogether now new ch after) (sym none)
-    (together_made objects now store new counters after d (subst (λ (ch : List Change). AreTogether objects store ch counters) none h) os ts cs)
+    (together_made objects now store new counters after d (subst (λ (ch : List Change). AreTogether objects store ch counters) none h) os ts committed cs)
 
 pub made_on : (objects now : List Object) (a b : Stage) (d : TableDef) → a.undo ≡ [] → AreTogether objects a.tables a.undo a.counters → objects_of now ≡ objects_of objects ++ table d ∷ []
-    → b.tables.tables ≡ a.tables.tables ++ record { definition = d; rows = [] } ∷ [] → b.counters ≡ counters_with d a.counters → b.undo ≡ a.undo → AreTogether now b.tables b.undo b.counters
-made_on objects now a b d none h os ts cs undo =
-    subst (λ (ch : List Change). AreTogether now b.tables ch b.counters) (sym undo) (made_where a.undo objects now a.tables b.tables a.counters b.counters d none h os ts cs)
+    → b.tables.tables ≡ a.tables.tables ++ table_without_rows d ∷ [] → b.tables.committed ≡ a.tables.committed ++ table_without_rows d ∷ []
+    → b.counters ≡ counters_with d a.counters → b.undo ≡ a.undo → AreTogether now b.tables b.undo b.counters
+made_on objects now a b d none h os ts committed cs undo =
+    subst (λ (ch : List Change). AreTogether now b.tables ch b.counters) (sym undo) (made_where a.undo objects now a.tables b.tables a.counters b.counters d none h os ts committed cs)
 
 pub dropped_on : (objects now : List Object) (a b : Stage) (name : List ℕ) → a.undo ≡ [] → AreTogether objects a.tables a.undo a.counters → IsWhole a.tables
-    → objects_of now ≡ objects_but (goes_with_table name) (objects_of objects) → b.tables.tables ≡ tables_beside name a.tables.tables → b.counters ≡ counters_beside name a.counters → b.undo ≡ a.undo
-    → AreTogether now b.tables b.undo b.counters
-dropped_on objects now a b name none h whole os ts cs undo =
+    → objects_of now ≡ objects_but (goes_with_table name) (objects_of objects) → b.tables.tables ≡ tables_beside name a.tables.tables → b.tables.committed ≡ tables_beside name a.tables.committed
+    → b.counters ≡ counters_beside name a.counters → b.undo ≡ a.undo → AreTogether now b.tables b.undo b.counters
+dropped_on objects now a b name none h whole os ts committed cs undo =
     subst (λ (ch : List Change). AreTogether now b.tables ch b.counters) (sym none ∙ sym undo)
-    (together_dropped objects now a.tables b.tables a.counters b.counters name (subst (λ (ch : List Change). AreTogether objects a.tables ch a.counters) none h) whole.names os ts cs)
+    (together_dropped objects now a.tables b.tables a.counters b.counters name (subst (λ (ch : List Change). AreTogether objects a.tables ch a.counters) none h) whole.names os ts committed cs)
 
 pub cleared_on : (objects : List Object) (a b : Stage) (name : List ℕ) → a.undo ≡ [] → AreTogether objects a.tables a.undo a.counters
-    → b.tables.tables ≡ tables_cleared name a.tables.tables → tables_of b.counters ≡ tables_of a.counters → b.undo ≡ a.undo → AreTogether objects b.tables b.undo b.counters
-cleared_on objects a b name none h ts cs undo =
+    → b.tables.tables ≡ tables_cleared name a.tables.tables → b.tables.committed ≡ tables_cleared name a.tables.committed → tables_of b.counters ≡ tables_of a.counters → b.undo ≡ a.undo
+    → AreTogether objects b.tables b.undo b.counters
+cleared_on objects a b name none h ts committed cs undo =
     subst (λ (ch : List Change). AreTogether objects b.tables ch b.counters) (sym none ∙ sym undo)
-    (together_cleared objects a.tables b.tables a.counters b.counters name (subst (λ (ch : List Change). AreTogether objects a.tables ch a.counters) none h) ts cs)
+    (together_cleared objects a.tables b.tables a.counters b.counters name (subst (λ (ch : List Change). AreTogether objects a.tables ch a.counters) none h) ts committed cs)
 
 -- no table or counter has the name of one that was just made
 pub free_for : (objects : List Object) (a : Stage) (name : List ℕ) → a.undo ≡ [] → AreTogether objects a.tables a.undo a.counters → table_in (objects_of objects) name ≡ None
@@ -121,10 +122,11 @@ module _ (objects mid : List Object) (a : Stage) (t : CreateTable) (none : a.und
       subst (λ (x : TableDef). (table_named x.name a.tables.tables ≡ None) × (value_for x.name a.counters ≡ None)) (some_same (definition_of t) d (sym is_there ∙ e))
       (free_for objects a t.name none h was_free)
 
-pub kept_on : (objects now : List Object) (a b : Stage) → a.undo ≡ [] → AreTogether objects a.tables a.undo a.counters → now ≡ objects
-    → b.tables.tables ≡ a.tables.tables → b.counters ≡ a.counters → b.undo ≡ a.undo → AreTogether now b.tables b.undo b.counters
-kept_on objects now a b none h os ts cs undo =
+-- nothing was made
+pub kept_on : (objects now : List Object) (a b : Stage) → AreTogether objects a.tables a.undo a.counters → now ≡ objects
+    → b.tables ≡ a.tables → b.counters ≡ a.counters → b.undo ≡ a.undo → AreTogether now b.tables b.undo b.counters
+kept_on objects now a b h os ts cs undo =
     subst (λ (o : List Object). AreTogether o b.tables b.undo b.counters) (sym os)
-    (subst (λ (ch : List Change). AreTogether objects b.tables ch b.counters) (sym none ∙ sym undo)
-    (subst (λ (counters : List Counter). AreTogether objects b.tables [] counters) (sym cs)
-    (together_committed objects a.tables b.tables a.undo a.counters h ts)))
+    (subst (λ (ch : List Change). AreTogether objects b.tables ch b.counters) (sym undo)
+    (subst (λ (counters : List Counter). AreTogether objects b.tables a.undo counters) (sym cs)
+    (subst (λ (store : Store). AreTogether objects store a.undo a.counters) (sym ts) h)))

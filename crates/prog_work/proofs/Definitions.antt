@@ -22,12 +22,13 @@ use Rattle.sql_reach.specs.catalog_rules.Names.{same_name}
 use Rattle.sql_reach.specs.catalog_rules.Objects.{table, function, procedure, reaction, table_in}
 use Rattle.sql_reach.specs.catalog_rules.Objects as rules
 use Rattle.sql_reach.specs.catalog_rules.Creating.{ddl_refusal, goes_with_table, is_function_named, is_procedure_named, is_trigger_named, objects_but, catalog_after}
-use Rattle.sql_reach.specs.catalog_rules.Bases.{definitions_in, definition_if}
+use Rattle.sql_reach.specs.catalog_rules.Bases.{definitions_in, definition_if, table_without_rows}
 use Rattle.catalog.specs.catalog_objects.declared.object.Object.{Object}
 use Rattle.catalog.specs.catalog_objects.Keys.{objects_of}
 use Rattle.sql_reach.specs.Defining.{counters_with}
 use Rattle.prog_work.specs.Contents.{counted_name, counted_names}
 use Rattle.prog_work.specs.Together.{AreTogether, is_drop_of_program}
+use Rattle.prog_work.proofs.Holding.{both_apart}
 
 -- ---- names
 
@@ -111,14 +112,15 @@ counters_named d None cs = sym (append-nil (tables_of cs))
 counters_named d (Some place) cs = map-append (λ (c : Counter). c.table) cs (record { table = d.name; value = 1 } ∷ [])
 
 pub together_made : (objects now : List Object) (store new : Store) (counters after : List Counter) (d : TableDef) → AreTogether objects store [] counters
-    → objects_of now ≡ objects_of objects ++ table d ∷ [] → new.tables ≡ store.tables ++ record { definition = d; rows = [] } ∷ [] → after ≡ counters_with d counters
-    → AreTogether now new [] after
-together_made objects now store new counters after d h os ts cs =
+    → objects_of now ≡ objects_of objects ++ table d ∷ [] → new.tables ≡ store.tables ++ table_without_rows d ∷ [] → new.committed ≡ store.committed ++ table_without_rows d ∷ []
+    → after ≡ counters_with d counters → AreTogether now new [] after
+together_made objects now store new counters after d h os ts committed cs =
     let definitions : definitions_in (objects_of now) ≡ definitions_in (objects_of objects) ++ d ∷ [] =
     ap definitions_in os ∙ filter_map-append definition_if (objects_of objects) (table d ∷ []) in
     record {
       reversible = none_taken_back new;
-      theirs = ap definitions_of ts ∙ map-append (λ (t : Table). t.definition) store.tables (record { definition = d; rows = [] } ∷ [])
+      apart = both_apart (λ (tables : List Table). tables ++ table_without_rows d ∷ []) store new h.apart ts committed;
+      theirs = ap definitions_of ts ∙ map-append (λ (t : Table). t.definition) store.tables (table_without_rows d ∷ [])
           ∙ ap (λ (ds : List TableDef). ds ++ d ∷ []) h.theirs ∙ sym definitions;
       counted = ap tables_of cs ∙ counters_named d d.auto counters ∙ ap (λ (ns : List (List ℕ)). ns ++ counted_names (d ∷ [])) h.counted
           ∙ sym (filter_map-append counted_name (definitions_in (objects_of objects)) (d ∷ [])) ∙ ap counted_names (sym definitions);
@@ -251,14 +253,15 @@ counted_beside_are name (d ∷ ds) differ =
     (λ same. none_counted name ds (not_among name d.name ds same (not_is _ parts.0))) (counted_beside_are name ds parts.1)
 
 pub together_dropped : (objects now : List Object) (store new : Store) (counters after : List Counter) (name : List ℕ) → AreTogether objects store [] counters
-    → names_differ (definitions_of store.tables) ≡ true → objects_of now ≡ objects_but (goes_with_table name) (objects_of objects) → new.tables ≡ tables_beside name store.tables → after ≡ counters_beside name counters
-    → AreTogether now new [] after
-together_dropped objects now store new counters after name h differ os ts cs =
+    → names_differ (definitions_of store.tables) ≡ true → objects_of now ≡ objects_but (goes_with_table name) (objects_of objects) → new.tables ≡ tables_beside name store.tables
+    → new.committed ≡ tables_beside name store.committed → after ≡ counters_beside name counters → AreTogether now new [] after
+together_dropped objects now store new counters after name h differ os ts committed cs =
     let differ' : names_differ (definitions_in (objects_of objects)) ≡ true = ap names_differ (sym h.theirs) ∙ differ in
     let definitions : definitions_in (objects_of now) ≡ beside name (definitions_in (objects_of objects)) =
     ap definitions_in os ∙ objects_beside_are name (objects_of objects) differ' in
     record {
       reversible = none_taken_back new;
+      apart = both_apart (tables_beside name) store new h.apart ts committed;
       theirs = ap definitions_of ts ∙ tables_beside_are name store.tables ∙ ap (beside name) h.theirs ∙ sym definitions;
       counted = ap tables_of cs ∙ counters_beside_are name counters ∙ ap (remove_first (same_name name)) h.counted
           ∙ counted_beside_are name (definitions_in (objects_of objects)) differ' ∙ ap counted_names (sym definitions);
@@ -275,9 +278,10 @@ cleared_are name [] = refl
 cleared_are name (t ∷ ts) = cleared_step (has_name name t) t ts (tables_cleared name ts) (cleared_are name ts)
 
 pub together_cleared : (objects : List Object) (store new : Store) (counters after : List Counter) (name : List ℕ) → AreTogether objects store [] counters
-    → new.tables ≡ tables_cleared name store.tables → tables_of after ≡ tables_of counters → AreTogether objects new [] after
-together_cleared objects store new counters after name h ts cs = record {
+    → new.tables ≡ tables_cleared name store.tables → new.committed ≡ tables_cleared name store.committed → tables_of after ≡ tables_of counters → AreTogether objects new [] after
+together_cleared objects store new counters after name h ts committed cs = record {
   reversible = none_taken_back new;
+  apart = both_apart (tables_cleared name) store new h.apart ts committed;
   theirs = ap definitions_of ts ∙ cleared_are name store.tables ∙ h.theirs;
   counted = cs ∙ h.counted;
 }
@@ -372,6 +376,7 @@ together_programmed objects now store changes counters s h of os =
     let same : definitions_in (objects_of now) ≡ definitions_in (objects_of objects) = ap definitions_in os ∙ tables_stay s (objects_of objects) of in
     record {
       reversible = h.reversible;
+      apart = h.apart;
       theirs = h.theirs ∙ sym same;
       counted = h.counted ∙ ap counted_names (sym same);
     }

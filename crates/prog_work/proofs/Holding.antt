@@ -11,7 +11,7 @@ use Rattle.auto_inc.specs.declared.counters.Counter.{Counter}
 use Rattle.table_rules.specs.Tables.{Table}
 use Rattle.table_rules.specs.Changes.{applied}
 use Rattle.table_rules.specs.Stored.{all_applied, all_inverse}
-use Rattle.table_rules.specs.Stores.{Store, definitions_of, can_take_back, keeps_inverses, IsWhole}
+use Rattle.table_rules.specs.Stores.{Store, definitions_of, can_take_back, keeps_inverses, IsWhole, Still}
 use Rattle.table_rules.proofs.Equations.{applied_none, applied_front, all_applied_behind}
 use Rattle.table_rules.proofs.Storing.{some_same, all_inverse_front, definitions_kept, turn_back}
 use Rattle.table_rules.proofs.Leading.{all_inverse_both, none_taken_back, last_taken_back}
@@ -62,6 +62,15 @@ can_be store xs can = (and_parts (is_some (all_applied (all_inverse xs) store.ta
 without_is : (store : Store) (xs : List Change) → can_take_back store xs ≡ true → all_applied (all_inverse xs) store.tables ≡ Some (without_changes xs store.tables)
 without_is store xs can = is_its_value (all_applied (all_inverse xs) store.tables) store.tables (can_be store xs can)
 
+-- what taking all changes back leads to, with the last of them taken back before
+older_back : (store : Store) (xs : List Change) (mark : ℕ) (tables : List Table) → all_applied (all_inverse (drop mark xs)) store.tables ≡ Some tables
+    → all_applied (all_inverse xs) store.tables ≡ all_applied (all_inverse (take mark xs)) tables
+older_back store xs mark tables gone =
+    ap (λ (cs : List Change). all_applied (all_inverse cs) store.tables) (sym (take-append-drop mark xs))
+    ∙ ap (λ (cs : List Change). all_applied cs store.tables) (all_inverse_both (take mark xs) (drop mark xs))
+    ∙ all_applied_behind (all_inverse (drop mark xs)) (all_inverse (take mark xs)) store.tables
+    ∙ ap (option_and_then (all_applied (all_inverse (take mark xs)))) gone
+
 -- what is committed stays what it is where some changes are taken back
 pub value_is : {A : Type 0} (o p : Option A) (d e : A) → o ≡ p → is_some o ≡ true → unwrap_or p e ≡ unwrap_or o d
 value_is None p d e same some = cc
@@ -71,11 +80,25 @@ pub still_committed : (store : Store) (xs : List Change) (mark : ℕ) (tables : 
     → all_applied (all_inverse (drop mark xs)) store.tables ≡ Some tables → without_changes (take mark xs) tables ≡ without_changes xs store.tables
 still_committed store xs mark tables can gone =
     value_is (all_applied (all_inverse xs) store.tables) (all_applied (all_inverse (take mark xs)) tables) store.tables tables
-    (ap (λ (cs : List Change). all_applied (all_inverse cs) store.tables) (sym (take-append-drop mark xs))
-    ∙ ap (λ (cs : List Change). all_applied cs store.tables) (all_inverse_both (take mark xs) (drop mark xs))
-    ∙ all_applied_behind (all_inverse (drop mark xs)) (all_inverse (take mark xs)) store.tables
-    ∙ ap (option_and_then (all_applied (all_inverse (take mark xs)))) gone)
-    (can_be store xs can)
+    (older_back store xs mark tables gone) (can_be store xs can)
+
+-- ---- rows that are there to stay
+
+pub committed_is : (objects : List Object) (store : Store) (changes : List Change) (counters : List Counter) → AreTogether objects store changes counters
+    → without_changes changes store.tables ≡ store.committed
+committed_is objects store changes counters h = ap (λ (o : Option (List Table)). unwrap_or o store.tables) h.apart
+
+-- where no change is open, the rows that stand are there to stay
+pub stands_committed : (store : Store) → all_applied (all_inverse []) store.tables ≡ Some store.committed → store.committed ≡ store.tables
+stands_committed store apart = some_same store.committed store.tables (sym apart ∙ applied_none store.tables)
+
+pub none_apart : (store : Store) → store.committed ≡ store.tables → all_applied (all_inverse []) store.tables ≡ Some store.committed
+none_apart store same = applied_none store.tables ∙ ap (λ (ts : List Table). Some ts) (sym same)
+
+-- the same was done to both
+pub both_apart : (f : List Table → List Table) (store new : Store) → all_applied (all_inverse []) store.tables ≡ Some store.committed
+    → new.tables ≡ f store.tables → new.committed ≡ f store.committed → all_applied (all_inverse []) new.tables ≡ Some new.committed
+both_apart f store new apart tables committed = none_apart new (committed ∙ ap f (stands_committed store apart) ∙ sym tables)
 
 -- ---- what holds of all
 
@@ -85,23 +108,26 @@ may_take_back objects store changes counters mark h = last_taken_back store chan
 
 pub together_back : (objects : List Object) (old new : Store) (changes now : List Change) (counters : List Counter) (mark : ℕ)
     → AreTogether objects old changes counters → all_applied (all_inverse (drop mark changes)) old.tables ≡ Some new.tables
-    → StaysReversible old changes new now → AreTogether objects new now counters
-together_back objects old new changes now counters mark h gone stays = record {
+    → now ≡ take mark changes → StaysReversible old changes new now → Still old new → AreTogether objects new now counters
+together_back objects old new changes now counters mark h gone left stays still = record {
   reversible = stays 0 h.reversible;
+  apart = ap (λ (cs : List Change). all_applied (all_inverse cs) new.tables) left ∙ sym (older_back old changes mark new.tables gone) ∙ h.apart
+      ∙ ap (λ (ts : List Table). Some ts) (sym still.committed);
   theirs = all_definitions (all_inverse (drop mark changes)) old.tables new.tables gone ∙ h.theirs;
   counted = h.counted;
 }
 
 pub together_committed : (objects : List Object) (old new : Store) (changes : List Change) (counters : List Counter)
-    → AreTogether objects old changes counters → new.tables ≡ old.tables → AreTogether objects new [] counters
-together_committed objects old new changes counters h tables = record {
+    → AreTogether objects old changes counters → new.tables ≡ old.tables → new.committed ≡ new.tables → AreTogether objects new [] counters
+together_committed objects old new changes counters h tables committed = record {
   reversible = none_taken_back new;
+  apart = none_apart new committed;
   theirs = ap definitions_of tables ∙ h.theirs;
   counted = h.counted;
 }
 
-pub together_nothing : AreTogether [] (record { tables = []; kept = [] }) [] []
-together_nothing = record { reversible = none_taken_back _; theirs = refl; counted = refl }
+pub together_nothing : AreTogether [] (record { tables = []; kept = []; committed = []; room = [] }) [] []
+together_nothing = record { reversible = none_taken_back _; apart = applied_none []; theirs = refl; counted = refl }
 
 pub are_together : (objects : List Object) (store : Store) (changes : List Change) (counters : List Counter) → AreTogether objects store changes counters → IsWhole store
     → IsTogether (record { objects = objects; tables = store.tables; changes = changes; counters = counters })
@@ -119,18 +145,15 @@ are_together objects store changes counters h whole =
 
 -- ---- a reader's work
 
--- the same changes can be taken back from the same tables
-pub same_can_be : (store again : Store) (changes undo : List Change) → can_take_back store undo ≡ true → again ≡ store → changes ≡ drop 0 undo → can_take_back again (drop 0 changes) ≡ true
-same_can_be store again changes undo can tables same = ap (λ (s : Store). can_take_back s changes) tables ∙ ap (can_take_back store) same ∙ can
-
 pub together_read : (objects now : List Object) (store read : Store) (changes : List Change) (counters after : List Counter) → AreTogether objects store changes counters
-    → all_applied (all_inverse changes) store.tables ≡ Some read.tables → now ≡ objects → after ≡ counters → AreTogether now read [] after
-together_read objects now store read changes counters after h gone os cs =
+    → read.tables ≡ store.committed → read.committed ≡ store.committed → now ≡ objects → after ≡ counters → AreTogether now read [] after
+together_read objects now store read changes counters after h tables committed os cs =
     subst (λ (o : List Object). AreTogether o read [] after) (sym os)
     (subst (λ (ct : List Counter). AreTogether objects read [] ct) (sym cs)
     (record {
       reversible = none_taken_back read;
-      theirs = all_definitions (all_inverse changes) store.tables read.tables gone ∙ h.theirs;
+      apart = none_apart read (committed ∙ sym tables);
+      theirs = ap definitions_of tables ∙ all_definitions (all_inverse changes) store.tables store.committed h.apart ∙ h.theirs;
       counted = h.counted;
     }))
 
@@ -138,6 +161,7 @@ pub together_counting : (objects own : List Object) (store other : Store) (chang
     → AreTogether own other theirs after → own ≡ objects → AreTogether objects store changes after
 together_counting objects own store other changes theirs counters after h h' os = record {
   reversible = h.reversible;
+  apart = h.apart;
   theirs = h.theirs;
   counted = subst (λ (o : List Object). tables_of after ≡ counted_names (definitions_in (objects_of o))) os h'.counted;
 }

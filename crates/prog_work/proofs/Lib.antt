@@ -1,3 +1,4 @@
+pub mod Asides
 pub mod Carried
 pub mod Defined
 pub mod Definitions

@@ -1,3 +1,4 @@
+pub mod Asides
 pub mod Carrying
 pub mod Contents
 pub mod Defining

@@ -59,8 +59,9 @@ fn put_table(stage: &mut Stage, definition: &TableDef) -> Result<(), NoMemory>
     requires name { table_named definition.now.name stage.old.tables.tables ≡ None }
     requires counter { value_for definition.now.name stage.old.counters ≡ None }
     ensures tables { OnOk result (stage.new.tables.tables ≡ stage.old.tables.tables ++ table_without_rows definition.now ∷ []) }
+    ensures committed { OnOk result (stage.new.tables.committed ≡ stage.old.tables.committed ++ table_without_rows definition.now ∷ []) }
     ensures counters { OnOk result (stage.new.counters ≡ counters_with definition.now stage.old.counters) }
-    ensures err_tables { OnErr result (stage.new.tables.tables ≡ stage.old.tables.tables) }
+    ensures err_tables { OnErr result (stage.new.tables ≡ stage.old.tables) }
     ensures err_counters { OnErr result (stage.new.counters ≡ stage.old.counters) }
     ensures changes { stage.new.undo ≡ stage.old.undo }
 {
@@ -82,8 +83,9 @@ fn store(catalog: &Catalog, stage: &mut Stage, name: &Bytes) -> Result<(), NoMem
     requires free_name { (d : Definition) → table_in (objects_of catalog.now) name.now ≡ Some d → table_named d.name stage.old.tables.tables ≡ None }
     requires free_counter { (d : Definition) → table_in (objects_of catalog.now) name.now ≡ Some d → value_for d.name stage.old.counters ≡ None }
     ensures tables { OnOk result ((d : Definition) → table_in (objects_of catalog.now) name.now ≡ Some d → stage.new.tables.tables ≡ stage.old.tables.tables ++ table_without_rows d ∷ []) }
+    ensures committed { OnOk result ((d : Definition) → table_in (objects_of catalog.now) name.now ≡ Some d → stage.new.tables.committed ≡ stage.old.tables.committed ++ table_without_rows d ∷ []) }
     ensures counters { OnOk result ((d : Definition) → table_in (objects_of catalog.now) name.now ≡ Some d → stage.new.counters ≡ counters_with d stage.old.counters) }
-    ensures err_tables { OnErr result (stage.new.tables.tables ≡ stage.old.tables.tables) }
+    ensures err_tables { OnErr result (stage.new.tables ≡ stage.old.tables) }
     ensures err_counters { OnErr result (stage.new.counters ≡ stage.old.counters) }
     ensures changes { stage.new.undo ≡ stage.old.undo }
 {

@@ -8,11 +8,12 @@
 //! - `carrying`: rows put in, changed and taken out as they are, as an applier does it
 //! - `meter`: [`Meter`], what is left to a command, and [`Outcome`], what is told of a statement
 //! - `defining`: CREATE, DROP and TRUNCATE, and [`is_definition`]
-//! - `apart`: [`Apart`], what a statement runs on, which `prog_run` takes out and puts back
+//! - `apart`: [`Apart`], what a statement runs on, which `prog_run` takes out and puts back; `aside`: [`OpenChanges`], set aside
+//!   for a statement beside them
 //!
 //! The definitions in specs/ say what is worked on and what holds of it (`Contents`, over what is stored `Together`), what a
 //! definition makes (`Defining`), what is told of statements (`Outcomes`), and what an applier's changes of rows leave as it was
-//! (`Carrying`).
+//! (`Carrying`), and how open changes are set aside and put back (`Asides`).
 //!
 //! # Proved
 //! - what holds of every [`Work`]: its changes can be taken back, which gives the committed rows, and made again, which
@@ -27,13 +28,16 @@
 //! - [`Work::define`] with CREATE (of tables, functions, procedures and triggers), DROP or TRUNCATE makes just the base and the
 //!   counters of the definitions, or refuses with just the error of the first check and changes nothing, as where memory is
 //!   short; DROP and TRUNCATE take no memory
-//! - [`Work::take_apart`] and [`Work::put_together`] take out and put in just what is there, which is together
+//! - [`Work::take_apart`] and [`Work::put_together`] take out and put in just what is there, which is together;
+//!   [`OpenChanges::set_aside`] leaves a stage that shows just the committed rows, and no row is copied;
+//!   [`OpenChanges::put_back`] shows the open changes again, without memory
 //!
 //! # Only tested
 //! That definitions and changes succeed with ample memory, where nodes run them.
 #![tactic(auto)]
 
 mod apart;
+mod aside;
 mod carrying;
 mod defining;
 mod meter;
@@ -42,6 +46,7 @@ mod work;
 
 // What is its own, and the crates below that it speaks of, passed on: who stands above names them through it.
 pub use apart::Apart;
+pub use aside::OpenChanges;
 pub use catalog;
 pub use catalog::{catalog_create_program, catalog_create_table, catalog_objects};
 pub use defining::is_definition;

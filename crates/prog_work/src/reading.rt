@@ -1,48 +1,31 @@
 //! The committed rows beside open changes.
-ghost use Rattle.std.specs.Prelude.{◌≡◌, true, Some, IfOk};
-ghost use Rattle.table_rules.specs.Stored.{all_applied, all_inverse};
-ghost use Rattle.table_rules.specs.Stores.{can_take_back};
+ghost use Rattle.std.specs.Prelude.{◌≡◌, IfOk};
 ghost use Rattle.prog_work.specs.Contents.{as_committed};
 
 use crate::work::Work;
 use exec_state::Stage;
-use exec_state::dml_rows::take_back_to;
 use row_store::Tables;
-use std::alloc::Global;
 use undo_log::Undo;
-use val_types::{Change, Duplicate, NoMemory};
+use val_types::{Duplicate, NoMemory};
 
-/// Changes noted in their order.
-fn noted(alloc: Global, changes: &[Change]) -> Result<Undo, NoMemory>
-    ensures { IfOk result (λ undo. undo ≡ changes.now) }
+/// The tables once more, with just the rows that are there to stay.
+fn committed(tables: &Tables) -> Result<Tables, NoMemory>
+    ensures tables { IfOk result (λ read. read.tables ≡ tables.now.committed) }
+    ensures committed { IfOk result (λ read. read.committed ≡ tables.now.committed) }
 {
-    let mut undo = Undo::new(alloc);
-    for change in changes {
-        undo.push(change.duplicate(alloc)?)?;
-    }
-    Ok(undo)
-}
-
-/// The tables once more, with all changes taken back.
-#[tactic(auto, using(crate::proofs::Holding::same_can_be))]
-fn committed(alloc: Global, tables: &Tables, undo: &Undo) -> Result<Tables, NoMemory>
-    requires { can_take_back tables.now undo.now ≡ true }
-    ensures { IfOk result (λ t. all_applied (all_inverse undo.now) tables.now.tables ≡ Some t.tables) }
-{
-    let changes = undo.since(0)?;
-    let mut again = noted(alloc, changes.as_slice())?;
-    let mut tables = tables.copy()?;
-    take_back_to(&mut tables, &mut again, 0);
-    Ok(tables)
+    let mut read = tables.copy()?;
+    read.forget();
+    Ok(read)
 }
 
 impl Work {
     /// What a reader beside the open changes works on: the same catalog and counters, the rows that were last
-    /// committed, and no change. Rows are shared, not copied, but for those that were put back once.
+    /// committed, and no change. Rows are shared, not copied.
+    #[tactic(auto, using(crate::proofs::Holding::committed_is))]
     pub fn reader(&self) -> Result<Work, NoMemory>
         ensures { IfOk result (λ w. w ≡ as_committed self.now) }
     {
-        let tables = committed(self.alloc, &self.stage.tables, &self.stage.undo)?;
+        let tables = committed(&self.stage.tables)?;
         let counters = self.stage.counters.duplicate(self.alloc)?;
         let catalog = self.catalog.copy()?;
         Ok(Work {

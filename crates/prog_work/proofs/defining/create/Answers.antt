@@ -1,4 +1,5 @@
-use Rattle.std.proofs.Common.{refl}
+use Rattle.std.proofs.Common.{refl, ap}
+use Rattle.table_rules.specs.Stores.{Store}
 use Rattle.sql_tree.specs.Statement.{create_table}
 use Rattle.sql_reach.specs.catalog_rules.Defined.{definition_of}
 use Rattle.catalog.specs.catalog_objects.Keys.{objects_of}
@@ -40,13 +41,13 @@ pub returns-in-Ok-store-clause-together : goal.returns-in-Ok-store-clause-togeth
 returns-in-Ok-store-clause-together c =
     let there = is_there c.args.catalog.now c.add_table.new.self c.args.stage.now c.args.t.now c.requires.closed c.requires.together c.in-Ok.ensures.made.0 c.in-Ok.ensures.made.1 in
     made_on c.args.catalog.now c.add_table.new.self c.args.stage.now c.store.new.stage (definition_of c.args.t.now) c.requires.closed c.requires.together c.in-Ok.ensures.made.1
-    (c.in-Ok-store.ensures.tables (definition_of c.args.t.now) there) (c.in-Ok-store.ensures.counters (definition_of c.args.t.now) there) c.store.ensures.changes
+    (c.in-Ok-store.ensures.tables (definition_of c.args.t.now) there) (c.in-Ok-store.ensures.committed (definition_of c.args.t.now) there) (c.in-Ok-store.ensures.counters (definition_of c.args.t.now) there) c.store.ensures.changes
 
 pub returns-in-Err-clause-defines : goal.returns-in-Err-clause-defines
 returns-in-Err-clause-defines c =
-    contents_stay c.args.catalog.now c.args.before c.args.stage.now c.store.new.stage c.requires.before c.in-Err.ensures.err_tables c.store.ensures.changes c.in-Err.ensures.err_counters
+    contents_stay c.args.catalog.now c.args.before c.args.stage.now c.store.new.stage c.requires.before (ap (λ (s : Store). s.tables) c.in-Err.ensures.err_tables) c.store.ensures.changes c.in-Err.ensures.err_counters
 
 pub returns-in-Err-clause-together : goal.returns-in-Err-clause-together
 returns-in-Err-clause-together c =
-    kept_on c.args.catalog.now c.args.before c.args.stage.now c.store.new.stage c.requires.closed c.requires.together c.requires.before
+    kept_on c.args.catalog.now c.args.before c.args.stage.now c.store.new.stage c.requires.together c.requires.before
     c.in-Err.ensures.err_tables c.in-Err.ensures.err_counters c.store.ensures.changes

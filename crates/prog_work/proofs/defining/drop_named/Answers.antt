@@ -19,7 +19,7 @@ returns-in-Ok-clause-together c =
     } in
     dropped_on c.args.catalog.now c.remove.new.self c.args.stage.now behind c.args.name.now c.requires.closed c.requires.together c.tables_are_kept.ensures
     (c.in-Ok.ensures.made.1 ∙ ap (λ (s : Statement). catalog_after s (objects_of c.args.catalog.now)) c.requires.statement)
-    c.drop_table.ensures.tables c.remove-in-Ok.ensures.removed refl
+    c.drop_table.ensures.tables c.drop_table.ensures.committed c.remove-in-Ok.ensures.removed refl
 
 pub returns-in-Err-Sql-clause-defines : goal.returns-in-Err-Sql-clause-defines
 returns-in-Err-Sql-clause-defines c =

@@ -13,4 +13,4 @@ returns-in-Ok-clause-together c =
       turns = c.args.stage.now.turns;
       uuids = c.args.stage.now.uuids;
     } in
-    cleared_on c.args.catalog.now c.args.stage.now behind c.args.name.now c.requires.closed c.requires.together c.clear.ensures.tables c.reset.ensures.tables refl
+    cleared_on c.args.catalog.now c.args.stage.now behind c.args.name.now c.requires.closed c.requires.together c.clear.ensures.tables c.clear.ensures.committed c.reset.ensures.tables refl

@@ -7,4 +7,4 @@ pub invariant_of-self : goal.invariant_of-self
 invariant_of-self c =
     let same : tables_of c.args.counters ≡ tables_of c.self.inside.stage.counters = search rules in
     together_given_up _ c.self.inside.stage.tables c.take_back_to.new.tables c.self.inside.stage.undo c.take_back_to.new.undo c.self.inside.stage.counters c.args.counters
-    c.self.invariant c.take_back_to.ensures.tables c.take_back_to.ensures.undo same
+    c.self.invariant c.take_back_to.ensures.tables c.take_back_to.ensures.undo c.take_back_to.ensures.still same

@@ -1,0 +1,6 @@
+use Rattle.prog_work.proofs.Carried.{together_led}
+use Rattle.prog_work.proofs.work.Work.update_row.Goals as goal
+
+pub invariant_of-self : goal.invariant_of-self
+invariant_of-self c =
+    together_led c.self.inside.catalog c.self.inside.stage.tables c.update_row.new.tables c.self.inside.stage.undo c.update_row.new.undo c.self.inside.stage.counters c.self.invariant c.update_row.ensures.leads
