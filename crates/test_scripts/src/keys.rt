@@ -12,7 +12,7 @@ static KEYS: Frame = Frame {
 };
 
 /// Scripts behind them, and the lines behind theirs.
-static SCRIPTS: [(&str, &str); 12] = [
+static SCRIPTS: [(&str, &str); 17] = [
     // a key, either way round, with more behind it
     (
         "s1: SELECT v FROM t WHERE id = 2 //\ns1: SELECT v FROM t WHERE 3 <=> id //\ns1: UPDATE t SET v = v + 1 WHERE t.id = 1 AND v = 10 //\ns1: DELETE FROM t WHERE id = 2 AND v = 21 //\ns1: DELETE FROM t WHERE id = 2 //\ns1: SELECT * FROM t WHERE id = 2 //\ns1: SELECT COUNT(*) FROM t WHERE id = 2 //\ns1: SELECT v FROM t WHERE id = 3 ORDER BY v DESC LIMIT 1 //\ns1: SELECT * FROM t //\n",
@@ -72,6 +72,31 @@ static SCRIPTS: [(&str, &str); 12] = [
     (
         "s1: SELECT v FROM w WHERE a = 1 AND b = 'b' //\ns1: SELECT v FROM w WHERE b = 'a' AND a = 2 //\ns1: SELECT v FROM w WHERE a = 1 //\ns1: SELECT v FROM w WHERE a = 1 AND b = 'a' AND a = 2 //\ns1: UPDATE w SET v = 9 WHERE b = 'b' AND v = 2 AND a = 1 //\ns1: DELETE FROM w WHERE a = 2 AND b = 'c' //\ns1: SELECT v FROM w WHERE b = 'b' //\n",
         "7 row 2\n7 rows 1\n8 row 3\n8 rows 1\n9 row 1\n9 row 2\n9 rows 2\n10 rows 0\n11 ok 1\n12 ok 0\n13 row 9\n13 rows 1\n",
+    ),
+    // equalities inside other conditions name no key; what is true, false or unknown on any row may stand before one that does
+    (
+        "s1: SELECT id FROM t WHERE (id = 2) = 0 //\ns1: SELECT id FROM t WHERE id = v DIV 10 //\ns1: SELECT id FROM t WHERE id IN (2, 3) AND v = 30 //\ns1: SELECT id FROM t WHERE id = 1 + 1 //\ns1: SELECT id FROM t WHERE - id = -2 //\ns1: SELECT id FROM t WHERE IF(id = 2, 1, 0) //\ns1: SELECT id FROM t WHERE id > 1 AND NOT (v = 20) AND id = 3 //\ns1: SELECT id FROM t WHERE id > 1 AND NOT (v = 30) AND id = 3 //\ns1: SELECT id FROM t WHERE (id = 1 OR v = 20) AND id = 2 //\ns1: SELECT id FROM t WHERE 1 AND id = 2 //\ns1: SELECT id FROM t WHERE 0 AND id = 2 //\ns1: SELECT id FROM t WHERE 'x' AND id = 2 //\ns1: SELECT id FROM t WHERE id = 2 AND 'x' //\ns1: SELECT id FROM t WHERE id = 9 AND 'x' //\n",
+        "7 row 1\n7 row 3\n7 rows 2\n8 row 1\n8 row 2\n8 row 3\n8 rows 3\n9 row 3\n9 rows 1\n10 row 2\n10 rows 1\n11 row 2\n11 rows 1\n12 row 2\n12 rows 1\n13 row 3\n13 rows 1\n14 rows 0\n15 row 2\n15 rows 1\n16 row 2\n16 rows 1\n17 rows 0\n18 error 30002\n19 error 30002\n20 rows 0\n",
+    ),
+    // what is unknown before the key does not decide: what stands behind is evaluated for the row of the key
+    (
+        "s1: INSERT INTO t VALUES (4, NULL) //\ns1: SELECT id FROM t WHERE v = 5 AND id = 4 //\ns1: SELECT id FROM t WHERE v <=> NULL AND id = 4 //\ns1: SELECT id FROM t WHERE v IS NULL AND id = 4 //\ns1: SELECT id FROM t WHERE v = NULL AND id = 2 AND c(id + 20) = 0 //\ns1: SELECT id FROM t WHERE v = 20 AND id = 4 AND c(id + 20) = 24 //\ns1: SELECT n FROM l //\ns1: DELETE FROM t WHERE NULL AND id = 4 //\ns1: DELETE FROM t WHERE id = 4 AND v IS NULL //\ns1: SELECT id FROM t //\n",
+        "7 ok 1\n8 rows 0\n9 row 4\n9 rows 1\n10 row 4\n10 rows 1\n11 rows 0\n12 rows 0\n13 row 22\n13 row 24\n13 rows 2\n14 ok 0\n15 ok 1\n16 row 1\n16 row 2\n16 row 3\n16 rows 3\n",
+    ),
+    // rows of a key in a transaction, beside it, and behind it
+    (
+        "s1: BEGIN //\ns1: UPDATE t SET v = 99 WHERE id = 2 //\ns1: INSERT INTO t VALUES (5, 50) //\ns1: DELETE FROM t WHERE id = 3 //\ns2: SELECT v FROM t WHERE id = 2 //\ns2: SELECT v FROM t WHERE id = 5 //\ns2: SELECT v FROM t WHERE id = 3 //\ns1: SELECT v FROM t WHERE id = 2 //\ns1: SELECT v FROM t WHERE id = 5 //\ns1: SELECT v FROM t WHERE id = 3 //\ns1: UPDATE t SET id = 6 WHERE id = 5 //\ns1: SELECT v FROM t WHERE id = 5 //\ns1: SELECT v FROM t WHERE id = 6 //\ns2: UPDATE t SET v = 0 WHERE id = 1 //\ns1: ROLLBACK //\ns1: SELECT * FROM t //\ns1: SELECT v FROM t WHERE id = 6 //\n",
+        "7 ok 0\n8 ok 1\n9 ok 1\n10 ok 1\n11 row 20\n11 rows 1\n12 rows 0\n13 row 30\n13 rows 1\n14 row 99\n14 rows 1\n15 row 50\n15 rows 1\n16 rows 0\n17 ok 1\n18 rows 0\n19 row 50\n19 rows 1\n20 error 1205 by s1\n21 ok 0\n22 row 1, 10\n22 row 2, 20\n22 row 3, 30\n22 rows 3\n23 rows 0\n",
+    ),
+    // locals of the other kind and of none; of a procedure, one with the name of a column that is no key
+    (
+        "s1: CREATE FUNCTION e(x VARCHAR(5)) RETURNS INT RETURN (SELECT COUNT(*) FROM l WHERE n = x) //\ns1: SELECT e('a') //\ns1: INSERT INTO l VALUES (1) //\ns1: SELECT e('a') //\ns1: SELECT e(NULL) //\ns1: CREATE PROCEDURE p(x INT, v INT) BEGIN UPDATE t SET v = x WHERE id = v; DELETE FROM w WHERE a = x AND b = 'b'; SELECT v FROM t WHERE t.v = x; END //\ns1: CALL p(1, 2) //\ns1: SELECT * FROM t //\ns1: SELECT v FROM w //\n",
+        "7 ok 0\n8 row 0\n8 rows 1\n9 ok 1\n10 error 30002\n11 row 0\n11 rows 1\n12 ok 0\n13 row 2\n13 rows 1\n13 ok 2\n14 row 1, 10\n14 row 2, 1\n14 row 3, 30\n14 rows 3\n15 row 1\n15 row 3\n15 rows 2\n",
+    ),
+    // a table inside itself, and a key that a subquery names by a row outside
+    (
+        "s1: SELECT id, (SELECT v FROM t WHERE id = 2) FROM t //\ns1: SELECT id, (SELECT COUNT(*) FROM t WHERE t.id = id) FROM t WHERE id = 2 //\ns1: SELECT v FROM w WHERE a = (SELECT id FROM t WHERE id = 2) AND b = 'a' //\ns1: SELECT id FROM t WHERE id = (SELECT a FROM w WHERE a = id AND b = 'b') //\n",
+        "7 row 1, 20\n7 row 2, 20\n7 row 3, 20\n7 rows 3\n8 row 2, 3\n8 rows 1\n9 row 3\n9 rows 1\n10 row 1\n10 rows 1\n",
     ),
 ];
 
