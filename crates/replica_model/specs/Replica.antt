@@ -3,6 +3,7 @@
 use Rattle.std.specs.Prelude.{ℕ, zero, suc, ◌-◌, List, [], ◌++◌, length, drop}
 use Rattle.auto_inc.specs.declared.counters.Counter.{Counter}
 use Rattle.log_file_model.specs.catalog_rules.Bases.{Base, empty_base}
+use Rattle.apply_model.specs.sql_reach.Defining.{counters_begun}
 use Rattle.session_model.specs.log_model.Groups.{Form, start, next_log, ddl, txn, Group, Next, group, not_whole, damaged_at, foreign_at, group_at}
 use Rattle.session_model.specs.log_model.Log.{LogPlace, moved}
 
@@ -22,6 +23,17 @@ log_begin n = record { log = n; pos = 4 }
 -- nothing was fetched and nothing carried out
 abbrev pub first_replica : Replica
 first_replica = record { base = empty_base; counters = []; number = 0; place = log_begin 1; relay = [] }
+
+-- ---- opening
+
+-- A replica that opens where its store stands: base, number and place are there, its counters begin behind the rows, and nothing is
+-- fetched.
+abbrev pub replica_from : Base → (number : ℕ) → LogPlace → Replica
+replica_from base number place = record { base = base; counters = counters_begun base; number = number; place = place; relay = [] }
+
+-- RESTART: it opens on what it has carried out
+abbrev pub reopened : Replica → Replica
+reopened r = replica_from r.base r.number r.place
 
 -- ---- what was fetched
 

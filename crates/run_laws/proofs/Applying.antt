@@ -20,13 +20,13 @@ use Rattle.apply_laws.specs.session_model.Holding.{changes_of, define}
 use Rattle.apply_laws.specs.session_replays.Followed.{EntriesFollow}
 use Rattle.run_model.specs.replica_model.Replica.{Replica, behind_group, log_begin, size_of}
 use Rattle.run_model.specs.replica_model.Applying.{differs, Going, going_from, next_at, carried_out, carry, by_next, go_on, apply}
-use Rattle.run_model.specs.Run.{Names, Read, nothing, bytes_to, Starts, log_with, number_before, place_before}
+use Rattle.run_model.specs.Run.{Names, Read, nothing, bytes_to, ReplicaStep, carried_at, carried_in, Starts, log_with, number_before, place_before}
 use Rattle.run_model.specs.Following.{AreCommitted, all_carried, applied_of, Follows, groups_of, head_entries, place_behind, reader_at, reader_from}
 use Rattle.run_laws.proofs.Places.{Line, begun, front_of, count_of, place_of, front_place, behind_front, first_event_length, count_last, log_is, place_last, reader_last, reader_log}
 use Rattle.run_laws.specs.Laws.{IsDiffering, IsSound, behind_head}
 use Rattle.run_laws.proofs.Carrying.{Appliers, stays, first_ones, last_ones, in_front, in_back, history_ready, Carries, entry_carried}
 use Rattle.run_laws.proofs.Fetching.{Below, HeadFits, Starting, unread, there, starting, empty_front, none_whole, past_bytes, group_size, group_to, can_behind, can_head}
-use Rattle.run_laws.proofs.Groups.{carried_last, come_last, drawn_last, drawn_length, groups_last, groups_length}
+use Rattle.run_laws.proofs.Groups.{carried_last, come_last, groups_last, groups_length, steps_count, steps_last}
 
 -- ---- entries, one more
 
@@ -62,23 +62,23 @@ behind_is (bytes_to bytes number) stamp server all es is committed = ap behind_h
 
 -- ---- an APPLY on its way
 
--- What an APPLY has round it: who the nodes are, its draw, and those of the groups that were carried out before it.
+-- What an APPLY has round it: who the nodes are, its draw, and what the replica did before it.
 pub record Round : Type 0 where
   pub names : Names
   pub draw : Draw
-  pub before : List Draw
+  pub before : List ReplicaStep
 
--- the draws behind so many groups more
-abbrev pub draws_to : Round → ℕ → List Draw
-draws_to t n = t.before ++ replicate n t.draw
+-- its steps behind so many groups more
+abbrev pub steps_to : Round → ℕ → List ReplicaStep
+steps_to t n = t.before ++ replicate n (carried_at t.draw)
 
 -- It has carried out the first entries that its source put out, and stands behind them, at a count and a place in the log: behind the
 -- beginning of the log it may have passed over that.
 record Way (t : Round) (from : Starts) (m : Machine) (l : Line) (carried more : List (Entry Whole)) (number : ℕ) (p : LogPlace) (rest : List ℕ) (a : Going) : Type 0 where
   pub history : from.owed ++ m.history ≡ begun l (carried ++ more)
   pub committed : AreCommitted (carried ++ more)
-  pub draws : length t.before + a.count ≡ length carried
-  pub makes : all_carried t.names.replica (groups_of (map kept_entry carried) (number_before l.read) (place_behind l.read)) (draws_to t a.count) (applied_of from.replica) ≡ Ok (applied_of a.replica)
+  pub steps : carried_in t.before + a.count ≡ length carried
+  pub makes : all_carried t.names.replica (groups_of (map kept_entry carried) (number_before l.read) (place_behind l.read)) (steps_to t a.count) (applied_of from.replica) ≡ Ok (applied_of a.replica)
   pub base : EntriesFollow carried → after changes_of define carried from.replica.base ≡ Some a.replica.base
   pub number_is : a.replica.number ≡ min (from.replica.number + length carried) (2 ^ 64 - 1)
   pub place : a.replica.place ≡ reader_at l.read l.stamp l.server carried
@@ -92,16 +92,17 @@ record Way (t : Round) (from : Starts) (m : Machine) (l : Line) (carried more : 
 
 -- It came to a replica that follows, and did not stop, or at an item that has no effect, of an entry that may do something else there.
 pub record Came (t : Round) (from : Starts) (m : Machine) (a : Going) : Type 0 where
-  pub follows : Follows t.names (record { from = from; machine = m; replica = a.replica; draws = draws_to t a.count })
-  pub through : EntriesFollow (take (suc (length t.before + a.count)) (behind_head (from.owed ++ m.history))) → a.stop ≡ None
+  pub follows : Follows t.names (record { from = from; machine = m; replica = a.replica; steps = steps_to t a.count })
+  pub through : EntriesFollow (take (suc (carried_in t.before + a.count)) (behind_head (from.owed ++ m.history))) → a.stop ≡ None
   pub stop : IsDiffering a.stop
 
 -- A replica that has carried out nothing since both began.
 record First (t : Round) (from : Starts) (m : Machine) (l : Line) (more : List (Entry Whole)) (rest : List ℕ) (r : Replica) : Type 0 where
   pub history : from.owed ++ m.history ≡ begun l more
   pub committed : AreCommitted more
-  pub draws : length t.before ≡ 0
-  pub makes : applied_of from.replica ≡ applied_of r
+  pub steps : carried_in t.before ≡ 0
+  pub makes : all_carried t.names.replica [] t.before (applied_of from.replica) ≡ Ok (applied_of r)
+  pub base : after changes_of define [] from.replica.base ≡ Some r.base
   pub number : r.number ≡ min (from.replica.number + 0) (2 ^ 64 - 1)
   pub place : r.place ≡ reader_from l.read
   pub relay : r.relay ++ rest ≡ drop r.place.pos (log_with from m)
@@ -120,7 +121,7 @@ module _ (below : Below) (appliers : Appliers) (t : Round) (from : Starts) (m : 
       more = more;
       history = way.history;
       committed = way.committed;
-      draws = drawn_length t.before a.count t.draw ∙ way.draws;
+      steps = steps_count t.before a.count t.draw ∙ way.steps;
       makes = way.makes;
       base = way.base;
       number = way.number_is;
@@ -154,7 +155,7 @@ module _ (below : Below) (appliers : Appliers) (t : Round) (from : Starts) (m : 
   -- what is made of the groups so far and of one more
   makes_on : (carried : List (Entry Whole)) (e : Entry Whole) (es : List (Entry Whole)) (number : ℕ) (p : LogPlace) (rest : List ℕ) (a : Going) (applied : Applied)
       → (way : Way t from m l carried (e ∷ es) number p rest a) → group_carried t.names.replica t.draw a.replica.base a.replica.counters (group_of_entry (kept_entry e) number p) ≡ Ok applied
-      → all_carried t.names.replica (groups_of (map kept_entry (carried ++ e ∷ [])) (number_before from.read) (place_behind from.read)) (draws_to t (a.count + 1)) (applied_of from.replica) ≡ Ok applied
+      → all_carried t.names.replica (groups_of (map kept_entry (carried ++ e ∷ [])) (number_before from.read) (place_behind from.read)) (steps_to t (a.count + 1)) (applied_of from.replica) ≡ Ok applied
   makes_on carried e es number p rest a applied way does =
       let n : ℕ = number_before from.read in
       let first : LogPlace = place_behind from.read in
@@ -162,10 +163,10 @@ module _ (below : Below) (appliers : Appliers) (t : Round) (from : Starts) (m : 
       let gs : List Group = groups_of (map kept_entry carried) n first in
       let g : Group = group_of_entry (kept_entry e) (count_of l carried) (place_of l carried) in
       let here : g ≡ group_of_entry (kept_entry e) number p = ap (λ (k : ℕ). group_of_entry (kept_entry e) k (place_of l carried)) way.count ∙ ap (group_of_entry (kept_entry e) number) way.end in
-      let many : length gs ≡ length (draws_to t a.count) = groups_length carried n first ∙ sym way.draws ∙ sym (drawn_length t.before a.count t.draw) in
-      ap (λ (hs : List Group). all_carried t.names.replica hs (draws_to t (a.count + 1)) x) (groups_last carried e n first)
-      ∙ ap (λ (ds : List Draw). all_carried t.names.replica (gs ++ g ∷ []) ds x) (drawn_last t.before a.count t.draw)
-      ∙ carried_last t.names.replica gs g (draws_to t a.count) t.draw x many
+      let many : length gs ≡ carried_in (steps_to t a.count) = groups_length carried n first ∙ sym way.steps ∙ sym (steps_count t.before a.count t.draw) in
+      ap (λ (hs : List Group). all_carried t.names.replica hs (steps_to t (a.count + 1)) x) (groups_last carried e n first)
+      ∙ ap (λ (ss : List ReplicaStep). all_carried t.names.replica (gs ++ g ∷ []) ss x) (steps_last t.before a.count t.draw)
+      ∙ carried_last t.names.replica gs g (steps_to t a.count) t.draw x many
       ∙ ap (and_then (λ (y : Applied). group_carried t.names.replica t.draw y.base y.counters g)) way.makes
       ∙ ap (group_carried t.names.replica t.draw a.replica.base a.replica.counters) here ∙ does
 
@@ -204,7 +205,7 @@ module _ (below : Below) (appliers : Appliers) (t : Round) (from : Starts) (m : 
       record {
         history = history;
         committed = committed;
-        draws = count_on (length t.before) a.count (length carried) (length all) way.draws (length-append carried (e ∷ []));
+        steps = count_on (carried_in t.before) a.count (length carried) (length all) way.steps (length-append carried (e ∷ []));
         makes = makes_on carried e es number p rest a applied way does;
         base = λ follow. base_on carried e es number p rest a applied way does (in_front carried (e ∷ []) follow) (in_back carried (e ∷ []) follow);
         number_is = number_on a.replica.number from.replica.number (length carried) (length all) (2 ^ 64 - 1) way.number_is (length-append carried (e ∷ []));
@@ -235,8 +236,8 @@ module _ (below : Below) (appliers : Appliers) (t : Round) (from : Starts) (m : 
   stopped carried e es number p rest a d way does = record {
     follows = (came carried (e ∷ es) number p rest a way).follows;
     through = λ follow.
-        let all : EntriesFollow (take (suc (length t.before + a.count)) (carried ++ e ∷ es)) = subst (λ (hs : List (Entry Whole)). EntriesFollow (take (suc (length t.before + a.count)) hs)) (behind_is from.read stamp server (from.owed ++ m.history) (carried ++ e ∷ es) way.history way.committed) follow in
-        let come : EntriesFollow (carried ++ e ∷ []) = subst EntriesFollow (come_last carried e es (length t.before + a.count) way.draws) all in
+        let all : EntriesFollow (take (suc (carried_in t.before + a.count)) (carried ++ e ∷ es)) = subst (λ (hs : List (Entry Whole)). EntriesFollow (take (suc (carried_in t.before + a.count)) hs)) (behind_is from.read stamp server (from.owed ++ m.history) (carried ++ e ∷ es) way.history way.committed) follow in
+        let come : EntriesFollow (carried ++ e ∷ []) = subst EntriesFollow (come_last carried e es (carried_in t.before + a.count) way.steps) all in
         let c = way_carries carried e es number p rest a way (in_front carried (e ∷ []) come) (in_back carried (e ∷ []) come) in
         absurd (not_both c.does does);
     stop = tt;
@@ -300,8 +301,15 @@ module _ (below : Below) (appliers : Appliers) (t : Round) (from : Starts) (m : 
   goes (suc most) wanted carried more number p rest a way =
       by_test (nat_le wanted a.count) _ _ (came carried more number p rest a way) (turn (go_on most wanted t.names.replica t.draw) (goes most wanted) carried more number p rest a way)
 
-  none_yet : length t.before ≡ 0 → length t.before + 0 ≡ 0
-  none_yet draws = omega (arith, draws)
+  none_yet : carried_in t.before ≡ 0 → carried_in t.before + 0 ≡ 0
+  none_yet steps = omega (arith, steps)
+
+  -- no step more
+  none_more : (carried : List (Entry Whole)) (r : Replica)
+      → all_carried t.names.replica (groups_of (map kept_entry carried) (number_before from.read) (place_behind from.read)) t.before (applied_of from.replica) ≡ Ok (applied_of r)
+      → all_carried t.names.replica (groups_of (map kept_entry carried) (number_before from.read) (place_behind from.read)) (steps_to t 0) (applied_of from.replica) ≡ Ok (applied_of r)
+  none_more carried r makes =
+      ap (λ (ss : List ReplicaStep). all_carried t.names.replica (groups_of (map kept_entry carried) (number_before from.read) (place_behind from.read)) ss (applied_of from.replica)) (append-nil t.before) ∙ makes
 
   -- before anything is carried out
   at_start : (more : List (Entry Whole)) (rest : List ℕ) (r : Replica) → First t from m l more rest r → Came t from m (going_from r)
@@ -313,9 +321,9 @@ module _ (below : Below) (appliers : Appliers) (t : Round) (from : Starts) (m : 
       more = more;
       history = f.history;
       committed = f.committed;
-      draws = drawn_length t.before 0 t.draw ∙ none_yet f.draws;
-      makes = ap Ok f.makes;
-      base = λ follow. ap (λ (x : Applied). Some x.base) f.makes;
+      steps = steps_count t.before 0 t.draw ∙ none_yet f.steps;
+      makes = none_more [] r f.makes;
+      base = λ follow. f.base;
       number = f.number;
       place = f.place;
       rest = rest;
@@ -335,9 +343,9 @@ module _ (below : Below) (appliers : Appliers) (t : Round) (from : Starts) (m : 
       record {
         history = f.history;
         committed = f.committed;
-        draws = none_yet f.draws;
-        makes = ap Ok f.makes;
-        base = λ follow. ap (λ (x : Applied). Some x.base) f.makes;
+        steps = none_yet f.steps;
+        makes = none_more [] r f.makes;
+        base = λ follow. f.base;
         number_is = f.number;
         place = f.place;
         relay = f.relay;
@@ -382,9 +390,9 @@ module _ (below : Below) (appliers : Appliers) (t : Round) (from : Starts) (m : 
       goes (length r.relay) wanted [] more (number_before from.read) (place_behind from.read) rest (going_from r) (record {
         history = f.history;
         committed = f.committed;
-        draws = none_yet f.draws;
-        makes = ap Ok f.makes;
-        base = λ follow. ap (λ (x : Applied). Some x.base) f.makes;
+        steps = none_yet f.steps;
+        makes = none_more [] r f.makes;
+        base = λ follow. f.base;
         number_is = f.number;
         place = f.place;
         relay = f.relay;
@@ -396,37 +404,34 @@ module _ (below : Below) (appliers : Appliers) (t : Round) (from : Starts) (m : 
         at = let a : r.place.pos ≡ (place_behind from.read).pos = ap (λ (q : LogPlace). q.pos) place in omega (arith, a);
       })
 
-  made_of : (r : Result Applied Differs) (x y : Applied) → r ≡ Ok x → r ≡ Ok y → x ≡ y
-  made_of r x y q s = cc
-
   going : (wanted : ℕ) (carried more : List (Entry Whole)) (rest : List ℕ) (r : Replica) → from.owed ++ m.history ≡ begun l (carried ++ more) → AreCommitted (carried ++ more)
-      → length t.before ≡ length carried
+      → carried_in t.before ≡ length carried
       → all_carried t.names.replica (groups_of (map kept_entry carried) (number_before from.read) (place_behind from.read)) t.before (applied_of from.replica) ≡ Ok (applied_of r)
       → (EntriesFollow carried → after changes_of define carried from.replica.base ≡ Some r.base) → r.number ≡ min (from.replica.number + length carried) (2 ^ 64 - 1)
       → r.place ≡ reader_at from.read stamp server carried → r.relay ++ rest ≡ drop r.place.pos (log_with from m)
       → HeadFits from.read stamp × CanLogAll (map kept_entry (carried ++ more)) (number_before from.read) (place_behind from.read)
       → Came t from m (go_on (length r.relay) wanted t.names.replica t.draw (going_from r))
-  going wanted [] more rest r history committed draws makes base number place relay can =
+  going wanted [] more rest r history committed steps makes base number place relay can =
       from_first wanted more rest r
       (record {
         history = history;
         committed = committed;
-        draws = draws;
-        makes = made_of _ (applied_of from.replica) (applied_of r) refl makes;
+        steps = steps;
+        makes = makes;
+        base = base tt;
         number = number;
         place = place;
         relay = relay;
       })
       can.1 (subst (Starting l more r.place) (sym relay) (starting from.read stamp server more r.place (log_with from m) can.0 place (log_is from m stamp server more history)))
-  going wanted (x ∷ xs) more rest r history committed draws makes base number place relay can =
+  going wanted (x ∷ xs) more rest r history committed steps makes base number place relay can =
       let carried : List (Entry Whole) = x ∷ xs in
       let end : place_of l carried ≡ record { log = 1; pos = length (front_of l carried) } = front_place below.have below.heads l carried (first_ones carried more committed) in
       goes (length r.relay) wanted carried more (count_of l carried) (place_of l carried) rest (going_from r) (record {
         history = history;
         committed = committed;
-        draws = let here : length t.before + 0 ≡ length carried = omega (arith, draws) in here;
-        makes = subst (λ (ds : List Draw). all_carried t.names.replica (groups_of (map kept_entry carried) (number_before from.read) (place_behind from.read)) ds (applied_of from.replica) ≡ Ok (applied_of r))
-            (sym (append-nil t.before)) makes;
+        steps = let here : carried_in t.before + 0 ≡ length carried = omega (arith, steps) in here;
+        makes = none_more carried r makes;
         base = base;
         number_is = number;
         place = place;
@@ -442,11 +447,11 @@ module _ (below : Below) (appliers : Appliers) (t : Round) (from : Starts) (m : 
       })
 
   pub apply_from : (wanted : ℕ) (carried more : List (Entry Whole)) (rest : List ℕ) (r : Replica) → from.owed ++ m.history ≡ begun l (carried ++ more) → AreCommitted (carried ++ more)
-      → length t.before ≡ length carried
+      → carried_in t.before ≡ length carried
       → all_carried t.names.replica (groups_of (map kept_entry carried) (number_before from.read) (place_behind from.read)) t.before (applied_of from.replica) ≡ Ok (applied_of r)
       → (EntriesFollow carried → after changes_of define carried from.replica.base ≡ Some r.base) → r.number ≡ min (from.replica.number + length carried) (2 ^ 64 - 1)
       → r.place ≡ reader_at from.read stamp server carried → r.relay ++ rest ≡ drop r.place.pos (log_with from m) → Came t from m (apply wanted t.names.replica t.draw r)
   unfolding apply
-  apply_from wanted carried more rest r history committed draws makes base number place relay =
-      going wanted carried more rest r history committed draws makes base number place relay
+  apply_from wanted carried more rest r history committed steps makes base number place relay =
+      going wanted carried more rest r history committed steps makes base number place relay
       (can_head from.read stamp server (carried ++ more) (subst (λ (es : List (Entry Whole)). CanLogAll (map kept_entry es) (number_before from.read) (place_before from.read)) history sound.logs))

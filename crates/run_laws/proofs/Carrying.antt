@@ -134,7 +134,7 @@ makes_both (e ∷ es) back base middle last first rest = by (λ next makes. make
     by more None makes = cc
     by more (Some next) makes = more next makes
 
-behind_ready : (from : Starts) (m : Machine) → IsBehind from → Replays (source_from from) m → Ready from.replica.base m.state.shared.base (from.owed ++ m.history)
+pub behind_ready : (from : Starts) (m : Machine) → IsBehind from → Replays (source_from from) m → Ready from.replica.base m.state.shared.base (from.owed ++ m.history)
 behind_ready from m behind replays = record {
   holds = behind.holds;
   made = made_both from.owed m.history behind.made replays.holds.made;

@@ -1,27 +1,32 @@
 -- The replica follows its source behind each command.
-use Rattle.std.proofs.Common.{◌≡◌, ◌≤◌, ◌^◌, ℕ, ◌+◌, ◌-◌, false, List, [], ◌∷◌, ◌++◌, map, length, drop, take, Some, Ok, refl, sym, ap, ◌∙◌, subst, append_assoc, append-nil, arith}
+use Rattle.std.proofs.Common.{◌≡◌, ◌≤◌, ◌^◌, ℕ, ◌+◌, ◌-◌, ◌==◌, false, List, [], ◌∷◌, ◌++◌, map, length, drop, take, Some, Ok, refl, sym, ap, ◌∙◌, subst, append_assoc, append-nil, arith}
 use Rattle.std.specs.Prelude.{min}
 use Rattle.port_traits.specs.declared.identity.Draw.{Draw}
 use Rattle.apply_laws.specs.catalog_rules.Bases.{Base}
 use Rattle.apply_laws.specs.log_entries.declared.entries.Entry.{Entry}
 use Rattle.apply_laws.specs.log_entries.Entries.{after}
+use Rattle.apply_laws.specs.log_model.Groups.{Group}
 use Rattle.apply_laws.specs.log_model.Log.{log}
+use Rattle.apply_laws.specs.apply_model.Groups.{Applied, and_then}
 use Rattle.apply_laws.specs.Laws.{BasesHold}
 use Rattle.apply_laws.specs.session_model.Machine.{Whole, whole, kept_entry, Machine, machine_after, Step, step, log_bytes}
 use Rattle.apply_laws.specs.session_model.declared.format.Format.{Format}
 use Rattle.apply_laws.specs.session_model.declared.format.Format.TheVariants.{Statement, Mixed, Row}
 use Rattle.apply_laws.specs.session_model.Holding.{changes_of, define, EntriesIn, format_of, session_at}
+use Rattle.apply_laws.specs.session_model.Openings.{opening_entries}
 use Rattle.apply_laws.specs.session_replays.Followed.{EntriesFollow, UnwarnedFollow, MixedIsUnwarned, RowsAreUnwarned}
-use Rattle.run_model.specs.replica_model.Replica.{Replica, want, fetched}
+use Rattle.run_model.specs.replica_model.Replica.{Replica, want, fetched, reopened}
 use Rattle.run_model.specs.replica_model.Applying.{apply}
-use Rattle.run_model.specs.Asked.{Asked, say, select, take_bytes, take_groups}
-use Rattle.run_model.specs.Run.{Names, Both, Starts, first_both, log_with, next}
-use Rattle.run_model.specs.Following.{AreCommitted, applied_of, Follows, head_entries}
+use Rattle.run_model.specs.Asked.{Asked, say, select, take_bytes, take_groups, restart_source, restart_replica}
+use Rattle.run_model.specs.Run.{Names, Both, ReplicaStep, opened_again, carried_in, Starts, first_both, log_with, next, number_before}
+use Rattle.run_model.specs.Following.{AreCommitted, all_carried, applied_of, begun_anew, Follows, groups_of, head_entries, place_behind}
 use Rattle.run_laws.specs.Laws.{IsSound, FollowsBegins, FollowsOpened, FollowsGoOn, NoApplyStops, NothingIsDamaged, AllCarriedIsEqual, IsLoggedAsSet, IsUnderOther, OthersFollow, WarnedAsShown, may_warn}
 use Rattle.run_laws.proofs.Places.{Line, count_of, log_grows, place_of}
 use Rattle.run_laws.proofs.Committing.{committed_behind, step_puts}
 use Rattle.run_laws.proofs.Fetching.{Below, want_at, piece_is, fetched_rest}
 use Rattle.run_laws.proofs.Carrying.{Appliers, all_ready, in_both, nothing_is_owed}
+use Rattle.run_laws.proofs.Groups.{carried_both, groups_length, opened_last}
+use Rattle.run_laws.proofs.Restarting.{head_follows, source_follows}
 use Rattle.run_laws.proofs.Applying.{Came, Round, apply_from}
 
 pub follows_begins : FollowsBegins
@@ -32,8 +37,8 @@ follows_begins names b stamp server es rest behind same none history committed r
   more = es;
   history = history;
   committed = committed;
-  draws = ap length none;
-  makes = ap Ok (ap applied_of (sym same));
+  steps = ap carried_in none;
+  makes = ap (λ (ss : List ReplicaStep). all_carried names.replica [] ss (applied_of b.from.replica)) none ∙ ap Ok (ap applied_of (sym same));
   base = λ follow. ap (λ (r : Replica). Some r.base) (sym same);
   number = ap (λ (r : Replica). r.number) same ∙ small b.from.replica.number behind.number;
   place = ap (λ (r : Replica). r.place) same ∙ behind.place;
@@ -70,7 +75,7 @@ said_follows below names b s puts f =
       more = on;
       history = history;
       committed = subst AreCommitted assoc (committed_behind (f.carried ++ f.more) s.committed f.committed puts);
-      draws = f.draws;
+      steps = f.steps;
       makes = f.makes;
       base = f.base;
       number = f.number;
@@ -93,7 +98,7 @@ fetch_follows below names b n f sound =
       more = f.more;
       history = f.history;
       committed = f.committed;
-      draws = f.draws;
+      steps = f.steps;
       makes = f.makes;
       base = f.base;
       number = f.number;
@@ -105,10 +110,37 @@ fetch_follows below names b n f sound =
 -- ---- APPLY
 
 apply_came : Below → Appliers → (names : Names) (draw : Draw) (wanted : ℕ) (b : Both) → Follows names b → IsSound b.from b.machine
-    → Came (record { names = names; draw = draw; before = b.draws }) b.from b.machine (apply wanted names.replica draw b.replica)
+    → Came (record { names = names; draw = draw; before = b.steps }) b.from b.machine (apply wanted names.replica draw b.replica)
 apply_came below appliers names draw wanted b f sound =
-    let t : Round = record { names = names; draw = draw; before = b.draws } in
-    apply_from below appliers t b.from b.machine f.stamp f.server sound wanted f.carried f.more f.rest b.replica f.history f.committed f.draws f.makes f.base f.number f.place f.relay
+    let t : Round = record { names = names; draw = draw; before = b.steps } in
+    apply_from below appliers t b.from b.machine f.stamp f.server sound wanted f.carried f.more f.rest b.replica f.history f.committed f.steps f.makes f.base f.number f.place f.relay
+
+-- ---- RESTART of the replica
+
+reopened_follows : (names : Names) (b : Both) → Follows names b → Follows names (record b { replica = reopened b.replica; steps = b.steps ++ opened_again ∷ [] })
+reopened_follows names b f =
+    let n : ℕ = number_before b.from.read in
+    let p = place_behind b.from.read in
+    let gs : List Group = groups_of (map kept_entry f.carried) n p in
+    let many : length gs ≡ carried_in b.steps = groups_length f.carried n p ∙ sym f.steps in
+    record {
+      stamp = f.stamp;
+      server = f.server;
+      carried = f.carried;
+      more = f.more;
+      history = f.history;
+      committed = f.committed;
+      steps = no_more (carried_in (b.steps ++ opened_again ∷ [])) (carried_in b.steps) (length f.carried) (carried_both b.steps (opened_again ∷ [])) f.steps;
+      makes = opened_last names.replica gs b.steps (applied_of b.from.replica) many ∙ ap (and_then (λ (y : Applied). Ok (begun_anew y))) f.makes;
+      base = f.base;
+      number = f.number;
+      place = f.place;
+      rest = drop b.replica.place.pos (log_with b.from b.machine);
+      relay = refl;
+    }
+  where
+    no_more : (n k m : ℕ) → n ≡ k + 0 → k ≡ m → n ≡ m
+    no_more n k m is same = omega (arith, is, same)
 
 -- ---- each command
 
@@ -118,6 +150,8 @@ follows_go_on below appliers names b (say n text) draw f sound =
 follows_go_on below appliers names b (select text) draw f sound = f
 follows_go_on below appliers names b (take_bytes n) draw f sound = fetch_follows below names b n f sound
 follows_go_on below appliers names b (take_groups n) draw f sound = (apply_came below appliers names draw n b f sound).follows
+follows_go_on below appliers names b restart_source draw f sound = source_follows below.have below.heads names b draw f sound
+follows_go_on below appliers names b restart_replica draw f sound = reopened_follows names b f
 
 pub no_apply_stops : Below → Appliers → NoApplyStops
 no_apply_stops below appliers names draw wanted b f sound follow = (apply_came below appliers names draw wanted b f sound).through follow
@@ -158,6 +192,9 @@ other_follows unwarned mixed rows names b (say n text) draw before logged other 
 other_follows unwarned mixed rows names b (select text) draw before logged other = before
 other_follows unwarned mixed rows names b (take_bytes n) draw before logged other = before
 other_follows unwarned mixed rows names b (take_groups n) draw before logged other = before
+other_follows unwarned mixed rows names b restart_source draw before logged other =
+    in_both b.machine.history (opening_entries names.source draw b.machine.state.shared.place) before (head_follows draw.now names.source.server_id (b.machine.state.shared.place.log == 0))
+other_follows unwarned mixed rows names b restart_replica draw before logged other = before
 
 pub others_follow : UnwarnedFollow → MixedIsUnwarned → RowsAreUnwarned → OthersFollow
 others_follow unwarned mixed rows names b [] ds before logged other = before

@@ -1,7 +1,7 @@
--- Groups carried out, one more: each at the draw of its APPLY.
-use Rattle.std.proofs.Common.{◌≡◌, ℕ, ◌+◌, suc, List, [], ◌∷◌, ◌++◌, length, map, take, Result, Ok, Err, refl, sym, ap, ◌∙◌, append_assoc, arith, length-append}
+-- What a replica's steps make of groups, one step more: a group carried out at the draw of its APPLY, or an opening.
+use Rattle.std.proofs.Common.{◌≡◌, ℕ, ◌+◌, zero, suc, List, [], ◌∷◌, ◌++◌, length, map, take, Result, Ok, Err, refl, sym, ap, ◌∙◌, append_assoc, arith}
 use Rattle.std.specs.Prelude.{replicate}
-use Rattle.std.proofs.lemmas.List.{length-replicate, replicate_more}
+use Rattle.std.proofs.lemmas.List.{replicate_more}
 use Rattle.port_traits.specs.declared.identity.Identity.{Identity}
 use Rattle.port_traits.specs.declared.identity.Draw.{Draw}
 use Rattle.apply_laws.specs.log_entries.declared.entries.Entry.{Entry}
@@ -11,7 +11,8 @@ use Rattle.apply_laws.specs.apply_model.Stops.{Differs}
 use Rattle.apply_laws.specs.apply_model.Groups.{Applied, and_then, group_carried}
 use Rattle.apply_laws.specs.log_entry_laws.Entries.{group_of_entry}
 use Rattle.apply_laws.specs.session_model.Machine.{Whole, kept_entry}
-use Rattle.run_model.specs.Following.{all_carried, groups_of}
+use Rattle.run_model.specs.Run.{ReplicaStep, carried_at, opened_again, carried_in}
+use Rattle.run_model.specs.Following.{all_carried, begun_anew, groups_of}
 
 -- ---- the groups of entries
 
@@ -33,28 +34,56 @@ none_more : (identity : Identity) (r : Result Applied Differs) → and_then (all
 none_more identity (Ok x) = refl
 none_more identity (Err d) = refl
 
-pub carried_last : (identity : Identity) (gs : List Group) (g : Group) (ds : List Draw) (d : Draw) (x : Applied) → length gs ≡ length ds
-    → all_carried identity (gs ++ g ∷ []) (ds ++ d ∷ []) x ≡ and_then (λ (y : Applied). group_carried identity d y.base y.counters g) (all_carried identity gs ds x)
+pub carried_last : (identity : Identity) (gs : List Group) (g : Group) (ss : List ReplicaStep) (d : Draw) (x : Applied) → length gs ≡ carried_in ss
+    → all_carried identity (gs ++ g ∷ []) (ss ++ carried_at d ∷ []) x ≡ and_then (λ (y : Applied). group_carried identity d y.base y.counters g) (all_carried identity gs ss x)
 carried_last identity [] g [] d x same = none_more identity (group_carried identity d x.base x.counters g)
-carried_last identity [] g (c ∷ ds) d x same = let no : ⊥ = omega (arith, same) in absurd no
 carried_last identity (h ∷ gs) g [] d x same = let no : ⊥ = omega (arith, same) in absurd no
-carried_last identity (h ∷ gs) g (c ∷ ds) d x same =
-    by (λ y. carried_last identity gs g ds d y (omega (arith, same))) (group_carried identity c x.base x.counters h)
+carried_last identity [] g (opened_again ∷ ss) d x same = carried_last identity [] g ss d (begun_anew x) same
+carried_last identity (h ∷ gs) g (opened_again ∷ ss) d x same = carried_last identity (h ∷ gs) g ss d (begun_anew x) same
+carried_last identity [] g (carried_at c ∷ ss) d x same = let no : ⊥ = omega (arith, same) in absurd no
+carried_last identity (h ∷ gs) g (carried_at c ∷ ss) d x same =
+    by (λ y. carried_last identity gs g ss d y (omega (arith, same))) (group_carried identity c x.base x.counters h)
   where
-    by : ((y : Applied) → all_carried identity (gs ++ g ∷ []) (ds ++ d ∷ []) y ≡ and_then (λ (z : Applied). group_carried identity d z.base z.counters g) (all_carried identity gs ds y))
+    by : ((y : Applied) → all_carried identity (gs ++ g ∷ []) (ss ++ carried_at d ∷ []) y ≡ and_then (λ (z : Applied). group_carried identity d z.base z.counters g) (all_carried identity gs ss y))
         → (r : Result Applied Differs)
-        → and_then (all_carried identity (gs ++ g ∷ []) (ds ++ d ∷ [])) r ≡ and_then (λ (z : Applied). group_carried identity d z.base z.counters g) (and_then (all_carried identity gs ds) r)
+        → and_then (all_carried identity (gs ++ g ∷ []) (ss ++ carried_at d ∷ [])) r ≡ and_then (λ (z : Applied). group_carried identity d z.base z.counters g) (and_then (all_carried identity gs ss) r)
     by more (Ok y) = more y
     by more (Err stop) = refl
 
--- ---- draws
+-- an opening behind them
+pub opened_last : (identity : Identity) (gs : List Group) (ss : List ReplicaStep) (x : Applied) → length gs ≡ carried_in ss
+    → all_carried identity gs (ss ++ opened_again ∷ []) x ≡ and_then (λ (y : Applied). Ok (begun_anew y)) (all_carried identity gs ss x)
+opened_last identity gs [] x same = refl
+opened_last identity [] (opened_again ∷ ss) x same = opened_last identity [] ss (begun_anew x) same
+opened_last identity (h ∷ gs) (opened_again ∷ ss) x same = opened_last identity (h ∷ gs) ss (begun_anew x) same
+opened_last identity [] (carried_at c ∷ ss) x same = let no : ⊥ = omega (arith, same) in absurd no
+opened_last identity (h ∷ gs) (carried_at c ∷ ss) x same =
+    by (λ y. opened_last identity gs ss y (omega (arith, same))) (group_carried identity c x.base x.counters h)
+  where
+    by : ((y : Applied) → all_carried identity gs (ss ++ opened_again ∷ []) y ≡ and_then (λ (z : Applied). Ok (begun_anew z)) (all_carried identity gs ss y))
+        → (r : Result Applied Differs)
+        → and_then (all_carried identity gs (ss ++ opened_again ∷ [])) r ≡ and_then (λ (z : Applied). Ok (begun_anew z)) (and_then (all_carried identity gs ss) r)
+    by more (Ok y) = more y
+    by more (Err stop) = refl
+
+-- ---- steps
 
 -- one group more at the draw of an APPLY
-pub drawn_last : (ds : List Draw) (n : ℕ) (d : Draw) → ds ++ replicate (n + 1) d ≡ (ds ++ replicate n d) ++ d ∷ []
-drawn_last ds n d = ap (λ (xs : List Draw). ds ++ xs) (sym (replicate_more n d)) ∙ sym (append_assoc ds (replicate n d) (d ∷ []))
+pub steps_last : (ss : List ReplicaStep) (n : ℕ) (d : Draw) → ss ++ replicate (n + 1) (carried_at d) ≡ (ss ++ replicate n (carried_at d)) ++ carried_at d ∷ []
+steps_last ss n d =
+    ap (λ (xs : List ReplicaStep). ss ++ xs) (sym (replicate_more n (carried_at d))) ∙ sym (append_assoc ss (replicate n (carried_at d)) (carried_at d ∷ []))
 
-pub drawn_length : (ds : List Draw) (n : ℕ) (d : Draw) → length (ds ++ replicate n d) ≡ length ds + n
-drawn_length ds n d = length-append ds (replicate n d) ∙ ap (λ (k : ℕ). length ds + k) (length-replicate n d)
+pub carried_both : (front back : List ReplicaStep) → carried_in (front ++ back) ≡ carried_in front + carried_in back
+carried_both [] back = omega arith
+carried_both (carried_at d ∷ ss) back = omega (arith, carried_both ss back)
+carried_both (opened_again ∷ ss) back = carried_both ss back
+
+carried_many : (n : ℕ) (d : Draw) → carried_in (replicate n (carried_at d)) ≡ n
+carried_many zero d = refl
+carried_many (suc n) d = ap suc (carried_many n d)
+
+pub steps_count : (ss : List ReplicaStep) (n : ℕ) (d : Draw) → carried_in (ss ++ replicate n (carried_at d)) ≡ carried_in ss + n
+steps_count ss n d = carried_both ss (replicate n (carried_at d)) ∙ ap (λ (k : ℕ). carried_in ss + k) (carried_many n d)
 
 -- ---- the entries that an APPLY comes to
 

@@ -6,3 +6,4 @@ pub mod Following
 pub mod Groups
 pub mod Places
 pub mod Replaying
+pub mod Restarting

@@ -9,7 +9,7 @@
 --
 -- An item does the same at every replica where it is logged by its rows, or where it is not warned, or warned because of RAND() alone
 -- (`UnwarnedFollow` of session_replays). Under MIXED and ROW no item is warned.
-use Rattle.std.specs.Prelude.{◌≡◌, ◌≤◌, ◌^◌, ℕ, suc, ◌+◌, ◌-◌, Bool, true, false, List, [], ◌∷◌, ◌++◌, length, map, take, drop, Option, Some, None}
+use Rattle.std.specs.Prelude.{◌≡◌, ◌≤◌, ◌^◌, ℕ, suc, ◌+◌, ◌-◌, Bool, true, false, List, [], ◌∷◌, ◌++◌, map, take, drop, Option, Some, None}
 use Rattle.port_traits.specs.declared.identity.Draw.{Draw}
 use Rattle.apply_laws.specs.log_entry_laws.Entries.{CanLogAll}
 use Rattle.apply_laws.specs.log_entries.declared.entries.Entry.{Entry}
@@ -26,8 +26,8 @@ use Rattle.apply_laws.specs.session_replays.Texts.{EntriesSay}
 use Rattle.apply_laws.specs.session_replays.Followed.{EntriesFollow}
 use Rattle.apply_laws.specs.session_replays.Replaying.{Replays}
 use Rattle.run_model.specs.replica_model.Applying.{Going, Stop, differs, damaged, foreign, apply}
-use Rattle.run_model.specs.Asked.{Asked, say, select, take_bytes, take_groups}
-use Rattle.run_model.specs.Run.{Names, Both, Starts, from_nothing, number_before, place_before, source_from, log_with, Told, answered, got, went, first_both, next, end_of}
+use Rattle.run_model.specs.Asked.{Asked, say, select, take_bytes, take_groups, restart_source, restart_replica}
+use Rattle.run_model.specs.Run.{Names, Both, Starts, carried_in, from_nothing, number_before, place_before, source_from, log_with, Told, answered, got, went, first_both, next, end_of}
 use Rattle.run_model.specs.Following.{AreCommitted, Follows, head_entries, reader_from}
 
 -- ---- one command
@@ -56,7 +56,7 @@ NothingIsOwed = IsBehind from_nothing
 -- a replica that has carried out nothing since both began follows its source, if what it has fetched is what the log has there
 abbrev pub FollowsBegins : Type 0
 FollowsBegins =
-    (names : Names) (b : Both) (stamp server : ℕ) (es : List (Entry Whole)) (rest : List ℕ) → IsBehind b.from → b.replica ≡ b.from.replica → b.draws ≡ []
+    (names : Names) (b : Both) (stamp server : ℕ) (es : List (Entry Whole)) (rest : List ℕ) → IsBehind b.from → b.replica ≡ b.from.replica → b.steps ≡ []
     → b.from.owed ++ b.machine.history ≡ head_entries b.from.read stamp server ++ es → AreCommitted es
     → b.replica.relay ++ rest ≡ drop b.replica.place.pos (log_with b.from b.machine) → Follows names b
 
@@ -64,7 +64,7 @@ FollowsBegins =
 abbrev pub FollowsOpened : Type 0
 FollowsOpened = (names : Names) (src : Draw) → Follows names (first_both names src)
 
--- it follows behind each command, however FETCH cuts the log, and whatever its draws are
+-- it follows behind each command, however FETCH cuts the log, wherever one of both opens again, and whatever its draws are
 abbrev pub FollowsGoOn : Type 0
 FollowsGoOn = (names : Names) (b : Both) (c : Asked) (draw : Draw) → Follows names b → IsSound b.from b.machine → Follows names (next names b c draw).both
 
@@ -77,7 +77,7 @@ behind_head (Definition stamp server item ∷ es) = Definition stamp server item
 
 -- the entries that an APPLY comes to: those that were carried out before it, those that it carries out, and the next one
 abbrev pub come_to : Both → Going → List (Entry Whole)
-come_to b a = take (suc (length b.draws + a.count)) (behind_head (b.from.owed ++ b.machine.history))
+come_to b a = take (suc (carried_in b.steps + a.count)) (behind_head (b.from.owed ++ b.machine.history))
 
 -- it does not stop where each item of these does the same at every replica
 abbrev pub NoApplyStops : Type 0
@@ -131,6 +131,8 @@ IsLoggedAsSet names b (say n text) draw = EntriesIn (format_of (session_at n b.m
 IsLoggedAsSet names b (select text) draw = Unit {0}
 IsLoggedAsSet names b (take_bytes n) draw = Unit {0}
 IsLoggedAsSet names b (take_groups n) draw = Unit {0}
+IsLoggedAsSet names b restart_source draw = Unit {0}
+IsLoggedAsSet names b restart_replica draw = Unit {0}
 
 abbrev pub AllLoggedAsSet : Names → Both → List Asked → List Draw → Type 0
 AllLoggedAsSet names b cs ds = OfEach (IsLoggedAsSet names) names b cs ds
@@ -151,6 +153,8 @@ IsUnderOther b (say n text) draw = may_warn (format_of (session_at n b.machine))
 IsUnderOther b (select text) draw = Unit {0}
 IsUnderOther b (take_bytes n) draw = Unit {0}
 IsUnderOther b (take_groups n) draw = Unit {0}
+IsUnderOther b restart_source draw = Unit {0}
+IsUnderOther b restart_replica draw = Unit {0}
 
 -- where no session is under STATEMENT as it says something, all that is committed does the same at every replica, whatever is said
 abbrev pub OthersFollow : Type 0

@@ -1,5 +1,6 @@
 pub mod Laws
 pub mod Replays
+pub mod Restarts
 -- the crates below that this one speaks of, passed on
 pub use Rattle.apply_laws.specs.log_entry_laws as log_entry_laws
 pub use Rattle.apply_laws.specs.log_entries as log_entries

@@ -1,19 +1,19 @@
 //! The replica follows its source.
 ghost use Rattle.run_laws.specs.Laws.{AllCarriedIsEqual, FollowsBegins, FollowsGoOn, FollowsOpened, NoApplyStops, NothingIsDamaged, NothingIsOwed, OthersFollow, WarnedAsShown};
 ghost use Rattle.run_laws.specs.Replays.{LogIsItsEntries, ReplayIsEqual};
+ghost use Rattle.run_laws.specs.Restarts.{RestartsKeep, RestartsKeepMarks, RestartsStaySound};
 
 use apply_laws::log_entry_laws::{
     entries_can_log_on, entry_is_read, few_are_cut, groups_have_bounds, relay_is_read,
     start_is_read, start_relay_is_read,
 };
 use apply_laws::log_model::{entries_have_length, heads_have_length, log_goes_on};
-use apply_laws::session_replays::unwarned_items_follow;
+use apply_laws::session_replays::{openings_replay, unwarned_items_follow};
 use apply_laws::{bases_hold, entries_of_runs_follow, entry_is_carried};
 use run_model::log_file_model::{end_is_seen, group_is_passed, magic_is_passed};
 
 /// A law: a replica that begins behind its source, owing it some entries, or with nothing as it does, follows it behind each command,
-/// however FETCH cuts the log. No APPLY of
-/// it stops where each item that it comes to does the same at every replica, and whatever is logged, one stops at nothing but an item
+/// however FETCH cuts the log, and wherever one of both opens again. No APPLY of it stops where each item that it comes to does the same at every replica, and whatever is logged, one stops at nothing but an item
 /// that has no effect there.
 pub fn replica_follows()
     ensures begins { FollowsBegins }
@@ -34,6 +34,18 @@ pub fn replica_follows()
     bases_hold();
     entry_is_carried();
     entries_of_runs_follow();
+}
+
+/// A law: a RESTART of a source that a replica follows puts out nothing and leaves all that was committed, which can be run and read again
+/// as before; its sessions begin anew. No RESTART changes a number of a mark.
+pub fn restarts_keep()
+    ensures keeps { RestartsKeep }
+    ensures sound { RestartsStaySound }
+    ensures marks { RestartsKeepMarks }
+{
+    entries_have_length();
+    heads_have_length();
+    openings_replay();
 }
 
 /// A law: a replica that has carried out all that its source committed has its base, where each item does the same at every replica.

@@ -5,7 +5,7 @@
 //!
 //! - `laws`: the laws, each a function that does nothing
 //!
-//! In specs/: `Laws` (what each says), `Replays` (what is said of a whole log and its replay). It stands on the laws of sessions
+//! In specs/: `Laws` (what each says), `Restarts` (what is said of a RESTART), `Replays` (what is said of a whole log and its replay). It stands on the laws of sessions
 //! (`session_model`, `session_replays`), of logged entries (`log_entry_laws`, `log_file_model`) and of appliers (`apply_laws`); `repl_run`
 //! stands on it.
 //!
@@ -16,6 +16,9 @@
 //!   what follows, as far as it has fetched. Its base and counters are what the definition of an applier makes of the groups of these
 //!   entries, each at the draw of the APPLY that carried it out, whatever texts are among them. Where each item of them does the same
 //!   at every replica, its base is what they make of the one that it began with.
+//! - So it is behind each RESTART of the one and the other: its counters begin anew, what it had fetched is gone, and base, number and
+//!   place stay (`replica_follows`). A source's RESTART leaves all that was committed, and puts out nothing, since its log has begun;
+//!   its sessions begin anew, also with the format of a new one (`restarts_keep`). No command of the program asks a RESTART yet.
 //! - No APPLY stops where each item that it comes to does the same at every replica: those of the entries that were carried out before
 //!   and by it, and of the next one. Whatever is logged, one stops at nothing but an item that has no effect at the replica
 //!   (`replica_follows`). Of a log that its source wrote, what is not whole is left for the next APPLY.
@@ -35,5 +38,5 @@ mod laws;
 pub use apply_laws::{log_entry_laws, log_model, session_model, session_replays};
 pub use laws::{
     all_carried_is_equal, log_is_its_entries, others_follow, replay_is_equal, replica_follows,
-    warned_as_shown,
+    restarts_keep, warned_as_shown,
 };

@@ -1,14 +1,18 @@
--- What the commands of a script ask of the nodes, as far as this program carries them out.
+-- What the commands of a script ask of the nodes. Of the two RESTARTs the definitions and laws of runs speak, and no command asks one:
+-- this program carries out none, since its nodes keep nothing on disks.
 use Rattle.std.specs.Prelude.{ℕ, List, [], ◌∷◌, Option, Some, None, Result, Ok, Err}
 use Rattle.script_read.specs.Commands.{What, of_session, source_checkpoint, source_flush, source_restart, fetch, apply, replica_checkpoint, replica_restart, replica_select, Command}
 use Rattle.script_read.specs.Script.{split_of}
 
--- A text of the session with this number; of the replica a SELECT, so many bytes to be fetched, so many groups to be carried out.
+-- A text of the session with this number; of the replica a SELECT, so many bytes to be fetched, so many groups to be carried out; that
+-- the source opens again on what it has committed, or the replica on what it has carried out.
 pub data Asked : Type 0 where
   say : ℕ → List ℕ → Asked
   select : List ℕ → Asked
   take_bytes : ℕ → Asked
   take_groups : ℕ → Asked
+  restart_source : Asked
+  restart_replica : Asked
 
 -- what a command asks, None for what no node does yet
 abbrev pub asked_by : What → Option Asked

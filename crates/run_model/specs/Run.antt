@@ -1,5 +1,10 @@
 -- A run of commands over a source and a replica: what they are told, the lines that show it, and whose draw each took.
-use Rattle.std.specs.Prelude.{ℕ, ◌+◌, Bool, true, false, List, [], ◌∷◌, ◌++◌, length, map, replicate}
+--
+-- A node that opens again by a RESTART loses what it keeps in memory alone. A source has no session and no open transaction, its
+-- counters begin behind its rows, and what it has committed stays. A replica has nothing of what it had fetched, its counters begin
+-- behind its rows, and its base, its number and its place stay, from which it fetches again. The nodes of this program carry out no
+-- RESTART, since they keep nothing on disks.
+use Rattle.std.specs.Prelude.{ℕ, suc, ◌+◌, Bool, true, false, List, [], ◌∷◌, ◌++◌, length, map, replicate, Option, Some, None}
 use Rattle.port_traits.specs.declared.identity.Identity.{Identity}
 use Rattle.port_traits.specs.declared.identity.Draw.{Draw}
 use Rattle.log_entry_laws.specs.log_entries.declared.entries.Entry.{Entry}
@@ -8,13 +13,15 @@ use Rattle.log_entry_laws.specs.catalog_rules.Bases.{Base, empty_base}
 use Rattle.answer_text.specs.declared.answer.Answer.{Answer}
 use Rattle.answer_text.specs.declared.report.Mark.{Mark}
 use Rattle.answer_text.specs.Shown.{shown}
+use Rattle.session_replays.specs.session_model.Answers.{ok}
 use Rattle.session_replays.specs.session_model.Machine.{Whole, whole, kept_entry, nowhere, Step, step, Machine, machine_after, opened, log_bytes}
 use Rattle.session_replays.specs.session_model.Holding.{Beginning}
-use Rattle.replica_model.specs.Replica.{Replica, first_replica, fetched, want}
+use Rattle.session_replays.specs.session_model.Openings.{opened_from, restarted}
+use Rattle.replica_model.specs.Replica.{Replica, first_replica, fetched, reopened, want}
 use Rattle.replica_model.specs.Applying.{Going, apply}
 use Rattle.replica_model.specs.Selecting.{select_answer}
 use Rattle.replica_model.specs.Lines.{fetched_line, going_line}
-use Rattle.run_model.specs.Asked.{Asked, say, select, take_bytes, take_groups}
+use Rattle.run_model.specs.Asked.{Asked, say, select, take_bytes, take_groups, restart_source, restart_replica}
 
 -- ---- where both nodes began
 
@@ -66,17 +73,31 @@ pub record Names : Type 0 where
   pub source : Identity
   pub replica : Identity
 
--- A source with all that it committed since both began, and a replica; for each group that it carried out, the draw of the APPLY that
--- did.
+-- What a replica did to its base and counters: it carried out a group, at the draw of the APPLY that did, or it opened again.
+pub data ReplicaStep : Type 0 where
+  carried_at : Draw → ReplicaStep
+  opened_again : ReplicaStep
+
+-- how many groups it carried out
+abbrev pub carried_in : List ReplicaStep → ℕ
+carried_in [] = 0
+carried_in (carried_at draw ∷ ss) = suc (carried_in ss)
+carried_in (opened_again ∷ ss) = carried_in ss
+
+-- A source with all that it committed since both began, and a replica with its steps since then.
 pub record Both : Type 0 where
   pub from : Starts
   pub machine : Machine
   pub replica : Replica
-  pub draws : List Draw
+  pub steps : List ReplicaStep
+
+-- both opened where their stores stand, the source at the draw of its opening
+abbrev pub both_from : Names → Draw → Starts → Both
+both_from names src from = record { from = from; machine = opened_from names.source src (source_from from); replica = from.replica; steps = [] }
 
 -- a source without tables, which has begun its log at the draw of its opening, and a replica that has nothing of it
 abbrev pub first_both : Names → Draw → Both
-first_both names src = record { from = from_nothing; machine = opened names.source src; replica = first_replica; draws = [] }
+first_both names src = record { from = from_nothing; machine = opened names.source src; replica = first_replica; steps = [] }
 
 -- ---- one command
 
@@ -100,15 +121,21 @@ handed b piece = record { both = record b { replica = fetched piece b.replica };
 
 -- each group that was carried out took the draw of the APPLY
 abbrev pub applied : Both → Draw → Going → Next
-applied b draw a = record { both = record b { replica = a.replica; draws = b.draws ++ replicate a.count draw }; told = went a }
+applied b draw a = record { both = record b { replica = a.replica; steps = b.steps ++ replicate a.count (carried_at draw) }; told = went a }
+
+-- a node opened again, which is ok
+abbrev pub opened_on : Both → Next
+opened_on b = record { both = b; told = answered (ok 0) }
 
 -- a session's text is a step of the source; FETCH takes the next bytes of its log; APPLY carries out groups of those that were fetched;
--- the replica's SELECT reads its rows
+-- the replica's SELECT reads its rows; a RESTART opens its node again, the source's at its draw
 abbrev pub next : Names → Both → Asked → Draw → Next
 next names b (say n text) draw = said b (step whole names.source b.machine.state n text draw)
 next names b (select text) draw = record { both = b; told = answered (select_answer names.replica draw b.replica.counters b.replica.base text) }
 next names b (take_bytes n) draw = handed b (log_bytes (log_with b.from b.machine) (want b.replica) n)
 next names b (take_groups n) draw = applied b draw (apply n names.replica draw b.replica)
+next names b restart_source draw = opened_on (record b { machine = restarted names.source draw b.machine })
+next names b restart_replica draw = opened_on (record b { replica = reopened b.replica; steps = b.steps ++ opened_again ∷ [] })
 
 -- the lines that show it
 abbrev pub told_lines : ℕ → Told → List ℕ
@@ -132,19 +159,37 @@ lines_shown names b k (c ∷ cs) (d ∷ ds) = told_lines k (next names b c d).to
 
 -- ---- whose draws
 
--- the source's commands that take a draw are those of sessions
-abbrev pub is_said : Asked → Bool
-is_said (say n text) = true
-is_said (select text) = false
-is_said (take_bytes n) = false
-is_said (take_groups n) = false
+-- A node, whose environment hands out draws.
+pub data Node : Type 0 where
+  the_source : Node
+  the_replica : Node
 
--- the replica's are SELECT and APPLY
-abbrev pub is_drawn : Asked → Bool
-is_drawn (say n text) = false
-is_drawn (select text) = true
-is_drawn (take_bytes n) = false
-is_drawn (take_groups n) = true
+-- the node that a command takes its draw from: a session's text from the source, SELECT and APPLY from the replica, each RESTART from
+-- its own; FETCH takes none
+abbrev pub drawn_by : Asked → Option Node
+drawn_by (say n text) = Some the_source
+drawn_by (select text) = Some the_replica
+drawn_by (take_bytes n) = None
+drawn_by (take_groups n) = Some the_replica
+drawn_by restart_source = Some the_source
+drawn_by restart_replica = Some the_replica
+
+abbrev pub is_source : Option Node → Bool
+is_source None = false
+is_source (Some the_source) = true
+is_source (Some the_replica) = false
+
+abbrev pub is_replica : Option Node → Bool
+is_replica None = false
+is_replica (Some the_source) = false
+is_replica (Some the_replica) = true
+
+-- whether a command takes a draw of the source, or of the replica
+abbrev pub draws_source : Asked → Bool
+draws_source c = is_source (drawn_by c)
+
+abbrev pub draws_replica : Asked → Bool
+draws_replica c = is_replica (drawn_by c)
 
 abbrev pub kept_if : Bool → Draw → List Draw → List Draw
 kept_if true d ds = d ∷ ds
@@ -157,10 +202,10 @@ draws_of p (c ∷ cs) [] = []
 draws_of p (c ∷ cs) (d ∷ ds) = kept_if (p c) d (draws_of p cs ds)
 
 abbrev pub of_source : List Asked → List Draw → List Draw
-of_source cs ds = draws_of is_said cs ds
+of_source cs ds = draws_of draws_source cs ds
 
 abbrev pub of_replica : List Asked → List Draw → List Draw
-of_replica cs ds = draws_of is_drawn cs ds
+of_replica cs ds = draws_of draws_replica cs ds
 
 -- ---- where a run stands
 

@@ -9,7 +9,7 @@ use Rattle.answer_text.specs.declared.report.Report.{Report}
 use Rattle.answer_text.specs.declared.status.Status.{Status}
 use Rattle.answer_text.specs.declared.status.Status.TheVariants.{Done, BadWords, BadScript, ReadFault, WriteFault, SourceDisk, ReplicaDisk, SourceDamaged, ReplicaDamaged, LogDamaged, LogForeign, Differs, NoMemory}
 use Rattle.run_laws.specs.run_model.Asked.{Asked}
-use Rattle.run_laws.specs.run_model.Run.{Names, Both, first_both, next, end_of, told_lines, lines_shown, draws_of, kept_if, is_said, is_drawn, mark_at, last_mark}
+use Rattle.run_laws.specs.run_model.Run.{Names, Both, first_both, next, end_of, told_lines, lines_shown, draws_of, kept_if, draws_source, draws_replica, mark_at, last_mark}
 use Rattle.run_laws.specs.Laws.{GoesThrough, IsLoggedAsSet, OfEach}
 use Rattle.run_streams.specs.Reports.{first_mark}
 use Rattle.run_streams.specs.Wrote.{Wrote, WroteFront}
@@ -99,8 +99,8 @@ told_on : (names : Names) (src rep : Draw) (cs : List Asked) (ds : List Draw) (d
 told_on names src rep cs ds d c old new is began told drew = record {
   source = drew.source ∙ told.source;
   replica = drew.replica ∙ told.replica;
-  src_draws = drew.src_draws ∙ ap (λ xs. xs ++ kept_if (is_said c) d []) told.src_draws ∙ ap (λ xs. src ∷ xs) (sym (draws_last is_said cs ds d c is));
-  rep_draws = drew.rep_draws ∙ ap (λ xs. xs ++ kept_if (is_drawn c) d []) told.rep_draws ∙ ap (λ xs. rep ∷ xs) (sym (draws_last is_drawn cs ds d c is));
+  src_draws = drew.src_draws ∙ ap (λ xs. xs ++ kept_if (draws_source c) d []) told.src_draws ∙ ap (λ xs. src ∷ xs) (sym (draws_last draws_source cs ds d c is));
+  rep_draws = drew.rep_draws ∙ ap (λ xs. xs ++ kept_if (draws_replica c) d []) told.rep_draws ∙ ap (λ xs. rep ∷ xs) (sym (draws_last draws_replica cs ds d c is));
   now = began ∙ sym (mark_last names (first_both names src) 1 cs ds d c first_mark is);
   marks = drew.marks ∙ told.marks;
 }
@@ -141,8 +141,8 @@ starts cs report before nodes opened = record {
   told = record {
     source = opened.source;
     replica = opened.replica;
-    src_draws = opened.src_draws ∙ ap (λ ds. opened.src ∷ ds) (sym (no_draws is_said cs));
-    rep_draws = opened.rep_draws ∙ ap (λ ds. opened.rep ∷ ds) (sym (no_draws is_drawn cs));
+    src_draws = opened.src_draws ∙ ap (λ ds. opened.src ∷ ds) (sym (no_draws draws_source cs));
+    rep_draws = opened.rep_draws ∙ ap (λ ds. opened.rep ∷ ds) (sym (no_draws draws_replica cs));
     now = opened.stays ∙ sym (no_mark opened.names (first_both opened.names opened.src) 1 cs first_mark);
     marks = opened.marks;
   };
@@ -270,8 +270,8 @@ since : (old mid new : Report) (b : Both) (k : ℕ) (c : Asked) (d : Draw) → m
 since old mid new b k c d began drew = record {
   source = drew.source ∙ ap (λ (r : Report). r.src_identity) began;
   replica = drew.replica ∙ ap (λ (r : Report). r.rep_identity) began;
-  src_draws = drew.src_draws ∙ ap (λ (r : Report). r.src_draws ++ kept_if (is_said c) d []) began;
-  rep_draws = drew.rep_draws ∙ ap (λ (r : Report). r.rep_draws ++ kept_if (is_drawn c) d []) began;
+  src_draws = drew.src_draws ∙ ap (λ (r : Report). r.src_draws ++ kept_if (draws_source c) d []) began;
+  rep_draws = drew.rep_draws ∙ ap (λ (r : Report). r.rep_draws ++ kept_if (draws_replica c) d []) began;
   marks = drew.marks ∙ ap (λ (r : Report). r.marks) began;
 }
 

@@ -27,7 +27,7 @@ use Rattle.replica_node.specs.declared.told.Applied.{Applied}
 use Rattle.replica_node.specs.Kept.{Kept, replica_of}
 use Rattle.replica_node.specs.Steps.{IsTold, stop_of}
 use Rattle.run_laws.specs.run_model.Asked.{Asked, say, select, take_bytes, take_groups}
-use Rattle.run_laws.specs.run_model.Run.{Names, Both, Starts, from_nothing, log_with}
+use Rattle.run_laws.specs.run_model.Run.{Names, Both, ReplicaStep, carried_at, Starts, from_nothing, log_with}
 use Rattle.run_laws.specs.run_model.Following.{Follows}
 use Rattle.run_laws.specs.Laws.{IsSound, FollowsOpened, FollowsGoOn, NoApplyStops, NothingIsDamaged, NothingIsOwed}
 use Rattle.script_run.specs.declared.nodes.Nodes.{Nodes}
@@ -108,9 +108,9 @@ selected nodes nodes' k text draw old new answer lines same given lines_are drew
     })
 
 -- nodes of which the replica was changed
-replica_changed : (names : Names) (nodes nodes' : Nodes) (b : Both) (r : Replica) (draws : List Draw) → nodes'.source ≡ nodes.source → nodes'.replica.identity ≡ nodes.replica.identity
-    → replica_of nodes'.replica ≡ r → Follows names (record b { replica = r; draws = draws }) → Together names nodes b → Together names nodes' (record b { replica = r; draws = draws })
-replica_changed names nodes nodes' b r draws source identity replica follows t = record {
+replica_changed : (names : Names) (nodes nodes' : Nodes) (b : Both) (r : Replica) (steps : List ReplicaStep) → nodes'.source ≡ nodes.source → nodes'.replica.identity ≡ nodes.replica.identity
+    → replica_of nodes'.replica ≡ r → Follows names (record b { replica = r; steps = steps }) → Together names nodes b → Together names nodes' (record b { replica = r; steps = steps })
+replica_changed names nodes nodes' b r steps source identity replica follows t = record {
   source_name = rw source t.source_name;
   replica_name = identity ∙ t.replica_name;
   stands = rw source t.stands;
@@ -135,7 +135,7 @@ fetched_shown nodes nodes' k n log pos piece lines follows source wanted is iden
       lines_are = lines_are ∙ ap (λ (bs : List ℕ). fetched_line k (length bs)) bytes;
       through = tt;
       logged = tt;
-      together = replica_changed names nodes nodes' b (fetched (log_bytes (log_with b.from b.machine) (want b.replica) n) b.replica) b.draws source identity behind
+      together = replica_changed names nodes nodes' b (fetched (log_bytes (log_with b.from b.machine) (want b.replica) n) b.replica) b.steps source identity behind
           (follows names b (take_bytes n) draw t.follows (sound_here names nodes b t)) t;
     }
 
@@ -155,7 +155,7 @@ applied nodes nodes' k n draw old new told lines follows stops damaged source id
           ∙ ap (λ (p : LogPlace). applied_line k a.count p (option_map stop_of told.stop)) is'.place ∙ ap (applied_line k a.count a.replica.place) is'.stop;
       through = (stops names draw n b t.follows (sound_here names nodes b t), damaged names draw n b t.follows (sound_here names nodes b t));
       logged = tt;
-      together = replica_changed names nodes nodes' b a.replica (b.draws ++ replicate a.count draw) source identity (replica ∙ ap (λ (a : Going). a.replica) here)
+      together = replica_changed names nodes nodes' b a.replica (b.steps ++ replicate a.count (carried_at draw)) source identity (replica ∙ ap (λ (a : Going). a.replica) here)
           (follows names b (take_groups n) draw t.follows (sound_here names nodes b t)) t;
     })
 

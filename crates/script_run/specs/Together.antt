@@ -7,7 +7,7 @@ use Rattle.answer_text.specs.declared.status.Status.TheVariants.{WriteFault, NoM
 use Rattle.source_node.specs.Standing.{Stands}
 use Rattle.replica_node.specs.Kept.{replica_of}
 use Rattle.run_laws.specs.run_model.Asked.{Asked}
-use Rattle.run_laws.specs.run_model.Run.{Names, Both, from_nothing, first_both, next, told_lines, is_said, is_drawn, kept_if, mark_at}
+use Rattle.run_laws.specs.run_model.Run.{Names, Both, from_nothing, first_both, next, told_lines, draws_source, draws_replica, kept_if, mark_at}
 use Rattle.run_laws.specs.run_model.Following.{Follows}
 use Rattle.run_laws.specs.Laws.{IsSound, IsLoggedAsSet, GoesThrough}
 use Rattle.run_streams.specs.Reports.{first_mark}
@@ -32,8 +32,8 @@ pub record Together (names : Names) (nodes : Nodes) (b : Both) : Type 0 where
 pub record Drew (c : Asked) (draw : Draw) (old new : Report) : Type 0 where
   pub source : new.src_identity ≡ old.src_identity
   pub replica : new.rep_identity ≡ old.rep_identity
-  pub src_draws : new.src_draws ≡ old.src_draws ++ kept_if (is_said c) draw []
-  pub rep_draws : new.rep_draws ≡ old.rep_draws ++ kept_if (is_drawn c) draw []
+  pub src_draws : new.src_draws ≡ old.src_draws ++ kept_if (draws_source c) draw []
+  pub rep_draws : new.rep_draws ≡ old.rep_draws ++ kept_if (draws_replica c) draw []
   pub marks : new.marks ≡ old.marks
 
 -- whatever happened, no identity changed and draws were told behind those before
