@@ -4,6 +4,8 @@ use Rattle.std.specs.List.{list_all}
 use Rattle.sql_locals.specs.Types.{has_size}
 use Rattle.name_const_laws.specs.catalog_rules.Creating.{program_types}
 use Rattle.name_const_laws.specs.catalog_rules.Objects.{Object, table, function, procedure, reaction}
+use Rattle.session_model.specs.Machine.{Machine}
+use Rattle.session_model.specs.Holding.{Beginning, Holds}
 
 -- a procedure whose VARCHARs have at most 65,535 bytes, as every one has that CREATE PROCEDURE made
 abbrev pub has_sizes : Object → Bool
@@ -14,3 +16,7 @@ has_sizes (reaction t) = true
 
 abbrev pub ProceduresHaveSizes : List Object → Type 0
 ProceduresHaveSizes catalog = IsTrue (list_all has_sizes catalog)
+
+-- a law: so they are in each catalog that a run comes to
+abbrev pub SizesStay : Type 0
+SizesStay = (from : Beginning) (m : Machine) → Holds from m → ProceduresHaveSizes from.base.catalog → ProceduresHaveSizes m.state.shared.base.catalog

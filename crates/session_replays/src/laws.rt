@@ -4,6 +4,7 @@ ghost use Rattle.session_replays.specs.Bodies.{CatalogsStayWell, HistoriesStayWe
 ghost use Rattle.session_replays.specs.Followed.{MixedIsUnwarned, RowsAreUnwarned, UnwarnedFollow};
 ghost use Rattle.session_replays.specs.Replaying.{OpeningsReplay, ReplaysBegin, ReplaysGoOn, ReplaysOpen, RestartsReplay};
 ghost use Rattle.session_replays.specs.Rerun.{RunsAgain};
+ghost use Rattle.session_replays.specs.Sizes.{SizesStay};
 
 use independence_laws::statements_are_followed;
 use name_const_laws::sql_meaning::{parts_are_well, statements_end_well, turns_never_rise};
@@ -65,6 +66,11 @@ pub fn bodies_stay_well()
 {
     answers_are_well();
 }
+
+/// A law: the types of procedures have sizes that there are, in each catalog that a run comes to, if they do where it began.
+pub fn sizes_stay()
+    ensures { SizesStay }
+{}
 
 /// A law: an item that is not warned follows, and so does one whose reasons all come from RAND() alone. Under MIXED and ROW no item
 /// is warned.

@@ -42,7 +42,7 @@ mod worked;
 // What is its own, and the crates below that it speaks of, passed on: who stands above names them through it.
 pub use independence_laws;
 pub use laws::{
-    bodies_stay_well, openings_replay, sets_run_as_dos, statements_make_the_base,
+    bodies_stay_well, openings_replay, sets_run_as_dos, sizes_stay, statements_make_the_base,
     transactions_replay, unwarned_items_follow,
 };
 pub use session_model;
