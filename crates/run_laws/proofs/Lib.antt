@@ -4,6 +4,7 @@ pub mod Committing
 pub mod Fetching
 pub mod Following
 pub mod Groups
+pub mod Openings
 pub mod Places
 pub mod Replaying
 pub mod Restarting

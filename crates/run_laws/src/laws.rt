@@ -1,5 +1,6 @@
 //! The replica follows its source.
 ghost use Rattle.run_laws.specs.Laws.{AllCarriedIsEqual, FollowsBegins, FollowsGoOn, FollowsOpened, NoApplyStops, NothingIsDamaged, NothingIsOwed, OthersFollow, WarnedAsShown};
+ghost use Rattle.run_laws.specs.Openings.{BeginWithNothing, BothOpen, RunsEndWell};
 ghost use Rattle.run_laws.specs.Replays.{LogIsItsEntries, ReplayIsEqual};
 ghost use Rattle.run_laws.specs.Restarts.{RestartsKeep, RestartsKeepMarks, RestartsStaySound};
 
@@ -8,7 +9,9 @@ use apply_laws::log_entry_laws::{
     start_is_read, start_relay_is_read,
 };
 use apply_laws::log_model::{entries_have_length, heads_have_length, log_goes_on};
-use apply_laws::session_replays::{openings_replay, unwarned_items_follow};
+use apply_laws::session_replays::{
+    bodies_stay_well, openings_replay, sizes_stay, unwarned_items_follow,
+};
 use apply_laws::{bases_hold, entries_of_runs_follow, entry_is_carried};
 use run_model::log_file_model::{end_is_seen, group_is_passed, magic_is_passed};
 
@@ -46,6 +49,27 @@ pub fn restarts_keep()
     entries_have_length();
     heads_have_length();
     openings_replay();
+}
+
+/// A law: where a replica is behind its source by what stands in the log from its place on, both open, and it follows. A run that began so
+/// ends where the next one may: the replica owes what it has not carried out, where each item that it has does the same at every replica.
+pub fn runs_open()
+    ensures nothing { BeginWithNothing }
+    ensures opens { BothOpen }
+    ensures ends { RunsEndWell }
+{
+    entries_have_length();
+    heads_have_length();
+    log_goes_on();
+    few_are_cut();
+    groups_have_bounds();
+    start_relay_is_read();
+    relay_is_read();
+    entries_can_log_on();
+    bases_hold();
+    bodies_stay_well();
+    openings_replay();
+    sizes_stay();
 }
 
 /// A law: a replica that has carried out all that its source committed has its base, where each item does the same at every replica.

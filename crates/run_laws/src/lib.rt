@@ -5,7 +5,7 @@
 //!
 //! - `laws`: the laws, each a function that does nothing
 //!
-//! In specs/: `Laws` (what each says), `Restarts` (what is said of a RESTART), `Replays` (what is said of a whole log and its replay). It stands on the laws of sessions
+//! In specs/: `Laws` (what each says), `Restarts` (what is said of a RESTART), `Openings` (where a run may begin and where it ends), `Replays` (what is said of a whole log and its replay). It stands on the laws of sessions
 //! (`session_model`, `session_replays`), of logged entries (`log_entry_laws`, `log_file_model`) and of appliers (`apply_laws`); `repl_run`
 //! stands on it.
 //!
@@ -19,6 +19,9 @@
 //! - So it is behind each RESTART of the one and the other: its counters begin anew, what it had fetched is gone, and base, number and
 //!   place stay (`replica_follows`). A source's RESTART leaves all that was committed, and puts out nothing, since its log has begun;
 //!   its sessions begin anew, also with the format of a new one (`restarts_keep`). No command of the program asks a RESTART yet.
+//! - Where a replica is behind its source by what stands in the log from its place on, both open there, and it follows; and a run that
+//!   began so ends where the next one may, where each item that the replica has carried out does the same at every replica: it owes what
+//!   it has not (`runs_open`).
 //! - No APPLY stops where each item that it comes to does the same at every replica: those of the entries that were carried out before
 //!   and by it, and of the next one. Whatever is logged, one stops at nothing but an item that has no effect at the replica
 //!   (`replica_follows`). Of a log that its source wrote, what is not whole is left for the next APPLY.
@@ -38,5 +41,5 @@ mod laws;
 pub use apply_laws::{log_entry_laws, log_model, session_model, session_replays};
 pub use laws::{
     all_carried_is_equal, log_is_its_entries, others_follow, replay_is_equal, replica_follows,
-    restarts_keep, warned_as_shown,
+    restarts_keep, runs_open, warned_as_shown,
 };
