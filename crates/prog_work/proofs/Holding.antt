@@ -1,5 +1,5 @@
 -- What holds of all that is worked on, and stays where changes are taken back and committed.
-use Rattle.std.proofs.Common.{◌≡◌, ℕ, true, List, [], ◌∷◌, drop, take, Option, Some, None, refl, sym, ap, subst, ◌∙◌}
+use Rattle.std.proofs.Common.{◌≡◌, ℕ, true, List, [], ◌∷◌, drop, take, Option, Some, None, refl, sym, ap, ◌∙◌}
 use Rattle.std.specs.Prelude.{is_some, unwrap_or}
 use Rattle.std.specs.Option.{option_and_then}
 use Rattle.std.proofs.lemmas.Bool.{and_parts}
@@ -16,10 +16,6 @@ use Rattle.table_rules.proofs.Equations.{applied_none, applied_front, all_applie
 use Rattle.table_rules.proofs.Storing.{some_same, all_inverse_front, definitions_kept, turn_back}
 use Rattle.table_rules.proofs.Leading.{all_inverse_both, none_taken_back, last_taken_back}
 use Rattle.catalog.specs.catalog_objects.declared.object.Object.{Object}
-use Rattle.catalog.specs.catalog_objects.Keys.{objects_of}
-use Rattle.sql_reach.specs.catalog_rules.Bases.{definitions_in}
-use Rattle.auto_inc.specs.Counting.{tables_of}
-use Rattle.prog_work.specs.Contents.{counted_names}
 use Rattle.exec_state.specs.dml_rows.Noted.{StaysReversible}
 use Rattle.prog_work.specs.Contents.{IsTogether, without_changes}
 use Rattle.prog_work.specs.Together.{AreTogether}
@@ -142,26 +138,3 @@ are_together objects store changes counters h whole =
       theirs = h.theirs;
       counted = h.counted;
     }
-
--- ---- a reader's work
-
-pub together_read : (objects now : List Object) (store read : Store) (changes : List Change) (counters after : List Counter) → AreTogether objects store changes counters
-    → read.tables ≡ store.committed → read.committed ≡ store.committed → now ≡ objects → after ≡ counters → AreTogether now read [] after
-together_read objects now store read changes counters after h tables committed os cs =
-    subst (λ (o : List Object). AreTogether o read [] after) (sym os)
-    (subst (λ (ct : List Counter). AreTogether objects read [] ct) (sym cs)
-    (record {
-      reversible = none_taken_back read;
-      apart = none_apart read (committed ∙ sym tables);
-      theirs = ap definitions_of tables ∙ all_definitions (all_inverse changes) store.tables store.committed h.apart ∙ h.theirs;
-      counted = h.counted;
-    }))
-
-pub together_counting : (objects own : List Object) (store other : Store) (changes theirs : List Change) (counters after : List Counter) → AreTogether objects store changes counters
-    → AreTogether own other theirs after → own ≡ objects → AreTogether objects store changes after
-together_counting objects own store other changes theirs counters after h h' os = record {
-  reversible = h.reversible;
-  apart = h.apart;
-  theirs = h.theirs;
-  counted = subst (λ (o : List Object). tables_of after ≡ counted_names (definitions_in (objects_of o))) os h'.counted;
-}

@@ -4,7 +4,7 @@
 //! [`Work`] is the catalog, the tables as they stand with the changes that can be taken back, and the counters. Contracts
 //! see it as plain data (`Contents`).
 //!
-//! - `work`: [`Work`]; `reading`: a second one for a reader beside the open changes
+//! - `work`: [`Work`]
 //! - `carrying`: rows put in, changed and taken out as they are, as an applier does it
 //! - `meter`: [`Meter`], what is left to a command, and [`Outcome`], what is told of a statement
 //! - `defining`: CREATE, DROP and TRUNCATE, and [`is_definition`]
@@ -20,8 +20,7 @@
 //!   gives the rows that stand; its tables are those of the catalog, each table with an AUTO_INCREMENT column has its
 //!   counter and no other has one ([`Work::together`])
 //! - [`Work::take_back_to`] takes back just the changes behind a mark, without memory, and leaves what is committed;
-//!   [`Work::commit`] lets them stand; [`Work::reader`] has just the committed rows, and [`Work::take_counters`] takes
-//!   over the counters that its statement left
+//!   [`Work::commit`] lets them stand
 //! - [`Work::insert_row`], [`Work::update_row`] and [`Work::delete_row`] store and note one change of a row, or refuse it with
 //!   just what is in its way, and run no trigger; [`Work::raise_counter`] raises one counter as its definition says;
 //!   [`Work::give_up`] takes all changes back and puts counters back, without memory
@@ -41,7 +40,6 @@ mod aside;
 mod carrying;
 mod defining;
 mod meter;
-mod reading;
 mod work;
 
 // What is its own, and the crates below that it speaks of, passed on: who stands above names them through it.
