@@ -7,7 +7,7 @@ use Rattle.session_model.specs.log_entries.declared.entries.Entry.{Entry}
 use Rattle.session_model.specs.log_entries.declared.entries.Entry.TheVariants.{Transaction, Definition, LogStart}
 use Rattle.session_model.specs.log_model.Log.{LogPlace, log, head, behind, entry_bytes}
 use Rattle.session_model.specs.Machine.{nowhere}
-use Rattle.durable_runs.specs.Sources.{added_to}
+use Rattle.waiting_entries.specs.Added.{added_to}
 use Rattle.durable_runs.specs.Laws.{BeginNone}
 
 here : (n : ℕ) (bytes : List ℕ) → (if eqb n n then bytes else []) ≡ bytes

@@ -23,7 +23,8 @@ use Rattle.store_model.specs.Laws.{HasLog}
 use Rattle.store_model.proofs.Leading.{entry_leads, writer_goes_on}
 use Rattle.durable_runs.specs.Marks.{source_mark}
 use Rattle.durable_runs.specs.Runs.{behind_steps, Claim}
-use Rattle.durable_runs.specs.Sources.{Stored, SourceStands, stored_in, stored_behind, entry_stored, held_after, records_of, records_applied, AreWithin, added, added_to, source_side, SourceLasts, SourceImage}
+use Rattle.waiting_entries.specs.Added.{added, added_to}
+use Rattle.durable_runs.specs.Sources.{Stored, SourceStands, stored_in, stored_behind, entry_stored, held_after, records_of, records_applied, AreWithin, source_side, SourceLasts, SourceImage}
 use Rattle.durable_runs.specs.Laws.{HasFirstLog, StoredBehind}
 use Rattle.durable_runs.proofs.Steps.{some_same, steps_part}
 use Rattle.durable_runs.proofs.Joining.{lasts_begins, lasts_ends}

@@ -7,7 +7,8 @@ use Rattle.session_model.specs.Machine.{Whole, kept_entry, nowhere}
 use Rattle.session_model.specs.Holding.{EntriesMade, changes_of, define}
 use Rattle.store_model.specs.Held.{LogEnd, Held, first_read, nothing_held}
 use Rattle.store_model.specs.Entries.{writer_at}
-use Rattle.durable_runs.specs.Sources.{Stored, added_to}
+use Rattle.waiting_entries.specs.Added.{added_to}
+use Rattle.durable_runs.specs.Sources.{Stored}
 
 -- a source that has nothing
 abbrev pub nothing_stored : Stored

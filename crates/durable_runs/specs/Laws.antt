@@ -21,7 +21,8 @@ use Rattle.store_model.specs.Entries.{writer_at, record_of_entry, IsWithin}
 use Rattle.store_model.specs.Laws.{HasLog, SameSnapshots}
 use Rattle.durable_runs.specs.Marks.{Named, named, Between, NameNow, RiseByOne, AreBehind, last_named, source_mark, replica_mark, served_mark}
 use Rattle.durable_runs.specs.Runs.{Side, behind_steps, Claim, Runs, Lasts}
-use Rattle.durable_runs.specs.Sources.{Stored, SourceStands, log_in, stored_in, entry_stored, held_after, records_of, records_applied, AreWithin, added_to, source_side, SourceLasts, SourceRuns, SourceImage}
+use Rattle.waiting_entries.specs.Added.{added_to}
+use Rattle.durable_runs.specs.Sources.{Stored, SourceStands, log_in, stored_in, entry_stored, held_after, records_of, records_applied, AreWithin, source_side, SourceLasts, SourceRuns, SourceImage}
 use Rattle.durable_runs.specs.Replicas.{replica_side, ReplicaRuns, ReplicaLasts, RunsBoth, Served, IsCarried, AreCarried, ReplicaImage}
 use Rattle.durable_runs.specs.Behind.{Behind, nothing_stored}
 

@@ -1,14 +1,12 @@
 -- What a source's store has, what its entries make of it, and what may stand on its disk.
-use Rattle.std.specs.Prelude.{◌≡◌, ◌≤◌, ℕ, zero, suc, ◌+◌, ◌==◌, if◌then◌else◌, List, [], ◌∷◌, ◌++◌, length, map, take, Option, Some, Ok}
+use Rattle.std.specs.Prelude.{◌≡◌, ◌≤◌, ℕ, zero, suc, ◌+◌, List, [], ◌∷◌, ◌++◌, length, map, take, Option, Some, Ok}
 use Rattle.std.specs.Option.{option_map, option_and_then}
 use Rattle.answer_text.specs.declared.report.Mark.{Mark}
 use Rattle.disk_model.specs.Story.{Image, Story}
 use Rattle.session_model.specs.log_entries.declared.entries.Item.{Item}
 use Rattle.session_model.specs.log_entries.declared.entries.Entry.{Entry}
-use Rattle.session_model.specs.log_entries.declared.entries.Entry.TheVariants.{Transaction, Definition, LogStart}
 use Rattle.session_model.specs.log_entries.Entries.{after}
-use Rattle.session_model.specs.log_model.Log.{LogPlace, rotation, head, behind, counted, counted_all, entry_bytes}
-use Rattle.session_model.specs.log_model.Written.{bytes_of}
+use Rattle.session_model.specs.log_model.Log.{LogPlace, behind, counted, counted_all}
 use Rattle.session_model.specs.Machine.{Whole, kept_of, kept_entry}
 use Rattle.session_model.specs.Holding.{changes_of, define}
 use Rattle.store_model.specs.declared.record.Kind.TheVariants.{Source}
@@ -16,6 +14,7 @@ use Rattle.store_model.specs.declared.record.Record.{Record}
 use Rattle.store_model.specs.Held.{LogEnd, Held, applied}
 use Rattle.store_model.specs.Stores.{held_by}
 use Rattle.store_model.specs.Entries.{writer_at, record_of_entry, IsWithin, held_after as held_behind_entries}
+use Rattle.waiting_entries.specs.Added.{added, added_to}
 use Rattle.durable_runs.specs.Marks.{named, source_mark}
 use Rattle.durable_runs.specs.Runs.{Side, Runs, Lasts}
 
@@ -52,22 +51,6 @@ end_of (suc (suc n)) (e ∷ ends) = end_of (suc n) ends
 -- what an image has of log n up to its end; the logs stand from file 8 on
 abbrev pub log_in : (n : ℕ) → List LogEnd → Image → List ℕ
 log_in n ends image = take (end_of n ends) (image (7 + n))
-
--- the name of the next log, behind the log in which a writer stands; nothing before the first log
-abbrev pub rotation_at : (stamp server : ℕ) → LogPlace → List ℕ
-rotation_at stamp server p = if p.log == 0 then [] else bytes_of server p.pos (rotation stamp (p.log + 1))
-
--- what an entry puts behind log n: a new log has its own head, and the log before it ends with its name
-abbrev pub added : (n : ℕ) → Entry Item → (number : ℕ) → LogPlace → List ℕ
-added n (Transaction stamp server is) number p = if n == p.log then entry_bytes (Transaction stamp server is) number p else []
-added n (Definition stamp server i) number p = if n == p.log then entry_bytes (Definition stamp server i) number p else []
-added n (LogStart stamp server) number p =
-    if n == p.log then rotation_at stamp server p else if n == p.log + 1 then head stamp server else []
-
--- what entries put behind log n, one after the other
-abbrev pub added_to : (n : ℕ) → List (Entry Item) → (number : ℕ) → LogPlace → List ℕ
-added_to n [] number p = []
-added_to n (e ∷ es) number p = added n e number p ++ added_to n es (counted e number) (behind e number p)
 
 -- ---- a store with its logs
 

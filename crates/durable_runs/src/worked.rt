@@ -6,7 +6,8 @@ ghost use Rattle.store_model.specs.Worked.{source_at, with_rows, one_row, source
 ghost use Rattle.session_model.specs.catalog_rules.Bases.{empty_base};
 ghost use Rattle.durable_runs.specs.Marks.{named, last_named, source_mark, replica_mark, served_mark};
 ghost use Rattle.durable_runs.specs.Runs.{Claim, Runs};
-ghost use Rattle.durable_runs.specs.Sources.{held_after, records_of, end_of, added_to, source_side};
+ghost use Rattle.waiting_entries.specs.Added.{added_to};
+ghost use Rattle.durable_runs.specs.Sources.{held_after, records_of, end_of, source_side};
 ghost use Rattle.durable_runs.specs.Worked.{
   three_marks,
   counting,
