@@ -1,0 +1,10 @@
+pub mod Rotations
+pub mod StartBody
+pub mod Logs
+pub mod Images
+pub mod Entries
+pub mod Steps
+pub mod Queues
+pub mod Looping
+pub mod Begun
+pub mod Served

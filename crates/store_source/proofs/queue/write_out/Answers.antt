@@ -1,0 +1,10 @@
+use Rattle.std.proofs.Common.{sym, refl}
+use Rattle.store_source.proofs.Looping.{no_runs, runs_same}
+use Rattle.store_source.proofs.queue.write_out.Goals as goal
+
+pub returns-in_err-make_room-clause-run : goal.returns-in_err-make_room-clause-run
+returns-in_err-make_room-clause-run g c s es can fits = no_runs _ c.args.store.now s es _ c.args.report.now.marks can
+
+pub returns-in_err-room_for_marks-clause-run : goal.returns-in_err-room_for_marks-clause-run
+returns-in_err-room_for_marks-clause-run g c s es can fits =
+    runs_same _ _ s es _ _ _ _ refl (sym c.in_err-room_for_marks.ensures.err) (no_runs _ c.args.store.now s es _ c.args.report.now.marks can)
