@@ -1,0 +1,3 @@
+pub mod Logs
+pub mod Beginning
+pub mod Ending

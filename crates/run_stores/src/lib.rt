@@ -1,0 +1,22 @@
+//! Runs between stores that are not empty: definitions and laws, and no code.
+//!
+//! A run begins where a source's and a replica's stores stand, and leaves both where the next one begins. `durable_runs` says when a replica's
+//! store is behind its source's, `run_laws` where a run may begin and where it ends; here is that the one is the other, for a source of one
+//! log. Nodes with stores will stand on it.
+//!
+//! In specs/: `Standing` (what stores have to be, and what they stand for), `Laws` (what each law says).
+//!
+//! - `laws`: the laws, each a function that does nothing
+//!
+//! # Proved
+//! - Where a replica's store is behind its source's, by entries that it owes, a run begins there: the replica follows its source, and has
+//!   carried out none of them. In its end its store is behind again, by the entries that it has not carried out, where each item of those
+//!   that it has does the same at every replica: what the next opening asks is what this run leaves ([`behind_goes_on`]).
+#![tactic(auto)]
+
+mod laws;
+
+// What is its own, and the crates below that it speaks of, passed on: who stands above names them through it.
+pub use durable_runs;
+pub use laws::behind_goes_on;
+pub use run_laws;
