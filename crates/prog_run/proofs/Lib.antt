@@ -1,4 +1,5 @@
 pub mod Around
+pub mod Aside
 pub mod Digits
 pub mod Effects
 pub mod LastId

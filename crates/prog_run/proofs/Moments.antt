@@ -21,8 +21,8 @@ use Rattle.stage_undo.specs.Back.{IsBack}
 use Rattle.statement_names.specs.sql_reach.Defining.{number_of_bytes}
 use Rattle.prog_work.specs.declared.meter.Meter.{Meter}
 use Rattle.prog_work.specs.declared.meter.Outcome.{Outcome}
-use Rattle.prog_work.specs.Contents.{contents_of}
-use Rattle.prog_work.proofs.Carried.{together_counted, together_led}
+use Rattle.prog_work.specs.Contents.{committed_tables, contents_of}
+use Rattle.prog_work.proofs.Carried.{rows_changed, together_counted, together_led}
 use Rattle.prog_run.specs.Runs.{moment, scene_at, setting_at, Runs, Evaluated, LeavesAll, Comes, Gives}
 use Rattle.prog_work.specs.Together.{AreTogether}
 
@@ -30,6 +30,11 @@ use Rattle.prog_work.specs.Together.{AreTogether}
 pub together_on : (objects : List Object) (a b : Stage) → AreTogether objects a.tables a.undo a.counters → LeadsOn a b → AreTogether objects b.tables b.undo b.counters
 together_on objects a b h p =
     together_counted objects b.tables b.undo a.counters b.counters (together_led objects a.tables b.tables a.undo b.undo a.counters h (rows_led a b p)) (names_led a b p)
+
+-- the rows that were last committed stay
+pub committed_on : (objects : List Object) (a b : Stage) → AreTogether objects a.tables a.undo a.counters → LeadsOn a b
+    → committed_tables (contents_of objects b) ≡ committed_tables (contents_of objects a)
+committed_on objects a b h p = (rows_changed objects a.tables b.tables a.undo b.undo a.counters h (rows_led a b p)).committed
 
 pub leaves_all : (objects : List Object) (a b : Stage) → LeadsOn a b → IsBack a b → LeavesAll (contents_of objects a) (contents_of objects b)
 leaves_all objects a b p h = record { objects = refl; tables = h.tables; changes = h.undo; counters = counters_led a b p }

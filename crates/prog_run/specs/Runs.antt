@@ -17,7 +17,7 @@ use Rattle.exec_state.specs.Stage.{NoneLower, scene_of}
 use Rattle.statement_names.specs.sql_reach.Defining.{number_of_bytes}
 use Rattle.prog_work.specs.declared.meter.Meter.{Meter}
 use Rattle.prog_work.specs.declared.meter.Outcome.{Outcome}
-use Rattle.prog_work.specs.Contents.{Contents}
+use Rattle.prog_work.specs.Contents.{as_committed, Contents}
 use Rattle.prog_work.specs.Outcomes.{outcome_of}
 
 -- Where a statement begins or ends: what is worked on, the context of its session, and what is left to its command.
@@ -80,6 +80,14 @@ abbrev pub Evaluated : Draw → List Local → Trees → Result (List Value) Sql
 Evaluated draw locals ts (Ok vs) before after = (evaluation_at draw locals ts before ≡ done vs (scene_at after)) × Passes (evaluate ts) None before after
 Evaluated draw locals ts (Err (Sql code)) before after = (evaluation_at draw locals ts before ≡ failed code (scene_at after)) × Passes (evaluate ts) None before after
 Evaluated draw locals ts (Err NoMemory) before after = Unit {0}
+
+-- ---- beside open changes
+
+-- it ended so on the rows that were last committed; of what it left there the counters alone are kept
+pub record Beside (Ends : Moment → Moment → Type 0) (before after : Moment) : Type 0 where
+  pub left : Contents
+  pub ends : Ends (moment (as_committed before.contents) before.context before.meter) (moment left after.context after.meter)
+  pub kept : after.contents ≡ record (before.contents) { counters = left.counters }
 
 -- ---- the same on a stage
 

@@ -3,7 +3,7 @@
 //! It runs on what `prog_work` holds, [`Work`]. Contracts see a statement as the scene of the definitions of `sql_meaning`
 //! (`scene_at`).
 //!
-//! - `running`: [`run_stmt`] and [`eval_list`]
+//! - `running`: [`run_stmt`] and [`eval_list`]; `beside`: [`run_stmt_beside`] and [`eval_list_beside`], beside open changes
 //! - `staged`, `undoing`, `programs`: a statement on a stage with its context, what an error takes back (by `stage_undo`),
 //!   and statements with the stored programs that they reach
 //! - `context`, `number`, `under_way`: what a statement leaves of a context; the number from which UUID() counts; what is
@@ -21,11 +21,15 @@
 //! - on every error, want of memory too, rows, changes and catalog are as before and no counter is lower (`err`); no turn
 //!   comes back (`spends`)
 //! - [`eval_list`] the same for expressions, as the DO over them
+//! - but for definitions the rows that were last committed stay (`committed`)
+//! - [`run_stmt_beside`] and [`eval_list_beside`] end as these do on the rows that were last committed, with no row copied, and
+//!   whatever they answer rows, changes and catalog are as before and just the counters as the statement left them (`Beside`)
 //!
 //! # Only tested
 //! That statements succeed with ample memory, where a source runs them.
 #![tactic(auto)]
 
+mod beside;
 mod context;
 mod number;
 mod programs;
@@ -35,6 +39,7 @@ mod under_way;
 mod undoing;
 
 // What is its own, and the crates below that it speaks of, passed on: who stands above names them through it.
+pub use beside::{eval_list_beside, run_stmt_beside};
 pub use prog_work;
 pub use prog_work::{Meter, Outcome, Work, catalog, catalog_objects, exec_state, is_definition};
 pub use running::{eval_list, run_stmt};

@@ -3,6 +3,7 @@ ghost use Rattle.std.specs.Prelude.{◌≡◌, [], true, false, OnErr};
 ghost use Rattle.sql_tree.specs.View.{view_trees};
 ghost use Rattle.sql_tree.specs.StatementView.{view};
 ghost use Rattle.statement_names.specs.sql_reach.Reach.{is_definition};
+ghost use Rattle.prog_work.specs.Contents.{committed_tables};
 ghost use Rattle.prog_work.specs.Defining.{Defines};
 ghost use Rattle.prog_work.specs.Outcomes.{Spends};
 ghost use Rattle.prog_run.specs.Runs.{Evaluated, LeavesAll, Runs, moment};
@@ -19,7 +20,7 @@ use std::alloc::Global;
 use val_types::{List, SqlRefusal, Value};
 
 /// Takes over what a statement begins with: the seeds of its context, and what is left to its command.
-fn begin(stage: &mut Stage, context: &Ctx, meter: &Meter)
+pub(crate) fn begin(stage: &mut Stage, context: &Ctx, meter: &Meter)
     ensures { stage.new ≡ record stage.old { seeds = context.now.seeds; turns = meter.entry.now.turns; uuids = meter.entry.now.uuids } }
 {
     stage.seeds = context.seeds();
@@ -28,7 +29,7 @@ fn begin(stage: &mut Stage, context: &Ctx, meter: &Meter)
 }
 
 /// What is left to a command behind a statement.
-fn end(stage: &Stage, meter: &mut Meter)
+pub(crate) fn end(stage: &Stage, meter: &mut Meter)
     ensures { meter.new ≡ record meter.old { turns = stage.now.turns; uuids = stage.now.uuids } }
 {
     meter.turns = stage.turns;
@@ -46,6 +47,7 @@ fn run_plain(
     meter: &mut Meter,
 ) -> Result<Outcome, SqlRefusal>
     ensures runs { Runs draw.entry.now (view statement.now) result (moment work.old context.old meter.old) (moment work.new context.new meter.new) }
+    ensures committed { committed_tables work.new ≡ committed_tables work.old }
     ensures err { OnErr result (LeavesAll work.old work.new) }
     ensures spends { Spends meter.old meter.new }
 {
@@ -80,6 +82,7 @@ pub fn run_stmt(
     requires { is_definition (view statement.now) ≡ true → work.old.changes ≡ [] }
     ensures runs { is_definition (view statement.now) ≡ false → Runs draw.entry.now (view statement.now) result (moment work.old context.old meter.old) (moment work.new context.new meter.new) }
     ensures defines { is_definition (view statement.now) ≡ true → Defines (view statement.now) result work.old work.new × (context.new ≡ context.old) × (meter.new ≡ meter.old) }
+    ensures committed { is_definition (view statement.now) ≡ false → committed_tables work.new ≡ committed_tables work.old }
     ensures err { OnErr result (LeavesAll work.old work.new) }
     ensures spends { Spends meter.old meter.new }
 {
@@ -103,6 +106,7 @@ pub fn eval_list(
     meter: &mut Meter,
 ) -> Result<List<Value>, SqlRefusal>
     ensures gives { Evaluated draw.entry.now locals.now (view_trees expressions.now) result (moment work.old context.old meter.old) (moment work.new context.new meter.new) }
+    ensures committed { committed_tables work.new ≡ committed_tables work.old }
     ensures err { OnErr result (LeavesAll work.old work.new) }
     ensures spends { Spends meter.old meter.new }
 {

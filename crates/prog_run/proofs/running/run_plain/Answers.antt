@@ -5,10 +5,10 @@ use Rattle.exec_state.specs.declared.stage.Stage.{Stage}
 use Rattle.prog_work.specs.catalog_objects.declared.object.Object.{Object}
 use Rattle.prog_work.specs.catalog_objects.Keys.{objects_of}
 use Rattle.prog_work.specs.declared.meter.Meter.{Meter}
-use Rattle.prog_work.specs.Contents.{Contents, contents_of}
+use Rattle.prog_work.specs.Contents.{committed_tables, Contents, contents_of}
 use Rattle.prog_work.specs.Together.{AreTogether}
 use Rattle.prog_run.specs.Runs.{moment, LeavesAll, Runs, Comes}
-use Rattle.prog_run.proofs.Moments.{together_on, left_by_error, runs_from}
+use Rattle.prog_run.proofs.Moments.{committed_on, together_on, left_by_error, runs_from}
 use Rattle.prog_run.proofs.running.run_plain.Goals as goal
 
 pub put_together-requires : goal.put_together-requires
@@ -29,6 +29,15 @@ returns-clause-runs c =
     (ap (λ (s : Stage). s.seeds) c.begin.ensures) (ap (λ (s : Stage). s.turns) c.begin.ensures) (ap (λ (s : Stage). s.uuids) c.begin.ensures)
     (sym (ap (λ (m : Meter). m.turns) c.end.ensures)) (sym (ap (λ (m : Meter). m.uuids) c.end.ensures))
     (subst (λ (os : List Object). Comes (record { catalog = objects_of os; context = c.args.context.now; uuid = c.number_of_bytes-uuid.result }) c.args.meter.now.depth (view c.args.statement.now) c.run_on-result.result c.begin.new.stage c.run_on-result.new.stage c.run_on-result.new.context) c.objects.ensures c.run_on-result.ensures.comes)))
+
+pub returns-clause-committed : goal.returns-clause-committed
+returns-clause-committed c =
+    let objects = c.take_apart-apart.result.catalog in
+    let same : contents_of objects c.begin.new.stage ≡ c.args.work.now = ap (contents_of objects) c.begin.ensures ∙ c.take_apart-apart.ensures.is in
+    ap committed_tables c.put_together.ensures
+    ∙ committed_on objects c.begin.new.stage c.run_on-result.new.stage
+    (subst (λ (s : Stage). AreTogether objects s.tables s.undo s.counters) (sym c.begin.ensures) c.take_apart-apart.ensures.together) c.run_on-result.ensures.leads
+    ∙ ap committed_tables same
 
 pub returns-clause-err : goal.returns-clause-err
 returns-clause-err c =
