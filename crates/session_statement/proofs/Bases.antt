@@ -23,7 +23,7 @@ use Rattle.proc_parts.proofs.of_sql_meaning.LedBodies.{statements_end, evaluatio
 use Rattle.proc_parts.specs.prog_work.declared.meter.Meter.{Meter}
 use Rattle.proc_parts.specs.prog_work.declared.meter.Outcome.{Outcome}
 use Rattle.proc_parts.specs.prog_work.Contents.{Contents, IsTogether, as_committed, committed_tables, without_changes}
-use Rattle.proc_parts.specs.prog_run.Runs.{moment, scene_at, setting_at, effect_at, evaluation_at, Runs, Evaluated}
+use Rattle.proc_parts.specs.prog_run.Runs.{moment, scene_at, setting_at, effect_at, evaluation_at, Beside, Runs, Evaluated}
 use Rattle.session_shared.specs.log_model.Log.{LogPlace}
 use Rattle.proc_parts.specs.Calls.{left_of}
 use Rattle.session_shared.specs.session_model.Running.{is_other, scene_for, with_counters}
@@ -135,56 +135,54 @@ gives_own n draw locals ts (Err NoMemory) old new writer count place context con
 
 -- ---- a statement that reads beside another session's open changes
 
-pub comes_beside : (n : ℕ) (draw : Draw) (s : Statement) (result : Result Outcome SqlRefusal) (old copy : Contents) (writer : Option ℕ) (count : ℕ) (place : LogPlace) (context context' : Context) (start meter : Meter)
-    → is_other n writer ≡ true → Runs draw s result (moment (as_committed old) context start) (moment copy context' meter)
-    → Comes n draw (left_of start) s result (fuel_at meter) (place_at (shared_by old writer count place) context) (place_at (shared_by (record old { counters = copy.counters }) writer count place) context')
-comes_beside n draw s (Ok told) old copy writer count place context context' start meter other ran = record {
+pub comes_beside : (n : ℕ) (draw : Draw) (s : Statement) (result : Result Outcome SqlRefusal) (old left : Contents) (writer : Option ℕ) (count : ℕ) (place : LogPlace) (context context' : Context) (start meter : Meter)
+    → is_other n writer ≡ true → Runs draw s result (moment (as_committed old) context start) (moment left context' meter)
+    → Comes n draw (left_of start) s result (fuel_at meter) (place_at (shared_by old writer count place) context) (place_at (shared_by (record old { counters = left.counters }) writer count place) context')
+comes_beside n draw s (Ok told) old left writer count place context context' start meter other ran = record {
   did = ran.did;
-  scene = scene_at (moment copy context' meter);
+  scene = scene_at (moment left context' meter);
   ends = ap (effect (setting_at draw (moment (as_committed old) context start)) start.depth [] s) (other_scene n old writer count place context start other) ∙ ran.ends;
   outcome = ran.outcome;
   leaves = record { shared = rw other refl; context = ran.passes.context; spent = refl };
 }
-comes_beside n draw s (Err (Sql code)) old copy writer count place context context' start meter other ran = record {
-  scene = scene_at (moment copy context' meter);
+comes_beside n draw s (Err (Sql code)) old left writer count place context context' start meter other ran = record {
+  scene = scene_at (moment left context' meter);
   ends = ap (effect (setting_at draw (moment (as_committed old) context start)) start.depth [] s) (other_scene n old writer count place context start other) ∙ ran.0;
   shared = refl;
   context = ran.1.context;
   spent = refl;
 }
-comes_beside n draw s (Err NoMemory) old copy writer count place context context' start meter other ran = tt
+comes_beside n draw s (Err NoMemory) old left writer count place context context' start meter other ran = tt
 
-pub gives_beside : (n : ℕ) (draw : Draw) (locals : List Local) (ts : Trees) (result : Result (List Value) SqlRefusal) (old copy : Contents) (writer : Option ℕ) (count : ℕ) (place : LogPlace) (context context' : Context) (start meter : Meter)
-    → is_other n writer ≡ true → Evaluated draw locals ts result (moment (as_committed old) context start) (moment copy context' meter)
-    → Gives n draw (left_of start) locals ts result (fuel_at meter) (place_at (shared_by old writer count place) context) (place_at (shared_by (record old { counters = copy.counters }) writer count place) context')
-gives_beside n draw locals ts (Ok vs) old copy writer count place context context' start meter other ran = record {
-  scene = scene_at (moment copy context' meter);
+pub gives_beside : (n : ℕ) (draw : Draw) (locals : List Local) (ts : Trees) (result : Result (List Value) SqlRefusal) (old left : Contents) (writer : Option ℕ) (count : ℕ) (place : LogPlace) (context context' : Context) (start meter : Meter)
+    → is_other n writer ≡ true → Evaluated draw locals ts result (moment (as_committed old) context start) (moment left context' meter)
+    → Gives n draw (left_of start) locals ts result (fuel_at meter) (place_at (shared_by old writer count place) context) (place_at (shared_by (record old { counters = left.counters }) writer count place) context')
+gives_beside n draw locals ts (Ok vs) old left writer count place context context' start meter other ran = record {
+  scene = scene_at (moment left context' meter);
   ends = ap (evaluation (setting_at draw (moment (as_committed old) context start)) start.depth locals ts) (other_scene n old writer count place context start other) ∙ ran.0;
   leaves = record { shared = rw other refl; context = ran.1.context; spent = refl };
 }
-gives_beside n draw locals ts (Err (Sql code)) old copy writer count place context context' start meter other ran = record {
-  scene = scene_at (moment copy context' meter);
+gives_beside n draw locals ts (Err (Sql code)) old left writer count place context context' start meter other ran = record {
+  scene = scene_at (moment left context' meter);
   ends = ap (evaluation (setting_at draw (moment (as_committed old) context start)) start.depth locals ts) (other_scene n old writer count place context start other) ∙ ran.0;
   shared = refl;
   context = ran.1.context;
   spent = refl;
 }
-gives_beside n draw locals ts (Err NoMemory) old copy writer count place context context' start meter other ran = tt
+gives_beside n draw locals ts (Err NoMemory) old left writer count place context context' start meter other ran = tt
 
--- ---- on the copy that the code has
+-- ---- as what is worked on then
 
-pub comes_beside_at : (n : ℕ) (draw : Draw) (s : Statement) (result : Result Outcome SqlRefusal) (old read copy now : Contents) (writer : Option ℕ) (count : ℕ) (place : LogPlace) (context context' : Context) (start meter : Meter)
-    → read ≡ as_committed old → now ≡ record old { counters = copy.counters } → is_other n writer ≡ true → Runs draw s result (moment read context start) (moment copy context' meter)
-    → Comes n draw (left_of start) s result (fuel_at meter) (place_at (shared_by old writer count place) context) (place_at (shared_by now writer count place) context')
-comes_beside_at n draw s result old read copy now writer count place context context' start meter is moved other ran =
-    subst (λ (c : Contents). Comes n draw (left_of start) s result (fuel_at meter) (place_at (shared_by old writer count place) context) (place_at (shared_by c writer count place) context')) (sym moved)
-    (comes_beside n draw s result old copy writer count place context context' start meter other
-    (subst (λ (c : Contents). Runs draw s result (moment c context start) (moment copy context' meter)) is ran))
+pub comes_beside_on : (n : ℕ) (draw : Draw) (s : Statement) (result : Result Outcome SqlRefusal) (old new : Contents) (writer : Option ℕ) (count : ℕ) (place : LogPlace) (context context' : Context) (start meter : Meter)
+    → is_other n writer ≡ true → Beside (Runs draw s result) (moment old context start) (moment new context' meter)
+    → Comes n draw (left_of start) s result (fuel_at meter) (place_at (shared_by old writer count place) context) (place_at (shared_by new writer count place) context')
+comes_beside_on n draw s result old new writer count place context context' start meter other ran =
+    subst (λ (c : Contents). Comes n draw (left_of start) s result (fuel_at meter) (place_at (shared_by old writer count place) context) (place_at (shared_by c writer count place) context')) (sym ran.kept)
+    (comes_beside n draw s result old ran.left writer count place context context' start meter other ran.ends)
 
-pub gives_beside_at : (n : ℕ) (draw : Draw) (locals : List Local) (ts : Trees) (result : Result (List Value) SqlRefusal) (old read copy now : Contents) (writer : Option ℕ) (count : ℕ) (place : LogPlace) (context context' : Context) (start meter : Meter)
-    → read ≡ as_committed old → now ≡ record old { counters = copy.counters } → is_other n writer ≡ true → Evaluated draw locals ts result (moment read context start) (moment copy context' meter)
-    → Gives n draw (left_of start) locals ts result (fuel_at meter) (place_at (shared_by old writer count place) context) (place_at (shared_by now writer count place) context')
-gives_beside_at n draw locals ts result old read copy now writer count place context context' start meter is moved other ran =
-    subst (λ (c : Contents). Gives n draw (left_of start) locals ts result (fuel_at meter) (place_at (shared_by old writer count place) context) (place_at (shared_by c writer count place) context')) (sym moved)
-    (gives_beside n draw locals ts result old copy writer count place context context' start meter other
-    (subst (λ (c : Contents). Evaluated draw locals ts result (moment c context start) (moment copy context' meter)) is ran))
+pub gives_beside_on : (n : ℕ) (draw : Draw) (locals : List Local) (ts : Trees) (result : Result (List Value) SqlRefusal) (old new : Contents) (writer : Option ℕ) (count : ℕ) (place : LogPlace) (context context' : Context) (start meter : Meter)
+    → is_other n writer ≡ true → Beside (Evaluated draw locals ts result) (moment old context start) (moment new context' meter)
+    → Gives n draw (left_of start) locals ts result (fuel_at meter) (place_at (shared_by old writer count place) context) (place_at (shared_by new writer count place) context')
+gives_beside_on n draw locals ts result old new writer count place context context' start meter other ran =
+    subst (λ (c : Contents). Gives n draw (left_of start) locals ts result (fuel_at meter) (place_at (shared_by old writer count place) context) (place_at (shared_by c writer count place) context')) (sym ran.kept)
+    (gives_beside n draw locals ts result old ran.left writer count place context context' start meter other ran.ends)

@@ -1,6 +1,6 @@
 //! Statements run on what all sessions of a source share, and kept as items with the log: one step of a session each.
 //!
-//! - `running`: a statement run on the desk, on a copy beside another session's open changes; `keeping`: what it changed,
+//! - `running`: a statement run on the desk, and beside another session's open changes; `keeping`: what it changed,
 //!   kept as its item, or taken back ([`settle`]), and whether the statement is warned ([`Kept`])
 //! - `stepping`: [`run_with_text`] and [`evaluate_with_text`], a statement run and kept; [`run_printed`] and
 //!   [`evaluate_closed`], the same of a procedure; [`evaluate_unkept`], the part that all evaluations have in common

@@ -10,7 +10,9 @@ ghost use Rattle.session_shared.specs.Desk.{shared_of};
 ghost use Rattle.session_statement.specs.Ran.{Comes, Gives, fuel_at, place_at};
 
 use port_traits::Draw;
-use proc_parts::prog_run::{Meter, Outcome, eval_list, run_stmt};
+use proc_parts::prog_run::{
+    Meter, Outcome, eval_list, eval_list_beside, run_stmt, run_stmt_beside,
+};
 use proc_parts::session_ctx::Ctx;
 use session_shared::Desk;
 use sql_locals::Locals;
@@ -39,7 +41,7 @@ fn run_own(
     run_stmt(alloc, &mut desk.work, statement, context, draw, meter)
 }
 
-/// Runs a statement beside another session's open changes: on a copy of what was last committed. The counters that it
+/// Runs a statement beside another session's open changes: on the rows that were last committed. The counters that it
 /// moved stay moved.
 fn run_beside(
     alloc: Global,
@@ -57,10 +59,7 @@ fn run_beside(
     ensures committed { desk.new.committed ≡ desk.old.committed }
     ensures spends { Spends meter.old meter.new }
 {
-    let mut copy = desk.work.reader()?;
-    let result = run_stmt(alloc, &mut copy, statement, context, draw, meter);
-    desk.work.take_counters(copy);
-    result
+    run_stmt_beside(alloc, &mut desk.work, statement, context, draw, meter)
 }
 
 /// Runs a change, a SELECT or a DO of a session.
@@ -132,10 +131,15 @@ fn evaluate_beside(
     ensures committed { desk.new.committed ≡ desk.old.committed }
     ensures spends { Spends meter.old meter.new }
 {
-    let mut copy = desk.work.reader()?;
-    let result = eval_list(alloc, &mut copy, expressions, locals, context, draw, meter);
-    desk.work.take_counters(copy);
-    result
+    eval_list_beside(
+        alloc,
+        &mut desk.work,
+        expressions,
+        locals,
+        context,
+        draw,
+        meter,
+    )
 }
 
 /// Evaluates expressions of a session where locals are in scope, as the DO over them.

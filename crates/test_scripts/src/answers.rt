@@ -21,7 +21,7 @@ static A: Frame = Frame {
 };
 
 /// Scripts behind the table `t`, and the lines behind `1 ok 0`.
-static OF_T: [(&str, &str); 15] = [
+static OF_T: [(&str, &str); 16] = [
     // a savepoint
     (
         "s1: BEGIN //\ns1: INSERT INTO t VALUES (1, 10) //\ns1: SAVEPOINT x //\ns1: INSERT INTO t VALUES (2, 20) //\ns1: ROLLBACK TO x //\ns1: COMMIT //\nreplica: FETCH 100000 //\nreplica: APPLY 100 //\nreplica: SELECT * FROM t //\n",
@@ -31,6 +31,11 @@ static OF_T: [(&str, &str); 15] = [
     (
         "s1: INSERT INTO t VALUES (1, 10) //\ns1: BEGIN //\ns1: INSERT INTO t VALUES (2, 20) //\ns2: UPDATE t SET v = 0 //\ns2: SELECT * FROM t //\nreplica: FETCH 100000 //\nreplica: APPLY 100 //\nreplica: SELECT * FROM t //\ns1: COMMIT //\nreplica: FETCH 100000 //\nreplica: APPLY 100 //\nreplica: SELECT v FROM t WHERE id = 2 //\n",
         "2 ok 1\n3 ok 0\n4 ok 1\n5 error 1205 by s1\n6 row 1, 10\n6 rows 1\n7 fetched 332\n8 applied 2 1:336\n9 row 1, 10\n9 rows 1\n10 ok 0\n11 fetched 130\n12 applied 1 1:466\n13 row 20\n13 rows 1\n",
+    ),
+    // a reader beside rows that are changed, taken out, moved and put in sees none of it, and an error of its statement takes none of it back
+    (
+        "s1: INSERT INTO t VALUES (1, 10), (2, 20), (3, 30) //\ns1: BEGIN //\ns1: UPDATE t SET v = 11 WHERE id = 1 //\ns1: DELETE FROM t WHERE id = 2 //\ns1: UPDATE t SET id = 4 WHERE id = 3 //\ns1: INSERT INTO t VALUES (5, 50) //\ns2: SELECT * FROM t //\ns2: SELECT v + 9223372036854775807 FROM t //\ns2: SET @n = (SELECT COUNT(*) FROM t) //\ns1: SELECT * FROM t //\ns1: SAVEPOINT x //\ns1: DELETE FROM t //\ns2: SELECT v + @n FROM t //\ns1: ROLLBACK TO x //\ns1: SELECT * FROM t //\ns1: ROLLBACK //\ns1: SELECT * FROM t //\n",
+        "2 ok 3\n3 ok 0\n4 ok 1\n5 ok 1\n6 ok 1\n7 ok 1\n8 row 1, 10\n8 row 2, 20\n8 row 3, 30\n8 rows 3\n9 error 1690\n10 ok 0\n11 row 1, 11\n11 row 4, 30\n11 row 5, 50\n11 rows 3\n12 ok 0\n13 ok 3\n14 row 13\n14 row 23\n14 row 33\n14 rows 3\n15 ok 0\n16 row 1, 11\n16 row 4, 30\n16 row 5, 50\n16 rows 3\n17 ok 0\n18 row 1, 10\n18 row 2, 20\n18 row 3, 30\n18 rows 3\n",
     ),
     // the lock ends with the transaction, and a statement that changed nothing or failed does not keep it
     (
