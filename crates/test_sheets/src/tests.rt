@@ -1,0 +1,6 @@
+//! Tables beside lists.
+
+mod beside;
+mod cases;
+mod lots;
+mod many;
