@@ -32,7 +32,8 @@
 //! - What is put into a log, or done to what a replica has fetched, leaves all this as it is ([`other_files_leave_the_store`]).
 //!
 //! # Only tested
-//! Nothing yet: no test calls it.
+//! In `test_stores`: that calls succeed with ample memory; scripts of commits over disks in which each call fails in turn, with what four
+//! crashes leave.
 #![tactic(auto)]
 
 mod laws;
