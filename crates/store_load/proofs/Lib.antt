@@ -1,0 +1,9 @@
+pub mod Reaching
+pub mod Whose
+pub mod RowsMade
+pub mod RecordsMade
+pub mod Journaling
+pub mod LogsSeen
+pub mod Whole
+pub mod Telling
+pub mod Counted
