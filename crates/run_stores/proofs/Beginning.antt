@@ -8,7 +8,8 @@ use Rattle.store_model.specs.Held.{LogEnd, Held, first_read, last_end}
 use Rattle.store_model.specs.Entries.{writer_at}
 use Rattle.durable_runs.specs.Behind.{IsPlaceIn, from_place, writer_of}
 use Rattle.durable_runs.specs.Laws.{BeginNone}
-use Rattle.durable_runs.specs.Sources.{Stored, added_to}
+use Rattle.durable_runs.specs.Sources.{Stored}
+use Rattle.waiting_entries.specs.Added.{added_to}
 use Rattle.run_laws.specs.apply_laws.catalog_rules.Bases.{Base}
 use Rattle.run_laws.specs.log_entries.declared.entries.Item.{Item}
 use Rattle.run_laws.specs.log_entries.declared.entries.Entry.{Entry}

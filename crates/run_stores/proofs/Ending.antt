@@ -3,10 +3,11 @@ use Rattle.std.proofs.Common.{◌≡◌, inl, inr, ◌≤◌, ℕ, ◌+◌, eqb,
 use Rattle.std.specs.Prelude.{if◌then◌else◌, ◌==◌}
 use Rattle.std.proofs.Math.Seq.{drop-append_seam, take-append_seam}
 use Rattle.std.proofs.lemmas.Bool.{cond-true, cond-false, eqb-true, eqb-false, ne_eqb}
-use Rattle.store_model.specs.Held.{LogEnd, Held, first_read, last_end}
+use Rattle.store_model.specs.Held.{LogEnd, Held, first_read, last_end, nothing_held}
 use Rattle.store_model.specs.Entries.{writer_at}
-use Rattle.durable_runs.specs.Behind.{Behind, HasHead, IsPlaceIn, from_place, writer_of}
-use Rattle.durable_runs.specs.Sources.{Stored, added_to}
+use Rattle.durable_runs.specs.Behind.{Behind, HasHead, IsPlaceIn, from_place, nothing_stored, writer_of}
+use Rattle.durable_runs.specs.Sources.{Stored}
+use Rattle.waiting_entries.specs.Added.{added_to}
 use Rattle.run_laws.specs.apply_laws.catalog_rules.Bases.{Base}
 use Rattle.run_laws.specs.log_entries.declared.entries.Entry.{Entry}
 use Rattle.run_laws.specs.log_entries.declared.entries.Entry.TheVariants.{Transaction, Definition, LogStart}
@@ -16,14 +17,14 @@ use Rattle.run_laws.specs.log_model.Log.{LogPlace, counted_all, head, log, writt
 use Rattle.run_laws.specs.session_model.Machine.{Whole, kept_entry, Machine, first_place}
 use Rattle.run_laws.specs.session_model.Holding.{Beginning, changes_of, define, EntriesMade}
 use Rattle.run_laws.specs.run_model.replica_model.Replica.{Replica, replica_from}
-use Rattle.run_laws.specs.run_model.Run.{Read, nothing, bytes_to, bytes_before, number_before, place_before, Starts}
+use Rattle.run_laws.specs.run_model.Run.{Read, nothing, bytes_to, bytes_before, number_before, place_before, from_nothing, Starts}
 use Rattle.run_laws.specs.run_model.Following.{AreCommitted}
 use Rattle.run_laws.specs.Laws.{behind_head}
-use Rattle.run_laws.specs.Openings.{Begins, BothOpen, IsLogFront, RunsEndWell, begins_next, owed_behind}
+use Rattle.run_laws.specs.Openings.{Begins, BeginWithNothing, BothOpen, IsLogFront, RunsEndWell, begins_next, owed_behind}
 use Rattle.run_laws.proofs.Carrying.{last_ones}
 use Rattle.run_laws.proofs.Places.{written_place}
 use Rattle.run_stores.specs.Standing.{CanBegin, FrontStands, HasOneLog, StandAt}
-use Rattle.run_stores.specs.Laws.{StoresBegin, StoresLetBegin, StoresOpen, RunsEndBehind}
+use Rattle.run_stores.specs.Laws.{NothingBegins, StoresBegin, StoresLetBegin, StoresOpen, RunsEndBehind}
 use Rattle.run_stores.proofs.Beginning.{Below}
 use Rattle.run_stores.proofs.Logs.{added_none, behind_committed, none_begins, no_bytes}
 
@@ -267,6 +268,12 @@ stores_let_begin below source replica from begins stand one =
     let there : Begins (at below source replica one from.read from.owed) =
     subst (λ (base : Base). Begins (record { read = from.read; owed = from.owed; base = base; replica = replica_from replica.base replica.number replica.place })) (sym stand.base) as_opened in
     let_begin below source replica one from.read from.owed (record { begins = there; number = stand.number; place = stand.place; log = stand.log })
+
+-- where neither has anything
+pub nothing_begins : Below → BeginWithNothing → NothingBegins
+nothing_begins below nothing_is =
+    stores_let_begin below nothing_stored nothing_held from_nothing nothing_is.begins
+    (record { base = refl; number = refl; place = refl; log = refl; opens = refl }) (record { one = omega arith; long = refl; others = λ n other. refl })
 
 -- ---- both open
 

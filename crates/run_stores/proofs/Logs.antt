@@ -3,7 +3,7 @@ use Rattle.std.proofs.Common.{◌≡◌, ◌≤◌, ℕ, ◌+◌, eqb, List, [],
 use Rattle.std.specs.Prelude.{if◌then◌else◌, ◌==◌}
 use Rattle.std.proofs.lemmas.Bool.{cond-false, ne_eqb}
 use Rattle.durable_runs.specs.Laws.{BeginNone}
-use Rattle.durable_runs.specs.Sources.{added_to}
+use Rattle.waiting_entries.specs.Added.{added_to}
 use Rattle.run_laws.specs.log_entries.declared.entries.Item.{Item}
 use Rattle.run_laws.specs.log_entries.declared.entries.Entry.{Entry}
 use Rattle.run_laws.specs.log_entries.declared.entries.Entry.TheVariants.{Transaction, Definition, LogStart}
