@@ -1,7 +1,8 @@
 -- A run begins with a replica's store behind its source's, and ends so.
-use Rattle.std.specs.Prelude.{◌≡◌, ◌<◌, ◌^◌, List}
+use Rattle.std.specs.Prelude.{◌≡◌, ◌<◌, ◌^◌, List, []}
 use Rattle.port_traits.specs.declared.identity.Draw.{Draw}
-use Rattle.store_model.specs.Held.{Held}
+use Rattle.store_model.specs.Held.{Held, nothing_held}
+use Rattle.durable_runs.specs.Behind.{nothing_stored}
 use Rattle.durable_runs.specs.Sources.{Stored}
 use Rattle.run_laws.specs.log_entries.declared.entries.Entry.{Entry}
 use Rattle.run_laws.specs.session_model.Machine.{Whole}
@@ -20,6 +21,10 @@ pub record StartsAt (source : Stored) (replica : Held) (owed : List (Entry Whole
   pub begins : Begins from
   pub stand : StandAt source replica from
   pub owes : behind_head from.owed ≡ owed
+
+-- stores that have nothing let a run begin
+abbrev pub NothingBegins : Type 0
+NothingBegins = CanBegin nothing_stored nothing_held []
 
 -- stores that let a run begin stand where one may begin
 abbrev pub StoresBegin : Type 0

@@ -9,9 +9,10 @@
 //! - `laws`: the laws, each a function that does nothing
 //!
 //! # Proved
-//! - Where a replica's store is behind its source's, by entries that it owes, a run begins there: the replica follows its source, and has
-//!   carried out none of them. In its end its store is behind again, by the entries that it has not carried out, where each item of those
-//!   that it has does the same at every replica: what the next opening asks is what this run leaves ([`behind_goes_on`]).
+//! - Stores that have nothing let a run begin ([`behind_goes_on`]). Where a replica's store is behind its source's, by entries that it
+//!   owes, a run begins there: the replica follows its source, and has carried out none of them. In its end its store is behind again, by
+//!   the entries that it has not carried out, where each item of those that it has does the same at every replica: what the next opening
+//!   asks is what this run leaves ([`behind_goes_on`]).
 #![tactic(auto)]
 
 mod laws;

@@ -1,5 +1,5 @@
 use Rattle.run_stores.proofs.Beginning.{Below, stores_begin}
-use Rattle.run_stores.proofs.Ending.{stores_let_begin, stores_open, runs_end_behind}
+use Rattle.run_stores.proofs.Ending.{nothing_begins, stores_let_begin, stores_open, runs_end_behind}
 use Rattle.run_stores.proofs.laws.behind_goes_on.Goals as goal
 
 pub returns : goal.returns
@@ -10,6 +10,7 @@ returns c =
       one = c.logs_go_on.ensures.one.within;
     } in
     record {
+      nothing = nothing_begins below c.runs_open.ensures.nothing;
       begins = stores_begin below;
       opens = stores_open (stores_begin below) c.runs_open.ensures.opens;
       lets = stores_let_begin below;
