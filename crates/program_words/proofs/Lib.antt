@@ -1,0 +1,5 @@
+pub mod Digits
+pub mod Flags
+pub mod Parses
+pub mod Ranges
+pub mod Walks
