@@ -1,0 +1,4 @@
+pub mod Joins
+pub mod Splits
+pub mod Texts
+pub mod Turns
