@@ -1,8 +1,9 @@
-//! The program: a script of commands, carried out over a source and a replica; a log that is replayed, or shown; and what each
-//! program does around that.
+//! The program: a script of commands, carried out over a source and a replica; a log that is replayed, or shown; a script that is made;
+//! and what each program does around that.
 //!
 //! [`top`] is all that the program does, over any input, output and environments. Its clauses are over definitions: how a run
-//! ends (`script_run`, in specs/Ran), and how a log that is shown (`print_log`) or replayed (`replay_log`) ends.
+//! ends (`script_run`, in specs/Ran), how a log that is shown (`print_log`) or replayed (`replay_log`) ends, and how the writing of a
+//! made script does (`gen_script`).
 //!
 //! - `program`: [`top`], which asks which word it is
 //! - [`write_log`] of `script_run`: a script carried out as `run` has it, and the source's log behind it
@@ -13,15 +14,15 @@
 //! - `nodes`: who the nodes of a program over the system are ([`source_identity`], [`replica_identity`]), with the number that
 //!   `REPL_SERVER_ID` gives the source ([`number_of`])
 //!
-//! It stands on `run_streams`, on `script_run` for the word that is given a script, and on `print_log` and `replay_log` for the
-//! words that are given a log; the programs give it the real edges. What stands around [`top`] is no crate of its own, since `rt` sums
+//! It stands on `program_words`, on `script_run` for the word that is given a script, on `print_log` and `replay_log` for the
+//! words that are given a log, and on `gen_script` for the one that makes a script; the programs give it the real edges. What stands around [`top`] is no crate of its own, since `rt` sums
 //! up all that a library is made from, which takes minutes for one more on top of all.
 //!
 //! # Proved
 //! Over any input, output and environments that keep the contracts of `port_traits`:
 //!
-//! - [`top`] answers BadWords exactly where the words ask for none of `run`, `print` and `replay`, and then reads and touches
-//!   nothing (`words`, `unread`, `untouched`). In a run, at BadScript and ReadFault all but the input is as before (`idle`). `print`
+//! - [`top`] answers BadWords exactly where the words ask for none of `run`, `print`, `replay` and `gen n`, want of memory apart, and
+//!   then reads and touches nothing (`words`, `other_words`, `unread`, `untouched`). In a run, at BadScript and ReadFault all but the input is as before (`idle`). `print`
 //!   touches no environment and no report, and `replay` none of a source (`print_alone`, `replay_alone`).
 //! - What a run comes to (`run`) is what `script_run` says of it, by its status. At Done each session's transactions are logged in the
 //!   format that it had before: under MIXED the text items are exactly those without a reason (field `formats`). The replica has
@@ -35,8 +36,10 @@
 //!   groups were carried out as the definition of a replay has it, by a replica that had nothing, at one draw; at Differs the first
 //!   that is not carried out stops so, and those before it were. The report tells who the replica is and the draw. Just the line of
 //!   what was carried out was written; at WriteFault a front of it, at ReadFault and NoMemory nothing. No other status comes.
+//! - What `gen n` comes to (`made`). At Done just the made script with n changes was written, at WriteFault and NoMemory a front of it.
+//!   No other status comes; the input, the environments and the report are as before (`made_alone`).
 //! - At BadScript the input was read to its end or to one byte past the limit (`refused`), and in a run never further (`limit`). At
-//!   Done it was read to its end (`read_end`).
+//!   Done of `run`, `print` and `replay` it was read to its end (`read_end`).
 //! - A fault comes only where the stream's count of faults rose, or stands at its last value
 //!   (`read_fault`, `write_fault`), and is the last call on its stream (`last_read`, `last_write`, `reads_once`).
 //! - The report's identities and draws are the environments' at any status (`source`, `replica`), and at any but NoMemory all

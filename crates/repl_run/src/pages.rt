@@ -18,6 +18,7 @@ const WORDS_HELP: &str = "A MySQL 5.7 source and replica for a subset of SQL, in
 usage: run < SCRIPT      carries out the script on standard input
        replay < LOG      carries out the binary log on standard input, by a replica that begins without tables
        print < LOG       shows the binary log on standard input, a line for each event
+       gen N             writes a script that makes N changes, from 1 to 100000
 ";
 
 /// The word that some programs have.

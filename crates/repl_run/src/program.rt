@@ -1,20 +1,22 @@
 //! The whole program, over any input, output and environments.
-ghost use Rattle.std.specs.Prelude.{◌≡◌, ◌↔◌, ◌≤◌, [], true, Some, None, map, string_bytes, IfSome};
+ghost use Rattle.std.specs.Prelude.{◌≡◌, ◌⊎◌, ◌≤◌, [], true, Some, None, map, string_bytes, IfSome};
 ghost use Rattle.fault_counts.specs.Causes.{Rose};
 ghost use Rattle.run_streams.specs.Read.{RestBehindScript, TakesUpToLimit};
 ghost use Rattle.run_streams.specs.Reports.{AllTold, IsEmpty, Tells};
 ghost use Rattle.run_streams.specs.Stops.{failed_writes, is_early};
-ghost use Rattle.run_streams.specs.Words.{word_asked};
-ghost use Rattle.run_streams.specs.declared.words.Word.TheVariants.{Print, Replay, Run};
+ghost use Rattle.program_words.specs.Words.{IfGen, reads_input, word_asked};
+ghost use Rattle.program_words.specs.declared.words.Word.TheVariants.{Print, Replay, Run};
 ghost use Rattle.script_run.specs.Ran.{EndsBy};
 ghost use Rattle.print_log.specs.Ends.{PrintEnds};
 ghost use Rattle.replay_log.specs.Ends.{ReplayEnds};
+ghost use Rattle.gen_script.specs.Ends.{GenEnds};
 
 use answer_text::{Report, Status};
+use gen_script::write_script;
 use port_traits::{Env, Sink, Source};
 use print_log::print;
+use program_words::{Word, asked_word};
 use replay_log::replay;
-use run_streams::{Word, asked_word};
 use script_run::run_script;
 use std::alloc::Global;
 
@@ -30,6 +32,7 @@ use std::alloc::Global;
 /// - `print` shows the binary log on the input, a line for each event of each whole group.
 /// - `replay` carries out the binary log on the input, by a replica that begins without tables and is gone behind the call, and writes
 ///   how many groups these were and the place behind them.
+/// - `gen n` writes the made script with n changes, and reads and touches nothing else.
 ///
 /// Any other words are [`Status::BadWords`], and nothing is read. The report is empty before, and tells after, at any status, who the
 /// source and the replica are, as far as they were opened, and what they drew.
@@ -43,7 +46,8 @@ pub fn top<S: Source, K: Sink, E: Env, F: Env>(
     report: &mut Report,
 ) -> Status
     requires { IsEmpty report.old }
-    ensures words { (result ≡ Status.BadWords) ↔ (word_asked (map string_bytes words.now) ≡ None) }
+    ensures words { result ≡ Status.BadWords → word_asked (map string_bytes words.now) ≡ None }
+    ensures other_words { word_asked (map string_bytes words.now) ≡ None → (result ≡ Status.BadWords) ⊎ (result ≡ Status.NoMemory) }
 
     // What `run` comes to: each status only by its cause. At Done each command was told what both nodes of the definition tell,
     // all lines of that were written, the report tells the draws, each session's transactions are logged in the format that it had
@@ -63,6 +67,9 @@ pub fn top<S: Source, K: Sink, E: Env, F: Env>(
     ensures replay { word_asked (map string_bytes words.now) ≡ Some Replay → ReplayEnds result (S.left input.old) (S.left input.new)
         report.new (K.written out.old) (K.written out.new) }
 
+    // What `gen` comes to: the made script was written, or a front of it.
+    ensures made { IfGen (word_asked (map string_bytes words.now)) (λ n. GenEnds result n (K.written out.old) (K.written out.new)) }
+
     // What is left of the input: all of it behind bad words, what is past the limit behind a bad
     // script, and never less of a script.
     ensures unread { result ≡ Status.BadWords → input.new ≡ input.old }
@@ -70,7 +77,7 @@ pub fn top<S: Source, K: Sink, E: Env, F: Env>(
     ensures limit { word_asked (map string_bytes words.now) ≡ Some Run → TakesUpToLimit (S.left input.old) (S.left input.new) }
 
     // Behind bad words nothing is touched; before a script was read and split, nothing but the input; `print` touches no
-    // environment and no report, and `replay` none of a source.
+    // environment and no report, `replay` none of a source, and `gen` nothing but the output.
     ensures untouched { result ≡ Status.BadWords → (out.new ≡ out.old)
         × (src_env.new ≡ src_env.old) × (rep_env.new ≡ rep_env.old) × (report.new ≡ report.old) }
     ensures idle { word_asked (map string_bytes words.now) ≡ Some Run → is_early result ≡ true → (out.new ≡ out.old)
@@ -80,13 +87,16 @@ pub fn top<S: Source, K: Sink, E: Env, F: Env>(
     ensures replay_alone { word_asked (map string_bytes words.now) ≡ Some Replay →
         (src_env.new ≡ src_env.old) × (report.new.src_identity ≡ None) × (report.new.src_draws ≡ []) }
 
+    ensures made_alone { IfGen (word_asked (map string_bytes words.now)) (λ n. (input.new ≡ input.old)
+        × (src_env.new ≡ src_env.old) × (rep_env.new ≡ rep_env.old) × (report.new ≡ report.old)) }
+
     // A fault has its cause, whatever the streams are, and is the last call on its stream; nothing is
-    // read behind the end of the input, and at Done it was read to there.
+    // read behind the end of the input, and at Done it was read to there by each word that reads.
     ensures read_fault { result ≡ Status.ReadFault → Rose (S.faults input.old) (S.faults input.new) }
     ensures write_fault { result ≡ Status.WriteFault → Rose (K.faults out.old) (K.faults out.new) }
     ensures reads_once { S.ended input.old ≡ 0 → S.ended input.new ≤ 1 }
     ensures last_read { result ≡ Status.ReadFault → S.ended input.old ≡ 0 → S.ended input.new ≡ 1 }
-    ensures read_end { result ≡ Status.Done → S.ended input.old ≡ 0 → S.ended input.new ≡ 1 }
+    ensures read_end { reads_input (word_asked (map string_bytes words.now)) ≡ true → result ≡ Status.Done → S.ended input.old ≡ 0 → S.ended input.new ≡ 1 }
     ensures last_write { K.ended out.old ≡ 0 → K.ended out.new ≡ failed_writes result }
 
     // The report is true at any status. Nothing else was drawn, but for a draw that there was no memory to tell.
@@ -97,10 +107,12 @@ pub fn top<S: Source, K: Sink, E: Env, F: Env>(
     ensures replica { Tells (F.told rep_env.old) (F.draws rep_env.old)
         report.new.rep_identity report.new.rep_draws }
 {
-    match asked_word(words) {
-        None => Status::BadWords,
-        Some(Word::Run) => run_script(alloc, input, out, src_env, rep_env, report),
-        Some(Word::Print) => print(alloc, input, out),
-        Some(Word::Replay) => replay(alloc, input, out, rep_env, report),
+    match asked_word(alloc, words) {
+        Err(_) => Status::NoMemory,
+        Ok(None) => Status::BadWords,
+        Ok(Some(Word::Run)) => run_script(alloc, input, out, src_env, rep_env, report),
+        Ok(Some(Word::Print)) => print(alloc, input, out),
+        Ok(Some(Word::Replay)) => replay(alloc, input, out, rep_env, report),
+        Ok(Some(Word::Gen(changes))) => write_script(alloc, changes, out),
     }
 }

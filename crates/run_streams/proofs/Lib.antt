@@ -1,4 +1,3 @@
 pub mod Drawing
 pub mod Reading
-pub mod WordLaws
 pub mod Writing

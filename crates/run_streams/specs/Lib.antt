@@ -1,5 +1,4 @@
 pub mod Read
 pub mod Reports
 pub mod Stops
-pub mod Words
 pub mod Wrote

@@ -4,12 +4,11 @@
 //! - `streams`: [`read_script`] and [`read_piece`], [`write_all`], [`write_line`]
 //! - `scripts`: [`split_commands`], the commands of a script or the status that tells why there are none
 //! - `reports`: [`empty_report`], [`open`] and [`take_draw`], which tell what they take
-//! - `words`: [`Word`] and [`asked_word`], what the words ask for
 //! - `statuses`: [`with_status`], want of memory as a status
 //! - `laws`: what follows of writes and of draws
 //!
 //! The definitions stand in specs/: `Wrote` (what came to the end of a stream), `Stops` (why reading, splitting
-//! or writing stopped), `Read` (what was read of the input), `Reports` (what a report tells), `Words`.
+//! or writing stopped), `Read` (what was read of the input), `Reports` (what a report tells).
 //!
 //! It stands on `answer_text` and `script_read`; `repl_run` is made of it.
 //!
@@ -27,7 +26,6 @@
 //!   call on the stream.
 //! - [`open`] and [`take_draw`] tell just what they took, want of memory apart (`told`, `drawn`); the identity told is
 //!   the environment's (`named`). [`empty_report`] is empty.
-//! - [`asked_word`] is the one word `run`, `replay` or `print`, a first `--` apart, and none at any other words.
 //! - Laws: [`writes_join`], [`draws_begin`].
 //!
 //! # Only tested
@@ -39,11 +37,9 @@ mod reports;
 mod scripts;
 mod statuses;
 mod streams;
-mod words;
 
 pub use laws::{draws_begin, writes_join};
 pub use reports::{empty_report, open, take_draw};
 pub use scripts::split_commands;
 pub use statuses::with_status;
 pub use streams::{read_piece, read_script, write_all, write_line};
-pub use words::{Word, asked_word};

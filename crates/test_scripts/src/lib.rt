@@ -12,6 +12,7 @@
 //! - `texts`: that log printed and replayed: what each statement carries, by its text and by its rows, and what a procedure leaves
 //! - `made`, `replays`: logs of another server, made event by event: texts and groups that are refused, what is damaged or not known,
 //!   logs that are cut, streams that fail; `stops`: rows that change and swap keys, each stop of a row, tables that differ
+//! - `made_scripts`: the word that makes a script, and what that comes to when it is run
 //! - `statuses`: words, scripts that do not split, streams that fail, what the report tells
 #![tactic(auto)]
 
@@ -23,6 +24,8 @@ mod keys;
 mod logs;
 #[cfg(test)]
 mod made;
+#[cfg(test)]
+mod made_scripts;
 #[cfg(test)]
 mod playing;
 #[cfg(test)]
