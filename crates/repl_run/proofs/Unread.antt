@@ -1,7 +1,6 @@
 -- Where memory was short before the words were read, nothing was read, written or touched.
-use Rattle.std.proofs.Common.{◌≡◌, ◌⊎◌, ℕ, List, [], ◌++◌, Option, Some, None, inl, inr, refl, arith}
+use Rattle.std.proofs.Common.{◌≡◌, ◌⊎◌, ℕ, List, [], Option, Some, None, inl, inr, refl, arith}
 use Rattle.answer_text.specs.declared.report.Report.{Report}
-use Rattle.answer_text.specs.declared.status.Status.{Status}
 use Rattle.answer_text.specs.declared.status.Status.TheVariants as status
 use Rattle.run_streams.specs.Read.{TakesUpToLimit}
 use Rattle.run_streams.specs.Wrote.{WroteFront}
