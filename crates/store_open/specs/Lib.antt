@@ -1,0 +1,4 @@
+pub mod Filling
+pub mod Objects
+pub mod Begun
+pub mod Opened
