@@ -1,4 +1,5 @@
 //! Stores over disks in which each call fails in turn, and what four crashes leave of them.
+ghost use Rattle.std.specs.Prelude.{◌<◌};
 
 use super::bytes;
 use super::tables::{
@@ -217,8 +218,20 @@ fn is_long(log: &[u8], count: usize) -> bool {
 // ---- runs
 
 /// How many calls a record of a script takes: four, and on a source four more for its log.
-fn calls_each(node: Kind) -> usize {
+fn calls_each(node: Kind) -> usize
+    ensures { 0 < result }
+{
     if is_source(node) { 8 } else { 4 }
+}
+
+/// How many calls a script takes: five open, and then come those of its records, of which there are at most five.
+fn calls_of(script: &Script) -> usize {
+    let count = script.steps.len().min(5);
+    if is_source(script.node) {
+        5 + 8 * count
+    } else {
+        5 + 4 * count
+    }
 }
 
 /// How many records are kept where the k-th call is the last, and whether one more may be: five calls open; the last two
@@ -226,7 +239,7 @@ fn calls_each(node: Kind) -> usize {
 fn counted(script: &Script, k: usize) -> (usize, usize) {
     let each = calls_each(script.node);
     let count = script.steps.len().min(5);
-    if k == 0 || k > 5 + each * count {
+    if k == 0 || k > calls_of(script) {
         return (count, 0);
     }
     if k <= 5 {
@@ -277,7 +290,7 @@ fn run(alloc: Global, disk: &mut FuseDisk, script: &Script, count: usize) -> Opt
 fn holds(alloc: Global, script: &Script, k: usize) -> bool {
     let mut disk = FuseDisk::new(MemDisk::new(alloc), k as u64);
     let (sure, more) = counted(script, k);
-    let fails = 0 < k && k <= 5 + calls_each(script.node) * script.steps.len().min(5);
+    let fails = 0 < k && k <= calls_of(script);
     if run(alloc, &mut disk, script, sure) != Some(!fails) || fails && disk.calls() != k as u64 {
         return false;
     }
