@@ -1,5 +1,5 @@
 //! Stores over disks in which each call fails in turn, and what four crashes leave of them.
-ghost use Rattle.std.specs.Prelude.{◌<◌};
+ghost use Rattle.std.specs.Prelude.{◌<◌, ◌≤◌};
 
 use super::bytes;
 use super::tables::{
@@ -225,7 +225,9 @@ fn calls_each(node: Kind) -> usize
 }
 
 /// How many calls a script takes: five open, and then come those of its records, of which there are at most five.
-fn calls_of(script: &Script) -> usize {
+fn calls_of(script: &Script) -> usize
+    ensures { result ≤ 45 }
+{
     let count = script.steps.len().min(5);
     if is_source(script.node) {
         5 + 8 * count
@@ -316,8 +318,7 @@ fn holds(alloc: Global, script: &Script, k: usize) -> bool {
 /// Whether each call of a script that fails leaves what it may, and a run without one.
 fn all_hold(alloc: Global, i: usize) -> bool {
     let script = made_script(alloc, i);
-    let calls = 5 + calls_each(script.node) * script.steps.len().min(5);
-    for k in 0..=calls {
+    for k in 0..=calls_of(&script) {
         if !holds(alloc, &script, k) {
             return false;
         }
