@@ -1,7 +1,8 @@
 -- The events of a transaction, part by part.
 use Rattle.std.specs.Prelude.{flat_map}
-use Rattle.std.proofs.Common.{◌≡◌, ℕ, ◌+◌, ◌≤◌, ◌<◌, List, [], ◌∷◌, ◌++◌, length, drop, get_or, refl, sym, ap, ◌∙◌, subst, arith}
-use Rattle.std.proofs.lemmas.List.{drop_more}
+use Rattle.std.proofs.Common.{◌≡◌, ℕ, ◌+◌, ◌≤◌, ◌<◌, List, [], ◌∷◌, ◌++◌, length, drop, get_or, refl, sym, ap, ◌∙◌, subst, arith, append_assoc}
+use Rattle.std.proofs.lemmas.List.{append-nil, drop_all, drop_more}
+use Rattle.val_types.specs.declared.change.Change.{Change}
 use Rattle.event_codec.specs.declared.event.Header.{Header}
 use Rattle.binlog_sizes.specs.log_model.Items.{item_events, IsCarried, AreCarried}
 use Rattle.binlog_sizes.specs.log_model.Log.{transaction}
@@ -9,7 +10,7 @@ use Rattle.binlog_sizes.specs.log_model.Written.{Stamped, bytes_of, CanWriteAll}
 use Rattle.binlog_sizes.specs.row_events.Writing.{Wrote, GoesOn}
 use Rattle.binlog_sizes.proofs.of_row_events.GoingOn.{starts, goes, ends, next}
 use Rattle.binlog_cache.specs.declared.kept.Kept.{Kept}
-use Rattle.binlog_cache.specs.Sums.{items_of, begin_event, xid_event}
+use Rattle.binlog_cache.specs.Sums.{items_of, changes_in, begin_event, xid_event}
 
 -- the events of items that are left
 abbrev pub events_of : List Kept → List Stamped
@@ -20,6 +21,23 @@ item_first ks i k low is = ap events_of (drop_more ks i k low ∙ ap (λ (x : Ke
 
 pub is_carried : (ks : List Kept) (i : ℕ) (k : Kept) → i < length ks → k ≡ get_or ks i k → AreCarried (items_of (drop i ks)) → IsCarried k.item.rows k.item × AreCarried (items_of (drop (i + 1) ks))
 is_carried ks i k low is are = subst (λ (xs : List Kept). AreCarried (items_of xs)) (drop_more ks i k low ∙ ap (λ (x : Kept). x ∷ drop (i + 1) ks) (sym is)) are
+
+-- the changes of items that are left
+changes_first : (ks : List Kept) (i : ℕ) (k : Kept) → i < length ks → k ≡ get_or ks i k → changes_in (items_of (drop i ks)) ≡ k.item.changes ++ changes_in (items_of (drop (i + 1) ks))
+changes_first ks i k low is = ap (λ (xs : List Kept). changes_in (items_of xs)) (drop_more ks i k low ∙ ap (λ (x : Kept). x ∷ drop (i + 1) ks) (sym is))
+
+pub changes_more : (ks : List Kept) (i : ℕ) (k : Kept) (all own new : List Change) → i < length ks → k ≡ get_or ks i k → own ≡ k.item.changes → new ≡ all ++ own
+    → all ++ changes_in (items_of (drop i ks)) ≡ changes_in (items_of ks) → new ++ changes_in (items_of (drop (i + 1) ks)) ≡ changes_in (items_of ks)
+changes_more ks i k all own new low is copied appended before =
+    ap (λ (cs : List Change). cs ++ changes_in (items_of (drop (i + 1) ks))) appended
+    ∙ append_assoc all own (changes_in (items_of (drop (i + 1) ks)))
+    ∙ ap (λ (cs : List Change). all ++ (cs ++ changes_in (items_of (drop (i + 1) ks)))) copied
+    ∙ ap (λ (cs : List Change). all ++ cs) (sym (changes_first ks i k low is))
+    ∙ before
+
+pub changes_none : (ks : List Kept) (i : ℕ) (all : List Change) → length ks ≤ i → all ++ changes_in (items_of (drop i ks)) ≡ changes_in (items_of ks) → all ≡ changes_in (items_of ks)
+changes_none ks i all past before =
+    sym (append-nil all) ∙ ap (λ (xs : List Kept). all ++ changes_in (items_of xs)) (sym (drop_all i ks past)) ∙ before
 
 -- a transaction of some items
 pub parts_of : (stamp number : ℕ) (ks : List Kept) (k : Kept) → 1 ≤ length ks → k ≡ get_or ks 0 k

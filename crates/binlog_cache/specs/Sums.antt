@@ -1,5 +1,6 @@
 -- Items with how many bytes all up to each have, at most the greatest number of 64 bits.
-use Rattle.std.specs.Prelude.{◌≡◌, ℕ, ◌+◌, List, [], ◌∷◌, map}
+use Rattle.std.specs.Prelude.{◌≡◌, ℕ, ◌+◌, List, [], ◌∷◌, flat_map, map}
+use Rattle.val_types.specs.declared.change.Change.{Change}
 use Rattle.event_codec.specs.Event.{query, xid}
 use Rattle.binlog_sizes.specs.log_entries.declared.carried.Carried.{Carried}
 use Rattle.binlog_sizes.specs.log_entries.declared.entries.Item.{Item}
@@ -12,6 +13,10 @@ use Rattle.binlog_cache.specs.declared.kept.Kept.{Kept}
 
 abbrev pub items_of : List Kept → List Item
 items_of ks = map (λ k. k.item) ks
+
+-- the changes of items, one behind the other
+abbrev pub changes_in : List Item → List Change
+changes_in is = flat_map (λ (i : Item). i.changes) is
 
 -- each is kept with a sum over those before it and itself
 abbrev pub AreSummed : (sum : Kept → ℕ) (size : Item → ℕ) (before : ℕ) → List Kept → Type 0

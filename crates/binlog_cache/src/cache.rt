@@ -5,8 +5,9 @@ ghost use Rattle.binlog_sizes.specs.log_model.Log.{transaction};
 ghost use Rattle.binlog_sizes.specs.log_model.Written.{bytes_of, CanWriteAll};
 ghost use Rattle.binlog_sizes.specs.row_events.Sizes.{bounded};
 ghost use Rattle.binlog_sizes.specs.Sizes.{all_changes_size, all_sizes};
-ghost use Rattle.binlog_cache.specs.Sums.{items_of, AreCounted};
+ghost use Rattle.binlog_cache.specs.Sums.{changes_in, items_of, AreCounted};
 
+use crate::changes::all_changes;
 use crate::encoding::encode_items;
 use crate::kept::{Kept, Sums};
 use binlog_sizes::changes_size;
@@ -15,7 +16,7 @@ use event_codec::Header;
 use item_events::item_size;
 use std::alloc::Global;
 use std::marker::Model;
-use val_types::{Bytes, List, NoMemory};
+use val_types::{Bytes, Change, List, NoMemory};
 
 /// How many bytes BEGIN and XID have beside the items.
 const ENDS: u64 = 67;
@@ -99,6 +100,13 @@ impl Cache {
         ensures { self.new ≡ take mark self.old }
     {
         self.kept.truncate(mark as usize);
+    }
+
+    /// Copies of the changes of the items, in their order: each is one more holder of its rows.
+    pub fn changes(&self, alloc: Global) -> Result<List<Change>, NoMemory>
+        ensures { IfOk result (λ changes. changes ≡ changes_in self.now) }
+    {
+        all_changes(alloc, &self.kept)
     }
 
     /// The bytes of the transaction of these items from a header's place on: BEGIN, the items, and XID

@@ -5,13 +5,14 @@
 //!
 //! - `cache`: [`Cache`], which contracts see as the list of its items
 //! - `kept`: an item with the bytes of all items up to it
-//! - `encoding`: the bytes of a transaction
+//! - `encoding`: the bytes of a transaction; `changes`: the changes of its items
 //!
 //! # Proved
 //! - [`Cache::add`] puts an item behind the others, or wants memory and leaves them; [`Cache::mark`] is
 //!   their count, and [`Cache::cut`] leaves those before a mark.
 //! - [`Cache::bytes`] is how many bytes the items have in a log, and [`Cache::changes_bytes`] how many
 //!   their changes, or the greatest number of 64 bits, always.
+//! - [`Cache::changes`] gives the changes of all items in their order, or want of memory.
 //! - [`Cache::encode`] gives exactly the bytes of the transaction of the items, or want of memory. It
 //!   asks that items by their rows have what those need, and that each event can be written at its
 //!   place.
@@ -21,6 +22,7 @@
 #![tactic(auto)]
 
 mod cache;
+mod changes;
 mod encoding;
 mod kept;
 

@@ -3,6 +3,7 @@ ghost use Rattle.std.specs.Prelude.{◌≡◌, ◌+◌, ◌<◌, ◌≤◌, ◌^
 ghost use Rattle.log_entry_laws.specs.log_entries.declared.entries.Entry.TheVariants.{Transaction};
 ghost use Rattle.binlog_items.specs.Logged.{Encodes};
 ghost use Rattle.row_laws.specs.row_events.Sizes.{bounded};
+ghost use Rattle.binlog_cache.specs.Sums.{changes_in};
 ghost use Rattle.binlog_cache.specs.binlog_sizes.Sizes.{are_too_large, most_bytes};
 
 use crate::carrying::{have_words, is_logged};
@@ -12,7 +13,7 @@ use event_codec::Header;
 use log_entry_laws::log_entries::Item;
 use std::alloc::{AllocError, Global};
 use std::marker::Model;
-use val_types::{Bytes, NoMemory};
+use val_types::{Bytes, Change, List, NoMemory};
 
 /// How many bytes BEGIN and XID have beside the items.
 const ENDS: u64 = 67;
@@ -88,6 +89,13 @@ impl Items {
         ensures { self.new ≡ take mark self.old }
     {
         self.cache.cut(mark);
+    }
+
+    /// Copies of the changes of all items, in their order: each is one more holder of its rows.
+    pub fn changes(&self, alloc: Global) -> Result<List<Change>, NoMemory>
+        ensures { IfOk result (λ changes. changes ≡ changes_in self.now) }
+    {
+        self.cache.changes(alloc)
     }
 
     /// The bytes of the transaction of these items, where so many were committed before, from a header's place on. A place too

@@ -16,8 +16,8 @@
 //!   rows or by its text, the definitions of just the tables that its changes change, in the order of the catalog, and the
 //!   changes; or memory is short.
 //! - [`Items`] are a list, which [`Items::add`] makes longer and [`Items::cut`] cuts to a mark; [`Items::are_too_large`]
-//!   tells whether one transaction may not have so many bytes; [`Items::encode`] gives exactly the bytes of their
-//!   transaction at a place, where it can be logged; or memory is short.
+//!   tells whether one transaction may not have so many bytes; [`Items::changes`] gives their changes in order;
+//!   [`Items::encode`] gives exactly the bytes of their transaction at a place, where it can be logged; or memory is short.
 //! - [`encode_definition`] gives exactly the bytes of a definition at a place, where it can be logged, or memory is short;
 //!   [`encode_start`] the 123 bytes with which a log begins.
 //! - [`served_bytes`] are just the bytes of a log from a position on, up to a count; or memory is short.

@@ -4,7 +4,7 @@ use Rattle.std.specs.List.{list_any}
 use Rattle.std.specs.Str.{bytes_eq}
 use Rattle.std.proofs.lemmas.Bool.{false≢true}
 use Rattle.program_words.specs.declared.words.Word.{Word}
-use Rattle.program_words.specs.Words.{number_asked, word_named, words_asked}
+use Rattle.program_words.specs.Words.{pair_asked, word_named, words_asked}
 
 -- whether a word begins with a hyphen
 abbrev pub is_flag : List ℕ → Bool
@@ -18,18 +18,19 @@ flag_is (b ∷ bs) e = (bs, ap (λ c. c ∷ bs) (eqb-true b 45 e))
 flag_alone : (word : List ℕ) → is_flag word ≡ true → word_named word ≡ None
 flag_alone word e = let flag = flag_is word e in rw flag.1 refl
 
-flag_first : (word digits : List ℕ) → is_flag word ≡ true → number_asked word digits ≡ None
+flag_first : (word digits : List ℕ) → is_flag word ≡ true → pair_asked word digits ≡ None
 flag_first word digits e = let flag = flag_is word e in rw flag.1 refl
 
 abbrev nothing : Option Word
 nothing = None
 
-none_either_way : (t : Bool) → (if t then nothing else nothing) ≡ nothing
-none_either_way true = refl
-none_either_way false = refl
+none_anyway : (s t : Bool) → (if s then nothing else if t then nothing else nothing) ≡ nothing
+none_anyway true t = refl
+none_anyway false true = refl
+none_anyway false false = refl
 
-flag_second : (word digits : List ℕ) → is_flag digits ≡ true → number_asked word digits ≡ None
-flag_second word digits e = let flag = flag_is digits e in rw flag.1 (none_either_way (bytes_eq word (codes "gen")))
+flag_second : (word digits : List ℕ) → is_flag digits ≡ true → pair_asked word digits ≡ None
+flag_second word digits e = let flag = flag_is digits e in rw flag.1 (none_anyway (bytes_eq word (codes "dump")) (bytes_eq word (codes "gen")))
 
 one_is : (a b : Bool) → (a || b) ≡ true → (a ≡ true) ⊎ (b ≡ true)
 one_is true b e = inl refl

@@ -15,7 +15,7 @@
 //! # Proved
 //! - [`asked_word`] is what the definition gives for each list of words, or wants memory.
 //! - The worked examples: each list that is accepted, with `--` in each place, and its neighbours that are not
-//!   ([`words_alone`], [`numbers_read`], [`dashes_dropped`]).
+//!   ([`words_alone`], [`numbers_read`], [`nodes_read`], [`dashes_dropped`]).
 //!
 //! # Only tested
 //! In the crates above: that calls succeed with ample memory.
@@ -27,4 +27,4 @@ mod words;
 mod worked;
 
 pub use words::{Word, asked_word};
-pub use worked::{dashes_dropped, numbers_read, words_alone};
+pub use worked::{dashes_dropped, nodes_read, numbers_read, words_alone};

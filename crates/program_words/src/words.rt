@@ -3,7 +3,7 @@ ghost use Rattle.std.specs.Prelude.{◌≡◌, ◌≢◌, [], IfOk, None, codes,
 ghost use Rattle.std.specs.Option.{option_map, unwrap_or};
 ghost use Rattle.std.specs.Str.{bytes_eq};
 ghost use Rattle.clap.specs.Words.{found_of, kind_of, matched_of, raw_values};
-ghost use Rattle.program_words.specs.Words.{number_asked, word_asked, word_named, words_asked};
+ghost use Rattle.program_words.specs.Words.{node_named, number_asked, pair_asked, word_asked, word_named, words_asked};
 
 use crate::command::positional_words;
 use crate::numbers::number_to;
@@ -12,13 +12,15 @@ use clap::{ArgMatches, Error};
 use std::alloc::{AllocError, Global};
 use val_types::NoMemory;
 
-/// What the program can be asked for: to carry out a script; to carry out a log; to show a log; to write the made script of so many
-/// lines.
+/// What the program can be asked for: to carry out a script; to carry out a log; to show a log; to show what the source's or the replica's
+/// store has; to write the made script of so many lines.
 #[derive(Clone, Copy)]
 pub enum Word {
     Run,
     Replay,
     Print,
+    DumpSource,
+    DumpReplica,
     Gen(u32),
 }
 
@@ -51,13 +53,37 @@ fn number_asked(word: &str, digits: &str) -> Option<Word>
     }
 }
 
+/// Whose tables `dump` shows.
+fn node_named(name: &str) -> Option<Word>
+    ensures { result ≡ node_named name.now }
+{
+    if name == "source" {
+        Some(Word::DumpSource)
+    } else if name == "replica" {
+        Some(Word::DumpReplica)
+    } else {
+        None
+    }
+}
+
+/// What two words ask for.
+fn pair_asked(word: &str, more: &str) -> Option<Word>
+    ensures { result ≡ pair_asked word.now more.now }
+{
+    if word == "dump" {
+        node_named(more)
+    } else {
+        number_asked(word, more)
+    }
+}
+
 /// What words ask for of which none is a `--` that does not count.
 fn words_asked(words: &[&str]) -> Option<Word>
     ensures { result ≡ words_asked (map (λ word. word.now) words.now) }
 {
     match words {
         [word] => word_named(word),
-        [word, digits] => number_asked(word, digits),
+        [word, more] => pair_asked(word, more),
         _ => None,
     }
 }

@@ -1,7 +1,7 @@
 //! Lists of words by hand, which the checker computes.
 ghost use Rattle.std.specs.Prelude.{◌≡◌, [], ◌∷◌, codes, None, Some};
 ghost use Rattle.program_words.specs.Words.{word_asked};
-ghost use Rattle.program_words.specs.declared.words.Word.TheVariants.{Gen, Print, Replay, Run};
+ghost use Rattle.program_words.specs.declared.words.Word.TheVariants.{DumpReplica, DumpSource, Gen, Print, Replay, Run};
 
 /// One word alone: in small letters, with nothing before, behind or beside it.
 pub fn words_alone()
@@ -20,7 +20,6 @@ pub fn words_alone()
     ensures twice { word_asked (codes "print" ∷ codes "print" ∷ []) ≡ None }
     ensures both { word_asked (codes "replay" ∷ codes "print" ∷ []) ≡ None }
     ensures empty_behind { word_asked (codes "run" ∷ [] ∷ []) ≡ None }
-    ensures dump { word_asked (codes "dump" ∷ codes "source" ∷ []) ≡ None }
     ensures load { word_asked (codes "load" ∷ codes "4" ∷ []) ≡ None }
 {}
 
@@ -49,6 +48,22 @@ pub fn numbers_read()
     ensures equals { word_asked (codes "gen=4" ∷ []) ≡ None }
     ensures large { word_asked (codes "Gen" ∷ codes "4" ∷ []) ≡ None }
     ensures behind { word_asked (codes "gen" ∷ codes "4" ∷ codes "run" ∷ []) ≡ None }
+{}
+
+/// `dump` with the name of a node, and nothing behind it.
+pub fn nodes_read()
+    ensures source { word_asked (codes "dump" ∷ codes "source" ∷ []) ≡ Some DumpSource }
+    ensures replica { word_asked (codes "dump" ∷ codes "replica" ∷ []) ≡ Some DumpReplica }
+    ensures between { word_asked (codes "dump" ∷ codes "--" ∷ codes "source" ∷ []) ≡ Some DumpSource }
+    ensures without { word_asked (codes "dump" ∷ []) ≡ None }
+    ensures other { word_asked (codes "dump" ∷ codes "both" ∷ []) ≡ None }
+    ensures empty { word_asked (codes "dump" ∷ [] ∷ []) ≡ None }
+    ensures large { word_asked (codes "dump" ∷ codes "Source" ∷ []) ≡ None }
+    ensures front { word_asked (codes "dump" ∷ codes "sour" ∷ []) ≡ None }
+    ensures number { word_asked (codes "dump" ∷ codes "1" ∷ []) ≡ None }
+    ensures two { word_asked (codes "dump" ∷ codes "source" ∷ codes "replica" ∷ []) ≡ None }
+    ensures before { word_asked (codes "source" ∷ codes "dump" ∷ []) ≡ None }
+    ensures alone { word_asked (codes "source" ∷ []) ≡ None }
 {}
 
 /// The first word that is `--` does not count, wherever it stands; a second one does.

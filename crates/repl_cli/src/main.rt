@@ -1,6 +1,8 @@
-//! The program: standard input and output, the clock and the random source of the system, and the words of the command line.
+//! The program: standard input and output, the clock and the random source of the system, the folders of both nodes, and the words of
+//! the command line.
 //!
-//! `main` hands both nodes, at the system's edges, to [`start`].
+//! `main` hands both nodes, at the system's edges, to [`start`]: the source's disk is the folder `source` where the program is called, the
+//! replica's the folder `replica`, each made by the first write.
 //!
 //! # Proved
 //! Nothing of its own: who the nodes are, and what is done with them, are clauses of `repl_run`.
@@ -10,16 +12,38 @@
 #![tactic(auto)]
 
 use answer_text::Status;
+use disk_model::HostDisk;
 use port_traits::HostEnv;
 use repl_run::{Known, exit_of, replica_identity, source_identity, start, tell};
 use std::process::ExitCode;
 use val_types::NoMemory;
 
+/// The folder of the source's disk.
+const SOURCE_FOLDER: &str = "source";
+
+/// The folder of the replica's disk.
+const REPLICA_FOLDER: &str = "replica";
+
+/// The disk over a folder.
+fn disk_over<'a>(rt: &'a HostRuntime, folder: &str) -> Result<HostDisk<&'a HostRuntime>, NoMemory> {
+    let alloc = rt.alloc();
+    HostDisk::new(alloc, rt, String::from_str(alloc, folder)?)
+}
+
 /// The program over the system's edges.
 fn run(rt: &HostRuntime) -> Result<ExitCode, NoMemory> {
     let mut src_env = HostEnv::new(rt, source_identity(rt)?);
     let mut rep_env = HostEnv::new(rt, replica_identity(rt.alloc())?);
-    Ok(start(rt, Known::Plain, &mut src_env, &mut rep_env))
+    let mut src = disk_over(rt, SOURCE_FOLDER)?;
+    let mut rep = disk_over(rt, REPLICA_FOLDER)?;
+    Ok(start(
+        rt,
+        Known::Plain,
+        &mut src,
+        &mut rep,
+        &mut src_env,
+        &mut rep_env,
+    ))
 }
 
 fn main(rt: HostRuntime) -> ExitCode {

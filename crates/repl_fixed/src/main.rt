@@ -1,10 +1,10 @@
 //! The program with told identities and draws: a run gives the same bytes everywhere.
 //!
-//! It is the program `repl_cli` but for its environments, in which the clock and the random source of the system have no part, and
-//! for a further word: `log` carries out the script on standard input as `run` does, and writes the bytes of the source's binary log
+//! It is the program `repl_cli` but for its environments, in which the clock and the random source of the system have no part, for its
+//! disks, which are in memory, empty as it is called and gone behind it, and for a further word: `log` carries out the script on standard input as `run` does, and writes the bytes of the source's binary log
 //! in place of the answers, for whoever prints or replays it, compares logs or reads them with other programs.
 //!
-//! - `main` (here): both nodes at environments in memory, handed to [`start`]
+//! - `main` (here): both nodes at environments and disks in memory, handed to [`start`]
 //! - `draws`: who the nodes are and what they draw
 //!
 //! # Proved
@@ -17,6 +17,7 @@
 mod draws;
 
 use answer_text::Status;
+use disk_model::MemDisk;
 use draws::{replica_env, source_env};
 use repl_run::{Known, exit_of, start, tell};
 use std::process::ExitCode;
@@ -26,7 +27,16 @@ use val_types::NoMemory;
 fn run(rt: &HostRuntime) -> Result<ExitCode, NoMemory> {
     let mut src_env = source_env(rt.alloc())?;
     let mut rep_env = replica_env(rt.alloc())?;
-    Ok(start(rt, Known::WithLog, &mut src_env, &mut rep_env))
+    let mut src = MemDisk::new(rt.alloc());
+    let mut rep = MemDisk::new(rt.alloc());
+    Ok(start(
+        rt,
+        Known::WithLog,
+        &mut src,
+        &mut rep,
+        &mut src_env,
+        &mut rep_env,
+    ))
 }
 
 fn main(rt: HostRuntime) -> ExitCode {

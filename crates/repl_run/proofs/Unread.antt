@@ -2,12 +2,18 @@
 use Rattle.std.proofs.Common.{◌≡◌, ◌⊎◌, ℕ, List, [], Option, Some, None, inl, inr, refl, arith}
 use Rattle.answer_text.specs.declared.report.Report.{Report}
 use Rattle.answer_text.specs.declared.status.Status.TheVariants as status
+use Rattle.disk_model.specs.Story.{Story}
 use Rattle.run_streams.specs.Read.{TakesUpToLimit}
+use Rattle.run_streams.specs.Reports.{IsEmpty}
 use Rattle.run_streams.specs.Wrote.{WroteFront}
 use Rattle.run_streams.proofs.Writing.{wrote_nothing}
+use Rattle.durable_runs.specs.Laws.{SourcesLast}
 use Rattle.script_run.specs.Ran.{EndsBy}
+use Rattle.script_run.proofs.Opened.{idle_survives, none_begun}
 use Rattle.print_log.specs.Ends.{PrintEnds, PrintedFront}
 use Rattle.gen_script.specs.Ends.{GenEnds}
+use Rattle.store_model.specs.declared.record.Kind.{Kind}
+use Rattle.dump_store.specs.Ends.{DumpEnds}
 
 nothing_written : (before : Option (List ℕ)) (whole : List ℕ) → WroteFront before before whole
 nothing_written before whole = record { front = []; rest = whole; split = refl; wrote = wrote_nothing before }
@@ -16,8 +22,9 @@ pub not_taken : (input : Option (List ℕ)) → TakesUpToLimit input input
 not_taken None = record { count = 0; within = omega arith; rest = refl }
 not_taken (Some bytes) = record { count = 0; within = omega arith; rest = refl }
 
-pub not_run : (script left : Option (List ℕ)) (report : Report) (before : Option (List ℕ)) → EndsBy status.NoMemory script left report before before
-not_run script left report before = inl refl
+pub not_run : SourcesLast → (script left : Option (List ℕ)) (t : Option Story) (report : Report) (before : Option (List ℕ)) → IsEmpty report
+    → EndsBy status.NoMemory script left t t report before before
+not_run law script left t report before empty = inl (none_begun t t report before empty.marks empty.stands (idle_survives law t))
 
 printed_front : (input before : Option (List ℕ)) → PrintedFront input before before
 printed_front None before = record { bytes = []; input_is = tt; front = nothing_written before _ }
@@ -35,3 +42,6 @@ are_bad = inl refl
 
 pub are_not_read : (status.NoMemory ≡ status.BadWords) ⊎ (status.NoMemory ≡ status.NoMemory)
 are_not_read = inr refl
+
+pub not_dumped : (kind : Kind) (told : Option Story) (before : Option (List ℕ)) → DumpEnds status.NoMemory kind told before before
+not_dumped kind told before = inr refl

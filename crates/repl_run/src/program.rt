@@ -1,17 +1,24 @@
 //! The whole program, over any input, output and environments.
-ghost use Rattle.std.specs.Prelude.{◌≡◌, ◌⊎◌, ◌≤◌, [], true, Some, None, map, string_bytes, IfSome};
+ghost use Rattle.std.specs.Prelude.{◌≡◌, ◌⊎◌, ◌≤◌, [], false, true, Some, None, map, string_bytes, IfSome};
+ghost use Rattle.disk_model.specs.Claims.{Quietly};
+ghost use Rattle.disk_model.specs.Moments.{IsSettled};
 ghost use Rattle.fault_counts.specs.Causes.{Rose};
 ghost use Rattle.run_streams.specs.Read.{RestBehindScript, TakesUpToLimit};
 ghost use Rattle.run_streams.specs.Reports.{AllTold, IsEmpty, Tells};
 ghost use Rattle.run_streams.specs.Stops.{failed_writes, is_early};
-ghost use Rattle.program_words.specs.Words.{IfGen, reads_input, word_asked};
-ghost use Rattle.program_words.specs.declared.words.Word.TheVariants.{Print, Replay, Run};
+ghost use Rattle.program_words.specs.Words.{IfGen, calls_replica, calls_source, reads_input, shows_store, word_asked};
+ghost use Rattle.program_words.specs.declared.words.Word.TheVariants.{DumpReplica, DumpSource, Print, Replay, Run};
+ghost use Rattle.store_model.specs.declared.record.Kind.TheVariants.{Replica as OfReplica, Source as OfSource};
+ghost use Rattle.dump_store.specs.Ends.{DumpEnds, IsDoneOrShort, IsFaultless, IsHeld};
 ghost use Rattle.script_run.specs.Ran.{EndsBy};
 ghost use Rattle.print_log.specs.Ends.{PrintEnds};
 ghost use Rattle.replay_log.specs.Ends.{ReplayEnds};
 ghost use Rattle.gen_script.specs.Ends.{GenEnds};
 
 use answer_text::{Report, Status};
+use disk_model::Disk;
+use dump_store::dump;
+use durable_runs::sources_last;
 use gen_script::write_script;
 use port_traits::{Env, Sink, Source};
 use print_log::print;
@@ -19,12 +26,14 @@ use program_words::{Word, asked_word};
 use replay_log::replay;
 use script_run::run_script;
 use std::alloc::Global;
+use store_model::Kind;
 
 /// The whole program: the words ask for something to be done with the input and the output, by a
-/// source in the one environment and a replica in the other.
+/// source in the one environment and on the one disk, and a replica in the other and on the other.
 ///
-/// - `run` carries out the script on the input: each command is carried out by the source or the replica, which begin without
-///   tables, and what it is told is written before the next begins. What a session commits is logged in its format: by its text under
+/// - `run` carries out the script on the input: each command is carried out by the source, which opens on what its disk has, or by the
+///   replica, which begins without tables, and what it is told is written before the next begins. What is committed is on the source's
+///   disk before the command is answered. What a session commits is logged in its format: by its text under
 ///   STATEMENT, by its rows under ROW, and under MIXED by its text exactly where it has no reason for which that is unsafe. The
 ///   replica fetches the log of the source and carries out what stands there; it follows the source, however the log is cut, and
 ///   whatever its clock, its seeds, its identity and its counters are. No APPLY stops, and once all is carried out the tables are
@@ -32,21 +41,26 @@ use std::alloc::Global;
 /// - `print` shows the binary log on the input, a line for each event of each whole group.
 /// - `replay` carries out the binary log on the input, by a replica that begins without tables and is gone behind the call, and writes
 ///   how many groups these were and the place behind them.
+/// - `dump source` and `dump replica` write what the store of a disk holds: of each object its CREATE statement, and behind a table its
+///   rows. They read that disk, and write nothing there.
 /// - `gen n` writes the made script with n changes, and reads and touches nothing else.
 ///
 /// Any other words are [`Status::BadWords`], and nothing is read. The report is empty before, and tells after, at any status, who the
 /// source and the replica are, as far as they were opened, and what they drew.
-#[tactic(auto, using(crate::proofs::Unread::are_bad, crate::proofs::Unread::are_not_read, crate::proofs::Unread::not_made, crate::proofs::Unread::not_printed, crate::proofs::Unread::not_run, crate::proofs::Unread::not_taken))]
-pub fn top<S: Source, K: Sink, E: Env, F: Env>(
+#[tactic(auto, using(crate::proofs::Unread::are_bad, crate::proofs::Unread::are_not_read, crate::proofs::Unread::not_made, crate::proofs::Unread::not_dumped, crate::proofs::Unread::not_printed, crate::proofs::Unread::not_run, crate::proofs::Unread::not_taken, disk_model::proofs::Quiet::quiet_none))]
+pub fn top<S: Source, K: Sink, E: Env, F: Env, D: Disk, R: Disk>(
     alloc: Global,
     words: &[String],
     input: &mut S,
     out: &mut K,
+    src: &mut D,
+    rep: &mut R,
     src_env: &mut E,
     rep_env: &mut F,
     report: &mut Report,
 ) -> Status
-    requires { IsEmpty report.old }
+    requires empty { IsEmpty report.old }
+    requires settled { IsSettled (D.told src.old) }
     ensures words { result ≡ Status.BadWords → word_asked (map string_bytes words.now) ≡ None }
     ensures other_words { word_asked (map string_bytes words.now) ≡ None → (result ≡ Status.BadWords) ⊎ (result ≡ Status.NoMemory) }
 
@@ -55,7 +69,7 @@ pub fn top<S: Source, K: Sink, E: Env, F: Env>(
     // (under MIXED the items without a reason by their texts, and no others), and the replica follows the source; at any other status
     // a front of these lines was written.
     ensures run { word_asked (map string_bytes words.now) ≡ Some Run → EndsBy result (S.left input.old) (S.left input.new)
-        report.new (K.written out.old) (K.written out.new) }
+        (D.told src.old) (D.told src.new) report.new (K.written out.old) (K.written out.new) }
 
     // What `print` comes to: the lines of all groups of the log on the input were written, at Done up to its end, at LogDamaged and
     // LogForeign up to what is damaged or not known; at any other status a front of them.
@@ -68,6 +82,20 @@ pub fn top<S: Source, K: Sink, E: Env, F: Env>(
     ensures replay { word_asked (map string_bytes words.now) ≡ Some Replay → ReplayEnds result (S.left input.old) (S.left input.new)
         report.new (K.written out.old) (K.written out.new) }
 
+    // What `dump` comes to: the lines of what the store of that disk holds were written, or a front of them; nothing where it is damaged.
+    ensures dump_source { word_asked (map string_bytes words.now) ≡ Some DumpSource → DumpEnds result OfSource (D.told src.old)
+        (K.written out.old) (K.written out.new) }
+    ensures dump_replica { word_asked (map string_bytes words.now) ≡ Some DumpReplica → DumpEnds result OfReplica (R.told rep.old)
+        (K.written out.old) (K.written out.new) }
+
+    // It reads that disk and writes nothing there; where the disk tells what it holds and neither fails, all was written or memory was short.
+    ensures quiet_source { word_asked (map string_bytes words.now) ≡ Some DumpSource → Quietly (D.told src.old) (D.told src.new) }
+    ensures quiet_replica { word_asked (map string_bytes words.now) ≡ Some DumpReplica → Quietly (R.told rep.old) (R.told rep.new) }
+    ensures whole_source { word_asked (map string_bytes words.now) ≡ Some DumpSource → IsHeld OfSource (D.told src.old)
+        → IsFaultless (D.faults src.old) (D.faults src.new) → IsFaultless (K.faults out.old) (K.faults out.new) → IsDoneOrShort result }
+    ensures whole_replica { word_asked (map string_bytes words.now) ≡ Some DumpReplica → IsHeld OfReplica (R.told rep.old)
+        → IsFaultless (R.faults rep.old) (R.faults rep.new) → IsFaultless (K.faults out.old) (K.faults out.new) → IsDoneOrShort result }
+
     // What `gen` comes to: the made script was written, or a front of it.
     ensures made { IfGen (word_asked (map string_bytes words.now)) (λ n. GenEnds result n (K.written out.old) (K.written out.new)) }
 
@@ -78,10 +106,15 @@ pub fn top<S: Source, K: Sink, E: Env, F: Env>(
     ensures limit { word_asked (map string_bytes words.now) ≡ Some Run → TakesUpToLimit (S.left input.old) (S.left input.new) }
 
     // Behind bad words nothing is touched; before a script was read and split, nothing but the input; `print` touches no
-    // environment and no report, `replay` none of a source, and `gen` nothing but the output.
+    // environment and no report, `replay` none of a source, `dump` neither, and `gen` nothing but the output. No word calls a disk
+    // but `run` and `dump source` the source's, and `dump replica` the replica's.
     ensures untouched { result ≡ Status.BadWords → (out.new ≡ out.old)
         × (src_env.new ≡ src_env.old) × (rep_env.new ≡ rep_env.old) × (report.new ≡ report.old) }
     ensures idle { word_asked (map string_bytes words.now) ≡ Some Run → is_early result ≡ true → (out.new ≡ out.old)
+        × (src_env.new ≡ src_env.old) × (rep_env.new ≡ rep_env.old) × (src.new ≡ src.old) × (report.new ≡ report.old) }
+    ensures source_disk_alone { calls_source (word_asked (map string_bytes words.now)) ≡ false → src.new ≡ src.old }
+    ensures replica_disk_alone { calls_replica (word_asked (map string_bytes words.now)) ≡ false → rep.new ≡ rep.old }
+    ensures dumped_alone { shows_store (word_asked (map string_bytes words.now)) ≡ true → (input.new ≡ input.old)
         × (src_env.new ≡ src_env.old) × (rep_env.new ≡ rep_env.old) × (report.new ≡ report.old) }
     ensures print_alone { word_asked (map string_bytes words.now) ≡ Some Print →
         (src_env.new ≡ src_env.old) × (rep_env.new ≡ rep_env.old) × (report.new ≡ report.old) }
@@ -95,6 +128,8 @@ pub fn top<S: Source, K: Sink, E: Env, F: Env>(
     // read behind the end of the input, and at Done it was read to there by each word that reads.
     ensures read_fault { result ≡ Status.ReadFault → Rose (S.faults input.old) (S.faults input.new) }
     ensures write_fault { result ≡ Status.WriteFault → Rose (K.faults out.old) (K.faults out.new) }
+    ensures source_disk { result ≡ Status.SourceDisk → Rose (D.faults src.old) (D.faults src.new) }
+    ensures replica_disk { result ≡ Status.ReplicaDisk → Rose (R.faults rep.old) (R.faults rep.new) }
     ensures reads_once { S.ended input.old ≡ 0 → S.ended input.new ≤ 1 }
     ensures last_read { result ≡ Status.ReadFault → S.ended input.old ≡ 0 → S.ended input.new ≡ 1 }
     ensures read_end { reads_input (word_asked (map string_bytes words.now)) ≡ true → result ≡ Status.Done → S.ended input.old ≡ 0 → S.ended input.new ≡ 1 }
@@ -108,12 +143,15 @@ pub fn top<S: Source, K: Sink, E: Env, F: Env>(
     ensures replica { Tells (F.told rep_env.old) (F.draws rep_env.old)
         report.new.rep_identity report.new.rep_draws }
 {
+    sources_last();
     match asked_word(alloc, words) {
         Err(_) => Status::NoMemory,
         Ok(None) => Status::BadWords,
-        Ok(Some(Word::Run)) => run_script(alloc, input, out, src_env, rep_env, report),
+        Ok(Some(Word::Run)) => run_script(alloc, input, out, src, src_env, rep_env, report),
         Ok(Some(Word::Print)) => print(alloc, input, out),
         Ok(Some(Word::Replay)) => replay(alloc, input, out, rep_env, report),
+        Ok(Some(Word::DumpSource)) => dump(alloc, src, out, Kind::Source),
+        Ok(Some(Word::DumpReplica)) => dump(alloc, rep, out, Kind::Replica),
         Ok(Some(Word::Gen(changes))) => write_script(alloc, changes, out),
     }
 }

@@ -1,10 +1,12 @@
 //! One call of the program.
+ghost use Rattle.disk_model.specs.Moments.{IsSettled};
 
 use crate::command_line::{Known, asks_log, words};
 use crate::ending::{exit_of, tell};
 use crate::pages::{Page, page_asked};
 use crate::program::top;
 use answer_text::Status;
+use disk_model::Disk;
 use port_traits::{Env, StdSink, StdSource};
 use run_streams::empty_report;
 use script_run::write_log;
@@ -26,14 +28,18 @@ fn show(rt: &HostRuntime, known: Known, page: Page) -> Status {
     Status::Done
 }
 
-/// The program over standard input and output, a source in the one environment and a replica in the other.
-fn call<E: Env, F: Env>(
+/// The program over standard input and output, a source in the one environment and on the one disk, a replica in the others.
+fn call<E: Env, F: Env, D: Disk, R: Disk>(
     rt: &HostRuntime,
     known: Known,
     words: &[String],
+    src: &mut D,
+    rep: &mut R,
     src_env: &mut E,
     rep_env: &mut F,
-) -> Status {
+) -> Status
+    requires { IsSettled (D.told src.old) }
+{
     // A log is read a header and a body at a time, of which the system gives many at once.
     let Ok(reader) = BufReader::with_capacity(rt.alloc(), READ_AHEAD, rt.reader()) else {
         return Status::NoMemory;
@@ -46,6 +52,7 @@ fn call<E: Env, F: Env>(
             rt.alloc(),
             &mut input,
             &mut out,
+            src,
             src_env,
             rep_env,
             &mut report,
@@ -56,6 +63,8 @@ fn call<E: Env, F: Env>(
         words,
         &mut input,
         &mut out,
+        src,
+        rep,
         src_env,
         rep_env,
         &mut report,
@@ -63,30 +72,38 @@ fn call<E: Env, F: Env>(
 }
 
 /// What the words of the command line ask for, done.
-fn asked<E: Env, F: Env>(
+fn asked<E: Env, F: Env, D: Disk, R: Disk>(
     rt: &HostRuntime,
     known: Known,
+    src: &mut D,
+    rep: &mut R,
     src_env: &mut E,
     rep_env: &mut F,
-) -> Status {
+) -> Status
+    requires { IsSettled (D.told src.old) }
+{
     match words(rt) {
         Err(status) => status,
         Ok(words) => match page_asked(words.as_slice()) {
             Some(page) => show(rt, known, page),
-            None => call(rt, known, words.as_slice(), src_env, rep_env),
+            None => call(rt, known, words.as_slice(), src, rep, src_env, rep_env),
         },
     }
 }
 
 /// Does what the words of the command line ask of a program that has these, tells how it ended on standard error, and gives
 /// what the process ends with.
-pub fn start<E: Env, F: Env>(
+pub fn start<E: Env, F: Env, D: Disk, R: Disk>(
     rt: &HostRuntime,
     known: Known,
+    src: &mut D,
+    rep: &mut R,
     src_env: &mut E,
     rep_env: &mut F,
-) -> ExitCode {
-    let status = asked(rt, known, src_env, rep_env);
+) -> ExitCode
+    requires { IsSettled (D.told src.old) }
+{
+    let status = asked(rt, known, src, rep, src_env, rep_env);
     // where standard error takes nothing, the exit status says it
     let _ = tell(rt.alloc(), &mut rt.stderr(), &status);
     exit_of(&status)

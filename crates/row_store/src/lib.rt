@@ -17,7 +17,7 @@
 //! - `tables`: [`Tables`], by places
 //! - `by_name`: the same by names
 //! - `standing`: rows that stand just so
-//! - `reading`: rows read where they stand
+//! - `reading`: rows read where they stand; `ends`: how many there are, the first and the last
 //! - `copying`: tables once more
 //! - `setting_aside`: [`Aside`], what a transaction shows set aside and put back, or forgotten
 //! - `laws`: what holds of all that is stored
@@ -39,6 +39,7 @@
 //! - [`Tables::rows`] gives the rows in their order, shared with the table, without copies, or wants memory;
 //!   [`Tables::committed_rows`] those that are there to stay; [`Tables::copy`] gives equal tables that keep the
 //!   same keys, with the same rows that are there to stay
+//! - [`Tables::count`], [`Tables::first`] and [`Tables::last`] give how many rows a table has, and the two at its ends, without memory
 //! - [`Tables::key_in_way`], [`Tables::row_in_way`] and [`Tables::row_on_key`] give the number of the first
 //!   key in the way, the row that has it, and the row that has the key of a number, without memory
 //! - [`Tables::create`], [`Tables::drop_table`], [`Tables::clear`] and [`Tables::tidy`] their definitions;
@@ -62,6 +63,7 @@
 
 mod by_name;
 mod copying;
+mod ends;
 mod laws;
 mod named;
 mod reading;

@@ -18,7 +18,7 @@
 //!   at every replica, its base is what they make of the one that it began with.
 //! - So it is behind each RESTART of the one and the other: its counters begin anew, what it had fetched is gone, and base, number and
 //!   place stay (`replica_follows`). A source's RESTART leaves all that was committed, and puts out nothing, since its log has begun;
-//!   its sessions begin anew, also with the format of a new one (`restarts_keep`). No command of the program asks a RESTART yet.
+//!   its sessions begin anew, also with the format of a new one (`restarts_keep`). No command of the program asks the replica's yet.
 //! - Where a replica is behind its source by what stands in the log from its place on, both open there, and it follows; and a run that
 //!   began so ends where the next one may, where each item that the replica has carried out does the same at every replica: it owes what
 //!   it has not (`runs_open`).

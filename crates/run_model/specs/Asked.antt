@@ -1,5 +1,5 @@
--- What the commands of a script ask of the nodes. Of the two RESTARTs the definitions and laws of runs speak, and no command asks one:
--- this program carries out none, since its nodes keep nothing on disks.
+-- What the commands of a script ask of the nodes. Of a RESTART of the replica the definitions and laws of runs speak, and no command asks
+-- it yet: this program carries out none, since its replica keeps nothing on a disk.
 use Rattle.std.specs.Prelude.{ℕ, List, [], ◌∷◌, Option, Some, None, Result, Ok, Err}
 use Rattle.script_read.specs.Commands.{What, of_session, source_checkpoint, source_flush, source_restart, fetch, apply, replica_checkpoint, replica_restart, replica_select, Command}
 use Rattle.script_read.specs.Script.{split_of}
@@ -20,7 +20,7 @@ asked_by (of_session n text) = Some (say n text)
 asked_by (replica_select text) = Some (select text)
 asked_by source_checkpoint = None
 asked_by source_flush = None
-asked_by source_restart = None
+asked_by source_restart = Some restart_source
 asked_by (fetch n) = Some (take_bytes n)
 asked_by (apply n) = Some (take_groups n)
 asked_by replica_checkpoint = None

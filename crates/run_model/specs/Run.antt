@@ -2,8 +2,8 @@
 --
 -- A node that opens again by a RESTART loses what it keeps in memory alone. A source has no session and no open transaction, its
 -- counters begin behind its rows, and what it has committed stays. A replica has nothing of what it had fetched, its counters begin
--- behind its rows, and its base, its number and its place stay, from which it fetches again. The nodes of this program carry out no
--- RESTART, since they keep nothing on disks.
+-- behind its rows, and its base, its number and its place stay, from which it fetches again. The replica of this program carries out no
+-- RESTART, since it keeps nothing on a disk.
 use Rattle.std.specs.Prelude.{ℕ, suc, ◌+◌, Bool, true, false, List, [], ◌∷◌, ◌++◌, length, map, replicate, Option, Some, None}
 use Rattle.port_traits.specs.declared.identity.Identity.{Identity}
 use Rattle.port_traits.specs.declared.identity.Draw.{Draw}
@@ -209,7 +209,7 @@ of_replica cs ds = draws_of draws_replica cs ds
 
 -- ---- where a run stands
 
--- before a command: its number, and how many transactions were committed and how many applied; nothing is kept on a disk yet
+-- before a command: its number, and how many transactions were committed and how many applied; calls of disks are not counted here
 abbrev pub mark_at : ℕ → Both → Mark
 mark_at k b = record { command = k; committed = b.machine.state.shared.committed; src_calls = 0; applied = b.replica.number; rep_calls = 0 }
 

@@ -1,7 +1,11 @@
 pub mod Asking
+pub mod Beginning
 pub mod Drawing
-pub mod Lengths
 pub mod Logged
+pub mod Marks
+pub mod Opened
 pub mod Running
 pub mod Scripts
+pub mod Serving
 pub mod Spoken
+pub mod Surviving

@@ -1,8 +1,11 @@
 pub mod Asking
+pub mod Beginning
 pub mod Faults
 pub mod Logged
+pub mod Marks
 pub mod Ran
 pub mod Running
+pub mod Survives
 pub mod Together
 -- the crates below that this one speaks of, passed on
 pub use Rattle.run_streams.specs as run_streams

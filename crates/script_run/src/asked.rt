@@ -12,14 +12,15 @@ use script_read::{Command, What};
 use std::alloc::Global;
 use val_types::List;
 
-/// What a command asks: a text of a session; of the replica a SELECT, at most so many bytes to be fetched, or at most so many
-/// groups to be carried out.
+/// What a command asks: a text of a session; that the source opens again; of the replica a SELECT, at most so many bytes to be
+/// fetched, or at most so many groups to be carried out.
 #[derive(Clone, Copy)]
 pub(crate) enum Asked<'a> {
     Say { session: u8, text: &'a [u8] },
     Select { text: &'a [u8] },
     Fetch { count: u32 },
     Apply { count: u32 },
+    RestartSource,
 }
 
 /// What a command asks, None for what no node does yet.
@@ -34,6 +35,7 @@ fn asked_by<'a>(command: &Command<'a>) -> Option<Asked<'a>>
         What::ReplicaSelect { text } => Some(Asked::Select { text }),
         What::Fetch(count) => Some(Asked::Fetch { count }),
         What::Apply(count) => Some(Asked::Apply { count }),
+        What::SourceRestart => Some(Asked::RestartSource),
         _ => None,
     }
 }

@@ -1,5 +1,6 @@
 //! The word `run`: the script on the input, over any input, output and environments.
 ghost use Rattle.std.specs.Prelude.{◌≡◌, ◌≤◌, true, IfSome, IfErr};
+ghost use Rattle.disk_model.specs.Moments.{IsSettled};
 ghost use Rattle.fault_counts.specs.Causes.{Rose};
 ghost use Rattle.run_streams.specs.Read.{RestBehindScript, TakesUpToLimit};
 ghost use Rattle.run_streams.specs.Reports.{AllTold, IsEmpty, Tells};
@@ -10,62 +11,73 @@ ghost use Rattle.script_run.specs.Ran.{EndsBy};
 use crate::asked::read_asked;
 use crate::commands::run_commands;
 use answer_text::{Report, Status};
+use disk_model::Disk;
 use port_traits::{Env, Sink, Source};
+use run_stores::durable_runs::sources_last;
 use run_streams::read_script;
 use std::alloc::Global;
 
 /// Carries out the script on the input, which is read whole and split before anything runs.
-fn run<S: Source, K: Sink, E: Env, F: Env>(
+fn run<S: Source, K: Sink, D: Disk, E: Env, F: Env>(
     alloc: Global,
     input: &mut S,
     out: &mut K,
+    src: &mut D,
     src_env: &mut E,
     rep_env: &mut F,
     report: &mut Report,
 ) -> Result<(), Status>
-    requires { IsEmpty report.old }
-    ensures run { EndsBy (status_of result) (S.left input.old) (S.left input.new) report.new (K.written out.old) (K.written out.new) }
+    requires report { IsEmpty report.old }
+    requires settled { IsSettled (D.told src.old) }
+    ensures run { EndsBy (status_of result) (S.left input.old) (S.left input.new) (D.told src.old) (D.told src.new) report.new
+        (K.written out.old) (K.written out.new) }
     ensures refused { IfSome (S.left input.old) (λ script. RestBehindScript (status_of result) script (S.left input.new)) }
     ensures limit { TakesUpToLimit (S.left input.old) (S.left input.new) }
     ensures once { S.ended input.old ≡ 0 → S.ended input.new ≤ 1 }
     ensures last { result ≡ Err Status.ReadFault → S.ended input.old ≡ 0 → S.ended input.new ≡ 1 }
     ensures at_end { status_of result ≡ Status.Done → S.ended input.old ≡ 0 → S.ended input.new ≡ 1 }
     ensures ended { K.ended out.old ≡ 0 → K.ended out.new ≡ failed_writes (status_of result) }
-    ensures idle { is_early (status_of result) ≡ true → (out.new ≡ out.old)
+    ensures idle { is_early (status_of result) ≡ true → (out.new ≡ out.old) × (src.new ≡ src.old)
         × (src_env.new ≡ src_env.old) × (rep_env.new ≡ rep_env.old) × (report.new ≡ report.old) }
     ensures src_drawn { AllTold (status_of result) (E.draws src_env.old) (E.draws src_env.new) report.new.src_draws }
     ensures rep_drawn { AllTold (status_of result) (F.draws rep_env.old) (F.draws rep_env.new) report.new.rep_draws }
     ensures fault { IfErr result (λ status. HasFault status (S.faults input.old) (S.faults input.new)
-        (K.faults out.old) (K.faults out.new)) }
+        (K.faults out.old) (K.faults out.new) (D.faults src.old) (D.faults src.new)) }
     ensures src { Tells (E.told src_env.old) (E.draws src_env.old) report.new.src_identity report.new.src_draws }
     ensures rep { Tells (F.told rep_env.old) (F.draws rep_env.old) report.new.rep_identity report.new.rep_draws }
 {
+    sources_last();
     let script = read_script(alloc, input)?;
     let asked = read_asked(alloc, script.as_slice())?;
-    run_commands(alloc, &asked, src_env, rep_env, report, out)
+    run_commands(alloc, &asked, src, src_env, rep_env, report, out)
 }
 
-/// The word `run`, with its end as a status: carries out the script on the input, each command by a source in the one environment
-/// or a replica in the other, which begin without tables, and writes what it is told before the next begins.
+/// The word `run`, with its end as a status: carries out the script on the input, each command by a source on its disk in the one
+/// environment or a replica in the other, and writes what it is told before the next begins. The source begins where its disk stands,
+/// the replica without tables.
 ///
-/// The report is empty before, and tells after, at any status, who the source and the replica are, as far as they were opened, and
-/// what they drew.
-pub fn run_script<S: Source, K: Sink, E: Env, F: Env>(
+/// The report is empty before, and tells after, at any status, who the source and the replica are, as far as they were opened, what
+/// they drew, where the last command began, and which transactions were kept.
+pub fn run_script<S: Source, K: Sink, D: Disk, E: Env, F: Env>(
     alloc: Global,
     input: &mut S,
     out: &mut K,
+    src: &mut D,
     src_env: &mut E,
     rep_env: &mut F,
     report: &mut Report,
 ) -> Status
-    requires { IsEmpty report.old }
-    ensures run { EndsBy result (S.left input.old) (S.left input.new) report.new (K.written out.old) (K.written out.new) }
+    requires report { IsEmpty report.old }
+    requires settled { IsSettled (D.told src.old) }
+    ensures run { EndsBy result (S.left input.old) (S.left input.new) (D.told src.old) (D.told src.new) report.new
+        (K.written out.old) (K.written out.new) }
     ensures refused { IfSome (S.left input.old) (λ script. RestBehindScript result script (S.left input.new)) }
     ensures limit { TakesUpToLimit (S.left input.old) (S.left input.new) }
-    ensures idle { is_early result ≡ true → (out.new ≡ out.old)
+    ensures idle { is_early result ≡ true → (out.new ≡ out.old) × (src.new ≡ src.old)
         × (src_env.new ≡ src_env.old) × (rep_env.new ≡ rep_env.old) × (report.new ≡ report.old) }
     ensures read_fault { result ≡ Status.ReadFault → Rose (S.faults input.old) (S.faults input.new) }
     ensures write_fault { result ≡ Status.WriteFault → Rose (K.faults out.old) (K.faults out.new) }
+    ensures disk_fault { result ≡ Status.SourceDisk → Rose (D.faults src.old) (D.faults src.new) }
     ensures reads_once { S.ended input.old ≡ 0 → S.ended input.new ≤ 1 }
     ensures last_read { result ≡ Status.ReadFault → S.ended input.old ≡ 0 → S.ended input.new ≡ 1 }
     ensures read_end { result ≡ Status.Done → S.ended input.old ≡ 0 → S.ended input.new ≡ 1 }
@@ -77,7 +89,7 @@ pub fn run_script<S: Source, K: Sink, E: Env, F: Env>(
     ensures replica { Tells (F.told rep_env.old) (F.draws rep_env.old)
         report.new.rep_identity report.new.rep_draws }
 {
-    match run(alloc, input, out, src_env, rep_env, report) {
+    match run(alloc, input, out, src, src_env, rep_env, report) {
         Ok(()) => Status::Done,
         Err(status) => status,
     }

@@ -1,5 +1,5 @@
 -- Which count of transactions and which end of the log a step's entries lead to, and entries logged behind others.
-use Rattle.std.proofs.Common.{◌≡◌, ℕ, List, [], ◌∷◌, ◌++◌, Bool, true, false, if◌then◌else◌, length, Option, Some, None, Result, Ok, Err, ℤ, refl, sym, ap, ◌∙◌, subst, append-nil, append_assoc}
+use Rattle.std.proofs.Common.{◌≡◌, ℕ, List, [], ◌∷◌, ◌++◌, Bool, true, false, if◌then◌else◌, Option, Some, None, Result, Ok, Err, ℤ, refl, sym, ap, ◌∙◌}
 use Rattle.val_types.specs.declared.change.Change.{Change}
 use Rattle.val_types.specs.declared.value.Value.{Value}
 use Rattle.port_traits.specs.declared.identity.Draw.{Draw}
@@ -13,10 +13,7 @@ use Rattle.proc_run.specs.sql_meaning.Changing.{Did}
 use Rattle.proc_run.specs.sql_meaning.Running.{context_after, effect, evaluation}
 use Rattle.proc_run.specs.log_entries.declared.entries.Item.{Item}
 use Rattle.proc_run.specs.log_entries.declared.entries.Entry.{Entry}
-use Rattle.answer_making.specs.log_model.Log.{LogPlace, behind, counted, counted_all, log, written_to}
-use Rattle.answer_making.proofs.of_log_model.Growing.{goes_on}
-use Rattle.session_statement.specs.log_entry_laws.Entries.{CanLogAll}
-use Rattle.session_statement.specs.binlog_items.Logged.{in_log}
+use Rattle.answer_making.specs.log_model.Log.{LogPlace, behind, counted, counted_all, written_to}
 use Rattle.proc_run.specs.proc_model.Talk.{Left, Refusal, Told}
 use Rattle.proc_run.specs.session_ctx.declared.session.SessionVars.{SessionVars}
 use Rattle.answer_making.specs.session_model.Sessions.{Open, Session, Shared}
@@ -24,12 +21,11 @@ use Rattle.answer_making.specs.session_model.declared.format.Format.{Format}
 use Rattle.answer_making.specs.session_model.Running.{Call, Given, Turn, ended, given_by, is_other, is_warned, item_of, keep, made_behind, scene_for, setting_of, settle, statement_run, takes_too_much, undone, values_run, with_context, with_counters}
 use Rattle.answer_making.specs.session_model.Calling.{Reached, arguments_run, reached_by, unless_checked}
 use Rattle.session_statement.specs.Calls.{call_of}
-use Rattle.session_statement.specs.session_shared.Desk.{shared_of}
+use Rattle.session_statement.specs.session_shared.Desk.{place_of, shared_of}
 use Rattle.session_call.specs.Stepping.{Stood}
-use Rattle.session_statement.specs.session_shared.Logging.{Logs, logged}
 use Rattle.session_statement.specs.Turned.{IsTurn, behind_turn}
 use Rattle.session_statement.specs.session_shared.declared.desk.Desk.{Desk}
-use Rattle.session_statement.proofs.of_session_shared.Logging.{logged_is}
+use Rattle.session_statement.proofs.of_session_shared.Logging.{logs_on}
 
 -- ---- one step
 
@@ -104,38 +100,17 @@ written_behind : (front back : List (Entry Item)) (number : ℕ) (p : LogPlace) 
 written_behind [] back number p = refl
 written_behind (e ∷ es) back number p = written_behind es back (counted e number) (behind e number p)
 
-can_on : (front back : List (Entry Item)) (number : ℕ) (p : LogPlace) → CanLogAll front number p → CanLogAll back (counted_all front number) (written_to front number p) → CanLogAll (front ++ back) number p
-can_on [] back number p first second = second
-can_on (e ∷ es) back number p first second = (first.0, can_on es back (counted e number) (behind e number p) first.1 second)
-
-logs_on : (front back : List (Entry Item)) (old ran new : Desk) → ran.committed ≡ counted_all front old.committed → in_log (length ran.log) ≡ written_to front old.committed (in_log (length old.log))
-    → Logs front old ran → Logs back ran new → Logs (front ++ back) old new
-logs_on front back old ran new count place first second =
-    let n : ℕ = old.committed in
-    let p : LogPlace = in_log (length old.log) in
-    let there : ran.log ≡ old.log ++ log front n p = first.0 ∙ logged_is front old.log n in
-    let more : log back ran.committed (in_log (length ran.log)) ≡ log back (counted_all front n) (written_to front n p) =
-    ap (λ (k : ℕ). log back k (in_log (length ran.log))) count ∙ ap (log back (counted_all front n)) place in (
-      second.0 ∙ logged_is back ran.log ran.committed ∙ ap (λ (bs : List ℕ). ran.log ++ bs) more ∙ ap (λ (bs : List ℕ). bs ++ log back (counted_all front n) (written_to front n p)) there
-          ∙ append_assoc old.log (log front n p) (log back (counted_all front n) (written_to front n p))
-          ∙ ap (λ (bs : List ℕ). old.log ++ bs) (sym (goes_on front back n p))
-          ∙ sym (logged_is (front ++ back) old.log n),
-      can_on front back n p first.1
-          (subst (λ (q : LogPlace). CanLogAll back (counted_all front n) q) place
-          (subst (λ (k : ℕ). CanLogAll back k (in_log (length ran.log))) count second.1)),
-    )
-
 -- a turn behind one that led here
 pub stood_on : (old before after : Desk) (session later : Session Item) (was warned : Bool) (at u : Reached Item) → Stood old before session was at → IsTurn before after later warned u → Counts (shared_of before) u
     → Stood old after later warned (behind_turn at u)
 stood_on old before after session later was warned at u stood turn counts =
     let count : after.committed ≡ counted_all u.committed before.committed = ap (λ (s : Shared). s.committed) turn.0.0 ∙ counts.count in
-    let place : in_log (length after.log) ≡ written_to u.committed before.committed (in_log (length before.log)) = ap (λ (s : Shared). s.place) turn.0.0 ∙ counts.place in
+    let place : place_of after.log ≡ written_to u.committed before.committed (place_of before.log) = ap (λ (s : Shared). s.place) turn.0.0 ∙ counts.place in
     record {
       turn = ((turn.0.0, turn.0.1, logs_on at.committed u.committed old before after stood.count stood.place stood.turn.0.2 turn.0.2), turn.1);
       count = count ∙ ap (counted_all u.committed) stood.count ∙ sym (counted_behind at.committed u.committed old.committed);
       place =
-          place ∙ ap (λ (k : ℕ). written_to u.committed k (in_log (length before.log))) stood.count
+          place ∙ ap (λ (k : ℕ). written_to u.committed k (place_of before.log)) stood.count
           ∙ ap (written_to u.committed (counted_all at.committed old.committed)) stood.place
-          ∙ sym (written_behind at.committed u.committed old.committed (in_log (length old.log)));
+          ∙ sym (written_behind at.committed u.committed old.committed (place_of old.log));
     }

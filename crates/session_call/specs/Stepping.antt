@@ -1,18 +1,17 @@
 -- A CALL as steps of its session, by what the code has of desk, session and log.
-use Rattle.std.specs.Prelude.{◌≡◌, ℕ, Bool, List, [], length}
+use Rattle.std.specs.Prelude.{◌≡◌, ℕ, Bool, List, []}
 use Rattle.val_types.specs.declared.value.Value.{Value}
 use Rattle.sql_locals.specs.declared.locals.Local.{Local}
 use Rattle.sql_tree.specs.Statement.{Statement}
 use Rattle.sql_tree.specs.Tree.{Trees}
 use Rattle.proc_run.specs.log_entries.declared.entries.Item.{Item}
 use Rattle.answer_making.specs.log_model.Log.{LogPlace, counted_all, written_to}
-use Rattle.session_statement.specs.binlog_items.Logged.{in_log}
 use Rattle.proc_run.specs.proc_model.Talk.{Effect, Left, Rules, Told}
 use Rattle.answer_making.specs.session_model.Sessions.{Session}
 use Rattle.answer_making.specs.session_model.Running as running
 use Rattle.answer_making.specs.session_model.Calling.{Reached, assign_step, evaluate_step, run_step}
 use Rattle.session_statement.specs.Calls.{call_of}
-use Rattle.session_statement.specs.session_shared.Desk.{shared_of}
+use Rattle.session_statement.specs.session_shared.Desk.{place_of, shared_of}
 use Rattle.session_statement.specs.Turned.{IsTurn}
 use Rattle.session_statement.specs.session_shared.declared.desk.Desk.{Desk}
 use Rattle.session_call.specs.declared.steps.CallSteps.{CallSteps}
@@ -58,4 +57,4 @@ step_rules = record { ran = RanStep; gave = GaveStep; assigned = AssignedStep }
 pub record Stood (old now : Desk) (session : Session Item) (warned : Bool) (at : Reached Item) : Type 0 where
   pub turn : IsTurn old now session warned at
   pub count : now.committed ≡ counted_all at.committed old.committed
-  pub place : in_log (length now.log) ≡ written_to at.committed old.committed (in_log (length old.log))
+  pub place : place_of now.log ≡ written_to at.committed old.committed (place_of old.log)

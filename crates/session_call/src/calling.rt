@@ -11,7 +11,7 @@ ghost use Rattle.session_statement.specs.session_shared.declared.desk.Desk.{Desk
 ghost use Rattle.session_statement.specs.Turned.{IsTurn};
 
 use crate::steps::CallSteps;
-use answer_making::prog_work::Meter;
+use answer_making::prog_work::{Meter, Work};
 use answer_making::session_model::Format;
 use answer_making::{NodeFault, with_warning};
 use answer_text::Answer;
@@ -53,12 +53,13 @@ fn begin(
 {
     let identity = command.identity.duplicate(alloc)?;
     let aside = vacant(alloc, command)?;
+    let nothing = Desk::found(alloc, Work::new(alloc), desk.place());
     Ok(CallSteps {
         alloc,
         identity,
         draw: *command.draw,
         number: command.number,
-        desk: mem::replace(desk, Desk::new(alloc, Bytes::new(alloc))),
+        desk: mem::replace(desk, nothing),
         session: mem::replace(session, aside),
         warned,
     })

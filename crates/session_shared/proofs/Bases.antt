@@ -6,9 +6,8 @@ use Rattle.std.proofs.lemmas.List.{length-drop}
 use Rattle.val_types.specs.declared.change.Change.{Change}
 use Rattle.table_rules.specs.Tables.{Table}
 use Rattle.table_rules.proofs.Equations.{applied_none}
-use Rattle.session_model.specs.catalog_rules.Bases.{empty_base}
 use Rattle.prog_work.specs.catalog_objects.Keys.{objects_of}
-use Rattle.prog_work.specs.Contents.{Contents, nothing, IsTogether, committed_tables}
+use Rattle.prog_work.specs.Contents.{Contents, IsTogether, base_of, committed_tables}
 use Rattle.session_model.specs.log_entries.declared.entries.Item.{Item}
 use Rattle.session_model.specs.log_entries.declared.entries.Entry.{Entry}
 use Rattle.session_model.specs.log_model.Log.{LogPlace, behind}
@@ -32,11 +31,15 @@ committed_now old new writer count next place later e together is more moved =
     ∙ ap (λ (ts : List Table). record { base = record { catalog = objects_of old.objects; tables = ts }; counters = old.counters; changes = []; writer = writer; committed = count + 1; place = behind e count place })
     (ap (λ o. unwrap_or o old.tables) (applied_none old.tables) ∙ sym (rows_stand old together))
 
--- ---- at the beginning
+-- ---- what a store has
 
-pub nothing_shared : (place : LogPlace) → shared_by nothing None 0 place ≡ record { base = empty_base; counters = []; changes = []; writer = None; committed = 0; place = place }
-nothing_shared place =
-    ap (λ (ts : List Table). record { base = record { catalog = []; tables = ts }; counters = []; changes = []; writer = None; committed = 0; place = place }) (ap (λ o. unwrap_or o []) (applied_none []))
+pub found_shared : (work : Contents) (writer : Option ℕ) (committed : ℕ) (place : LogPlace) → work.changes ≡ [] → writer ≡ None
+    → shared_by work writer committed place ≡ record { base = base_of work; counters = work.counters; changes = []; writer = None; committed = committed; place = place }
+found_shared work writer committed place none free =
+    ap (λ (cs : List Change). shared_by (record work { changes = cs }) writer committed place) none
+    ∙ ap (λ (w : Option ℕ). shared_by (record work { changes = [] }) w committed place) free
+    ∙ ap (λ (ts : List Table). record { base = record { catalog = objects_of work.objects; tables = ts }; counters = work.counters; changes = []; writer = None; committed = committed; place = place })
+    (ap (λ o. unwrap_or o work.tables) (applied_none work.tables))
 
 -- ---- changes behind a mark
 

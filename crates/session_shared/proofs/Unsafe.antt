@@ -1,7 +1,7 @@
 -- How statements are logged, by their reasons.
 use Rattle.std.proofs.Common.{◌≡◌, List, [], ◌∷◌, not, false, refl}
 use Rattle.session_model.specs.sql_reach.Reasons.{Reason}
-use Rattle.binlog_items.specs.unsafe_rules.Unsafe.{is_nothing}
+use Rattle.waiting_entries.specs.binlog_items.unsafe_rules.Unsafe.{is_nothing}
 use Rattle.session_model.specs.Formats.{is_unsafe, warns}
 use Rattle.session_model.specs.declared.format.Format.TheVariants.{Mixed}
 

@@ -1,13 +1,13 @@
 -- What all sessions share, as the machine has it, and by the parts that commands do to it.
-use Rattle.std.specs.Prelude.{ℕ, Bool, true, false, if◌then◌else◌, List, [], ◌∷◌, drop, length, take, Option}
+use Rattle.std.specs.Prelude.{ℕ, Bool, true, false, if◌then◌else◌, List, [], ◌∷◌, drop, take, Option}
 use Rattle.val_types.specs.declared.change.Change.{Change}
 use Rattle.prog_work.specs.catalog_objects.Keys.{objects_of}
 use Rattle.session_model.specs.log_model.Log.{LogPlace}
-use Rattle.binlog_items.specs.Logged.{in_log}
 use Rattle.prog_work.specs.Contents.{Contents, committed_tables}
 use Rattle.session_model.specs.Sessions.{Shared}
 use Rattle.session_model.specs.Running.{is_other}
 use Rattle.session_shared.specs.declared.desk.Desk.{Desk}
+use Rattle.session_shared.specs.declared.logged.Logged.{Logged}
 
 -- the base is that of the last commit: the open changes are taken back from the tables as they stand
 abbrev pub shared_by : Contents → Option ℕ → ℕ → LogPlace → Shared
@@ -20,9 +20,13 @@ shared_by work writer committed place = record {
   place = place;
 }
 
--- what the sessions share; the log ends behind its last byte
+-- the place where the next entry is logged
+abbrev pub place_of : Logged → LogPlace
+place_of l = record { log = l.log; pos = l.pos }
+
+-- what the sessions share
 abbrev pub shared_of : Desk → Shared
-shared_of d = shared_by d.work d.lock d.committed (in_log (length d.log))
+shared_of d = shared_by d.work d.lock d.committed (place_of d.log)
 
 -- the open changes of a session cut to so many
 abbrev pub cut_to : ℕ → ℕ → Shared → Shared

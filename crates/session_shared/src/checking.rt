@@ -10,12 +10,12 @@ ghost use Rattle.session_shared.specs.Desk.{shared_of};
 
 use crate::desk::Desk;
 use answer_text::{Answer, End};
-use binlog_items::unsafe_rules::writes;
 use sql_locals::Locals;
 use sql_tree::Stmt;
 use std::alloc::Global;
 use std::marker::Model;
 use val_types::{List, SqlError, SqlRefusal};
+use waiting_entries::binlog_items::unsafe_rules::writes;
 
 /// Why a statement is refused before it runs: its error, and with 1205 the session that writes.
 #[derive(Drop)]

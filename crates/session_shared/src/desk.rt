@@ -1,54 +1,59 @@
 //! What all sessions share.
-ghost use Rattle.std.specs.Prelude.{◌≡◌, ◌≤◌, [], ◌∷◌, length, None, Some, IfOk, OnErr, OnOk};
-ghost use Rattle.session_model.specs.catalog_rules.Bases.{empty_base};
+ghost use Rattle.std.specs.Prelude.{◌≡◌, ◌≤◌, [], ◌∷◌, false, length, None, Some, IfOk, OnErr, OnOk};
+ghost use Rattle.prog_work.specs.Contents.{base_of};
 ghost use Rattle.session_model.specs.log_entries.declared.entries.Entry.TheVariants.{Transaction};
-ghost use Rattle.binlog_items.specs.Logged.{in_log};
+ghost use Rattle.session_model.specs.binlog_sizes.Sizes.{are_too_large};
 ghost use Rattle.session_model.specs.Running.{all_committed, is_other, released, writing_check};
 ghost use Rattle.session_model.specs.Commands.{changes_of_own, dropped};
 ghost use Rattle.session_shared.specs.Desk.{cut_to, has_any, own_behind, shared_of};
 ghost use Rattle.session_shared.specs.Logging.{Logs};
+ghost use Rattle.waiting_entries.specs.Making.{has_place};
 
 use crate::checking::Refusal;
-use binlog_items::Items;
-use event_codec::Header;
+use crate::logged::Logged;
 use prog_work::Work;
 use std::alloc::{AllocError, Global};
 use txn_lock::WriterLock;
-use val_types::{Bytes, Change, List, NoMemory, SqlError};
+use val_types::{Change, List, NoMemory, SqlError};
+use waiting_entries::binlog_items::Items;
+use waiting_entries::{Head, made_transaction};
 
 /// How many transactions may be committed.
 const MOST_COMMITTED: u64 = 4_294_967_295;
 
-/// A log of so many bytes takes no transaction more.
-const FULL_LOG: usize = 1_073_741_824;
-
-/// There are too many transactions, or the log is too long.
+/// There are too many transactions, or the log is full.
 const TOO_MANY: SqlError = 30008;
 
 /// Another session writes.
 const OTHER_WRITES: SqlError = 1205;
 
-/// The rows with the open changes, the session that writes, how many transactions were committed, and the bytes of the log,
-/// from its magic on.
+/// The rows with the open changes, the session that writes, how many transactions were committed, and where the next one is logged,
+/// with what waits to be written.
 #[derive(Drop)]
 pub struct Desk {
     pub work: Work,
     pub lock: WriterLock,
     pub committed: u64,
-    pub log: Bytes,
+    pub log: Logged,
 }
 
 impl Desk {
-    /// No table, no change and no writer, with the head of the log.
-    pub fn new(alloc: Global, head: Bytes) -> Desk
-        ensures shared { shared_of result ≡ record { base = empty_base; counters = []; changes = []; writer = None; committed = 0; place = in_log (length head) } }
-        ensures log { result.log ≡ head }
+    /// What a store has: its tables with its catalog and counters, how many transactions were committed, and where the next one comes.
+    /// No change is open, no session writes, and nothing waits.
+    pub fn found(alloc: Global, work: Work, at: Head) -> Desk
+        requires none { work.changes ≡ [] }
+        ensures shared { shared_of result ≡ record { base = base_of work; counters = work.counters; changes = []; writer = None; committed = at.number; place = has_place at } }
+        ensures log { result.log.waiting ≡ [] }
     {
         Desk {
-            work: Work::new(alloc),
+            work,
             lock: WriterLock::new(),
-            committed: 0,
-            log: head,
+            committed: at.number,
+            log: Logged {
+                log: at.log,
+                pos: at.pos,
+                waiting: List::new(alloc),
+            },
         }
     }
 
@@ -77,7 +82,7 @@ impl Desk {
     pub fn writing_check(&self, session: u8) -> Option<Refusal>
         ensures { result ≡ writing_check session (shared_of self.now) }
     {
-        if self.committed >= MOST_COMMITTED || self.log.len() >= FULL_LOG {
+        if self.committed >= MOST_COMMITTED || self.log.is_full() {
             return Some(Refusal {
                 code: TOO_MANY,
                 holder: None,
@@ -110,7 +115,19 @@ impl Desk {
         self.lock.release(session);
     }
 
-    /// Commits the open changes as the transaction of some items, and logs it. Its bytes are made before anything is kept.
+    /// Where the next entry comes, with how many transactions stand before it.
+    pub fn place(&self) -> Head
+        ensures { result ≡ record { number = self.now.committed; log = self.now.log.log; pos = self.now.log.pos } }
+    {
+        Head {
+            number: self.committed,
+            log: self.log.log,
+            pos: self.log.pos,
+        }
+    }
+
+    /// Commits the open changes as the transaction of some items, and logs it. What it leaves to be written is made before anything is
+    /// kept.
     pub fn commit(
         &mut self,
         alloc: Global,
@@ -118,21 +135,17 @@ impl Desk {
         server_id: u32,
         items: &Items,
     ) -> Result<(), NoMemory>
-        requires { 1 ≤ length items.now }
+        requires some { 1 ≤ length items.now }
+        requires small { are_too_large items.now ≡ false }
         ensures shared { OnOk result (shared_of self.new ≡ all_committed (Transaction stamp server_id items.now) (shared_of self.old)) }
         ensures log { OnOk result (Logs (Transaction stamp server_id items.now ∷ []) self.old self.new) }
         ensures err { OnErr result (self.new ≡ self.old) }
     {
-        let header = Header {
-            stamp,
-            server_id,
-            pos: self.log.len() as u64,
-        };
         let Some(committed) = self.committed.checked_add(1) else {
             return Err(AllocError);
         };
-        let bytes = items.encode(alloc, self.committed, &header)?;
-        self.log.append(bytes)?;
+        let made = made_transaction(alloc, self.place(), stamp, server_id, items)?;
+        self.log.put(made)?;
         self.work.together();
         self.work.commit();
         self.committed = committed;

@@ -5,10 +5,10 @@ ghost use Rattle.sql_tree.specs.StatementView.{view};
 ghost use Rattle.session_model.specs.sql_reach.Reasons.{reasons};
 ghost use Rattle.session_model.specs.Formats.{is_unsafe, logs_rows, warns};
 
-use binlog_items::unsafe_rules::reasons;
 use prog_work::catalog_objects::Objects;
 use session_model::Format;
 use sql_tree::Stmt;
+use waiting_entries::binlog_items::unsafe_rules::reasons;
 
 /// Whether what a statement changed is logged by its rows, and whether the statement is warned.
 #[derive(Clone, Copy)]

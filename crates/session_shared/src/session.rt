@@ -1,5 +1,5 @@
 //! Sessions and their open transactions.
-ghost use Rattle.std.specs.Prelude.{◌≡◌, ◌∷◌, ◌++◌, [], not, find, is_some, IfOk, OnErr, OnOk};
+ghost use Rattle.std.specs.Prelude.{◌≡◌, ◌∷◌, ◌++◌, [], false, not, find, is_some, IfOk, OnErr, OnOk};
 ghost use Rattle.std.specs.Option.{option_map};
 ghost use Rattle.session_model.specs.Sessions.{just_opened};
 ghost use Rattle.session_model.specs.Commands.{is_save_of, saved, saves_but};
@@ -7,13 +7,13 @@ ghost use Rattle.session_shared.specs.Saving.{changes_at, one_more_if, went_back
 ghost use Rattle.session_model.specs.binlog_sizes.Sizes.{are_too_large};
 
 use crate::saves::{Save, marks_at, place_of, put_last, take_out};
-use binlog_items::Items;
 use session_ctx::SessionVars;
 use session_model::Format;
 use session_model::log_entries::Item;
 use std::alloc::Global;
 use std::marker::Model;
 use val_types::{Bytes, Duplicate, NoMemory};
+use waiting_entries::binlog_items::Items;
 
 /// An open transaction: its items, its savepoints, the oldest first, and whether a row was ever changed in it. It is dropped here.
 pub struct Open {
@@ -28,7 +28,12 @@ impl Model for Open {
 
     ghost Value = { Transaction LoggedItem };
 
+    ghost use Rattle.std.specs.Prelude.{◌≡◌, false};
+    ghost use Rattle.session_model.specs.binlog_sizes.Sizes.{are_too_large};
+
     ghost view = { λ o. record { items = o.items; saves = o.saves.items; changed = o.changed } };
+
+    ghost invariant = { λ o. are_too_large o.items ≡ false };
 }
 
 impl Drop for Open {
@@ -57,7 +62,8 @@ impl Open {
 
     /// Its items.
     pub fn items(&self) -> &Items
-        ensures { result.now ≡ self.now.items }
+        ensures items { result.now ≡ self.now.items }
+        ensures small { are_too_large result.now ≡ false }
     {
         &self.items
     }

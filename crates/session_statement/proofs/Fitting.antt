@@ -23,6 +23,7 @@ use Rattle.session_shared.specs.session_model.Sessions.{Session, Shared}
 use Rattle.session_shared.specs.session_model.Commands.{changes_of_own}
 use Rattle.session_shared.specs.session_model.Running.{Fuel, Given, Turn, ended, expressions_run, fitted, fitted_run, fuel_of, is_other, scene_for, setting_of, undone, unless_misfit, values_run, with_context, with_counters}
 use Rattle.session_shared.specs.declared.desk.Desk.{Desk}
+use Rattle.session_shared.specs.declared.logged.Logged.{Logged}
 use Rattle.session_shared.specs.Desk.{cut_to, shared_of}
 use Rattle.session_statement.specs.Calls.{call_of}
 use Rattle.session_statement.specs.Keeping.{settled, statement_kept}
@@ -148,7 +149,7 @@ module _ (identity : Identity) (draw : Draw) (n : ℕ) (left : Left) (text : Lis
         (
           ends.0.0 ∙ cut_back n left session.vars.context gave.scene (shared_of old) (shared_of ran) mark led gave.leaves.shared at,
           ends.0.1 ∙ moved ∙ ap (λ (c : Context). with_context c session) gave.leaves.context,
-          (ends.0.2.0 ∙ bytes, tt),
+          (ends.0.2.0 ∙ ap (λ (l : Logged). l.waiting) bytes, tt),
         ),
         ap (λ (f : Fuel). record { result = Err code; fuel = f; warned = false }) (sym gave.leaves.spent) ∙ ap (λ (k : ℕ). record { result = Err k; fuel = fuel; warned = false }) same,
       )

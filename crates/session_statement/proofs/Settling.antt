@@ -34,6 +34,7 @@ use Rattle.session_statement.specs.Calls.{call_of}
 use Rattle.session_shared.specs.Desk.{cut_to, own_behind, shared_of}
 use Rattle.session_statement.specs.Keeping.{changes_kept, item_kept, item_made, kept_if, refused_unless, statement_kept, with_last_id}
 use Rattle.session_shared.specs.declared.desk.Desk.{Desk}
+use Rattle.session_shared.specs.declared.logged.Logged.{Logged}
 use Rattle.session_statement.specs.Ran.{Came, Comes, Fails, Gives, Gave, effect_for, evaluation_for, place_at, shared_behind, told_given}
 use Rattle.session_statement.specs.Turned.{EndsWith, giving}
 use Rattle.session_statement.specs.declared.keeping.Kept.{Kept}
@@ -227,12 +228,12 @@ module _ (identity : Identity) (draw : Draw) (n : ℕ) where
           → after ≡ with_context context session → ran.log ≡ old.log → EndsWith {A = List Value} (Err refusal) fuel old ran after (values_run (call_of identity draw n) left text tree locals ts (shared_of old) session)
       not_given_so (Sql code) fuel old ran session after context fails moved bytes =
           subst (λ one. EndsWith {A = List Value} (Err (Sql code)) fuel old ran one (values_run (call_of identity draw n) left text tree locals ts (shared_of old) session)) (sym moved)
-          (subst (λ t. EndsWith {A = List Value} (Err (Sql code)) fuel old ran (with_context context session) t) (not_given_kept code fuel (shared_of old) (shared_of ran) session context fails) ((refl, refl, (bytes, tt)), refl))
+          (subst (λ t. EndsWith {A = List Value} (Err (Sql code)) fuel old ran (with_context context session) t) (not_given_kept code fuel (shared_of old) (shared_of ran) session context fails) ((refl, refl, (ap (λ (l : Logged). l.waiting) bytes, tt)), refl))
       not_given_so NoMemory fuel old ran session after context fails moved bytes = tt
 
     pub failed_so : (s : Statement) (refusal : SqlRefusal) (fuel : Fuel) (old ran : Desk) (session after : Session Item) (context : Context) → Comes n draw left s (Err refusal) fuel (place_at (shared_of old) session.vars.context) (place_at (shared_of ran) context)
         → after ≡ with_context context session → ran.log ≡ old.log → EndsWith {A = Outcome} (Err refusal) fuel old ran after (giving told_given (statement_run (call_of identity draw n) left text s (shared_of old) session))
     failed_so s (Sql code) fuel old ran session after context fails moved bytes =
         subst (λ one. EndsWith {A = Outcome} (Err (Sql code)) fuel old ran one (giving told_given (statement_run (call_of identity draw n) left text s (shared_of old) session))) (sym moved)
-        (subst (λ t. EndsWith {A = Outcome} (Err (Sql code)) fuel old ran (with_context context session) t) (failed_kept s code fuel (shared_of old) (shared_of ran) session context fails) ((refl, refl, (bytes, tt)), refl))
+        (subst (λ t. EndsWith {A = Outcome} (Err (Sql code)) fuel old ran (with_context context session) t) (failed_kept s code fuel (shared_of old) (shared_of ran) session context fails) ((refl, refl, (ap (λ (l : Logged). l.waiting) bytes, tt)), refl))
     failed_so s NoMemory fuel old ran session after context fails moved bytes = tt

@@ -1,5 +1,5 @@
 -- A definition, as the machine makes it.
-use Rattle.std.proofs.Common.{◌≡◌, ℕ, ◌+◌, ◌<◌, ◌||◌, nat_le, List, [], ◌∷◌, ◌++◌, Bool, true, false, if◌then◌else◌, length, Option, Some, None, unwrap_or, Result, Ok, Err, IfOk, refl, sym, ap, ◌∙◌, subst, append-nil}
+use Rattle.std.proofs.Common.{◌≡◌, ℕ, ◌+◌, ◌<◌, ◌||◌, nat_le, List, [], ◌∷◌, ◌++◌, Bool, true, false, if◌then◌else◌, Option, Some, None, unwrap_or, Result, Ok, Err, IfOk, refl, sym, ap, ◌∙◌, subst, append-nil}
 use Rattle.std.specs.Option.{option_map}
 use Rattle.std.proofs.lemmas.Bool.{leb-false}
 use Rattle.port_traits.specs.declared.identity.Draw.{Draw}
@@ -22,7 +22,11 @@ use Rattle.session_transaction.specs.log_entries.declared.entries.Entry.{Entry}
 use Rattle.session_transaction.specs.log_entries.declared.entries.Entry.TheVariants.{Definition}
 use Rattle.session_transaction.specs.log_model.Log.{LogPlace, behind}
 use Rattle.session_transaction.specs.binlog_items.Items.{item_by_text}
-use Rattle.session_transaction.specs.binlog_items.Logged.{Encodes, in_log}
+use Rattle.session_transaction.specs.session_shared.waiting_entries.declared.making.Made.{Made}
+use Rattle.session_transaction.specs.session_shared.waiting_entries.declared.waiting.Waiting.{Waiting}
+use Rattle.session_transaction.specs.session_shared.waiting_entries.Waiting.{Leaves}
+use Rattle.session_transaction.specs.session_shared.waiting_entries.Making.{has_place}
+use Rattle.session_transaction.specs.session_shared.waiting_entries.store_model.declared.record.Head.{Head}
 use Rattle.session_transaction.specs.prog_work.declared.meter.Outcome.{Outcome}
 use Rattle.session_transaction.specs.prog_work.Contents.{Contents, base_of, committed_tables, without_changes}
 use Rattle.session_transaction.specs.prog_work.Defining.{Makes}
@@ -33,11 +37,12 @@ use Rattle.session_model.specs.Sessions.{Session, Shared}
 use Rattle.session_model.specs.Running.{Turn, commit_entries, commit_open, commit_shared, counted_in, held_by, is_full, is_other, items_of, transaction_of, writing_refusal}
 use Rattle.session_model.specs.Commands.{define_turn, definition_turn, made_turn, unless_answered, with_answer}
 use Rattle.session_transaction.specs.session_shared.declared.desk.Desk.{Desk}
+use Rattle.session_transaction.specs.session_shared.declared.logged.Logged.{Logged}
 use Rattle.session_transaction.specs.session_statement.Calls.{call_of}
-use Rattle.session_transaction.specs.session_shared.Desk.{has_any, shared_by, shared_of}
+use Rattle.session_transaction.specs.session_shared.Desk.{has_any, place_of, shared_by, shared_of}
 use Rattle.session_transaction.specs.session_shared.Logging.{Logs}
 use Rattle.session_transaction.specs.session_statement.Turned.{IsTurn, Moves, behind_turn, not_begun}
-use Rattle.session_transaction.proofs.of_session_shared.Logging.{definition_place, log_on, logs_from, one_logged, same_entry}
+use Rattle.session_transaction.proofs.of_session_shared.Logging.{entry_place, log_on, logs_from, one_logged, same_entry, with_made}
 use Rattle.session_transaction.proofs.of_session_statement.Turns.{turn_is}
 
 pub none_if : (cs : List Change) → has_any cs ≡ false → cs ≡ []
@@ -67,21 +72,21 @@ module _ (identity : Identity) (draw : Draw) (n : ℕ) (text : List ℕ) (s : St
   abbrev entry_in : Context → Entry Item
   entry_in context = Definition context.stamp identity.server_id (item_by_text text context)
 
-  pub made_now : (told : Outcome) (old new : Desk) (work : Contents) (session after : Session Item) (bytes : List ℕ) (answer : Answer) → old.work.changes ≡ [] → new.committed ≡ old.committed + 1 → new.lock ≡ old.lock → new.work ≡ work
-      → Makes s told old.work work → new.log ≡ old.log ++ bytes → Encodes (entry_in session.vars.context) old.committed (length old.log) bytes → after ≡ session → answer ≡ ok 0
+  pub made_now : (told : Outcome) (old new : Desk) (work : Contents) (session after : Session Item) (made : Made) (answer : Answer) → old.work.changes ≡ [] → new.committed ≡ old.committed + 1 → new.lock ≡ old.lock → new.work ≡ work
+      → Makes s told old.work work → new.log ≡ with_made old.log made → Leaves (entry_in session.vars.context) old.committed (place_of old.log) made → after ≡ session → answer ≡ ok 0
       → IsTurn old new after answer (made_turn (call_of identity draw n) text s (defined s (shared_of old).base) (not_begun (shared_of old) session))
-  made_now told old new work session after bytes answer none more lock is makes appended encodes same said =
-      let place : in_log (length new.log) ≡ behind (entry_in session.vars.context) old.committed (in_log (length old.log)) =
-      definition_place session.vars.context.stamp identity.server_id old.committed (item_by_text text session.vars.context) old.log bytes new.log appended encodes in
+  made_now told old new work session after made answer none more lock is makes put leaves same said =
+      let place : place_of new.log ≡ behind (entry_in session.vars.context) old.committed (place_of old.log) =
+      entry_place (entry_in session.vars.context) old.log new.log made old.committed put leaves in
       let shared : shared_of new ≡ counted_in (entry_in session.vars.context) (record (shared_of old) { base = base_of work; counters = counters_after s old.work.counters }) =
-      ap (λ (c : Contents). shared_by c new.lock new.committed (in_log (length new.log))) is
-      ∙ ap (λ (w : Option ℕ). shared_by work w new.committed (in_log (length new.log))) lock
-      ∙ ap (λ (k : ℕ). shared_by work old.lock k (in_log (length new.log))) more
+      ap (λ (c : Contents). shared_by c new.lock new.committed (place_of new.log)) is
+      ∙ ap (λ (w : Option ℕ). shared_by work w new.committed (place_of new.log)) lock
+      ∙ ap (λ (k : ℕ). shared_by work old.lock k (place_of new.log)) more
       ∙ ap (λ (p : LogPlace). shared_by work old.lock (old.committed + 1) p) place
-      ∙ made_shared s told old.work work old.lock old.committed (in_log (length old.log)) (behind (entry_in session.vars.context) old.committed (in_log (length old.log))) none makes in
+      ∙ made_shared s told old.work work old.lock old.committed (place_of old.log) (behind (entry_in session.vars.context) old.committed (place_of old.log)) none makes in
       subst (λ (o : Option Base). IsTurn old new after answer (made_turn (call_of identity draw n) text s o (not_begun (shared_of old) session)))
-      (sym (made_base s told old.work work old.lock old.committed (in_log (length old.log)) none makes))
-      ((shared, same, one_logged (entry_in session.vars.context) old new bytes appended encodes), said)
+      (sym (made_base s told old.work work old.lock old.committed (place_of old.log) none makes))
+      ((shared, same, one_logged (entry_in session.vars.context) old new made put leaves), said)
 
   -- ---- behind the implicit commit
 
@@ -101,14 +106,20 @@ module _ (identity : Identity) (draw : Draw) (n : ℕ) (text : List ℕ) (s : St
       (answered_behind (writing_refusal n t.shared) t (made_turn (call_of identity draw n) text s (defined s t.shared.base) t) (made_turn (call_of identity draw n) text s (defined s t.shared.base) (not_begun t.shared t.session))
       (made_behind (defined s t.shared.base) t))
 
+  -- the same place, and the same that waits, are the same log
+  log_is : (a b : Logged) → place_of a ≡ place_of b → a.waiting ≡ b.waiting → a ≡ b
+  log_is a b place waiting =
+      ap (λ (p : LogPlace). record { log = p.log; pos = p.pos; waiting = a.waiting }) place
+      ∙ ap (λ (ws : List Waiting). record { log = b.log; pos = b.pos; waiting = ws }) waiting
+
   -- what the implicit commit logs, with what is logged behind it
   commit_logs : (context : Context) (items : List Item) (es : List (Entry Item)) (old ran new : Desk) → ran.committed ≡ (commit_shared (call_of identity draw n) context items (shared_of old)).committed
-      → in_log (length ran.log) ≡ (commit_shared (call_of identity draw n) context items (shared_of old)).place
+      → place_of ran.log ≡ (commit_shared (call_of identity draw n) context items (shared_of old)).place
       → Logs (commit_entries (call_of identity draw n) context items) old ran → Logs es ran new → Logs (commit_entries (call_of identity draw n) context items ++ es) old new
-  commit_logs context [] es old ran new count place first second = logs_from es old ran new first.0 count second
+  commit_logs context [] es old ran new count place first second = logs_from es old ran new (log_is ran.log old.log place first.0) count second
   commit_logs context (i ∷ is) es old ran new count place first second =
       let e : Entry Item = transaction_of (call_of identity draw n) context (i ∷ is) in
-      log_on e es old ran new count (place ∙ ap (λ (x : Entry Item). behind x old.committed (in_log (length old.log))) (same_entry e)) first second
+      log_on e es old ran new count (place ∙ ap (λ (x : Entry Item). behind x old.committed (place_of old.log)) (same_entry e)) first second
 
   released_count : (shared : Shared) (b : Bool) → (if b then shared else record shared { writer = None }).committed ≡ shared.committed
   released_count shared true = refl
@@ -130,7 +141,7 @@ module _ (identity : Identity) (draw : Draw) (n : ℕ) (text : List ℕ) (s : St
       subst (λ (one : Session Item). IsTurn ran new later answer (define_turn (call_of identity draw n) text s (not_begun t.shared one))) moves.1
       (subst (λ (shared : Shared). IsTurn ran new later answer (define_turn (call_of identity draw n) text s (not_begun shared after))) moves.0 turn) in
       let count : ran.committed ≡ committed.committed = ap (λ (shared : Shared). shared.committed) moves.0 ∙ released_count committed (is_other n committed.writer) in
-      let place : in_log (length ran.log) ≡ committed.place = ap (λ (shared : Shared). shared.place) moves.0 ∙ released_place committed (is_other n committed.writer) in
+      let place : place_of ran.log ≡ committed.place = ap (λ (shared : Shared). shared.place) moves.0 ∙ released_place committed (is_other n committed.writer) in
       let both : IsTurn old new later answer (behind_turn t u) =
       ((there.0.0, there.0.1, commit_logs session.vars.context (items_of session.transaction) u.committed old ran new count place moves.2 there.0.2), there.1) in
       turn_is old new later answer (behind_turn t u) (definition_turn (call_of identity draw n) text s (shared_of old) session)
@@ -157,3 +168,8 @@ writing_few n shared none = leb-false 4294967295 shared.committed (full_if (is_f
 pub creation_checks : (catalog : List Object) (t : CreateTable) → first_refusal (table_checks catalog t) ≡ ddl_refusal catalog (create_table t)
 unfolding ddl_refusal
 creation_checks catalog t = refl
+
+-- what was made for the place that a head speaks of was made for that place
+pub leaves_at : (e : Entry Item) (h : Head) (committed : ℕ) (l : Logged) (made : Made) → h ≡ record { number = committed; log = l.log; pos = l.pos }
+    → Leaves e h.number (has_place h) made → Leaves e committed (place_of l) made
+leaves_at e h committed l made is leaves = subst (λ (x : Head). Leaves e x.number (has_place x) made) is leaves

@@ -16,9 +16,9 @@ use answer_text::Answer;
 use port_traits::Draw;
 use session_ctx::Ctx;
 use session_transaction::answer_making::{NodeFault, ok, refused};
-use session_transaction::binlog_items::encode_definition;
 use session_transaction::commit_open;
 use session_transaction::prog_run::{Meter, Outcome, run_stmt};
+use session_transaction::session_shared::waiting_entries::made_definition;
 use session_transaction::session_shared::{Command, Desk, Session};
 use sql_tree::Stmt;
 use std::alloc::Global;
@@ -49,8 +49,8 @@ fn run_definition(
     }
 }
 
-/// Makes a definition, which nothing refuses before, and logs it. In a run no change is open then, since a transaction that
-/// has one has an item, and was committed.
+/// Makes a definition, which nothing refuses before, and logs it: what it leaves to be written waits before it runs, so that nothing has to be
+/// taken back. In a run no change is open then, since a transaction that has one has an item, and was committed.
 fn make(
     alloc: Global,
     command: &Command<'_>,
@@ -68,12 +68,17 @@ fn make(
         return Err(NodeFault::NoMemory);
     }
     let committed = desk.committed + 1;
-    let place = desk.log.len() as u64;
     let context = &mut session.vars.context;
-    let bytes = encode_definition(alloc, text, context, command.identity.server_id, place)?;
+    let made = made_definition(
+        alloc,
+        desk.place(),
+        text,
+        context,
+        command.identity.server_id,
+    )?;
+    desk.log.put(made)?;
     let told = run_definition(alloc, desk, statement, context, command.draw)?;
     let _ = told.affected;
-    desk.log.append(bytes)?;
     desk.committed = committed;
     Ok(ok(alloc, 0))
 }

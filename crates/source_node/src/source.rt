@@ -1,27 +1,26 @@
 //! The source.
-ghost use Rattle.std.specs.Prelude.{◌≡◌, ◌<◌, ◌≤◌, length, map, replicate, IfOk};
-ghost use Rattle.session_transaction.specs.log_entry_laws.Entries.{CanLogAll};
+ghost use Rattle.std.specs.Prelude.{◌≡◌, ◌<◌, ◌≤◌, [], length, replicate, IfOk};
 ghost use Rattle.session_model.specs.binlog_sizes.Sizes.{most_text};
-ghost use Rattle.session_model.specs.Holding.{Holds, with_nothing};
-ghost use Rattle.session_model.specs.Machine.{Machine, kept, kept_entry, log_bytes, machine_after, opened, step, whole};
-ghost use Rattle.source_node.specs.Standing.{no_session, state_of, Stands};
+ghost use Rattle.session_model.specs.Machine.{Machine, first_state, kept, step, whole};
+ghost use Rattle.source_node.specs.Standing.{IsStepped, no_session, Stands, state_of, without_waiting};
+ghost use Rattle.session_transaction.specs.prog_work.Contents.{base_of};
 ghost use Rattle.session_transaction.specs.session_shared.Logging.{Logs};
+ghost use Rattle.session_transaction.specs.session_shared.waiting_entries.Making.{has_place};
 
 use crate::command::run_command;
 use answer_text::Answer;
 use port_traits::{Draw, Identity};
 use session_model::steps_are_kept;
 use session_transaction::answer_making::NodeFault;
-use session_transaction::binlog_items::{encode_start, served_bytes};
+use session_transaction::prog_work::Work;
+use session_transaction::session_shared::waiting_entries::{Head, Waiting};
 use session_transaction::session_shared::{Command, Desk, Session};
 use std::alloc::Global;
 use std::marker::Model;
-use val_types::{Bytes, NoMemory};
+use std::mem;
+use val_types::{List, NoMemory};
 
-/// The number of the log.
-const FIRST_LOG: u32 = 1;
-
-/// A source in memory with its log, which contracts see as what it keeps. It is dropped here.
+/// What a source has in memory, which contracts see as what it keeps. It is dropped here.
 pub struct SourceNode {
     alloc: Global,
     identity: Identity,
@@ -72,36 +71,40 @@ fn no_sessions(alloc: Global) -> Result<Vec<Option<Session>>, NoMemory>
 }
 
 impl SourceNode {
-    /// A source without tables, on which no session has had a command. Its log has its head, made at the draw.
-    pub fn open(alloc: Global, identity: Identity, draw: &Draw) -> Result<SourceNode, NodeFault>
+    /// A source on what a store has: its catalog, rows and counters, how many transactions were committed, and where the next entry
+    /// comes. No session has had a command, no change is open, and nothing waits to be written.
+    pub fn found(
+        alloc: Global,
+        identity: Identity,
+        work: Work,
+        at: Head,
+    ) -> Result<SourceNode, NoMemory>
+        requires none { work.changes ≡ [] }
         ensures identity { IfOk result (λ node. node.identity ≡ identity) }
-        ensures stands { IfOk result (λ node. Stands node (opened identity draw.entry.now)) }
+        ensures state { IfOk result (λ node. state_of node ≡ first_state (base_of work) work.counters at.number (has_place at)) }
+        ensures waiting { IfOk result (λ node. node.desk.log.waiting ≡ []) }
     {
         let sessions = no_sessions(alloc)?;
-        let head = encode_start(alloc, draw.now, identity.server_id)?;
         Ok(SourceNode {
             alloc,
             identity,
-            desk: Desk::new(alloc, head),
+            desk: Desk::found(alloc, work, at),
             sessions,
         })
     }
 
-    /// How many transactions were committed.
-    pub fn number(&self) -> u64
-        ensures { result ≡ (state_of self.now).shared.committed }
+    /// Who the node is.
+    pub fn identity(&self) -> &Identity
+        ensures { result.now ≡ self.now.identity }
     {
-        self.desk.committed()
+        &self.identity
     }
 
-    /// The bytes of the log with a number from a position on, so many at the most. Only the first log has any.
-    pub fn log_bytes(&self, alloc: Global, log: u32, pos: u32, max: u32) -> Result<Bytes, NoMemory>
-        ensures { IfOk result (λ bytes. bytes ≡ log_bytes (self.now.desk.log) (record { log = log; pos = pos }) max) }
+    /// How many transactions were committed, and where the next entry comes.
+    pub fn place(&self) -> Head
+        ensures { result ≡ record { number = self.now.desk.committed; log = self.now.desk.log.log; pos = self.now.desk.log.pos } }
     {
-        if log != FIRST_LOG {
-            return Ok(Bytes::new(alloc));
-        }
-        served_bytes(alloc, self.desk.log.as_slice(), pos, max)
+        self.desk.place()
     }
 
     /// Carries out a text in the session of a number, as the machine that keeps of an item what the log has of it.
@@ -128,20 +131,25 @@ impl SourceNode {
         )
     }
 
-    /// Carries out a text of at most 1,048,576 bytes in the session of a number below 100. For each run of the machine that
-    /// began with nothing and for which the node stands, the answer is that of the machine's step, the node stands for the
-    /// run behind it, and its entries can be logged where they are; where memory is short, nothing is said of the node any
-    /// more.
+    /// Carries out a text of at most 1,048,576 bytes in the session of a number below 100. For each run of the machine for
+    /// which the node stands, it carries out the machine's step: what its entries leave waits to be written. Where memory is
+    /// short, nothing is said of the node any more.
     pub fn exec(&mut self, session: u8, text: &[u8], draw: &Draw) -> Result<Answer, NodeFault>
         requires number { session < 100 }
         requires length { length text.now ≤ most_text }
         ensures identity { self.new.identity ≡ self.old.identity }
-        ensures stands { (m : Machine) → Stands self.old m → Holds with_nothing m → IfOk result (λ answer.
-            (answer ≡ (step whole (self.old.identity) m.state session text.now draw.entry.now).answer)
-            × Stands self.new (machine_after m (step whole (self.old.identity) m.state session text.now draw.entry.now))
-            × CanLogAll (map kept_entry (step whole (self.old.identity) m.state session text.now draw.entry.now).committed) m.state.shared.committed m.state.shared.place) }
+        ensures stands { (m : Machine) → Stands self.old m → IfOk result (λ answer.
+            IsStepped m.state (step whole (self.old.identity) m.state session text.now draw.entry.now) self.new answer) }
     {
         steps_are_kept();
         self.exec_kept(session, text, draw)
+    }
+
+    /// Takes out what waits to be written.
+    pub fn take_waiting(&mut self) -> List<Waiting>
+        ensures taken { result ≡ self.old.desk.log.waiting }
+        ensures rest { self.new ≡ without_waiting self.old }
+    {
+        mem::replace(&mut self.desk.log.waiting, List::new(self.alloc))
     }
 }

@@ -23,7 +23,8 @@
 //! That a body is read as the record that it was put for is a law of `store_model`.
 //!
 //! # Only tested
-//! Nothing yet: no test calls it.
+//! In `test_stores`: that records, rows and the texts of objects are put and read with ample memory, by bodies worked out by hand. In
+//! `test_openings`: that ends and numbers are taken, where snapshots are opened. No test calls [`put_ends`].
 #![tactic(auto)]
 
 mod changes;

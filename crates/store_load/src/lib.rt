@@ -24,7 +24,7 @@
 //! - [`start_counters`] puts the counter of each table with an AUTO_INCREMENT column behind the greatest number that is held there.
 //!
 //! # Only tested
-//! Nothing yet: no test calls it.
+//! In `test_openings`, through `store_open`: that calls succeed with ample memory; stores by hand, whole and damaged.
 #![tactic(auto)]
 
 mod applying;

@@ -18,7 +18,7 @@
 //!   count of faults rose.
 //!
 //! # Only tested
-//! Nothing yet: no test calls it.
+//! In `test_openings`: that a store is opened with ample memory; stores by hand, whole and damaged.
 #![tactic(auto)]
 
 mod bodies;

@@ -4,6 +4,8 @@ use Rattle.std.specs.Prelude.{IfSome}
 use Rattle.std.proofs.lemmas.List.{append-nil, length-set, reverse-append, reverse-reverse, take_more_set}
 use Rattle.answer_text.specs.declared.report.Mark.{Mark}
 use Rattle.disk_model.specs.Story.{Story, count}
+use Rattle.disk_model.specs.Moments.{GoesOn}
+use Rattle.disk_model.proofs.Moments.{on_trans}
 use Rattle.session_model.specs.log_entries.declared.entries.Entry.{Entry}
 use Rattle.session_model.specs.Machine.{Whole, kept_entry}
 use Rattle.store_model.specs.Entries.{writer_at}
@@ -77,6 +79,9 @@ module _ (start : Option Story) (s : Stored) (es : List (Entry Whole)) (now : Ma
     led : LeadsTo t u there.mid (after start s es now old t store w (reverse less) marks there)
     led = leads there.mid (after start s es now old t store w (reverse less) marks there) (entry start s es now old t store w (reverse less) marks there)
         (first_can start s es now old t store w (reverse less) marks there) (after_is start s es now old t store w (reverse less) marks there)
+
+    pub wrong_goes : GoesOn start u
+    wrong_goes = on_trans start t u there.on led.on
 
     pub wrong : CallsFit u → SourceRuns start u s es old marks
     wrong fits = went_wrong start s es now old t store w (reverse less) marks there u led fits

@@ -13,13 +13,13 @@ ghost use Rattle.store_source.specs.Writing.{IsOn};
 ghost use Rattle.store_source.specs.Beginning.{begun_with, calls_begun};
 
 use crate::entry::write_entry;
-use binlog_items::encode_start;
 use commit_store::{Prepared, Store};
 use disk_model::{Disk, DiskRefusal};
 use std::alloc::Global;
 use store_model::{Head, Record};
 use val_types::{List, NoMemory};
 use waiting_entries::Waiting;
+use waiting_entries::binlog_items::encode_start;
 
 /// What the start of the first log leaves to be written.
 fn first_start(alloc: Global, number: u64, stamp: u32, server_id: u32) -> Result<Waiting, NoMemory>

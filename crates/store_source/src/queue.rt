@@ -2,6 +2,7 @@
 ghost use Rattle.std.specs.Prelude.{◌≡◌, ◌+◌, ◌<◌, ◌≤◌, length, map, reverse, slice_set, take, Some, OnOk, OnErr, IfSome};
 ghost use Rattle.disk_model.specs.Story.{count};
 ghost use Rattle.disk_model.specs.Answers.{HasDiskCause};
+ghost use Rattle.disk_model.specs.Moments.{GoesOn};
 ghost use Rattle.session_model.specs.log_entries.declared.entries.Entry.{Entry};
 ghost use Rattle.session_model.specs.Machine.{Whole, kept_entry};
 ghost use Rattle.store_model.specs.Entries.{writer_at};
@@ -92,6 +93,7 @@ fn write_each<D: Disk>(
     requires logs { begun queue ≤ store.old.ends.room }
     ensures run { (s : Stored) (es : List (Entry Whole)) → CanWrite (D.told d.old) store.old s es queue → CallsFit (D.told d.new)
         → SourceRuns (D.told d.old) (D.told d.new) s es (take at.old marks.old) (take at.new marks.new) }
+    ensures goes { (s : Stored) (es : List (Entry Whole)) → CanWrite (D.told d.old) store.old s es queue → GoesOn (D.told d.old) (D.told d.new) }
     ensures pushed { (s : Stored) (es : List (Entry Whole)) → CanWrite (D.told d.old) store.old s es queue
         → ArePushed now s.held.number store.new.number (take at.old marks.old) (take at.new marks.new) }
     ensures on { (s after : Stored) (es : List (Entry Whole)) → CanWrite (D.told d.old) store.old s es queue → behind_steps source_side es s ≡ Some after
@@ -127,6 +129,7 @@ pub fn write_out<D: Disk>(
     requires { (s : Stored) × ((es : List (Entry Whole)) × CanWrite (D.told d.old) store.old s es queue) }
     ensures run { (s : Stored) (es : List (Entry Whole)) → CanWrite (D.told d.old) store.old s es queue → CallsFit (D.told d.new)
         → SourceRuns (D.told d.old) (D.told d.new) s es report.old.marks report.new.marks }
+    ensures goes { (s : Stored) (es : List (Entry Whole)) → CanWrite (D.told d.old) store.old s es queue → GoesOn (D.told d.old) (D.told d.new) }
     ensures pushed { (s : Stored) (es : List (Entry Whole)) → CanWrite (D.told d.old) store.old s es queue
         → ArePushed report.old.now s.held.number store.new.number report.old.marks report.new.marks }
     ensures on { (s after : Stored) (es : List (Entry Whole)) → CanWrite (D.told d.old) store.old s es queue → behind_steps source_side es s ≡ Some after

@@ -40,6 +40,7 @@ pub fn log_bytes<D: Disk>(
     requires { (s : Stored) × IsOn (D.told d.old) store.now s }
     ensures bytes { (s : Stored) → IsOn (D.told d.old) store.now s → IfOk result (λ bytes. IfSome (D.told d.old) (λ _. bytes ≡ take max (drop pos (s.logs log)))) }
     ensures most { (s : Stored) → IsOn (D.told d.old) store.now s → IfOk result (λ bytes. length bytes ≤ min max (end_of log s.held.ends - pos)) }
+    ensures end { (s : Stored) → IsOn (D.told d.old) store.now s → end_of log s.held.ends ≤ 4294967295 }
     ensures on { (s : Stored) → IsOn (D.told d.old) store.now s → IsOn (D.told d.new) store.now s }
     ensures quiet { Quietly (D.told d.old) (D.told d.new) }
     ensures cause { HasDiskCause (D.faults d.old) (D.faults d.new) result }

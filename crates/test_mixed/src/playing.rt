@@ -1,5 +1,6 @@
 //! Scripts over a source and a replica that is told who it is, and the log that they leave.
 
+use disk_model::MemDisk;
 use port_traits::{Draw, Identity, MemEnv, MemSink, MemSource};
 use repl_run::{top, write_log};
 use run_streams::empty_report;
@@ -155,6 +156,8 @@ fn called(alloc: Global, stage: &mut Stage) -> u8 {
         stage.words.as_slice(),
         &mut stage.input,
         &mut stage.out,
+        &mut MemDisk::new(alloc),
+        &mut MemDisk::new(alloc),
         &mut stage.source,
         &mut stage.replica,
         &mut empty_report(alloc),
@@ -168,6 +171,7 @@ fn logged(alloc: Global, stage: &mut Stage) -> u8 {
         alloc,
         &mut stage.input,
         &mut stage.out,
+        &mut MemDisk::new(alloc),
         &mut stage.source,
         &mut stage.replica,
         &mut empty_report(alloc),

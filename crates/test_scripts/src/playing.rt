@@ -4,6 +4,7 @@
 //! over a table says how many of its cases hold from the first on.
 
 use answer_text::{Report, Status, status_line};
+use disk_model::MemDisk;
 use port_traits::{Draw, Identity, MemEnv, MemSink, MemSource};
 use repl_run::{top, write_log};
 use run_streams::empty_report;
@@ -229,7 +230,8 @@ fn stage_of(alloc: Global, asked: &Call<'_>) -> Option<Stage> {
     })
 }
 
-/// A call of the program. It says nothing of what comes out, so that tests are checked without the clauses of `top`.
+/// A call of the program over disks of which nothing is written yet. It says nothing of what comes out, so that tests are checked
+/// without the clauses of `top`.
 fn called(alloc: Global, stage: &mut Stage) -> (Status, Report) {
     let mut report = empty_report(alloc);
     let status = top(
@@ -237,6 +239,8 @@ fn called(alloc: Global, stage: &mut Stage) -> (Status, Report) {
         stage.words.as_slice(),
         &mut stage.input,
         &mut stage.out,
+        &mut MemDisk::new(alloc),
+        &mut MemDisk::new(alloc),
         &mut stage.source,
         &mut stage.replica,
         &mut report,
@@ -250,6 +254,7 @@ fn logged(alloc: Global, stage: &mut Stage) -> u8 {
         alloc,
         &mut stage.input,
         &mut stage.out,
+        &mut MemDisk::new(alloc),
         &mut stage.source,
         &mut stage.replica,
         &mut empty_report(alloc),

@@ -105,7 +105,7 @@ fn held_limits(alloc: Global) -> usize {
 }
 
 /// Lines of words, and whether they ask for a run.
-static WORDS: [(&str, bool); 13] = [
+static WORDS: [(&str, bool); 14] = [
     ("run", true),
     ("-- run", true),
     ("run --", true),
@@ -118,7 +118,8 @@ static WORDS: [(&str, bool); 13] = [
     ("print log", false),
     ("run print", false),
     ("Replay", false),
-    ("dump source", false),
+    ("dump", false),
+    ("dump both", false),
 ];
 
 /// Whether words ask for a run, and where they do not nothing is read.
@@ -232,7 +233,26 @@ fn tells_rest(report: &Report) -> bool {
         && report.now.command == 6
         && report.now.committed == 2
         && report.now.applied == 2
-        && report.marks.len() == 0
+        && tells_marks(report)
+}
+
+/// Whether it has a mark for the table and one for its row, each as its command stood, behind the six calls of the disk that keep an entry.
+fn tells_marks(report: &Report) -> bool {
+    match report.marks.as_slice() {
+        [table, row] => {
+            (
+                table.command,
+                table.committed,
+                table.applied,
+                table.rep_calls,
+            ) == (1, 1, 0, 0)
+                && (row.command, row.committed, row.applied, row.rep_calls) == (2, 2, 0, 0)
+                && table.src_calls.checked_add(6) == Some(row.src_calls)
+                && row.src_calls <= report.now.src_calls
+                && report.now.rep_calls == 0
+        }
+        _ => false,
+    }
 }
 
 fn tells_run(alloc: Global) -> bool {

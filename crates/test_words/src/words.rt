@@ -4,7 +4,7 @@ use program_words::{Word, asked_word};
 use std::alloc::Global;
 
 /// Words that ask for something: its name, and the number behind it, 0 where there is none.
-static ACCEPTED: [(&[&str], &str, u32); 14] = [
+static ACCEPTED: [(&[&str], &str, u32); 18] = [
     (&["run"], "run", 0),
     (&["replay"], "replay", 0),
     (&["print"], "print", 0),
@@ -12,6 +12,10 @@ static ACCEPTED: [(&[&str], &str, u32); 14] = [
     (&["run", "--"], "run", 0),
     (&["--", "replay"], "replay", 0),
     (&["print", "--"], "print", 0),
+    (&["dump", "source"], "dump source", 0),
+    (&["dump", "replica"], "dump replica", 0),
+    (&["--", "dump", "replica"], "dump replica", 0),
+    (&["dump", "--", "source"], "dump source", 0),
     (&["gen", "1"], "gen", 1),
     (&["gen", "4"], "gen", 4),
     (&["gen", "99999"], "gen", 99_999),
@@ -22,7 +26,7 @@ static ACCEPTED: [(&[&str], &str, u32); 14] = [
 ];
 
 /// Words beside these, which ask for nothing.
-static REFUSED: [&[&str]; 62] = [
+static REFUSED: [&[&str]; 68] = [
     &[],
     &[""],
     &["", ""],
@@ -59,8 +63,14 @@ static REFUSED: [&[&str]; 62] = [
     &["run", "--help"],
     &["--version"],
     &["-V"],
-    &["dump", "source"],
-    &["dump", "replica"],
+    &["dump"],
+    &["dump", "both"],
+    &["dump", "Source"],
+    &["dump", ""],
+    &["dump", "4"],
+    &["dump", "source", "replica"],
+    &["source"],
+    &["source", "dump"],
     &["export", "1"],
     &["chain"],
     &["load", "4"],
@@ -105,6 +115,8 @@ fn asked(alloc: Global, words: &[&str]) -> (&'static str, u32) {
         Ok(Some(Word::Run)) => ("run", 0),
         Ok(Some(Word::Replay)) => ("replay", 0),
         Ok(Some(Word::Print)) => ("print", 0),
+        Ok(Some(Word::DumpSource)) => ("dump source", 0),
+        Ok(Some(Word::DumpReplica)) => ("dump replica", 0),
         Ok(Some(Word::Gen(number))) => ("gen", number),
         Err(_) => ("?", 0),
     }

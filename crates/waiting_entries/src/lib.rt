@@ -6,11 +6,24 @@
 //!
 //! This crate stands on the records of `commit_store`; what the sessions of a source share and what writes to its disk stand on it.
 //!
-//! - `waiting`: [`Waiting`]
+//! - `waiting`: [`Waiting`]; `making`: [`made_transaction`] and [`made_definition`], over `forms`
 //! - `specs/Added`: what entries put behind each log (`added`, `added_to`)
-//! - `specs/Waiting`: what entries leave (`waiting_of`, `all_waiting`), and whose records have bodies (`HaveBodies`)
+//! - `specs/Waiting`: what entries leave (`waiting_of`, `all_waiting`), which can wait (`CanWaitAll`), and what was made of one (`Leaves`)
+//! - `specs/Making`: the place that a head speaks of; `proofs/Added`: what entries leave in order is what they append to the logs (`put_all`)
+//!
+//! # Proved
+//! - [`made_transaction`] and [`made_definition`] make just what an entry leaves to be written at a place, where it can be logged, its
+//!   record has a body, and a source's store may have it there; or memory is short.
+//!
+//! # Only tested
+//! Nothing here: that calls succeed with ample memory is tested where scripts run.
 #![tactic(auto)]
 
+mod forms;
+mod making;
 mod waiting;
 
+pub use binlog_items;
+pub use commit_store::store_model::Head;
+pub use making::{Made, made_definition, made_transaction};
 pub use waiting::Waiting;

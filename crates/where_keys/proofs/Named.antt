@@ -191,7 +191,7 @@ key_step row place places k (found v) None key so agree more e = cc
 key_step row place places k (found v) (Some vs) key so agree more e =
     ap (λ (x : Value). x ∷ values_at places row) (so.1 row agree) ∙ ap (λ (xs : List Value). v ∷ xs) (more vs refl) ∙ some_is (v ∷ vs) key e
 
-key_so : (o : Outside) (w : World) (f : Frame) (d : TableDef) (t : Tree) (row : List Value) (places : List ℕ) (key : List Value) → IsRound o w f
+pub key_so : (o : Outside) (w : World) (f : Frame) (d : TableDef) (t : Tree) (row : List Value) (places : List ℕ) (key : List Value) → IsRound o w f
     → agrees (known w f d t).kept row ≡ true → key_in o d t places ≡ Some key → values_at places row ≡ key
 key_so o w f d t row [] key round agree e = some_is [] key e
 key_so o w f d t row (place ∷ places) key round agree e =

@@ -159,6 +159,26 @@ fn said_of<'a>(
     }
 }
 
+/// The values that a condition names for some columns, before a row is looked at; None where it does not name each.
+pub fn values_named(
+    alloc: Global,
+    outside: &Outside<'_>,
+    definition: &TableDef,
+    columns: &List<u16>,
+    condition: &Expr,
+) -> Result<Option<Row>, NoMemory>
+    ensures { IfOk result (λ values. values ≡ key_in outside.now definition.now (view_tree condition.now) columns.now) }
+{
+    let mut values = List::with_capacity(alloc, columns.len())?;
+    for column in columns.as_slice() {
+        match said_of(outside, definition, usize::from(*column), condition) {
+            Look::Found(value) => values.push(value.duplicate(alloc)?)?,
+            Look::Calm | Look::Stopped => return Ok(None),
+        }
+    }
+    Ok(Some(values))
+}
+
 /// The primary key that a condition names whole, before a row is looked at; None where it does not.
 pub fn key_named(
     alloc: Global,
@@ -168,12 +188,5 @@ pub fn key_named(
 ) -> Result<Option<Row>, NoMemory>
     ensures { IfOk result (λ key. key ≡ key_in outside.now definition.now (view_tree condition.now) definition.now.primary) }
 {
-    let mut key = List::with_capacity(alloc, definition.primary.len())?;
-    for column in definition.primary.as_slice() {
-        match said_of(outside, definition, usize::from(*column), condition) {
-            Look::Found(value) => key.push(value.duplicate(alloc)?)?,
-            Look::Calm | Look::Stopped => return Ok(None),
-        }
-    }
-    Ok(Some(key))
+    values_named(alloc, outside, definition, &definition.primary, condition)
 }

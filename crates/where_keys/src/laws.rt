@@ -1,7 +1,8 @@
 //! What follows where a condition names a key.
-ghost use Rattle.where_keys.specs.Laws.{NamedKeysAreEnough};
+ghost use Rattle.where_keys.specs.Laws.{NamedKeysAreEnough, NamedUniqueKeysAreEnough};
 
-/// A law: where a condition names the primary key, only the row of that key need be looked at.
+/// A law: where a condition names the primary key, or each column of a unique key, only the row that has it need be looked at.
 pub fn named_keys_are_enough()
-    ensures { NamedKeysAreEnough }
+    ensures primary { NamedKeysAreEnough }
+    ensures unique { NamedUniqueKeysAreEnough }
 {}

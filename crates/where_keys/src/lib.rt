@@ -14,9 +14,11 @@
 //! `where_laws`, which knows rows in view outside and `-` before a value, too.
 //!
 //! # Proved
-//! - [`key_named`] gives just the values that the condition names of the primary key, None where it names not each, or wants memory
-//! - where a condition names a key, a WHERE keeps the same rows, with the same scene or error behind it, where only the row of that key
-//!   is looked at, if there is one: whatever rows the table has, and whatever else is round the WHERE ([`named_keys_are_enough`])
+//! - [`values_named`] gives just the values that the condition names for some columns, None where it names not each, or wants memory;
+//!   [`key_named`] those of the primary key
+//! - where a condition names the primary key, or each column of a unique key, a WHERE keeps the same rows, with the same scene or error
+//!   behind it, where only the row of that key is looked at, if there is one: whatever rows the table has, and whatever else is round the
+//!   WHERE ([`named_keys_are_enough`])
 #![tactic(auto)]
 
 mod keys;
@@ -25,7 +27,7 @@ mod outside;
 mod sides;
 
 // What is its own, and the crates below that it speaks of, passed on: who stands above names them through it.
-pub use keys::key_named;
+pub use keys::{key_named, values_named};
 pub use laws::named_keys_are_enough;
 pub use outside::{Outside, RowOf};
 pub use session_ctx;

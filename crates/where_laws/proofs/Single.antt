@@ -227,7 +227,7 @@ others_differ d place key values row later at there own apart =
     subst (λ (vs : List Value). not (list_any is_null vs) && same_values vs (values_at key.columns later) ≡ false) (sym own) differ in
     ap not (ap (λ (b : Bool). not b && same_values values (values_at key.columns later)) (sym there) ∙ same)
 
-value_is_lone : (d : TableDef) (place : ℕ) (key : KeyDef) (values : List Value) (rows : Rows) → slice_get d.uniques place ≡ Some key → list_any is_null values ≡ false → are_apart d rows ≡ true
+pub value_is_lone : (d : TableDef) (place : ℕ) (key : KeyDef) (values : List Value) (rows : Rows) → slice_get d.uniques place ≡ Some key → list_any is_null values ≡ false → are_apart d rows ≡ true
     → IsLone (has_values key.columns values) rows
 value_is_lone d place key values [] at there apart = tt
 value_is_lone d place key values (row ∷ rows) at there apart =

@@ -8,7 +8,8 @@ use super::tables::{
 };
 use crate::{Step, commit_steps, opened};
 use commit_store::Store;
-use disk_model::{Call, Disk, FuseDisk, MemDisk, OpenRefusal};
+use crash_images::{CRASHES, image};
+use disk_model::{Disk, FuseDisk, MemDisk, OpenRefusal};
 use gate_journal::scan;
 use std::alloc::Global;
 use store_model::Kind;
@@ -116,77 +117,6 @@ fn is_source(node: Kind) -> bool {
 }
 
 // ---- what is left
-
-/// What a crash leaves of what was written since the last sync.
-#[derive(Clone, Copy)]
-enum Crash {
-    Nothing,
-    All,
-    Half,
-    Garbage,
-}
-
-static CRASHES: [Crash; 4] = [Crash::Nothing, Crash::All, Crash::Half, Crash::Garbage];
-
-static GARBAGE: [u8; 256] = [0xff; 256];
-
-/// What is left of a piece.
-fn left_of(crash: Crash, piece: &[u8]) -> &[u8] {
-    match crash {
-        Crash::Nothing => &[],
-        Crash::All => piece,
-        Crash::Half => &piece[..piece.len() / 2],
-        Crash::Garbage => &GARBAGE[..piece.len().min(256)],
-    }
-}
-
-/// A piece over what stands from a place on.
-fn over(alloc: Global, contents: &[u8], at: u64, piece: &[u8]) -> Bytes {
-    let at = at.min(contents.len() as u64) as usize;
-    let mut new = bytes(alloc, &contents[..at]);
-    let _ = new.extend_from_slice(piece);
-    let rest = &contents[at..];
-    if piece.len() < rest.len() {
-        let _ = new.extend_from_slice(&rest[piece.len()..]);
-    }
-    new
-}
-
-/// What a crash leaves of a file after these calls: what was written before its last sync, and of the rest as the
-/// crash has it. A write that failed has begun.
-fn image(alloc: Global, calls: &[Call], of: u32, crash: Crash) -> Bytes {
-    let mut now = List::new(alloc);
-    let mut left = List::new(alloc);
-    for call in calls {
-        match call {
-            Call::Write {
-                file,
-                at,
-                piece,
-                done,
-            } => {
-                if *file == of {
-                    left = over(
-                        alloc,
-                        left.as_slice(),
-                        *at,
-                        left_of(crash, piece.as_slice()),
-                    );
-                    if *done {
-                        now = over(alloc, now.as_slice(), *at, piece.as_slice());
-                    }
-                }
-            }
-            Call::Sync { file, done } => {
-                if *file == of && *done {
-                    left = bytes(alloc, now.as_slice());
-                }
-            }
-            _ => {}
-        }
-    }
-    left
-}
 
 /// How many of the records, from the first on, a disk reads that has come up with this journal; None where it reads others.
 fn reads(alloc: Global, journal: Bytes, steps: &[Step]) -> Option<usize> {
@@ -298,10 +228,10 @@ fn holds(alloc: Global, script: &Script, k: usize) -> bool {
     }
     for crash in &CRASHES {
         let calls = disk.inner().history();
-        let log = image(alloc, calls, 8, *crash);
+        let log = image(alloc, b"", calls, 8, *crash);
         match reads(
             alloc,
-            image(alloc, calls, 2, *crash),
+            image(alloc, b"", calls, 2, *crash),
             script.steps.as_slice(),
         ) {
             Some(count) if count == sure || count == sure.saturating_add(more) => {

@@ -1,10 +1,9 @@
-use Rattle.std.proofs.Common.{length}
-use Rattle.session_shared.specs.binlog_items.Logged.{in_log}
 use Rattle.sql_tree.specs.View.{view_trees}
+use Rattle.session_shared.specs.Desk.{place_of}
 use Rattle.session_statement.proofs.Bases.{gives_beside_on}
 use Rattle.session_statement.proofs.running.evaluate_beside.Goals as goal
 
 pub returns-clause-gives : goal.returns-clause-gives
 returns-clause-gives c =
     gives_beside_on c.args.number c.args.draw.now c.args.locals.now (view_trees c.args.expressions.now) c.eval_list_beside.result c.args.desk.now.work c.eval_list_beside.new.work c.args.desk.now.lock c.args.desk.now.committed
-    (in_log (length c.args.desk.now.log)) c.args.context.now c.eval_list_beside.new.context c.args.meter.now c.eval_list_beside.new.meter c.requires.other c.eval_list_beside.ensures.gives
+    (place_of c.args.desk.now.log) c.args.context.now c.eval_list_beside.new.context c.args.meter.now c.eval_list_beside.new.meter c.requires.other c.eval_list_beside.ensures.gives

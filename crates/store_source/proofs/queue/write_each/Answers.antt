@@ -1,7 +1,7 @@
 use Rattle.std.proofs.Common.{ℕ, refl, ap, arith}
 use Rattle.answer_text.specs.declared.report.Mark.{Mark}
 use Rattle.store_source.proofs.Queues.{went_start}
-use Rattle.store_source.proofs.Looping.{wanted_last, ready, wrong, marked, unmarked, pushed_at, set_is, went_first, went_same, logs_first, begun_last, room_first, room_set, room_same, room_now, ended_run, ended_on, ended_calls}
+use Rattle.store_source.proofs.Looping.{wanted_last, ready, wrong, wrong_goes, marked, unmarked, pushed_at, set_is, went_first, went_same, logs_first, begun_last, room_first, room_set, room_same, room_now, ended_run, ended_on, ended_calls}
 use Rattle.store_source.proofs.queue.write_each.Goals as goal
 
 pub loop-w-init : goal.loop-w-init
@@ -22,6 +22,10 @@ write_entry-requires-clause-room g c = omega (arith, begun_last c.loop-w.left c.
 pub returns-in_err-write_entry-clause-run : goal.returns-in_err-write_entry-clause-run
 returns-in_err-write_entry-clause-run g c s es can fits =
     wrong _ s es _ _ _ _ c.loop-w.left c.pop.new.self c.in-Some.w _ (c.loop-w.invariant.went s es can) c.in-Some.ensures _ c.write_entry.ensures.leads fits
+
+pub returns-in_err-write_entry-clause-goes : goal.returns-in_err-write_entry-clause-goes
+returns-in_err-write_entry-clause-goes g c s es can =
+    wrong_goes _ s es _ _ _ _ c.loop-w.left c.pop.new.self c.in-Some.w _ (c.loop-w.invariant.went s es can) c.in-Some.ensures _ c.write_entry.ensures.leads
 
 pub returns-in_err-write_entry-clause-pushed : goal.returns-in_err-write_entry-clause-pushed
 returns-in_err-write_entry-clause-pushed g c s es can =
@@ -61,6 +65,9 @@ loop-w-preserved g c =
 
 pub returns-clause-run : goal.returns-clause-run
 returns-clause-run g c s es can fits = ended_run _ s es _ _ _ _ c.loop-w.left c.in_default.ensures.0 _ (c.loop-w.invariant.went s es can) fits
+
+pub returns-clause-goes : goal.returns-clause-goes
+returns-clause-goes g c s es can = (c.loop-w.invariant.went s es can).on
 
 pub returns-clause-pushed : goal.returns-clause-pushed
 returns-clause-pushed g c s es can = pushed_at _ s es _ _ _ c.loop-w.store _ _ (c.loop-w.invariant.went s es can) c.loop-w.store.number refl

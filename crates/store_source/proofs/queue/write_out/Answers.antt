@@ -1,4 +1,5 @@
 use Rattle.std.proofs.Common.{sym, refl}
+use Rattle.disk_model.proofs.Moments.{on_refl}
 use Rattle.store_source.proofs.Looping.{no_runs, runs_same}
 use Rattle.store_source.proofs.queue.write_out.Goals as goal
 
@@ -8,3 +9,9 @@ returns-in_err-make_room-clause-run g c s es can fits = no_runs _ c.args.store.n
 pub returns-in_err-room_for_marks-clause-run : goal.returns-in_err-room_for_marks-clause-run
 returns-in_err-room_for_marks-clause-run g c s es can fits =
     runs_same _ _ s es _ _ _ _ refl (sym c.in_err-room_for_marks.ensures.err) (no_runs _ c.args.store.now s es _ c.args.report.now.marks can)
+
+pub returns-in_err-make_room-clause-goes : goal.returns-in_err-make_room-clause-goes
+returns-in_err-make_room-clause-goes g c s es can = on_refl _
+
+pub returns-in_err-room_for_marks-clause-goes : goal.returns-in_err-room_for_marks-clause-goes
+returns-in_err-room_for_marks-clause-goes g c s es can = on_refl _

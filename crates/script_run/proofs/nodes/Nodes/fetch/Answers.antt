@@ -1,16 +1,22 @@
-use Rattle.std.proofs.Common.{ℕ, ◌≡◌, ◌≤◌, length, refl, ap, ◌∙◌, subst, arith}
+use Rattle.std.proofs.Common.{refl, ap, ◌∙◌}
 use Rattle.replica_node.specs.replica_model.Lines.{fetched_line}
-use Rattle.session_model.specs.Machine.{log_bytes}
-use Rattle.script_run.proofs.Lengths.{log_ends, served_short, served_whole}
-use Rattle.script_run.proofs.Spoken.{fetched_shown}
+use Rattle.script_run.proofs.Spoken.{fetched_shown, looked_on}
 use Rattle.script_run.proofs.nodes.Nodes.fetch.Goals as goal
 
-pub returns : goal.returns
-returns c = record {
-  shows = λ names b draw together. fetched_shown c.args.self.now _ c.args.number c.args.count _ _ c.in_ok-piece.piece c.in_ok-fetched_line.field-0 c.replica_follows.ensures.goes_on refl
-      c.want-log.ensures
-      (c.in_ok-piece.ensures ∙ ap (λ (n : ℕ). log_bytes c.args.self.now.source.desk.log (record { log = c.want-log.result.0; pos = c.want-log.result.1 }) n) c.min-most.ensures
-      ∙ served_whole c.args.self.now.source.desk.log (record { log = c.want-log.result.0; pos = c.want-log.result.1 }) c.args.count (log_ends c.entries_have_length.ensures c.heads_have_length.ensures names c.args.self.now b together))
-      c.fetch.ensures.identity c.in_ok-fetch.ensures.ok
-      (c.in_ok-fetched_line.ensures ∙ ap (fetched_line c.args.number) c.len.ensures) names b draw together;
-}
+pub returns-in-Ok-clause-shows : goal.returns-in-Ok-clause-shows
+returns-in-Ok-clause-shows g c names start b draw together =
+    fetched_shown (record { goes_on = c.log_goes_on.ensures; one = c.logs_go_on.ensures.one; stores = c.stores_go_on.ensures }) c.args.self.now _ _ _ start c.args.number c.args.count c.min-most.result _ _ c.in_ok-piece.piece
+    c.in_ok-fetched_line-in-Ok.field-0 c.replica_follows.ensures.goes_on refl c.want-log.ensures c.log_bytes.ensures.quiet.on c.min-most.ensures c.log_bytes.ensures.end c.in_ok-piece.ensures.bytes c.log_bytes.ensures.stands
+    c.fetch.ensures.identity c.in-Ok.ensures.ok (c.in_ok-fetched_line-in-Ok.ensures ∙ ap (fetched_line c.args.number) c.len.ensures) names b draw together
+
+pub returns-in-Ok-clause-lasts : goal.returns-in-Ok-clause-lasts
+returns-in-Ok-clause-lasts g c names start b marks together = looked_on c.runs_last.ensures.source _ _ start c.args.self.now c.log_bytes.ensures.quiet.on c.log_bytes.ensures.runs names b marks together
+
+pub returns-clause-lasts : goal.returns-clause-lasts
+returns-clause-lasts g c names start b marks together = looked_on c.runs_last.ensures.source _ _ start c.args.self.now c.log_bytes.ensures.quiet.on c.log_bytes.ensures.runs names b marks together
+
+pub returns-in_err-piece-clause-lasts : goal.returns-in_err-piece-clause-lasts
+returns-in_err-piece-clause-lasts g c names start b marks together = looked_on c.runs_last.ensures.source _ _ start c.args.self.now c.log_bytes.ensures.quiet.on c.log_bytes.ensures.runs names b marks together
+
+pub returns-in_err-fetched_line-in-Ok-clause-lasts : goal.returns-in_err-fetched_line-in-Ok-clause-lasts
+returns-in_err-fetched_line-in-Ok-clause-lasts g c names start b marks together = looked_on c.runs_last.ensures.source _ _ start c.args.self.now c.log_bytes.ensures.quiet.on c.log_bytes.ensures.runs names b marks together

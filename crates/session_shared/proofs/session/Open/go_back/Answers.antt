@@ -1,7 +1,9 @@
 use Rattle.std.proofs.Common.{take, min, ap, ◌∙◌}
 use Rattle.std.specs.Prelude.{find, position, slice_get}
 use Rattle.session_model.specs.Commands.{is_save_of}
+use Rattle.session_model.specs.binlog_sizes.Sizes.{are_too_large}
 use Rattle.session_shared.specs.Saving.{changes_at, marks_of, went_back}
+use Rattle.session_shared.proofs.Fitting.{fewer_fit}
 use Rattle.session_shared.proofs.Places.{gone, stayed, stayed_too}
 use Rattle.session_shared.proofs.session.Open.go_back.Goals as goal
 
@@ -22,6 +24,10 @@ pub returns-in_default-marks_at-clause-cut : goal.returns-in_default-marks_at-cl
 returns-in_default-marks_at-clause-cut c =
     (stayed_too c.args.name.now c.args.self.now c.in-Some.place (c.in-Some.ensures.place ∙ ap (position (is_save_of c.args.name.now)) (c.deref.ensures.value ∙ ap (λ o. o.saves) c.self.view_is))
     (c.in_default-marks_at.ensures ∙ ap (λ ss. marks_of (slice_get ss c.in-Some.place)) (c.deref-2.ensures.value ∙ ap (λ o. o.saves) c.self.view_is))).1
+
+-- fewer items fit, too
+pub invariant_of-self : goal.invariant_of-self
+invariant_of-self c = ap are_too_large c.cut.ensures ∙ fewer_fit c.min.result c.self.inside.items c.self.invariant
 
 pub returns-clause-changes : goal.returns-clause-changes
 returns-clause-changes c =

@@ -1,0 +1,418 @@
+//! A source that stops inside and behind each call of its disk, and what it finds when it opens again: the tables behind a front of what it
+//! committed, which holds all that its marks name and all that it answered.
+
+use crate::playing::{Call, Ended, asked, over};
+use answer_text::Mark;
+use crash_images::{CRASHES, disk_left, files_left, no_files};
+use disk_model::{Disk, FuseDisk, MemDisk};
+use std::alloc::Global;
+use val_types::{Bytes, List};
+
+/// A shop: tables, a function, triggers and a procedure, sessions in each format, a transaction that is rolled back; 17 of its commands
+/// commit, one transaction or definition each.
+static SHOP: &str =
+    "s1: CREATE TABLE item (id INT NOT NULL AUTO_INCREMENT, name VARCHAR(20) NOT NULL, stock INT NOT NULL, PRIMARY KEY (id), UNIQUE KEY n (name)) //
+s1: CREATE TABLE orders (id INT NOT NULL AUTO_INCREMENT, item INT NOT NULL, qty INT NOT NULL, at VARCHAR(19) NOT NULL, PRIMARY KEY (id)) //
+s1: CREATE TABLE audit (id INT NOT NULL AUTO_INCREMENT, what VARCHAR(40) NOT NULL, PRIMARY KEY (id)) //
+s1: CREATE TABLE token (k INT NOT NULL, v VARCHAR(36), who INT, PRIMARY KEY (k)) //
+s1: CREATE FUNCTION left_of(i INT) RETURNS INT RETURN (SELECT stock FROM item WHERE id = i) //
+s1: CREATE TRIGGER o_bi BEFORE INSERT ON orders FOR EACH ROW UPDATE item SET stock = stock - NEW.qty WHERE id = NEW.item //
+s1: CREATE TRIGGER o_ai AFTER INSERT ON orders FOR EACH ROW INSERT INTO audit (what) VALUES (CONCAT('left ', left_of(NEW.item))) //
+s1: CREATE PROCEDURE buy(i INT, q INT) BEGIN IF left_of(i) >= q THEN INSERT INTO orders (item, qty, at) VALUES (i, q, NOW()); END IF; END //
+s1: INSERT INTO item (name, stock) VALUES ('pen', 10), ('ink', 3) //
+s1: CALL buy(1, 4) //
+s2: SET binlog_format = 'STATEMENT' //
+s2: INSERT INTO token VALUES (1, NOW(), CONNECTION_ID()) //
+s2: INSERT INTO item (name, stock) VALUES ('nib', 8) //
+s2: INSERT INTO token VALUES (2, NULL, LAST_INSERT_ID()) //
+s3: SET binlog_format = 'ROW' //
+s3: INSERT INTO token VALUES (3, UUID(), 0) //
+s1: UPDATE token SET v = UUID() WHERE k = 2 //
+s3: BEGIN //
+s3: INSERT INTO item (name, stock) VALUES ('cap', 1) //
+s3: ROLLBACK //
+s1: INSERT INTO item (name, stock) VALUES ('cap', 2) //
+s1: CALL buy(2, 5) //
+s1: CALL buy(3, 8) //
+";
+
+/// A line of the shop's dump, with the numbers of transactions from and until which it stands there.
+struct Line {
+    text: &'static str,
+    from: u64,
+    until: u64,
+}
+
+/// Until the end.
+const END: u64 = 18;
+
+/// All of them, as a dump has them.
+static LINES: [Line; 20] = [
+    Line {
+        text: "create CREATE TABLE `item` (`id` INT NOT NULL AUTO_INCREMENT, `name` VARCHAR(20) NOT NULL, `stock` INT NOT NULL, PRIMARY KEY (`id`), UNIQUE KEY `n` (`name`))\n",
+        from: 1,
+        until: END,
+    },
+    Line {
+        text: "row 1, 'pen', 10\n",
+        from: 9,
+        until: 10,
+    },
+    Line {
+        text: "row 1, 'pen', 6\n",
+        from: 10,
+        until: END,
+    },
+    Line {
+        text: "row 2, 'ink', 3\n",
+        from: 9,
+        until: END,
+    },
+    Line {
+        text: "row 3, 'nib', 8\n",
+        from: 12,
+        until: 17,
+    },
+    Line {
+        text: "row 3, 'nib', 0\n",
+        from: 17,
+        until: END,
+    },
+    Line {
+        text: "row 5, 'cap', 2\n",
+        from: 16,
+        until: END,
+    },
+    Line {
+        text: "create CREATE TABLE `orders` (`id` INT NOT NULL AUTO_INCREMENT, `item` INT NOT NULL, `qty` INT NOT NULL, `at` VARCHAR(19) NOT NULL, PRIMARY KEY (`id`))\n",
+        from: 2,
+        until: END,
+    },
+    Line {
+        text: "row 1, 1, 4, '2023-11-14 22:13:30'\n",
+        from: 10,
+        until: END,
+    },
+    Line {
+        text: "row 2, 3, 8, '2023-11-14 22:13:43'\n",
+        from: 17,
+        until: END,
+    },
+    Line {
+        text: "create CREATE TABLE `audit` (`id` INT NOT NULL AUTO_INCREMENT, `what` VARCHAR(40) NOT NULL, PRIMARY KEY (`id`))\n",
+        from: 3,
+        until: END,
+    },
+    Line {
+        text: "row 1, 'left 6'\n",
+        from: 10,
+        until: END,
+    },
+    Line {
+        text: "row 2, 'left 0'\n",
+        from: 17,
+        until: END,
+    },
+    Line {
+        text: "create CREATE TABLE `token` (`k` INT NOT NULL, `v` VARCHAR(36) NULL, `who` INT NULL, PRIMARY KEY (`k`))\n",
+        from: 4,
+        until: END,
+    },
+    Line {
+        text: "row 1, '2023-11-14 22:13:32', 2\n",
+        from: 11,
+        until: END,
+    },
+    Line {
+        text: "row 2, NULL, 3\n",
+        from: 13,
+        until: 15,
+    },
+    Line {
+        text: "row 2, '00000000-0000-0000-0000-000000000011', 3\n",
+        from: 15,
+        until: END,
+    },
+    Line {
+        text: "row 3, '00000000-0000-0000-0000-000000000010', 0\n",
+        from: 14,
+        until: END,
+    },
+    Line {
+        text: "create CREATE FUNCTION `left_of`(`i` INT) RETURNS INT RETURN (SELECT `stock` FROM `item` WHERE (`id` = `i`))\n",
+        from: 5,
+        until: END,
+    },
+    Line {
+        text: "create CREATE TRIGGER `o_bi` BEFORE INSERT ON `orders` FOR EACH ROW UPDATE `item` SET `stock` = (`stock` - NEW.`qty`) WHERE (`id` = NEW.`item`)\n",
+        from: 6,
+        until: END,
+    },
+];
+
+/// And the last two.
+static LAST_LINES: [Line; 2] = [
+    Line {
+        text: "create CREATE TRIGGER `o_ai` AFTER INSERT ON `orders` FOR EACH ROW INSERT INTO `audit` (`what`) VALUES (CONCAT('left ', `left_of`(NEW.`item`)))\n",
+        from: 7,
+        until: END,
+    },
+    Line {
+        text: "create CREATE PROCEDURE `buy`(`i` INT, `q` INT) BEGIN IF (`left_of`(`i`) >= `q`) THEN INSERT INTO `orders` (`item`, `qty`, `at`) VALUES (`i`, `q`, NOW()); END IF; END\n",
+        from: 8,
+        until: END,
+    },
+];
+
+/// How many transactions the commands with these numbers, from 1 on, have committed.
+static COMMITTED: [u64; 24] = [
+    0, 1, 2, 3, 4, 5, 6, 7, 8, 9, 10, 10, 11, 12, 13, 13, 14, 15, 15, 15, 15, 16, 16, 17,
+];
+
+/// The files that a source of one log has: two snapshots, two journals, and the log, which is file 8.
+const FILES: u32 = 9;
+
+/// Puts the lines that stand there behind so many transactions.
+fn put_lines(text: &mut Bytes, lines: &[Line], number: u64) {
+    for line in lines {
+        if line.from <= number && number < line.until {
+            let _ = text.extend_from_slice(line.text.as_bytes());
+        }
+    }
+}
+
+/// The dump of the shop behind so many transactions.
+fn dump_at(alloc: Global, number: u64) -> Bytes {
+    let mut text = List::new(alloc);
+    put_lines(&mut text, LINES.as_slice(), number);
+    put_lines(&mut text, LAST_LINES.as_slice(), number);
+    text
+}
+
+/// The call that carries out the shop.
+fn shop() -> Call<'static> {
+    asked("run", SHOP.as_bytes())
+}
+
+/// What the dump of these files shows; none where it does not end well.
+fn dumped(alloc: Global, files: &[Bytes]) -> Option<Bytes> {
+    let mut disk = disk_left(alloc, files)?;
+    let ended = over(
+        alloc,
+        &asked("dump source", b""),
+        &mut disk,
+        &mut MemDisk::new(alloc),
+    )?;
+    if ended.line.is_empty() {
+        Some(ended.written)
+    } else {
+        None
+    }
+}
+
+/// Whether these files hold the shop behind so many transactions, or behind one more.
+fn holds(alloc: Global, files: &[Bytes], least: u64) -> bool {
+    match dumped(alloc, files) {
+        Some(text) => {
+            text.as_slice() == dump_at(alloc, least).as_slice()
+                || text.as_slice() == dump_at(alloc, least.saturating_add(1)).as_slice()
+        }
+        None => false,
+    }
+}
+
+/// The number that the last mark names, 0 where there is none.
+fn named(marks: &[Mark]) -> u64 {
+    match marks.last() {
+        Some(mark) => mark.committed,
+        None => 0,
+    }
+}
+
+/// Whether marks name each number once and in order, from 1 on.
+fn are_in_order(marks: &[Mark]) -> bool {
+    for (i, mark) in marks.iter().enumerate() {
+        if mark.committed != i as u64 + 1 {
+            return false;
+        }
+    }
+    true
+}
+
+/// How many commands were answered: each answer of the shop is one line.
+fn answered(written: &[u8]) -> usize {
+    let mut lines: usize = 0;
+    for byte in written {
+        if *byte == b'\n' {
+            lines = lines.saturating_add(1);
+        }
+    }
+    lines
+}
+
+/// Whether the marks of a call that stopped name all that it answered, and no more than the command in flight adds.
+fn names_answered(ended: &Ended) -> bool {
+    let count = answered(ended.written.as_slice());
+    let number = named(ended.report.marks.as_slice());
+    match (COMMITTED.get(count), COMMITTED.get(count.saturating_add(1))) {
+        (Some(before), Some(after)) => *before <= number && number <= *after,
+        (Some(before), None) => number == *before,
+        _ => false,
+    }
+}
+
+/// Whether a call whose k-th call of the disk fails stops there, and each crash leaves a front of the transactions that holds what the
+/// marks name.
+fn stops_well(alloc: Global, k: u64) -> bool {
+    let mut disk = FuseDisk::new(MemDisk::new(alloc), k);
+    let Some(ended) = over(alloc, &shop(), &mut disk, &mut MemDisk::new(alloc)) else {
+        return false;
+    };
+    if ended.line.as_slice() != b"source disk fault\n".as_slice()
+        || disk.calls() != k
+        || !names_answered(&ended)
+        || !are_in_order(ended.report.marks.as_slice())
+    {
+        return false;
+    }
+    let least = named(ended.report.marks.as_slice());
+    let none = no_files(alloc, FILES);
+    for crash in CRASHES.iter() {
+        let files = files_left(alloc, none.as_slice(), disk.inner().history(), *crash);
+        if !holds(alloc, files.as_slice(), least) {
+            return false;
+        }
+    }
+    true
+}
+
+/// How many calls of the disk the shop takes, and whether it ends well with all that it committed.
+fn calls_of_the_shop(alloc: Global) -> Option<u64> {
+    let mut disk = MemDisk::new(alloc);
+    let ended = over(alloc, &shop(), &mut disk, &mut MemDisk::new(alloc))?;
+    if !ended.line.is_empty() || named(ended.report.marks.as_slice()) != 17 {
+        return None;
+    }
+    Some(disk.calls())
+}
+
+/// The first call from one on that does not stop well, up to another one; that one where each does.
+fn first_bad(alloc: Global, from: u64, to: u64) -> u64 {
+    for k in from..to {
+        if !stops_well(alloc, k) {
+            return k;
+        }
+    }
+    to
+}
+
+/// Whether each of the calls of one third stops well: 18 entries take six calls each, and opening some before them.
+fn third_stops_well(alloc: Global, third: u64) -> bool {
+    let Some(calls) = calls_of_the_shop(alloc) else {
+        return false;
+    };
+    if calls <= 108 || calls >= 200 {
+        return false;
+    }
+    let (from, to) = match third {
+        0 => (1, 40),
+        1 => (40, 80),
+        _ => (80, calls + 1),
+    };
+    first_bad(alloc, from, to) == to
+}
+
+#[test]
+fn stops_at_the_first_calls(rt: HostRuntime) {
+    assert!(&rt; third_stops_well(rt.alloc(), 0));
+}
+
+#[test]
+fn stops_at_the_middle_calls(rt: HostRuntime) {
+    assert!(&rt; third_stops_well(rt.alloc(), 1));
+}
+
+#[test]
+fn stops_at_the_last_calls(rt: HostRuntime) {
+    assert!(&rt; third_stops_well(rt.alloc(), 2));
+}
+
+/// The dump of the whole shop, line by line.
+#[test]
+fn the_shop_is_dumped(rt: HostRuntime) {
+    let alloc = rt.alloc();
+    let mut disk = MemDisk::new(alloc);
+    let _ = over(alloc, &shop(), &mut disk, &mut MemDisk::new(alloc));
+    let none = no_files(alloc, FILES);
+    let files = files_left(
+        alloc,
+        none.as_slice(),
+        disk.history(),
+        crash_images::Crash::Nothing,
+    );
+    let text = dumped(alloc, files.as_slice());
+    assert!(&rt; text.is_some_and(|text| text.as_slice() == dump_at(alloc, 17).as_slice()));
+}
+
+// ---- a second stop inside the opening of what the first one left
+
+/// Whether each call of an opening over these files may be its last, and what it leaves holds the same tables.
+fn opens_well(alloc: Global, files: &[Bytes], least: u64) -> bool {
+    let Some(text) = dumped(alloc, files) else {
+        return false;
+    };
+    for k in 1..20 {
+        let Some(disk) = disk_left(alloc, files) else {
+            return false;
+        };
+        let mut disk = FuseDisk::new(disk, k);
+        let ended = over(
+            alloc,
+            &asked("run", b""),
+            &mut disk,
+            &mut MemDisk::new(alloc),
+        );
+        let Some(ended) = ended else {
+            return false;
+        };
+        if ended.line.is_empty() {
+            return k > 1 && disk.calls() < k && holds(alloc, files, least);
+        }
+        for crash in CRASHES.iter() {
+            let left = files_left(alloc, files, disk.inner().history(), *crash);
+            match dumped(alloc, left.as_slice()) {
+                Some(again) if again.as_slice() == text.as_slice() => {}
+                _ => return false,
+            }
+        }
+    }
+    false
+}
+
+/// What the crashes of a stop leave is opened again, and each call of that may be the last one too.
+fn opens_behind(alloc: Global, k: u64) -> bool {
+    let mut disk = FuseDisk::new(MemDisk::new(alloc), k);
+    let Some(ended) = over(alloc, &shop(), &mut disk, &mut MemDisk::new(alloc)) else {
+        return false;
+    };
+    let none = no_files(alloc, FILES);
+    for crash in CRASHES.iter() {
+        let files = files_left(alloc, none.as_slice(), disk.inner().history(), *crash);
+        if !opens_well(
+            alloc,
+            files.as_slice(),
+            named(ended.report.marks.as_slice()),
+        ) {
+            return false;
+        }
+    }
+    true
+}
+
+#[test]
+fn an_opening_may_stop_too(rt: HostRuntime) {
+    let alloc = rt.alloc();
+    for k in [1, 5, 9, 12, 60, 63, 65, 66] {
+        assert!(&rt; opens_behind(alloc, k), "call {k}");
+    }
+}
