@@ -4,7 +4,7 @@ ghost use Rattle.std.specs.Prelude.{◌<◌, ◌^◌, FitsSigned, length};
 ghost use Rattle.std.specs.Bool.{OnTrue};
 ghost use Rattle.std.specs.Int.{w64};
 ghost use Rattle.std.specs.List.{AllByRecursion};
-ghost use Rattle.commit_store.specs.store_model.Bodies.{IsChange, IsRow, IsValue};
+ghost use Rattle.store_model.specs.Bodies.{IsChange, IsRow, IsValue};
 
 use val_types::{Bytes, Change, Row, Value};
 
@@ -71,8 +71,8 @@ fn is_change(change: &Change) -> bool
     }
 }
 
-/// Whether all changes have it.
-pub(crate) fn are_changes(changes: &[Change]) -> bool
+/// Whether all changes have the form that the body of a record asks for.
+pub fn are_changes(changes: &[Change]) -> bool
     ensures { OnTrue result (AllByRecursion IsChange changes.now) }
 {
     for change in changes {
