@@ -19,7 +19,7 @@ use Rattle.script_run.specs.Marks.{AreMarks, Called, CalledNow, CalledWithin, Nu
 
 -- ---- marks that were pushed
 
-none_more : (n : ℕ) → n ≡ n + 0
+pub none_more : (n : ℕ) → n ≡ n + 0
 none_more n = omega arith
 
 -- where a command has groups alone, or commits alone
@@ -60,16 +60,12 @@ pushed_by now before after k b old new pushed began number =
     )
 
 -- and so are those of an APPLY
-pub applied_pushed : (now : Mark) (before after k : ℕ) (b : Both) (old new : List Mark) (pushed : AppliedPushed now before after old new) → uncounted now ≡ mark_at k b → before ≡ b.replica.number
-    → Pushed (mark_at k b) 0 (length pushed.more) old new
-applied_pushed now before after k b old new pushed began number =
+pub applied_are : (now : Mark) (before k : ℕ) (b : Both) (more : List Mark) → AppliedInTurn now before more → uncounted now ≡ mark_at k b → before ≡ b.replica.number
+    → map uncounted more ≡ command_marks (mark_at k b) 0 (length more)
+applied_are now before k b more named began number =
     let at : record (uncounted now) { applied = before } ≡ mark_at k b =
     ap (λ (m : Mark). record m { applied = before }) began ∙ ap (λ (n : ℕ). record (mark_at k b) { applied = n }) number in
-    record {
-      more = pushed.more;
-      marks = pushed.marks;
-      are = applied_named now before pushed.more pushed.named ∙ ap (λ (m : Mark). applied_up m (length pushed.more)) at ∙ groups_alone (mark_at k b) (length pushed.more);
-    }
+    applied_named now before more named ∙ ap (λ (m : Mark). applied_up m (length more)) at ∙ groups_alone (mark_at k b) (length more)
 
 -- none was pushed
 pub pushed_none : (at : Mark) (old : List Mark) → Pushed at 0 0 old old

@@ -178,9 +178,9 @@ replica_refused A (opening.Damaged file at) src t disk later n damaged rose = da
 replica_refused A opening.NoMemory src t disk later n damaged rose = tt
 
 -- it stood for something where it was opened
-pub replica_stood : (t u : Option Story) (replica : DurableReplica) → IfSome t (λ _. held_by Replica (seen t) ≡ Ok (held_of (replica_of replica.node))) → ReplicaStoodFor t
-replica_stood None u replica holds = tt
-replica_stood (Some s) u replica holds = (held_of (replica_of replica.node), holds)
+pub replica_stood : (t : Option Story) (replica : DurableReplica) → IfSome t (λ _. held_by Replica (seen t) ≡ Ok (held_of (replica_of replica.node))) → ReplicaStoodFor t
+replica_stood None replica holds = tt
+replica_stood (Some s) replica holds = (held_of (replica_of replica.node), holds)
 
 -- ---- both nodes
 

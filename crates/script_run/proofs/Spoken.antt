@@ -65,13 +65,13 @@ use Rattle.run_laws.specs.Laws.{IsSound, FollowsGoOn, NoApplyStops, NothingIsDam
 use Rattle.run_laws.specs.Openings.{Begins}
 use Rattle.run_laws.specs.Restarts.{RestartsKeepMarks, RestartsStaySound}
 use Rattle.script_run.specs.declared.nodes.Nodes.{Nodes}
-use Rattle.script_run.specs.Marks.{CalledNow, Pushed, committed_of, uncounted}
+use Rattle.script_run.specs.Marks.{CalledNow, Pushed, command_marks, committed_of, uncounted}
 use Rattle.run_stores.specs.durable_runs.Marks.{NameNow, last_named, replica_mark, source_mark}
 use Rattle.script_run.specs.Survives.{CarriesOn, CarriesSome, IsHeldOnTheWay, Lasted, LastsOn}
 use Rattle.script_run.proofs.Disks.{both_refl, both_told, if_told, told_on, where_told}
 use Rattle.script_run.proofs.Surviving.{carries_rest, carries_still, held_here, lasts_on, lasts_rest, lasts_still, on_some}
 use Rattle.script_run.specs.Together.{AreOnDisks, Before, Began, CarriedOut, Drew, GaveUp, Grew, IsOneLog, Marked, Shows, SourceIsOn, Together}
-use Rattle.script_run.proofs.Marks.{applied_last, applied_pushed, commits_name, groups_name, none_more, pushed_by, pushed_length, pushed_none}
+use Rattle.script_run.proofs.Marks.{applied_are, applied_last, commits_name, groups_name, none_more, pushed_by, pushed_length, pushed_none}
 use Rattle.script_run.proofs.Serving.{Known, holds_here, log_piece, log_short, logs_are, no_others, number_is, served_at, served_whole}
 
 -- of a call that gave nothing
@@ -545,7 +545,7 @@ fetched_idle src t start nodes n names b draw marks r fits = rep_still names (di
 -- ---- APPLY
 
 carried_append : (front back : List ReplicaStep) → carried_in (front ++ back) ≡ carried_in front + carried_in back
-carried_append [] back = refl
+carried_append [] back = omega arith
 carried_append (carried_at d ∷ ss) back = let rest = carried_append ss back in omega (arith, rest)
 carried_append (opened_again ∷ ss) back = carried_append ss back
 
@@ -588,14 +588,17 @@ module _ (nodes : Nodes) (src t u : Option Story) (start : Stores) (k n : ℕ) (
       (subst (λ (i : Identity). CarriesTo (Here i b.replica) t u (held_of b.replica) (held_of now) old.marks new.marks) at_first.replica_name
       (subst (λ (x : Replica). CarriesTo (Here nodes.replica.node.identity x) t u (held_of x) (held_of now) old.marks new.marks) at_first.replica (reaches fits))))
 
+  are_of : (after : ℕ) (pushed : AppliedPushed old.now (replica_of nodes.replica.node).number after old.marks new.marks) → map uncounted pushed.more ≡ command_marks (mark_at k b) 0 (length pushed.more)
+  are_of after pushed = applied_are old.now (replica_of nodes.replica.node).number k b pushed.more pushed.named before.began.now (ap (λ (x : Replica). x.number) at_first.replica)
+
   pushed_of : (after : ℕ) (pushed : AppliedPushed old.now (replica_of nodes.replica.node).number after old.marks new.marks) → Pushed (mark_at k b) 0 (length pushed.more) old.marks new.marks
-  pushed_of after pushed = applied_pushed old.now (replica_of nodes.replica.node).number after k b old.marks new.marks pushed before.began.now (ap (λ (x : Replica). x.number) at_first.replica)
+  pushed_of after pushed = record { more = pushed.more; marks = pushed.marks; are = are_of after pushed }
 
   -- the last mark names what the replica has
   number_of : (after : ℕ) (pushed : AppliedPushed old.now (replica_of nodes.replica.node).number after old.marks new.marks) → after ≡ min (b.replica.number + length pushed.more) (2 ^ 64 - 1)
   number_of after pushed =
       sym pushed.number ∙ ap (λ (x : Replica). last_named x.number (map replica_mark pushed.more)) at_first.replica
-      ∙ applied_last (mark_at k b) (length pushed.more) pushed.more before.began.few (pushed_of after pushed).are
+      ∙ applied_last (mark_at k b) (length pushed.more) pushed.more before.began.few (are_of after pushed)
 
 -- APPLY
 pub applied : RunsLast source_side → Known → (nodes nodes' : Nodes) (src t u : Option Story) (start : Stores) (k n : ℕ) (draw : Draw) (old new : Report) (told : Applied) (lines : List ℕ) → FollowsGoOn → NoApplyStops → NothingIsDamaged

@@ -48,14 +48,14 @@ abbrev pub LastsOn : (t u : Option Story) → Stored → (before after : List (E
 LastsOn t u start before after old new = (first : Option Story) → Lasted first t start before old → Lasted first u start after new
 
 -- What may stand on the source's disk where no command was begun: what it held, with what opening put out, if it did.
-pub record SurvivesOpening (t u : Option Story) : Type 0 where
+pub record SurvivesOpening (t u : Option Story) (held : Held) : Type 0 where
   pub put : List (Entry Whole)
+  pub may : MayPutFirst held put
   pub survives : Survives t u put []
-  pub may : MayPutFirst survives.held put
 
 -- so it is where its files stood for something
 abbrev pub SourceOpens : (t u : Option Story) → Type 0
-SourceOpens t u = IfSome t (λ _. (held : Held) → held_by Source (seen t) ≡ Ok held → SurvivesOpening t u)
+SourceOpens t u = IfSome t (λ _. (held : Held) → held_by Source (seen t) ≡ Ok held → SurvivesOpening t u held)
 
 -- ---- the replica's disk
 

@@ -287,6 +287,9 @@ impl Nodes {
         ensures later { R.faults rep.old ≤ R.faults rep.new }
     {
         replica_follows();
+        log_goes_on();
+        logs_go_on();
+        stores_go_on();
         runs_last();
         let draw = take_draw(env, &mut report.rep_draws)?;
         match self.replica.apply(rep, count, &draw, report) {

@@ -18,7 +18,7 @@ returns-in-Ok-clause-opened g c = record {
 }
 
 pub returns-in-Ok-clause-stood : goal.returns-in-Ok-clause-stood
-returns-in-Ok-clause-stood g c = replica_stood _ _ c.in-Ok.replica c.in-Ok.ensures.held
+returns-in-Ok-clause-stood g c = replica_stood _ c.in-Ok.replica c.in-Ok.ensures.held
 
 pub returns-in-Ok-clause-survives : goal.returns-in-Ok-clause-survives
 returns-in-Ok-clause-survives g c = replica_survives _ _ c.requires.settled c.open-2.ensures.runs
