@@ -54,8 +54,11 @@ told_all (Differs pos code table key) before after new drawn = drawn
 told_all NoMemory before after new drawn = tt
 
 -- the same of a report that tells them still
+pub drawn_still : (before after : Option (List Draw)) (mid new : List Draw) → new ≡ mid → Drawn before after mid → Drawn before after new
+drawn_still before after mid new same drawn = subst (λ (ds : List Draw). Drawn before after ds) (sym same) drawn
+
 pub told_still : (status : Status) (before after : Option (List Draw)) (mid new : List Draw) → new ≡ mid → Drawn before after mid → AllTold status before after new
-told_still status before after mid new same drawn = told_all status before after new (subst (λ (ds : List Draw). Drawn before after ds) (sym same) drawn)
+told_still status before after mid new same drawn = told_all status before after new (drawn_still before after mid new same drawn)
 
 pub tells_still : (told identity identity' : Option Identity) (start : Option (List Draw)) (draws draws' : List Draw) → identity' ≡ identity → draws' ≡ draws → Tells told start identity draws → Tells told start identity' draws'
 tells_still told identity identity' start draws draws' same same' tells =

@@ -1,5 +1,5 @@
 -- One command over both nodes.
-use Rattle.std.proofs.Common.{◌≡◌, inl, inr, ℕ, ◌+◌, ◌-◌, min, ◌<◌, ◌≤◌, zero, suc, List, [], ◌∷◌, ◌++◌, length, map, Option, Some, None, Result, Ok, Err, IfOk, IfErr, IfSome, OnErr, refl, sym, ap, ◌∙◌, subst, arith, append-nil, append_assoc}
+use Rattle.std.proofs.Common.{◌≡◌, inl, inr, ℕ, ◌+◌, ◌-◌, min, ◌<◌, ◌≤◌, zero, suc, List, [], ◌∷◌, ◌++◌, length, map, Option, Some, None, Result, Ok, Err, IfOk, IfErr, IfSome, OnErr, OnOk, refl, sym, ap, ◌∙◌, subst, arith, append-nil, append_assoc}
 use Rattle.std.proofs.lemmas.List.{length-set, map-append}
 use Rattle.std.specs.Prelude.{◌^◌, replicate}
 use Rattle.std.specs.Option.{option_map}
@@ -379,6 +379,22 @@ unsaid says nodes t u rep start k n text draw after old new on runs pushed stays
 -- a source on its disk that was looked at
 pub on_disk_looked : (source source' : DurableSource) (t u : Option Story) → source' ≡ source → ((from : Stored) (m : Machine) → Stands t source from m → Stands u source from m) → SourceIsOn t source → SourceIsOn u source'
 on_disk_looked source source' t u same stands on = rw same (on.0, (on.1.0, (stands on.0 on.1.0 on.1.1.0, on.1.1.1)))
+
+-- both nodes on their disks, of which one was called
+pub on_source : {A : Type 0} (r : Result A Refusal) (t u rep : Option Story) (nodes nodes' : Nodes) → nodes'.replica ≡ nodes.replica → AreOnDisks (disks t rep) nodes → OnOk r (SourceIsOn u nodes'.source)
+    → OnOk r (AreOnDisks (disks u rep) nodes')
+on_source (Err e) t u rep nodes nodes' same on source = tt
+on_source (Ok x) t u rep nodes nodes' same on source = record { source = source; replica = subst (λ (k : DurableReplica). IsOnDisk rep k) (sym same) on.replica }
+
+pub on_replica : {A : Type 0} (r : Result A Refusal) (src t u : Option Story) (nodes nodes' : Nodes) → nodes'.source ≡ nodes.source → AreOnDisks (disks src t) nodes → OnOk r (IsOnDisk u nodes'.replica)
+    → OnOk r (AreOnDisks (disks src u) nodes')
+on_replica (Err e) src t u nodes nodes' same on replica = tt
+on_replica (Ok x) src t u nodes nodes' same on replica = record { source = subst (λ (k : DurableSource). SourceIsOn src k) (sym same) on.source; replica = replica }
+
+-- none was called
+pub on_same : {A : Type 0} (r : Result A Refusal) (t : Disks) (nodes nodes' : Nodes) → nodes' ≡ nodes → AreOnDisks t nodes → OnOk r (AreOnDisks t nodes')
+on_same (Err e) t nodes nodes' same on = tt
+on_same (Ok x) t nodes nodes' same on = subst (λ (k : Nodes). AreOnDisks t k) (sym same) on
 
 -- what the laws say of a RESTART
 pub record Reopens : Type 0 where

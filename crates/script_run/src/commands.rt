@@ -1,5 +1,5 @@
 //! The commands of a script, each answered before the next.
-ghost use Rattle.std.specs.Prelude.{◌≡◌, ◌<◌, ◌≤◌, ◌^◌, ℕ, None, [], length, map, IfOk, IfErr, IsTrue, OnOk, Option};
+ghost use Rattle.std.specs.Prelude.{◌≡◌, ◌<◌, ◌≤◌, ◌^◌, ℕ, None, [], length, map, IfOk, IfErr, IsTrue, OnErr, OnOk, Option};
 ghost use Rattle.std.specs.List.{list_all};
 ghost use Rattle.disk_model.specs.Moments.{GoesOn, IsSettled};
 ghost use Rattle.disk_model.specs.Story.{Story};

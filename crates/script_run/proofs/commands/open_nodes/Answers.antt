@@ -1,7 +1,7 @@
 use Rattle.std.proofs.Common.{ap, ◌∙◌, arith}
 use Rattle.answer_text.specs.declared.report.Report.{Report}
 use Rattle.std.proofs.lemmas.Result.{err_from_is_err_and}
-use Rattle.script_run.proofs.Drawing.{tells_none, tells_still, told_still}
+use Rattle.script_run.proofs.Drawing.{drawn_still, tells_none, tells_still, told_still}
 use Rattle.script_run.proofs.Opened.{opened_each, replica_idle, source_still}
 use Rattle.script_run.proofs.Spoken.{open_replica_behind}
 use Rattle.script_run.proofs.commands.open_nodes.Goals as goal
@@ -47,7 +47,7 @@ pub returns-in_err-replica-clause-src_drawn : goal.returns-in_err-replica-clause
 returns-in_err-replica-clause-src_drawn g c = told_still _ _ _ _ _ (ap (λ (r : Report). r.src_draws) c.open_replica.ensures.rest) c.in_ok-source.ensures.drawn
 
 pub returns-clause-src_drawn : goal.returns-clause-src_drawn
-returns-clause-src_drawn g c = told_still _ _ _ _ _ (ap (λ (r : Report). r.src_draws) c.open_replica.ensures.rest) c.in_ok-source.ensures.drawn
+returns-clause-src_drawn g c = drawn_still _ _ _ _ (ap (λ (r : Report). r.src_draws) c.open_replica.ensures.rest) c.in_ok-source.ensures.drawn
 
 pub returns-clause-source : goal.returns-clause-source
 returns-clause-source g c =

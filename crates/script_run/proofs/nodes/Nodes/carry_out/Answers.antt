@@ -1,11 +1,10 @@
-use Rattle.std.proofs.Common.{refl, arith, subst, sym}
+use Rattle.std.proofs.Common.{refl, arith}
 use Rattle.disk_model.proofs.Moments.{on_refl}
-use Rattle.durable_replica.specs.Standing.{IsOnDisk}
-use Rattle.durable_replica.specs.declared.replica.DurableReplica.{DurableReplica}
+use Rattle.run_laws.specs.run_model.Asked.{take_bytes}
 use Rattle.script_run.proofs.Disks.{both_refl, fewer_refl}
 use Rattle.script_run.proofs.Drawing.{drew_none}
 use Rattle.script_run.proofs.Running.{grew_none}
-use Rattle.script_run.proofs.Spoken.{any_err, fetched_out, gave_up, on_some, replica_alone, short_refuses, some_draw, source_alone}
+use Rattle.script_run.proofs.Spoken.{any_err, fetched_out, gave_up, on_replica, on_same, on_source, replica_alone, short_refuses, some_draw, source_alone}
 use Rattle.script_run.proofs.nodes.Nodes.carry_out.Goals as goal
 
 pub returns-in-Say-clause-rep_drawn : goal.returns-in-Say-clause-rep_drawn
@@ -109,11 +108,27 @@ returns-in-Fetch-clause-rep_drawn g c = drew_none _ _ _ _ refl
 
 pub returns-in-Fetch-clause-left : goal.returns-in-Fetch-clause-left
 returns-in-Fetch-clause-left g c names start b before =
-    any_err c.fetch.result _ (gave_up names _ start _ c.args.number b _ _ c.args.report.now c.args.report.now some_draw before refl refl c.fetch.ensures.goes (c.fetch.ensures.lasts names start b c.args.report.now.marks before.together)
-    (λ fits. (c.fetch.ensures.carries names start b some_draw c.args.report.now.marks before.together fits).carries))
+    rw c.in-Fetch.is
+    (any_err c.fetch.result _ (gave_up names (take_bytes c.in-Fetch.count) start _ c.args.number b _ _ c.args.report.now c.args.report.now some_draw before refl refl c.fetch.ensures.goes
+    (c.fetch.ensures.lasts names start b c.args.report.now.marks before.together) (λ fits. (c.fetch.ensures.carries names start b some_draw c.args.report.now.marks before.together fits).carries)))
 
 pub returns-in-Fetch-clause-carried : goal.returns-in-Fetch-clause-carried
 returns-in-Fetch-clause-carried g c names start b before =
     rw c.in-Fetch.is
     (fetched_out c.fetch.result _ _ start c.args.self.now _ c.args.number c.in-Fetch.count c.args.report.now names b before (λ marks together. c.fetch.ensures.lasts names start b marks together)
     (λ draw marks together. c.fetch.ensures.carries names start b draw marks together) (λ draw together. c.fetch.ensures.shows names start b draw together))
+
+pub returns-in-Say-clause-on : goal.returns-in-Say-clause-on
+returns-in-Say-clause-on g c = on_source c.say.result _ _ _ c.args.self.now _ c.say.ensures.replica c.requires.on c.say.ensures.on
+
+pub returns-in-RestartSource-clause-on : goal.returns-in-RestartSource-clause-on
+returns-in-RestartSource-clause-on g c = on_source c.restart_source.result _ _ _ c.args.self.now _ c.restart_source.ensures.replica c.requires.on c.restart_source.ensures.on
+
+pub returns-in-RestartReplica-clause-on : goal.returns-in-RestartReplica-clause-on
+returns-in-RestartReplica-clause-on g c = on_replica c.restart_replica.result _ _ _ c.args.self.now _ c.restart_replica.ensures.source c.requires.on c.restart_replica.ensures.on
+
+pub returns-in-Apply-clause-on : goal.returns-in-Apply-clause-on
+returns-in-Apply-clause-on g c = on_replica c.apply.result _ _ _ c.args.self.now _ c.apply.ensures.source c.requires.on c.apply.ensures.on
+
+pub returns-in-Select-clause-on : goal.returns-in-Select-clause-on
+returns-in-Select-clause-on g c = on_same c.select.result _ c.args.self.now _ c.select.ensures.same c.requires.on
