@@ -1,5 +1,5 @@
 -- Runs behind each of whose steps a replica holds one of some states.
-use Rattle.std.proofs.Common.{◌≡◌, ◌⊎◌, inl, inr, ℕ, zero, suc, ◌-◌, ◌<◌, ◌≤◌, List, [], ◌∷◌, ◌++◌, length, map, take, Option, Some, refl, sym, ◌∙◌, ap, subst, arith}
+use Rattle.std.proofs.Common.{◌≡◌, ◌⊎◌, inl, inr, ℕ, zero, suc, ◌-◌, ◌<◌, ◌≤◌, List, [], ◌∷◌, ◌++◌, length, map, take, Option, Some, Ok, refl, sym, ◌∙◌, ap, subst, arith}
 use Rattle.std.specs.Prelude.{IfSome}
 use Rattle.std.specs.Option.{option_and_then}
 use Rattle.std.proofs.lemmas.Bool.{cases_lt}
@@ -25,7 +25,7 @@ take_beyond (r ∷ front) back (suc k) le =
     let e : k - length front ≡ suc k - suc (length front) = omega arith in
     ap (λ (l : List Record). r ∷ l) (take_beyond front back k (omega (arith, le)) ∙ ap (λ (n : ℕ). front ++ take n back) e)
 
-none_taken : (k : ℕ) → take k [] ≡ []
+none_taken : (k : ℕ) → Path (List Record) (take k []) []
 none_taken zero = refl
 none_taken (suc k) = refl
 
@@ -94,6 +94,7 @@ module _ (P : Held → Type 0) where
   }
 
   pub carries_join : (t u v : Option Story) (held mid last : Held) (a b c : List Mark) → CarriesTo P t u held mid a b → CarriesTo P u v mid last b c → CarriesTo P t v held last a c
+  unfolding carries_behind
   carries_join t u v held mid last a b c p q = record {
     carries = carries_behind t u v held mid a b c p q.carries;
     reached = steps_behind replica_side p.carries.records q.carries.records held mid p.reached ∙ q.reached;
@@ -122,4 +123,5 @@ module _ (P Q : Held → Type 0) where
   carries_widen t u held a b wide c = record { records = c.records; states = λ k now is. wide now (c.states k now is); runs = c.runs }
 
   pub carries_to_widen : (t u : Option Story) (held last : Held) (a b : List Mark) → ((h : Held) → P h → Q h) → CarriesTo P t u held last a b → CarriesTo Q t u held last a b
+  unfolding carries_widen
   carries_to_widen t u held last a b wide c = record { carries = carries_widen t u held a b wide c.carries; reached = c.reached }
