@@ -1,5 +1,5 @@
 -- What each moment of a replica's disk leaves.
-use Rattle.std.proofs.Common.{◌≡◌, ◌≢◌, ◌⊎◌, inl, inr, ℕ, ◌<◌, ◌≤◌, ◌^◌, List, [], ◌∷◌, map, Option, Some, None, Ok, refl, sym, ◌∙◌, ap, subst, arith}
+use Rattle.std.proofs.Common.{◌≡◌, ◌≢◌, ◌⊎◌, inl, inr, ℕ, ◌<◌, ◌≤◌, ◌^◌, List, [], ◌∷◌, length, map, Option, Some, None, Ok, refl, sym, ◌∙◌, ap, subst, arith}
 use Rattle.std.specs.Prelude.{IfSome}
 use Rattle.std.specs.Option.{option_and_then}
 use Rattle.answer_text.specs.declared.report.Mark.{Mark}
@@ -83,6 +83,11 @@ module _ (store : Store) (node : store.node ≡ Replica) where
       by : (image : Image) → Either store held now image → Two held now image
       by image (inl stands) = inl (held_in held image stands)
       by image (inr stands) = inr (held_in now image stands)
+
+-- a file can be cut to nothing
+pub cut_whole : (t : Option Story) (f : ℕ) → IfSome t (λ _. 0 ≤ length (seen t f))
+cut_whole None f = tt
+cut_whole (Some s) f = omega arith
 
 -- the journal is another file than that of what is fetched
 pub apart_from : (t : Option Story) (store : Store) (held : Held) → Holds t store held → first_log ≢ store.journal.file

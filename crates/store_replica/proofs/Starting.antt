@@ -1,14 +1,15 @@
 -- A store that is read and started stays what it is.
-use Rattle.std.proofs.Common.{◌≡◌, ◌<◌, ◌^◌, inl, ℕ, [], Option, Some, None, Result, Ok, Err, sym, ◌∙◌, ap, subst, refl, arith}
+use Rattle.std.proofs.Common.{◌≡◌, ◌<◌, ◌^◌, inl, ℕ, List, [], map, Option, Some, None, Result, Ok, Err, sym, ◌∙◌, ap, subst, refl, arith, append-nil}
 use Rattle.std.specs.Prelude.{IfSome}
+use Rattle.answer_text.specs.declared.report.Mark.{Mark}
 use Rattle.disk_model.specs.Story.{Image, Story, count, seen}
 use Rattle.disk_model.specs.declared.refusals.DiskRefusal.{DiskRefusal}
 use Rattle.disk_model.specs.declared.refusals.DiskRefusal.TheVariants.{Failed, NoMemory}
 use Rattle.disk_model.specs.Refusals.{refusal_of}
 use Rattle.disk_model.specs.Left.{Left}
-use Rattle.disk_model.specs.Moments.{Always}
+use Rattle.disk_model.specs.Moments.{Always, GoesOn}
 use Rattle.disk_model.specs.Claims.{Quietly, WorksOn}
-use Rattle.disk_model.proofs.Laws.{if_both}
+use Rattle.disk_model.proofs.Laws.{if_both, if_on}
 use Rattle.disk_model.proofs.Moments.{on_trans}
 use Rattle.disk_model.proofs.Putting.{since_told}
 use Rattle.gate_journal.specs.Records.{records}
@@ -20,7 +21,10 @@ use Rattle.store_model.specs.Stores.{HasLogs, first_log, held_by, journal_of}
 use Rattle.store_model.proofs.Standing.{apart, still_stands, together}
 use Rattle.commit_store.specs.declared.store.Store.{Store}
 use Rattle.commit_store.specs.Keeping.{AreDurable, Holds, Keeps, StandsFor}
-use Rattle.durable_runs.specs.Replicas.{ReplicaStands}
+use Rattle.durable_runs.specs.Marks.{Named, replica_mark}
+use Rattle.durable_runs.specs.Runs.{Runs}
+use Rattle.durable_runs.specs.Replicas.{ReplicaRuns, ReplicaStands, replica_side}
+use Rattle.durable_runs.proofs.Joining.{runs_join, runs_untold}
 use Rattle.store_load.specs.Loading.{TellsDamage}
 use Rattle.store_open.specs.Opened.{held_with}
 use Rattle.store_replica.specs.Writing.{IsOn, OpensOn, StaysOn}
@@ -83,3 +87,25 @@ module _ (t u : Option Story) (work : Contents) (store : Store) (durable : AreDu
   started_told last rest =
       if_map t (held_by Replica (seen t) ≡ Ok (held_with work store)) (held_by Replica (seen t) ≡ Ok (held_with work last)) told
       (λ is. is ∙ ap (λ (h : Held). Ok h) (sym (ap (held_with work) rest)))
+
+-- ---- and the file of what is fetched is emptied
+
+-- what is claimed of a disk that tells is claimed of each
+told_runs : (t u : Option Story) (held : Held) (marks : List Mark) → GoesOn t u → IfSome t (λ _. ReplicaRuns t u held [] marks marks) → ReplicaRuns t u held [] marks marks
+told_runs None None held marks on told =
+    subst (λ (b : List Named). Runs replica_side None None held [] (map replica_mark marks) b) (append-nil (map replica_mark marks))
+    (runs_untold replica_side held [] (map replica_mark marks) [])
+told_runs None (Some u) held marks on told = absurd on
+told_runs (Some t) u held marks on told = told
+
+pub opened_runs : (t u v : Option Story) (store : Store) (found held : Held) (marks : List Mark) → ReplicaRuns t u held [] marks marks → GoesOn u v
+    → IfSome t (λ _. held_by Replica (seen t) ≡ Ok found) → OpensOn t held → IsOn u store found
+    → ((h : Held) (ms : List Mark) → IsOn u store h → ReplicaRuns u v h [] ms ms) → ReplicaRuns t v held [] marks marks
+opened_runs t u v store found held marks before on told opens there then =
+    told_runs t v held marks (on_trans t u v before.on on)
+    (if_map t (found ≡ held) (ReplicaRuns t v held [] marks marks) (held_is t found held told opens) (λ same.
+    runs_join replica_side t u v held held [] [] (map replica_mark marks) (map replica_mark marks) (map replica_mark marks) before refl
+    (then held marks (subst (λ (h : Held). IsOn u store h) same there))))
+
+pub emptied : (t u : Option Story) → GoesOn t u → IfSome t (λ _. seen u first_log ≡ []) → IfSome u (λ _. seen u first_log ≡ [])
+emptied t u on told = if_on t u (seen u first_log ≡ []) (seen u first_log ≡ []) on told (λ is. is)

@@ -55,18 +55,21 @@ fn keep_counted<D: Disk>(
 {
     let at = marks.len();
     marks.push(now)?;
-    let written = write_record(store, d, p);
-    if written.is_err() {
-        marks.truncate(at);
-        return written;
+    match write_record(store, d, p) {
+        Ok(()) => {
+            let mark = Mark {
+                applied: store.number(),
+                rep_calls: d.calls(),
+                ..now
+            };
+            marks.set(at, mark);
+            Ok(())
+        }
+        Err(refusal) => {
+            marks.truncate(at);
+            Err(refusal)
+        }
     }
-    let mark = Mark {
-        applied: store.number(),
-        rep_calls: d.calls(),
-        ..now
-    };
-    marks.set(at, mark);
-    Ok(())
 }
 
 /// Keeps a record that was prepared before: it is staged, its gate is opened, and where it counts a transaction its mark is pushed. Room for
@@ -93,8 +96,8 @@ pub fn keep<D: Disk>(
     ensures calls { OnOk result (IfSome (D.told d.old) (λ _. count (D.told d.new) ≡ count (D.told d.old) + 4)) }
     ensures cause { HasDiskCause (D.faults d.old) (D.faults d.new) result }
 {
-    if !counts {
-        return write_record(store, d, p);
+    if counts {
+        return keep_counted(store, d, p, report.now, &mut report.marks);
     }
-    keep_counted(store, d, p, report.now, &mut report.marks)
+    write_record(store, d, p)
 }

@@ -1,7 +1,7 @@
 use Rattle.std.proofs.Common.{◌∙◌, ap, arith}
 use Rattle.commit_store.specs.declared.store.Store.{Store}
 use Rattle.store_model.specs.Bodies.{body_of}
-use Rattle.store_replica.proofs.Keeping.{all_leads, all_on, leads_on, ok_two, ready, room_is, staged_stays, taken}
+use Rattle.store_replica.proofs.Recording.{all_leads, all_on, leads_on, ok_two, ready, room_is, staged_stays, taken}
 use Rattle.store_replica.proofs.Standings.{apart_from, stays_leads}
 use Rattle.store_replica.proofs.keeping.write_record.Goals as goal
 

@@ -1,6 +1,6 @@
 -- One record, staged and committed; and its mark.
-use Rattle.std.proofs.Common.{◌≡◌, ◌≢◌, ℕ, ◌+◌, ◌<◌, ◌≤◌, ◌^◌, min, Bool, true, false, List, [], ◌∷◌, ◌++◌, length, map, take, set, Option, Some, None, Result, Ok, Err, refl, sym, ◌∙◌, ap, subst, arith, append-nil}
-use Rattle.std.specs.Prelude.{IfSome, OnOk, if◌then◌else◌}
+use Rattle.std.proofs.Common.{◌≡◌, ◌≢◌, ℕ, ◌+◌, ◌-◌, ◌<◌, ◌≤◌, ◌^◌, min, Bool, true, false, cond, List, [], ◌∷◌, ◌++◌, length, map, take, set, Option, Some, None, Result, Ok, Err, refl, sym, ◌∙◌, ap, subst, arith, append-nil}
+use Rattle.std.specs.Prelude.{IfSome, OnErr, OnOk, if◌then◌else◌}
 use Rattle.std.specs.Option.{option_and_then}
 use Rattle.std.proofs.lemmas.List.{map-append, length-append, take_at}
 use Rattle.answer_text.specs.declared.report.Mark.{Mark}
@@ -63,12 +63,12 @@ none_there kind ends is own = subst (λ (k : Kind). HasEnds k ends) is own
 
 module _ (t : Option Story) (before store : Store) (p : Prepared) (r : Record) (held now : Held) (can : CanKeep t before p r held now)
     (takes : (x : Record) → p ≡ prepared_of x → IsRecord before.node x → length (body_of x) < 2 ^ 32 → IsReady store x)
-    (kept : (h : Held) → Keeps t before h → Keeps t store h) (same : store.node ≡ before.node) where
+    (kept : (x : Option Story) (h : Held) → Keeps x before h → Keeps x store h) (same : store.node ≡ before.node) where
   pub ready : IsReady store r
   ready = takes r can.prepared (subst (λ (k : Kind). IsRecord k r) (sym can.on.node) can.form) can.fits
 
   pub taken : IsOn t store held
-  taken = record { node = same ∙ can.on.node; keeps = kept held can.on.keeps; fits = can.on.fits }
+  taken = record { node = same ∙ can.on.node; keeps = kept t held can.on.keeps; fits = can.on.fits }
 
   pub room_is : (next : Next) (ends : LogEnds) → next ≡ store.next → HasRoom next ends
   room_is next ends is = subst (λ (n : Next). HasRoom n ends) (sym (is ∙ ready.next)) (room_for r ends can.form)
@@ -174,3 +174,24 @@ one_pushed now m before after marks marks' pushed is next = record {
   named = (is ∙ ap (λ (n : ℕ). record now { applied = n; rep_calls = m.rep_calls }) next, tt);
   number = ap (λ (x : Mark). x.applied) is;
 }
+
+-- the same number counts, whatever the test is called
+pub counted_as : (b b' : Bool) (held now : Held) → b ≡ b' → IsCounted b held now → IsCounted b' held now
+counted_as b b' held now same counted = subst (λ (x : Bool). IsCounted x held now) same counted
+
+-- where none is counted the number stays, whether the record was kept or not
+pub uncounted : {A E : Type 0} (r : Result A E) (u : Option Story) (store store' : Store) (held now : Held) → store.number ≡ held.number → now.number ≡ held.number
+    → OnErr r (store'.number ≡ store.number) → OnOk r (IsOn u store' now) → held.number ≡ store'.number
+uncounted (Ok x) u store store' held now shows same err on = sym (on.keeps.holds.shows.number ∙ same)
+uncounted (Err e) u store store' held now shows same err on = sym (err ∙ shows)
+
+pub ok_from : {A E : Type 0} (r : Result A E) {X : Type 0} → X → OnOk r X
+ok_from (Ok a) x = x
+ok_from (Err e) x = tt
+
+pub ok_map : {A E : Type 0} (r : Result A E) {X Y : Type 0} → OnOk r X → (X → Y) → OnOk r Y
+ok_map (Ok a) x f = f x
+ok_map (Err e) x f = tt
+
+pub more_marks : (b b' : Bool) (n m k : ℕ) → b ≡ b' → k ≡ (if b' then 1 else 0) → n ≡ m + k → n ≡ m + (if b then 1 else 0)
+more_marks b b' n m k same is counted = let one : cond {A = ℕ} b 1 0 ≡ cond b' 1 0 = ap {B = ℕ} (λ (x : Bool). cond x 1 0) same in omega (arith, one, is, counted)
