@@ -6,7 +6,7 @@ use Rattle.disk_model.specs.Story.{Story, count}
 use Rattle.run_stores.specs.durable_runs.Marks.{RiseByOne, last_named, source_mark}
 use Rattle.run_laws.specs.run_model.Asked.{Asked}
 use Rattle.run_laws.specs.run_model.Run.{Names, Both, next, mark_at}
-use Rattle.store_source.specs.Pushed.{CallsFit}
+use Rattle.run_stores.specs.durable_runs.Runs.{CallsFit}
 
 -- ---- numbers, which the machine has
 
