@@ -32,6 +32,31 @@ ReplicaRuns t u held rs old new = Runs replica_side t u held rs (map replica_mar
 abbrev pub ReplicaLasts : (t u : Option Story) → Held → List Record → List Mark → Type 0
 ReplicaLasts t u held rs marks = Lasts replica_side t u held rs (map replica_mark marks)
 
+-- ---- what a replica is meanwhile
+
+-- What a replica holds behind each prefix of its steps from somewhere on is one of some states.
+abbrev pub AreStates : (Held → Type 0) → Held → List Record → Type 0
+AreStates P held rs = (k : ℕ) (now : Held) → behind_steps replica_side (take k rs) held ≡ Some now → P now
+
+-- A run of a replica over some records, behind each of which it holds one of some states.
+pub record Carries (P : Held → Type 0) (t u : Option Story) (held : Held) (old new : List Mark) : Type 0 where
+  pub records : List Record
+  pub states : AreStates P held records
+  pub runs : ReplicaRuns t u held records old new
+
+-- ... and it comes to this.
+pub record CarriesTo (P : Held → Type 0) (t u : Option Story) (held last : Held) (old new : List Mark) : Type 0 where
+  pub carries : Carries P t u held old new
+  pub reached : behind_steps replica_side carries.records held ≡ Some last
+
+-- When n calls of the replica's disk had returned, an image of it holds one of the states, whose number is no less than any that a mark of
+-- up to n calls names.
+pub record StateImage (P : Held → Type 0) (before : Held) (marks : List Mark) (n : ℕ) (image : Image) : Type 0 where
+  pub now : Held
+  pub stands : held_by Replica image ≡ Ok now
+  pub state : P now
+  pub holds : named before.number (map replica_mark marks) n ≤ now.number
+
 -- ---- no more than what was served
 
 -- At each moment since the start an image holds no more transactions than the source had committed by then.
@@ -62,8 +87,7 @@ pub record IsCarried (follows : Whole → Bool) (before : Held) (entries : List 
 
 -- What a replica holds behind each prefix of its steps from somewhere on has carried out the first of these entries.
 abbrev pub AreCarried : (follows : Whole → Bool) (before : Held) (entries : List (Entry Whole)) (number : ℕ) (writer : LogPlace) → Held → List Record → Type 0
-AreCarried follows before entries number writer held rs =
-    (k : ℕ) (now : Held) → behind_steps replica_side (take k rs) held ≡ Some now → IsCarried follows before entries number writer now
+AreCarried follows before entries number writer held rs = AreStates (IsCarried follows before entries number writer) held rs
 
 -- When n calls of the replica's disk had returned, an image of it holds what has carried out the first of the entries. Its number is no less
 -- than any that a mark of up to n calls names as carried out, and no more than one as committed, or than what the source had at its start.

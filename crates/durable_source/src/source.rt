@@ -6,6 +6,7 @@ ghost use Rattle.disk_model.specs.Claims.{Quietly};
 ghost use Rattle.disk_model.specs.Moments.{GoesOn, IsSettled};
 ghost use Rattle.disk_model.specs.declared.refusals.OpenRefusal.TheVariants.{Damaged};
 ghost use Rattle.disk_model.specs.Story.{seen};
+ghost use Rattle.durable_runs.specs.Runs.{CallsFit};
 ghost use Rattle.durable_runs.specs.Sources.{SourceRuns, Stored, end_of};
 ghost use Rattle.durable_source.specs.Standing.{OpensOn, Stands, beginning_of};
 ghost use Rattle.session_model.specs.binlog_sizes.Sizes.{most_text};
@@ -18,7 +19,7 @@ ghost use Rattle.source_node.specs.session_shared.waiting_entries.binlog_items.l
 ghost use Rattle.store_model.specs.Entries.{writer_at};
 ghost use Rattle.store_model.specs.Held.{Held};
 ghost use Rattle.store_model.specs.Stores.{held_by};
-ghost use Rattle.store_source.specs.Pushed.{ArePushed, CallsFit};
+ghost use Rattle.store_source.specs.Pushed.{ArePushed};
 
 use crate::opening::{open_store, writer_of};
 use answer_text::{Answer, Report};

@@ -8,7 +8,8 @@ use Rattle.disk_model.specs.Story.{Story, count}
 use Rattle.disk_model.specs.Moments.{GoesOn}
 use Rattle.disk_model.proofs.Moments.{on_count, on_trans}
 use Rattle.run_stores.specs.durable_runs.Marks.{Named, RiseByOne, last_named, source_mark}
-use Rattle.store_source.specs.Pushed.{ArePushed, CallsFit, NameInTurn}
+use Rattle.run_stores.specs.durable_runs.Runs.{CallsFit}
+use Rattle.store_source.specs.Pushed.{ArePushed, NameInTurn}
 use Rattle.run_laws.specs.run_model.Asked.{Asked}
 use Rattle.run_laws.specs.run_model.Run.{Names, Both, next, end_of, mark_at}
 use Rattle.script_run.specs.Marks.{AreMarks, Called, CalledNow, CalledWithin, Pushed, committed_of, marks_of, marks_up, next_mark, uncounted}

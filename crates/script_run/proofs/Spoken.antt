@@ -25,7 +25,7 @@ use Rattle.run_laws.specs.session_model.Holding.{Beginning, FormatsDecide, Holds
 use Rattle.run_laws.specs.session_model.Machine.{Whole, whole, kept_entry, step, Step, Machine, machine_after, log_bytes}
 use Rattle.run_laws.specs.session_model.Openings.{RestartsHold, committed_in, opening_entries, restarted}
 use Rattle.run_laws.specs.session_replays.Replaying.{ReplaysGoOn}
-use Rattle.store_source.specs.Pushed.{ArePushed, CallsFit}
+use Rattle.store_source.specs.Pushed.{ArePushed}
 use Rattle.durable_source.specs.Standing.{Stands, beginning_of}
 use Rattle.replica_node.specs.replica_model.Replica.{Replica, fetched, want}
 use Rattle.replica_node.specs.replica_model.Applying.{Going, apply}
@@ -38,6 +38,7 @@ use Rattle.run_laws.proofs.Committing.{committed_behind, step_puts}
 use Rattle.run_laws.proofs.Restarting.{ends_there, written_both}
 use Rattle.store_model.specs.Held.{Held}
 use Rattle.run_stores.specs.durable_runs.Laws.{HasFirstLog, RunsLast}
+use Rattle.run_stores.specs.durable_runs.Runs.{CallsFit}
 use Rattle.run_stores.specs.durable_runs.Sources.{SourceRuns, Stored, end_of, source_side}
 use Rattle.run_laws.specs.log_entries.declared.entries.Item.{Item}
 use Rattle.run_laws.specs.log_entries.declared.entries.Entry.{Entry}

@@ -8,10 +8,9 @@ use Rattle.disk_model.proofs.Moments.{on_count}
 use Rattle.store_model.specs.declared.record.Kind.TheVariants.{Source}
 use Rattle.store_model.specs.Held.{Held}
 use Rattle.store_model.specs.Stores.{held_by}
-use Rattle.store_source.specs.Pushed.{CallsFit}
 use Rattle.run_stores.specs.durable_runs.Laws.{HasFirstLog, RunsLast, SourcesLast}
 use Rattle.run_stores.specs.durable_runs.Marks.{source_mark}
-use Rattle.run_stores.specs.durable_runs.Runs.{behind_steps}
+use Rattle.run_stores.specs.durable_runs.Runs.{CallsFit, behind_steps}
 use Rattle.run_stores.specs.durable_runs.Sources.{SourceImage, SourceLasts, SourceRuns, Stored, source_side, stored_in}
 use Rattle.run_laws.specs.log_entries.declared.entries.Entry.{Entry}
 use Rattle.run_laws.specs.session_model.Machine.{Whole}
