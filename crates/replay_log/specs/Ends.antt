@@ -13,7 +13,8 @@ use Rattle.store_model.specs.Held.{Held}
 use Rattle.store_model.specs.Stores.{held_by}
 use Rattle.durable_runs.specs.Marks.{last_named, replica_mark}
 use Rattle.durable_runs.specs.Replicas.{ReplicaStands, StateImage}
-use Rattle.store_replica.specs.Pushed.{CallsFit, NameInTurn}
+use Rattle.durable_runs.specs.Runs.{CallsFit}
+use Rattle.store_replica.specs.Pushed.{NameInTurn}
 use Rattle.replica_node.specs.apply_model.Stops.{Differs as Stop}
 use Rattle.replica_node.specs.replica_model.Replica.{Replica, reopened, replica_from}
 use Rattle.replica_node.specs.replica_model.Replaying.{Replay, all_replayed, replay_by, replayed_from}

@@ -1,16 +1,23 @@
 -- What is known of a log on the input, of the replica and of its disk, group by group.
-use Rattle.std.specs.Prelude.{◌≡◌, ◌⊎◌, ◌<◌, ℕ, Bool, true, false, List, [], ◌∷◌, ◌++◌, Option, Some, None}
+use Rattle.std.specs.Prelude.{◌≡◌, ◌⊎◌, ◌<◌, ℕ, ◌+◌, Bool, true, false, List, [], ◌∷◌, ◌++◌, length, Option, Some, None, IfSome, Result, Ok, Err}
 use Rattle.port_traits.specs.declared.identity.Identity.{Identity}
 use Rattle.port_traits.specs.declared.identity.Draw.{Draw}
 use Rattle.answer_text.specs.declared.report.Mark.{Mark}
 use Rattle.answer_text.specs.declared.status.Status.{Status}
-use Rattle.answer_text.specs.declared.status.Status.TheVariants.{Done, ReadFault, WriteFault, ReplicaDisk, LogDamaged, LogForeign, Differs, NoMemory}
+use Rattle.answer_text.specs.declared.status.Status.TheVariants.{Done, ReadFault, WriteFault, ReplicaDisk, ReplicaDamaged, LogDamaged, LogForeign, Differs, NoMemory}
 use Rattle.answer_text.specs.declared.report.Report.{Report}
-use Rattle.disk_model.specs.Story.{Story}
+use Rattle.disk_model.specs.declared.refusals.NodeFault.{NodeFault}
+use Rattle.disk_model.specs.declared.refusals.OpenRefusal.{OpenRefusal}
+use Rattle.disk_model.specs.declared.refusals.OpenRefusal.TheVariants as opening
+use Rattle.disk_model.specs.Story.{Story, seen}
 use Rattle.disk_model.specs.Moments.{GoesOn}
+use Rattle.store_model.specs.declared.record.Kind.TheVariants.{Replica as OfReplica}
 use Rattle.store_model.specs.Held.{Held}
+use Rattle.store_model.specs.Stores.{held_by}
 use Rattle.durable_runs.specs.Replicas.{Carries, CarriesTo}
-use Rattle.store_replica.specs.Pushed.{CallsFit, NameInTurn}
+use Rattle.durable_runs.specs.Runs.{CallsFit}
+use Rattle.store_replica.specs.Pushed.{ArePushed, NameInTurn}
+use Rattle.store_replica.specs.Writing.{OpensOn}
 use Rattle.durable_replica.specs.Standing.{IsOnDisk}
 use Rattle.replica_node.specs.apply_model.Stops.{Differs as Stop}
 use Rattle.log_reader.specs.log_model.Groups.{Group}
@@ -26,7 +33,7 @@ use Rattle.run_streams.specs.Reports.{first_mark}
 use Rattle.run_streams.specs.Wrote.{Wrote, WroteFront}
 use Rattle.log_reader.specs.log_file_model.Walk.{Ending, ended, damaged, foreign, Grouped, Piece, grouped_from}
 use Rattle.replay_log.specs.declared.replaying.Replaying as code_replaying
-use Rattle.replay_log.specs.Ends.{AreMarks, IsBehind, Opened, Reports, held_in}
+use Rattle.replay_log.specs.Ends.{AreMarks, IsBehind, Opened, Reports, Survives, held_in}
 use Rattle.replay_log.specs.Keeping.{IsWhole, IsBegun, Keeps}
 
 -- ---- a replica under way
@@ -96,10 +103,31 @@ IsStop _ = ⊥
 abbrev pub IsEither : Replay → Replay → Held → Type 0
 IsEither before behind held = (held ≡ held_in before) ⊎ (held ≡ held_in behind)
 
--- One group more, on the disk and in the report: a run whose states are those before the group and behind it, and a mark where it counts.
-pub record Kept (t u : Option Story) (old new : code_replaying.Replaying) (before behind : Replay) (marks more : List Mark) : Type 0 where
+-- One group more was carried out, or stopped so: the disk has what the replica keeps, its calls are a run between what it held before the
+-- group and behind it, and a mark was pushed where the group was counted.
+pub record GroupKept (t u : Option Story) (old new : code_replaying.Replaying) (before behind : Replay) (now : Mark) (marks more : List Mark) : Type 0 where
   pub on : IsOnDisk u new.node
-  pub carries : CallsFit u → CarriesTo (IsEither before behind) t u (held_in before) (held_in behind) marks more
+  pub runs : CallsFit u → CarriesTo (IsEither before behind) t u (held_in before) (held_in behind) marks more
+  pub pushed : ArePushed now (kept old).number (kept new).number marks more
+  pub counted : length more + old.count ≡ length marks + new.count
+
+-- the disk failed in it, or memory was short
+pub record GroupBroke (t u : Option Story) (old : code_replaying.Replaying) (before behind : Replay) (now : Mark) (marks more : List Mark) : Type 0 where
+  pub runs : CallsFit u → Carries (IsEither before behind) t u (held_in before) marks more
+  pub number : ℕ
+  pub pushed : ArePushed now (kept old).number number marks more
+
+abbrev pub IsKept : {A : Type 0} → Result A NodeFault → (t u : Option Story) → (old new : code_replaying.Replaying) → (before behind : Replay) → Mark → (marks more : List Mark) → Type 0
+IsKept (Ok x) t u old new before behind now marks more = GroupKept t u old new before behind now marks more
+IsKept (Err fault) t u old new before behind now marks more = GroupBroke t u old before behind now marks more
+
+-- the same by a status
+abbrev pub KeptBy : Status → (t u : Option Story) → (old new : code_replaying.Replaying) → (before behind : Replay) → Mark → (marks more : List Mark) → Type 0
+KeptBy Done t u old new before behind now marks more = GroupKept t u old new before behind now marks more
+KeptBy (Differs pos code table key) t u old new before behind now marks more = GroupKept t u old new before behind now marks more
+KeptBy ReplicaDisk t u old new before behind now marks more = GroupBroke t u old before behind now marks more
+KeptBy NoMemory t u old new before behind now marks more = GroupBroke t u old before behind now marks more
+KeptBy _ t u old new before behind now marks more = ⊥
 
 -- ---- the whole log
 
@@ -166,6 +194,38 @@ ComesTo ReadFault identity draw from start left t u r marks = UpToFault identity
 ComesTo ReplicaDisk identity draw from start left t u r marks = UpToFault identity draw from start t u marks
 ComesTo NoMemory identity draw from start left t u r marks = UpToFault identity draw from start t u marks
 ComesTo _ identity draw from start left t u r marks = ⊥
+
+-- who the replica is and its draw, as the report tells, what it opened on, and what it came to
+pub record CameTo (status : Status) (start left : Option (List ℕ)) (t u : Option Story) (report : Report) (r : code_replaying.Replaying) : Type 0 where
+  pub identity : Identity
+  pub draw : Draw
+  pub told : Reports identity draw report
+  pub from : Replica
+  pub opened : Opened t from
+  pub holds : OpensOn t (held_of from)
+  pub comes : ComesTo status identity draw from start left t u r report.marks
+
+-- ---- a replica that was not opened
+
+-- as a status
+abbrev pub status_by : OpenRefusal → Status
+status_by opening.Disk = ReplicaDisk
+status_by (opening.Damaged file at) = ReplicaDamaged file at
+status_by opening.NoMemory = NoMemory
+
+-- why
+abbrev pub IsRefused : Status → Option Story → Type 0
+IsRefused ReplicaDisk t = Unit {0}
+IsRefused (ReplicaDamaged file at) t = IfSome t (λ _. held_by OfReplica (seen t) ≡ Err (record { file = file; at = at }))
+IsRefused NoMemory t = Unit {0}
+IsRefused _ t = ⊥
+
+-- and what is then in the report and on the disk
+pub record Refused (status : Status) (t u : Option Story) (report : Report) : Type 0 where
+  pub why : IsRefused status t
+  pub now : report.now ≡ first_mark
+  pub marks : report.marks ≡ []
+  pub survives : Survives (λ held now. now ≡ held) t u []
 
 -- ---- the line
 
