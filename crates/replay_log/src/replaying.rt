@@ -160,7 +160,8 @@ impl Replaying {
         front_leads();
         calls_lead();
         fronts_are_known();
-        if let Some(pos) = read_front(alloc, input, self.pos)? {
+        let damaged = read_front(alloc, input, self.pos)?;
+        if let Some(pos) = damaged {
             return Err(Status::LogDamaged { pos });
         }
         let mut reader = LogReader::at(alloc, self.pos);
