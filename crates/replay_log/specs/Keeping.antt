@@ -16,10 +16,11 @@ abbrev pub IsBegun : (at : ℕ) → (relay : List ℕ) → (pos : ℕ) → Type 
 IsBegun at relay pos =
     (at + length relay ≡ pos) × ((relay ≡ []) ⊎ ((g : Group) × IsWhole relay at g × (g.form ≡ start)))
 
--- a replica has the base, the counters and the place of a replay
+-- a replica has the base, the counters, the number and the place of a replay
 pub record Keeps (r : Replica) (s : Replay) : Type 0 where
   pub base : r.base ≡ s.base
   pub counters : r.counters ≡ s.counters
+  pub number : r.number ≡ s.number
   pub place : r.place ≡ s.place
 
 -- an APPLY went on as a replay did, from a state to the next one; what is in front of the next group stands where no name of a log
