@@ -14,7 +14,7 @@
 //! - `specs/Sources`, `specs/Replicas`: what stands for what on a source's disk and on a replica's; what an image promises in the end; runs
 //!   behind each of whose steps a replica holds one of some states
 //! - `specs/Behind`: a replica's store behind its source's
-//! - `marks`, `runs`, `stores`, `states`: laws; `worked`: a run by hand
+//! - `marks`, `runs`, `stores`: laws; `worked`: a run by hand
 //!
 //! # Proved
 //! - Later marks and later moments lower nothing that is named, and marks of later calls name nothing yet ([`marks_rise`]).
@@ -40,13 +40,11 @@
 
 mod marks;
 mod runs;
-mod states;
 mod stores;
 mod worked;
 
 pub use marks::marks_rise;
 pub use runs::{both_compose, runs_compose, runs_last};
-pub use states::carries_compose;
 pub use stores::{
     held_goes_on, logs_go_on, nothing_owed, replicas_go_on, replicas_last, sources_last,
     sources_stand, stores_go_on,
