@@ -20,11 +20,11 @@ pub write_record-requires : goal.write_record-requires
 write_record-requires g c = (c.requires.0, (c.requires.1.0, (c.requires.1.1.0, c.requires.1.1.1.0)))
 
 pub set-requires : goal.set-requires
-set-requires g c = set_there c.args.marks.now c.push.new.self c.args.now c.len.result c.len.ensures c.in_ok-push.ensures.ok
+set-requires g c = set_there c.args.marks.now c.push.new.self c.args.now c.len-at.result c.len-at.ensures c.in_ok-push.ensures.ok
 
 pub returns-in-Err-clause-run : goal.returns-in-Err-clause-run
 returns-in-Err-clause-run g c r held next can fits =
-    let back = c.truncate.ensures ∙ given_back c.args.marks.now c.push.new.self c.args.now c.len.result c.len.ensures c.in_ok-push.ensures.ok in
+    let back = c.truncate.ensures ∙ given_back c.args.marks.now c.push.new.self c.args.now c.len-at.result c.len-at.ensures c.in_ok-push.ensures.ok in
     runs_same _ _ held r _ _ _ (sym back) (unmarked_run _ c.args.store.now c.args.p r held next can _ (c.write_record.ensures.leads r held next can) c.args.marks.now)
 
 pub returns-in-Err-clause-goes : goal.returns-in-Err-clause-goes
@@ -32,17 +32,17 @@ returns-in-Err-clause-goes g c = (c.write_record.ensures.leads c.requires.0 c.re
 
 pub returns-in-Err-clause-pushed : goal.returns-in-Err-clause-pushed
 returns-in-Err-clause-pushed g c r held next can counted =
-    let back = c.truncate.ensures ∙ given_back c.args.marks.now c.push.new.self c.args.now c.len.result c.len.ensures c.in_ok-push.ensures.ok in
+    let back = c.truncate.ensures ∙ given_back c.args.marks.now c.push.new.self c.args.now c.len-at.result c.len-at.ensures c.in_ok-push.ensures.ok in
     none_pushed c.args.now held.number _ _ _ back (sym (c.in-Err.ensures.number ∙ can.on.keeps.holds.shows.number))
 
 pub returns-in-Err-clause-err : goal.returns-in-Err-clause-err
 returns-in-Err-clause-err g c =
-    c.truncate.ensures ∙ given_back c.args.marks.now c.push.new.self c.args.now c.len.result c.len.ensures c.in_ok-push.ensures.ok
+    c.truncate.ensures ∙ given_back c.args.marks.now c.push.new.self c.args.now c.len-at.result c.len-at.ensures c.in_ok-push.ensures.ok
 
 pub returns-in-Ok-clause-run : goal.returns-in-Ok-clause-run
 returns-in-Ok-clause-run g c r held next can fits =
     let mark : Mark = record c.args.now { applied = c.number.result; rep_calls = c.calls.result } in
-    let marked = c.set.ensures ∙ mark_set c.args.marks.now c.push.new.self c.args.now mark c.len.result c.len.ensures c.in_ok-push.ensures.ok in
+    let marked = c.set.ensures ∙ mark_set c.args.marks.now c.push.new.self c.args.now mark c.len-at.result c.len-at.ensures c.in_ok-push.ensures.ok in
     runs_same _ _ held r _ _ _ (sym marked)
     (marked_run _ c.args.store.now c.args.p r held next can _ (c.write_record.ensures.leads r held next can) c.write_record.new.store (c.in-Ok.ensures.on r held next can)
     c.args.marks.now mark c.number.ensures c.calls.ensures fits)
@@ -53,7 +53,7 @@ returns-in-Ok-clause-goes g c = (c.write_record.ensures.leads c.requires.0 c.req
 pub returns-in-Ok-clause-pushed : goal.returns-in-Ok-clause-pushed
 returns-in-Ok-clause-pushed g c r held next can counted =
     let mark : Mark = record c.args.now { applied = c.number.result; rep_calls = c.calls.result } in
-    let marked = c.set.ensures ∙ mark_set c.args.marks.now c.push.new.self c.args.now mark c.len.result c.len.ensures c.in_ok-push.ensures.ok in
+    let marked = c.set.ensures ∙ mark_set c.args.marks.now c.push.new.self c.args.now mark c.len-at.result c.len-at.ensures c.in_ok-push.ensures.ok in
     one_pushed c.args.now mark held.number c.write_record.new.store.number _ _ marked
     (ap (λ (n : ℕ). record c.args.now { applied = n; rep_calls = c.calls.result }) c.number.ensures)
     ((c.in-Ok.ensures.on r held next can).keeps.holds.shows.number ∙ counted)
@@ -61,5 +61,5 @@ returns-in-Ok-clause-pushed g c r held next can counted =
 pub returns-in-Ok-clause-marks : goal.returns-in-Ok-clause-marks
 returns-in-Ok-clause-marks g c =
     let mark : Mark = record c.args.now { applied = c.number.result; rep_calls = c.calls.result } in
-    let marked = c.set.ensures ∙ mark_set c.args.marks.now c.push.new.self c.args.now mark c.len.result c.len.ensures c.in_ok-push.ensures.ok in
+    let marked = c.set.ensures ∙ mark_set c.args.marks.now c.push.new.self c.args.now mark c.len-at.result c.len-at.ensures c.in_ok-push.ensures.ok in
     omega (arith, ap length marked, length-append c.args.marks.now (mark ∷ []))
