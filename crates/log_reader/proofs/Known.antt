@@ -1,5 +1,5 @@
 -- What is known of the log on an input behind calls that read it group by group.
-use Rattle.std.proofs.Common.{◌≡◌, ◌<◌, ◌≤◌, inl, inr, ℕ, ◌+◌, Bool, true, false, ltb, List, [], ◌++◌, length, take, Option, Some, None, refl, sym, ap, ◌∙◌, subst, append-nil}
+use Rattle.std.proofs.Common.{◌≡◌, ◌<◌, ◌≤◌, inl, inr, ℕ, ◌+◌, Bool, true, false, ltb, List, [], ◌++◌, length, take, Option, Some, None, refl, sym, ap, ◌∙◌, subst, append-nil, arith}
 use Rattle.std.proofs.lemmas.Bool.{ltb-true}
 use Rattle.log_groups.specs.log_model.Groups.{group, foreign_at, group_at}
 use Rattle.log_file_model.specs.Walk.{Ending, ended, damaged, foreign, Piece, Grouped, grouped, grouped_from}
@@ -36,18 +36,25 @@ open_by pos front false is passed = passed
 open_by pos front true is passed = λ rest. passed rest ∙ nothing_above (record { bytes = rest; pos = pos }) (ltb-true 1200000000 pos is)
 
 module _ (pos : ℕ) (start after : Option (List ℕ)) (taken : List ℕ) (took : Took start after taken) where
-  abbrev read : List ℕ
-  read = taken ++ rest_of after
+  abbrev whole_read : List ℕ
+  whole_read = taken ++ rest_of after
 
   -- the input is damaged at a place, and no group was read
-  damaged_log : (at : ℕ) → grouped_from pos read ≡ nothing_but (damaged at) → IsLog (grouped_from pos) start [] (damaged at)
-  damaged_log at is = record { bytes = read; input_is = input_known start after taken took; groups = is }
+  damaged_log : (at : ℕ) → grouped_from pos whole_read ≡ nothing_but (damaged at) → IsLog (grouped_from pos) start [] (damaged at)
+  damaged_log at is = record { bytes = whole_read; input_is = input_known start after taken took; groups = is }
 
-  ended_read : IsEnd after → read ≡ taken
+  ended_read : IsEnd after → whole_read ≡ taken
   ended_read end = ap (λ (bs : List ℕ). taken ++ bs) (rest_ended after end) ∙ append-nil taken
 
   front_by : (found : Option ℕ) → FindsFront pos taken after found → FrontLeadsTo pos start after found
-  front_by None is = record { front = taken; took = took; passed = open_by pos taken (ltb 1200000000 pos) refl (front_is_passed pos taken is.0 is.1 is.2) }
+  front_by None is =
+      let there : pos ≡ next_pos (begun_at pos) = omega arith in
+      record {
+        front = taken;
+        took = took;
+        passed = subst (λ (at : ℕ). Passed (grouped_from pos) taken [] at (ltb 1200000000 pos)) there
+            (open_by pos taken (ltb 1200000000 pos) refl (front_is_passed pos taken is.0 is.1 is.2));
+      }
   front_by (Some at) (inl (zero_is, inl other)) =
       damaged_log at (fronts_are_damaged.other pos taken (rest_of after) other.0 other.1 ∙ ap (λ (n : ℕ). nothing_but (damaged n)) (sym zero_is))
   front_by (Some at) (inl (zero_is, inr few)) =

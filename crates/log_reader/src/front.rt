@@ -1,5 +1,5 @@
 //! The bytes of a log before a position, which are not looked at behind the magic.
-ghost use Rattle.std.specs.Prelude.{◌≡◌, ◌≤◌, None, Some, Ok, IfErr, IfOk, OnErr};
+ghost use Rattle.std.specs.Prelude.{◌≡◌, ◌≤◌, ◌<◌, None, Ok, IfErr, IfOk, OnErr, length};
 ghost use Rattle.run_streams.specs.Stops.{StopsReading};
 ghost use Rattle.log_reader.specs.Filling.{PassesTo};
 ghost use Rattle.log_reader.specs.Reading.{ReadsFront, Takes};
@@ -20,10 +20,12 @@ const MAGIC_LENGTH: u32 = 4;
 fn pass_to<S: Source>(
     alloc: Global,
     input: &mut S,
+    buffer: &mut [u8],
     from: u32,
     pos: u32,
 ) -> Result<Option<u64>, Status>
-    requires { from ≤ pos }
+    requires room { 0 < length buffer.old }
+    requires before { from ≤ pos }
     ensures passes { IfOk result (λ found. PassesTo from pos (S.left input.old) (S.left input.new) found) }
     ensures takes { OnErr result (Takes (S.left input.old) (S.left input.new)) }
     ensures stop { IfErr result (λ status. StopsReading status (S.faults input.old) (S.faults input.new)) }
@@ -32,13 +34,11 @@ fn pass_to<S: Source>(
     ensures once { S.ended input.old ≡ 0 → S.ended input.new ≤ 1 }
     ensures last { result ≡ Err Status.ReadFault → S.ended input.old ≡ 0 → S.ended input.new ≡ 1 }
 {
-    let mut buffer = Vec::new(alloc);
-    with_status(make_buffer(alloc, &mut buffer))?;
     let mut bytes = Bytes::new(alloc);
     let mut at = from;
     while at < pos {
         let count = PIECE.min((pos - at) as usize);
-        let whole = fill(input, buffer.as_mut_slice(), &mut bytes, count)?;
+        let whole = fill(input, buffer, &mut bytes, count)?;
         at += bytes.len() as u32;
         bytes.clear();
         if !whole {
@@ -66,5 +66,7 @@ pub fn read_front<S: Source>(alloc: Global, input: &mut S, pos: u32) -> Result<O
     if pos < MAGIC_LENGTH {
         return Ok(Some(pos as u64));
     }
-    pass_to(alloc, input, MAGIC_LENGTH, pos)
+    let mut buffer = Vec::new(alloc);
+    with_status(make_buffer(alloc, &mut buffer))?;
+    pass_to(alloc, input, buffer.as_mut_slice(), MAGIC_LENGTH, pos)
 }

@@ -137,7 +137,7 @@ module _ (start left : Option (List ℕ)) (t u : Option Story) (report : Report)
 
     carried : CarriedOut all_of
     carried = record {
-      marks = marks_now r _ _ from.number report.marks through.stands replay_is through.lasts.marks;
+      marks = marks_now r _ _ from.number report.marks through.stands replay_is through.lasts.marked;
       holds = holds_now u r _ _ through.stands replay_is identity draw from through.pieces t report.marks through.lasts;
     }
 
@@ -168,7 +168,7 @@ module _ (start left : Option (List ℕ)) (t u : Option Story) (report : Report)
 
     carried_first : CarriedOut first_of
     carried_first = record {
-      marks = marks_now r _ _ from.number report.marks up_to.stands stop_is up_to.lasts.marks;
+      marks = marks_now r _ _ from.number report.marks up_to.stands stop_is up_to.lasts.marked;
       holds = holds_now u r _ _ up_to.stands stop_is identity draw from up_to.pieces t report.marks up_to.lasts;
     }
 

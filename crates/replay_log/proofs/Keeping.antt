@@ -19,6 +19,7 @@ use Rattle.durable_replica.specs.Standing.{IsOnDisk, IsStateOf}
 use Rattle.durable_replica.specs.declared.replica.DurableReplica.{DurableReplica}
 use Rattle.log_reader.specs.log_model.Groups.{Group}
 use Rattle.log_reader.specs.Reading.{Reader}
+use Rattle.log_reader.specs.log_file_model.Passing.{names_next}
 use Rattle.log_reader.specs.log_model.Log.{LogPlace}
 use Rattle.replica_node.specs.Kept.{held_of, replica_of}
 use Rattle.replica_node.specs.replica_model.Applying.{Going, apply, go_on, going_from}
@@ -62,13 +63,13 @@ module _ (identity : Identity) (draw : Draw) (old : code_replaying.Replaying) (r
   before_is : held_of (kept old) ≡ held_in s
   before_is = held_kept (kept old) s stands.keeps
 
+  follows : Follows s behind (names_next g.form) (reader.begin + length reader.bytes) (apply 1 identity draw (fetched reader.bytes (kept old)))
+  follows = group_follows identity draw (kept old) reader.bytes reader.begin g is s stands.keeps running next.ready.0
+
   -- the states of an APPLY of the group are these
   states : (held : Held) → IsStateOf 1 identity draw (fetched reader.bytes (kept old)) held → P held
   states held state = by (after_steps identity draw (kept old) reader.bytes reader.begin g is state.0 next.ready.0)
     where
-      follows : Follows s behind _ _ (apply 1 identity draw (fetched reader.bytes (kept old)))
-      follows = group_follows identity draw (kept old) reader.bytes reader.begin g is s stands.keeps running next.ready.0
-
       by : ((go_on state.0 1 identity draw (going_from (fetched reader.bytes (kept old)))).replica ≡ fetched reader.bytes (kept old))
           ⊎ ((go_on state.0 1 identity draw (going_from (fetched reader.bytes (kept old)))).replica ≡ (apply 1 identity draw (fetched reader.bytes (kept old))).replica)
           → P held
@@ -99,6 +100,13 @@ module _ (identity : Identity) (draw : Draw) (old : code_replaying.Replaying) (r
         pushed_from : ArePushed now (kept old).number number marks more
         pushed_from = subst (λ (n : ℕ). ArePushed now n number marks more) (ap (λ (r : Replica). r.number) took) pushed
 
+        -- an APPLY of what was fetched is one of the group
+        as_group : (Q : (Held → Type 0) → Held → Type 0) → Q (IsStateOf 1 between.node.identity draw (replica_of between.node)) (held_of (replica_of between.node))
+            → Q (IsStateOf 1 identity draw (fetched reader.bytes (kept old))) (held_of (kept old))
+        as_group Q state =
+            subst (λ (i : Identity). Q (IsStateOf 1 i draw (fetched reader.bytes (kept old))) (held_of (kept old))) who
+            (subst (λ (r : Replica). Q (IsStateOf 1 between.node.identity draw r) (held_of r)) took state)
+
         pub broke_applying : (CallsFit v → Carries (IsStateOf 1 between.node.identity draw (replica_of between.node)) u v (held_of (replica_of between.node)) marks more)
             → GroupBroke t v old s behind now marks more
         broke_applying carries = record {
@@ -106,7 +114,7 @@ module _ (identity : Identity) (draw : Draw) (old : code_replaying.Replaying) (r
               carries_behind P t u v (held_in s) (held_in s) marks marks more put
               (subst (λ (h : Held). Carries P u v h marks more) before_is
               (carries_widen (IsStateOf 1 identity draw (fetched reader.bytes (kept old))) P u v (held_of (kept old)) marks more states
-              (rw (← who, ← took) (carries fit))));
+              (as_group (λ (R : Held → Type 0) (h : Held). Carries R u v h marks more) (carries fit))));
           number = number;
           pushed = pushed_from;
         }
@@ -121,7 +129,7 @@ module _ (identity : Identity) (draw : Draw) (old : code_replaying.Replaying) (r
               (subst (λ (h : Held). CarriesTo P u v (held_in s) h marks more) (ap (λ (k : DurableReplica). held_of (replica_of k.node)) (sym same) ∙ held_kept (kept new) behind there.keeps)
               (subst (λ (h : Held). CarriesTo P u v h (held_of (replica_of after.node)) marks more) before_is
               (carries_to_widen (IsStateOf 1 identity draw (fetched reader.bytes (kept old))) P u v (held_of (kept old)) (held_of (replica_of after.node)) marks more states
-              (rw (← who, ← took) (carries fit)))));
+              (as_group (λ (R : Held → Type 0) (h : Held). CarriesTo R u v h (held_of (replica_of after.node)) marks more) (carries fit)))));
           pushed = subst (λ (n : ℕ). ArePushed now (kept old).number n marks more) (reaches ∙ ap (λ (k : DurableReplica). (replica_of k.node).number) (sym same)) pushed_from;
           counted = counted;
         }

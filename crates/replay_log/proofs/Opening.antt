@@ -52,7 +52,7 @@ module _ (identity : Identity) (draw : Draw) (from : Replica) (t u v : Option St
     goes = on_trans t u v goes lasts.goes;
     carries = λ fit.
         carries_join (IsBehind identity draw from pieces) t u v (held_of from) (held_of from) (held_of (kept r)) [] [] marks (opening pieces) (lasts.carries fit);
-    marks = lasts.marks;
+    marked = lasts.marked;
   }
 
   broke_from : (pieces : List Piece) → Broke identity draw from pieces u v marks → Broke identity draw from pieces t v marks

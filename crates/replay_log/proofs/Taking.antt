@@ -66,11 +66,25 @@ Leads identity draw new r r' status =
     (g : Group) (s : Replay) → IsWhole new.bytes new.begin g → Stands r s → s.stop ≡ None
     → Went status r' (by_form identity draw g s g.form) (names_next g.form) (next_pos new)
 
+pub leads_by : (identity identity' : Identity) (draw : Draw) (new : Reader) (r r' : code_replaying.Replaying) (status status' : Status) → identity ≡ identity' → status ≡ status'
+    → Leads identity draw new r r' status → Leads identity' draw new r r' status'
+leads_by identity identity' draw new r r' status status' who how leads =
+    subst (λ (i : Identity). Leads i draw new r r' status') who (subst (λ (x : Status). Leads identity draw new r r' x) how leads)
+
 -- and on the disk
 abbrev pub Leaves : Identity → Draw → Reader → (u v : Option Story) → (r r' : code_replaying.Replaying) → (marks more : List Mark) → Status → Type 0
 Leaves identity draw new u v r r' marks more status =
     (g : Group) (s : Replay) → IsWhole new.bytes new.begin g → Stands r s → s.stop ≡ None
     → KeptBy status u v r r' s (by_form identity draw g s g.form) first_mark marks more
+
+pub leaves_by : (identity identity' : Identity) (draw : Draw) (new : Reader) (u v : Option Story) (r r' : code_replaying.Replaying) (marks more : List Mark) (status status' : Status)
+    → identity ≡ identity' → status ≡ status' → (now : Mark) → now ≡ first_mark
+    → ((g : Group) (s : Replay) → IsWhole new.bytes new.begin g → Stands r s → s.stop ≡ None → KeptBy status u v r r' s (by_form identity draw g s g.form) now marks more)
+    → Leaves identity' draw new u v r r' marks more status'
+leaves_by identity identity' draw new u v r r' marks more status status' who how now is leaves =
+    subst (λ (i : Identity). Leaves i draw new u v r r' marks more status') who
+    (subst (λ (x : Status). Leaves identity draw new u v r r' marks more x) how
+    (λ g s whole stands running. subst (λ (m : Mark). KeptBy status u v r r' s (by_form identity draw g s g.form) m marks more) is (leaves g s whole stands running)))
 
 -- ---- the beginning
 
@@ -85,7 +99,7 @@ lasts_first identity draw t r fresh on = record {
   goes = on_refl t;
   carries = λ fit. carries_idle (IsBehind identity draw (kept r) []) t (held_of (kept r)) [] []
       (record { first = 0; within = omega arith; is = refl }) (each_stands t r.node.store (held_of (kept r)) on.on) (none_named t);
-  marks = record { named = tt; each = sym fresh.stands.count; reached = refl };
+  marked = record { named = tt; each = sym fresh.stands.count; reached = refl };
 }
 
 -- ---- faults
@@ -97,7 +111,7 @@ nothing_front from (Some all) = record { bytes = all; input_is = refl; more = re
 
 broke_of : (identity : Identity) (draw : Draw) (from : Replica) (pieces : List Piece) (t u : Option Story) (r : code_replaying.Replaying) (marks : List Mark)
     → Lasts identity draw from pieces t u r marks → Broke identity draw from pieces t u marks
-broke_of identity draw from pieces t u r marks lasts = record { goes = lasts.goes; carries = λ fit. (lasts.carries fit).carries; named = lasts.marks.named }
+broke_of identity draw from pieces t u r marks lasts = record { goes = lasts.goes; carries = λ fit. (lasts.carries fit).carries; named = lasts.marked.named }
 
 -- a status with which reading stopped says that there was a fault
 pub stops_reading : (identity : Identity) (draw : Draw) (from : Replica) (start left : Option (List ℕ)) (t u : Option Story) (r : code_replaying.Replaying) (marks : List Mark) (status : Status) (first last : ℕ)
@@ -212,7 +226,7 @@ module _ (identity : Identity) (draw : Draw) (from : Replica) (pieces : List Pie
         (carries_to_widen (IsEither s behind) Q u v (held_of (kept r)) (held_of (kept r')) marks more either_in
         (subst (λ (h : Held). CarriesTo (IsEither s behind) u v (held_of (kept r)) h marks more) (sym (held_kept (kept r') behind there.keeps))
         (subst (λ (h : Held). CarriesTo (IsEither s behind) u v h (held_in behind) marks more) holds_before (group_kept.runs fit))));
-    marks = marks_more from.number r.count (kept r).number marks lasts.marks (kept r').number more group_kept.pushed r'.count group_kept.counted;
+    marked = marks_more from.number r.count (kept r).number marks lasts.marked (kept r').number more group_kept.pushed r'.count group_kept.counted;
   }
 
   pub broke_more : GroupBroke u v r s behind first_mark marks more → Broke identity draw from all t v more
@@ -222,7 +236,7 @@ module _ (identity : Identity) (draw : Draw) (from : Replica) (pieces : List Pie
         carries_behind Q t u v (held_of from) (held_of (kept r)) [] marks more (was fit)
         (carries_widen (IsEither s behind) Q u v (held_of (kept r)) marks more either_in
         (subst (λ (h : Held). Carries (IsEither s behind) u v h marks more) holds_before (broke.runs fit)));
-    named = named_all from.number r.count (kept r).number marks lasts.marks broke.number more broke.pushed;
+    named = named_all from.number r.count (kept r).number marks lasts.marked broke.number more broke.pushed;
   }
 
 -- ---- the groups, one after the other

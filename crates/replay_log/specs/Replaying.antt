@@ -137,7 +137,7 @@ pub record Lasts (identity : Identity) (draw : Draw) (from : Replica) (pieces : 
   pub on : IsOnDisk u r.node
   pub goes : GoesOn t u
   pub carries : CallsFit u → CarriesTo (IsBehind identity draw from pieces) t u (held_of from) (held_of (kept r)) [] marks
-  pub marks : AreMarks from.number r.count (kept r).number marks
+  pub marked : AreMarks from.number r.count (kept r).number marks
 
 -- and where its disk failed, or memory was short
 pub record Broke (identity : Identity) (draw : Draw) (from : Replica) (pieces : List Piece) (t u : Option Story) (marks : List Mark) : Type 0 where
