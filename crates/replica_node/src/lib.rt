@@ -28,12 +28,15 @@
 
 mod applying;
 mod lines;
+mod records;
 mod replica;
 mod selecting;
 mod told;
 
 // What is its own, and the crates below that it speaks of, passed on: who stands above names them through it.
+pub use commit_store;
 pub use lines::{applied_line, fetched_line};
+pub use relay_log::{Place, Walk};
 pub use replica::ReplicaNode;
 pub use stmt_apply::answer_making;
-pub use told::{Applied, Stopped};
+pub use told::{Applied, Step, Stopped};

@@ -38,6 +38,7 @@ mod under_way;
 // What is its own, and the crates below that it speaks of, passed on: who stands above names them through it.
 pub use answer_making;
 pub use answer_making::sql_parse;
+pub use apply_laws::binlog_sizes;
 pub use group::apply_group;
 pub use prog_run;
 pub use row_apply;
