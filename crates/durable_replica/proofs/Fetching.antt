@@ -27,8 +27,8 @@ put_length at piece file same =
     ∙ omega (
       arith,
       same,
-      length-append (take at file) (piece ++ drop (at + length piece) file),
-      length-append piece (drop (at + length piece) file),
+      length-append (take at file ++ piece) (drop (at + length piece) file),
+      length-append (take at file) piece,
       length-take at file,
       length-drop (at + length piece) file,
     )
@@ -45,9 +45,9 @@ module _ (t : Option Story) (k : DurableReplica) (is : IsOnDisk t k) where
       → ((held : Held) → IsOn t k.store held → IsOn u k.store held) → IsOn u k.store (held_of r)
   fetched_on u r piece took stays = subst (λ (x : Replica). IsOn u k.store (held_of x)) (sym took) (stays (held_of (replica_of k.node)) is.on)
 
-  pub fetched_end : (u : Option Story) (piece : List ℕ) → GoesOn t u → IfSome t (λ _. seen u first_log ≡ overwritten k.fetched piece (seen t first_log))
-      → IfSome u (λ _. length (seen u first_log) ≡ k.fetched + length piece)
-  fetched_end u piece goes reads =
-      if_on t u (length (seen u first_log) ≡ k.fetched + length piece) (length (seen u first_log) ≡ k.fetched + length piece) goes
-      (if_both t (length (seen t first_log) ≡ k.fetched) (seen u first_log ≡ overwritten k.fetched piece (seen t first_log)) (length (seen u first_log) ≡ k.fetched + length piece) is.relay reads
-      (λ e f. ap length f ∙ put_length k.fetched piece (seen t first_log) e)) (λ x. x)
+  pub fetched_end : (u : Option Story) (slice piece : List ℕ) → slice ≡ piece → (end : ℕ) → end ≡ k.fetched + length piece → GoesOn t u
+      → IfSome t (λ _. seen u first_log ≡ overwritten k.fetched slice (seen t first_log)) → IfSome u (λ _. length (seen u first_log) ≡ end)
+  fetched_end u slice piece same end count goes reads =
+      if_on t u (length (seen u first_log) ≡ end) (length (seen u first_log) ≡ end) goes
+      (if_both t (length (seen t first_log) ≡ k.fetched) (seen u first_log ≡ overwritten k.fetched slice (seen t first_log)) (length (seen u first_log) ≡ end) is.relay reads
+      (λ e f. ap length f ∙ put_length k.fetched slice (seen t first_log) e ∙ omega (arith, count, ap length same))) (λ x. x)

@@ -1,5 +1,5 @@
 -- A group more that was carried out in memory, kept on the disk.
-use Rattle.std.proofs.Common.{◌≡◌, ℕ, ◌+◌, List, [], ◌∷◌, length, map, Option, Some, None, Result, Ok, Err, refl, sym, ◌∙◌, ap, subst, arith}
+use Rattle.std.proofs.Common.{◌≡◌, ℕ, ◌+◌, Bool, List, [], ◌∷◌, length, map, Option, Some, None, Result, Ok, Err, refl, sym, ◌∙◌, ap, subst, arith}
 use Rattle.std.specs.Prelude.{IfSome, IfOk, OnOk}
 use Rattle.port_traits.specs.declared.identity.Identity.{Identity}
 use Rattle.port_traits.specs.declared.identity.Draw.{Draw}
@@ -22,10 +22,11 @@ use Rattle.replica_node.specs.Kept.{held_of, replica_of}
 use Rattle.replica_node.specs.Records.{RecordLeads}
 use Rattle.replica_node.specs.Steps.{IsFront, IsTold}
 use Rattle.replica_node.specs.declared.told.Applied.{Applied}
+use Rattle.store_model.specs.declared.record.Record.{Record}
 use Rattle.store_model.specs.Held.{Held}
 use Rattle.store_model.specs.Stores.{first_log}
 use Rattle.store_replica.specs.Pushed.{ArePushed}
-use Rattle.store_replica.specs.Writing.{CanKeep, IsOn}
+use Rattle.store_replica.specs.Writing.{CanKeep, IsCounted, IsOn}
 use Rattle.store_replica.proofs.Standings.{each_stands}
 use Rattle.durable_replica.specs.Going.{HasKept, HasRun, IsDone}
 use Rattle.durable_replica.specs.Standing.{IsOnDisk, IsStateOf}
@@ -88,40 +89,46 @@ module _ (wanted : ℕ) (identity : Identity) (draw : Draw) (first : Replica) (t
     }
 
     -- a record more
-    module _ (now' : Replica) (p : Prepared) (leads : RecordLeads p (held_of now) (held_of now')) where
-      pub can : CanKeep u store p leads.of (held_of now) (held_of now')
+    module _ (now' : Replica) (p : Prepared) (counts : Bool) (leads : RecordLeads p (held_of now) (held_of now')) (counted : IsCounted counts (held_of now) (held_of now')) where
+      can : CanKeep u store p leads.of (held_of now) (held_of now')
       can = record { on = kept.on; form = leads.is.form; fits = leads.is.fits; makes = leads.makes; prepared = leads.is.made }
 
-      module _ (v : Option Story) (after' : Report) (goes : GoesOn u v)
-          (run : CallsFit v → ReplicaRuns u v (held_of now) (leads.of ∷ []) after.marks after'.marks) (front : IsFront wanted identity draw first now)
-          (front' : IsFront wanted identity draw first now') (number : ℕ) (pushed : ArePushed after.now now.number number after.marks after'.marks)
-          (rest : after' ≡ record after { marks = after'.marks }) where
+      pub can_keep : (r : Record) × ((held : Held) × ((next : Held) × (CanKeep u store p r held next × IsCounted counts held next)))
+      can_keep = (leads.of, (held_of now, (held_of now', (can, counted))))
+
+      module _ (v : Option Story) (store' : Store) (after' : Report) (goes : GoesOn u v)
+          (run : (r : Record) (held next : Held) → CanKeep u store p r held next → CallsFit v → ReplicaRuns u v held (r ∷ []) after.marks after'.marks)
+          (pushed : (r : Record) (held next : Held) → CanKeep u store p r held next → IsCounted counts held next
+          → ArePushed after.now held.number store'.number after.marks after'.marks) (rest : after' ≡ record after { marks = after'.marks })
+          (front : IsFront wanted identity draw first now) (front' : IsFront wanted identity draw first now') where
         more_reaches : CallsFit v → CarriesTo State t v (held_of first) (held_of now') before.marks after'.marks
         more_reaches fits =
             carries_join State t u v (held_of first) (held_of now) (held_of now') before.marks after.marks after'.marks (kept.reaches (fits_back u v goes fits))
-            (carries_one State u v (held_of now) (held_of now') leads.of after.marks after'.marks (state_of now front) (state_of now' front') leads.makes (run fits))
+            (carries_one State u v (held_of now) (held_of now') leads.of after.marks after'.marks (state_of now front) (state_of now' front') leads.makes
+            (run leads.of (held_of now) (held_of now') can fits))
 
-        more_pushed : ArePushed before.now first.number number before.marks after'.marks
+        more_pushed : ArePushed before.now first.number store'.number before.marks after'.marks
         more_pushed =
-            pushed_join before.now first.number store.number number before.marks after.marks after'.marks kept.pushed
-            (subst (λ (n : ℕ). ArePushed before.now n number after.marks after'.marks) (sym kept.on.keeps.holds.shows.number)
-            (subst (λ (m : Mark). ArePushed m now.number number after.marks after'.marks) (ap (λ (r : Report). r.now) kept.rest) pushed))
+            pushed_join before.now first.number store.number store'.number before.marks after.marks after'.marks kept.pushed
+            (subst (λ (n : ℕ). ArePushed before.now n store'.number after.marks after'.marks) (sym kept.on.keeps.holds.shows.number)
+            (subst (λ (m : Mark). ArePushed m now.number store'.number after.marks after'.marks) (ap (λ (r : Report). r.now) kept.rest)
+            (pushed leads.of (held_of now) (held_of now') can counted)))
 
         more_rest : after' ≡ record before { marks = after'.marks }
         more_rest = rest ∙ ap (λ (r : Report). record r { marks = after'.marks }) kept.rest
 
         -- whatever came of it
-        pub more_run : HasRun wanted identity draw first t before v number after'
+        pub more_run : HasRun wanted identity draw first t before v store'.number after'
         more_run = record { carries = λ fits. (more_reaches fits).carries; pushed = more_pushed; rest = more_rest; goes = on_trans t u v kept.goes goes }
 
         -- where it was kept
-        pub more_kept : (store' : Store) (count' : ℕ) → store'.number ≡ number → IsOn v store' (held_of now') → seen v first_log ≡ seen u first_log
+        pub more_kept : (count' : ℕ) → ((r : Record) (held next : Held) → CanKeep u store p r held next → IsOn v store' next) → seen v first_log ≡ seen u first_log
             → length after'.marks + count ≡ length after.marks + count' → Kept v now' store' fetched after' count'
-        more_kept store' count' same on reads marks = record {
-          on = on;
+        more_kept count' on reads marks = record {
+          on = on leads.of (held_of now) (held_of now') can;
           relay = if_on u v (length (seen u first_log) ≡ fetched) (length (seen v first_log) ≡ fetched) goes kept.relay (λ e. ap length reads ∙ e);
           reaches = more_reaches;
-          pushed = subst (λ (n : ℕ). ArePushed before.now first.number n before.marks after'.marks) (sym same) more_pushed;
+          pushed = more_pushed;
           marks = omega (arith, marks, kept.marks);
           rest = more_rest;
           goes = on_trans t u v kept.goes goes;

@@ -20,6 +20,10 @@ pub if_map : (t : Option Story) (X Y : Type 0) → IfSome t (λ _. X) → (X →
 if_map None X Y told f = tt
 if_map (Some s) X Y told f = f told
 
+pub first_of : (t : Option Story) (X Y : Type 0) → IfSome t (λ _. X × Y) → IfSome t (λ _. X)
+first_of None X Y told = tt
+first_of (Some s) X Y told = told.0
+
 same_ok : {A E : Type 0} (x y : A) (r : Result A E) → r ≡ Ok x → r ≡ Ok y → x ≡ y
 same_ok {A} {E} x y r e f = ap (λ (q : Result A E). elim q [ Ok a ↦ a | Err error ↦ x ]) (sym e ∙ f)
 

@@ -106,9 +106,9 @@ impl DurableReplica {
         ensures goes { GoesOn (D.told d.old) (D.told d.new) }
         ensures cause { HasNodeCause (D.faults d.old) (D.faults d.new) result }
     {
-        if self.node.fetch(piece).is_err() {
+        let Ok(()) = self.node.fetch(piece) else {
             return Err(NodeFault::NoMemory);
-        }
+        };
         put_in_relay(&self.store, d, self.fetched, piece.as_slice())?;
         self.fetched += piece.len() as u64;
         Ok(())
