@@ -48,9 +48,9 @@ impl DurableReplica {
         ensures identity { IfOk result (λ k. k.node.identity ≡ identity) }
         ensures on { IfOk result (IsOnDisk (D.told d.new)) }
         ensures opens { (held : Held) → OpensOn (D.told d.old) held → IfOk result (λ k. IfSome (D.told d.old) (λ _.
-            replica_of k.node ≡ replica_from held.base held.number held.place)) }
+            (replica_of k.node ≡ replica_from held.base held.number held.place) × (held_of (replica_of k.node) ≡ held))) }
         ensures reopened { IfOk result (λ k. replica_of k.node ≡ reopened (replica_of k.node)) }
-        ensures held { IfOk result (λ _. IfSome (D.told d.old) (λ _. (held : Held) × (held_by Replica (seen (D.told d.old)) ≡ Ok held))) }
+        ensures held { IfOk result (λ k. IfSome (D.told d.old) (λ _. held_by Replica (seen (D.told d.old)) ≡ Ok (held_of (replica_of k.node)))) }
         ensures runs { (held : Held) (marks : Items Mark) → OpensOn (D.told d.old) held → ReplicaRuns (D.told d.old) (D.told d.new) held [] marks marks }
         ensures damaged { TellsDamage (D.told d.old) Replica result }
         ensures goes { GoesOn (D.told d.old) (D.told d.new) }
@@ -61,7 +61,7 @@ impl DurableReplica {
             log: store.log(),
             pos: store.pos(),
         };
-        let node = ReplicaNode::found(identity, alloc, work, store.number(), place);
+        let node = ReplicaNode::found(alloc, identity, work, store.number(), place);
         Ok(DurableReplica {
             alloc,
             node,
@@ -82,9 +82,9 @@ impl DurableReplica {
         ensures identity { IfOk result (λ k. k.node.identity ≡ identity) }
         ensures on { IfOk result (IsOnDisk (D.told d.new)) }
         ensures opens { (held : Held) → OpensOn (D.told d.old) held → IfOk result (λ k. IfSome (D.told d.old) (λ _.
-            replica_of k.node ≡ replica_from held.base held.number held.place)) }
+            (replica_of k.node ≡ replica_from held.base held.number held.place) × (held_of (replica_of k.node) ≡ held))) }
         ensures reopened { IfOk result (λ k. replica_of k.node ≡ reopened (replica_of k.node)) }
-        ensures held { IfOk result (λ _. IfSome (D.told d.old) (λ _. (held : Held) × (held_by Replica (seen (D.told d.old)) ≡ Ok held))) }
+        ensures held { IfOk result (λ k. IfSome (D.told d.old) (λ _. held_by Replica (seen (D.told d.old)) ≡ Ok (held_of (replica_of k.node)))) }
         ensures runs { (held : Held) (marks : Items Mark) → OpensOn (D.told d.old) held → ReplicaRuns (D.told d.old) (D.told d.new) held [] marks marks }
         ensures damaged { TellsDamage (D.told d.old) Replica result }
         ensures goes { GoesOn (D.told d.old) (D.told d.new) }
@@ -106,9 +106,9 @@ impl DurableReplica {
         ensures goes { GoesOn (D.told d.old) (D.told d.new) }
         ensures cause { HasNodeCause (D.faults d.old) (D.faults d.new) result }
     {
-        if self.node.fetch(piece).is_err() {
+        let Ok(()) = self.node.fetch(piece) else {
             return Err(NodeFault::NoMemory);
-        }
+        };
         put_in_relay(&self.store, d, self.fetched, piece.as_slice())?;
         self.fetched += piece.len() as u64;
         Ok(())
