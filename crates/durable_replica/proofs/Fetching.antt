@@ -7,10 +7,10 @@ use Rattle.answer_text.specs.declared.report.Mark.{Mark}
 use Rattle.disk_model.specs.Story.{Story, overwritten, seen}
 use Rattle.disk_model.specs.Moments.{GoesOn}
 use Rattle.disk_model.proofs.Laws.{if_both, if_on}
-use Rattle.durable_runs.specs.Marks.{replica_mark}
-use Rattle.durable_runs.specs.Replicas.{ReplicaRuns, replica_side}
-use Rattle.durable_runs.proofs.Joining.{runs_none}
-use Rattle.replica_model.specs.Replica.{Replica, fetched}
+use Rattle.store_replica.specs.durable_runs.Marks.{replica_mark}
+use Rattle.store_replica.specs.durable_runs.Replicas.{ReplicaRuns, replica_side}
+use Rattle.store_replica.proofs.of_durable_runs.Joining.{runs_none}
+use Rattle.replica_node.specs.replica_model.Replica.{Replica, fetched}
 use Rattle.replica_node.specs.Kept.{held_of, replica_of}
 use Rattle.store_model.specs.Held.{Held}
 use Rattle.store_model.specs.Stores.{first_log}

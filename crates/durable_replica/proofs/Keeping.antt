@@ -11,13 +11,13 @@ use Rattle.disk_model.proofs.Laws.{if_on}
 use Rattle.disk_model.proofs.Moments.{on_count, on_refl, on_trans}
 use Rattle.commit_store.specs.declared.prepared.Prepared.{Prepared}
 use Rattle.commit_store.specs.declared.store.Store.{Store}
-use Rattle.durable_runs.specs.Marks.{replica_mark}
-use Rattle.durable_runs.specs.Replicas.{Carries, CarriesTo, ReplicaRuns, replica_side}
-use Rattle.durable_runs.specs.Runs.{CallsFit}
-use Rattle.durable_runs.proofs.Joining.{runs_none}
-use Rattle.durable_runs.proofs.States.{carries_join, carries_none, carries_one}
-use Rattle.replica_model.specs.Applying.{Going, apply}
-use Rattle.replica_model.specs.Replica.{Replica}
+use Rattle.store_replica.specs.durable_runs.Marks.{replica_mark}
+use Rattle.store_replica.specs.durable_runs.Replicas.{Carries, CarriesTo, ReplicaRuns, replica_side}
+use Rattle.store_replica.specs.durable_runs.Runs.{CallsFit}
+use Rattle.store_replica.proofs.of_durable_runs.Joining.{runs_none}
+use Rattle.store_replica.proofs.of_durable_runs.States.{carries_join, carries_none, carries_one}
+use Rattle.replica_node.specs.replica_model.Applying.{Going, apply}
+use Rattle.replica_node.specs.replica_model.Replica.{Replica}
 use Rattle.replica_node.specs.Kept.{held_of, replica_of}
 use Rattle.replica_node.specs.Records.{RecordLeads}
 use Rattle.replica_node.specs.Steps.{IsFront, IsTold}

@@ -3,7 +3,7 @@ use Rattle.std.proofs.Common.{◌≡◌, ℕ, List, [], ◌∷◌, ◌++◌, map
 use Rattle.std.proofs.lemmas.List.{append-nil}
 use Rattle.answer_text.specs.declared.report.Mark.{Mark}
 use Rattle.store_model.specs.Held.{next_applied}
-use Rattle.durable_runs.specs.Marks.{last_named, replica_mark}
+use Rattle.store_replica.specs.durable_runs.Marks.{last_named, replica_mark}
 use Rattle.store_replica.specs.Pushed.{ArePushed, NameInTurn}
 
 abbrev last : ℕ → List Mark → ℕ

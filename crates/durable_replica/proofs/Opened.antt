@@ -5,14 +5,14 @@ use Rattle.disk_model.specs.Story.{Story, seen}
 use Rattle.disk_model.proofs.Laws.{if_both}
 use Rattle.commit_store.specs.Keeping.{HasEnds}
 use Rattle.prog_work.specs.Contents.{base_of}
-use Rattle.replica_model.specs.Replica.{Replica as Model, reopened, replica_from}
+use Rattle.replica_node.specs.replica_model.Replica.{Replica as Model, reopened, replica_from}
 use Rattle.replica_node.specs.Kept.{held_of}
 use Rattle.store_model.specs.Held.{Held, LogEnd}
 use Rattle.store_model.specs.Stores.{first_log, held_by}
 use Rattle.store_model.specs.declared.record.Kind.{Kind}
 use Rattle.store_model.specs.declared.record.Kind.TheVariants.{Replica}
-use Rattle.store_open.specs.declared.opening.Opened.{Opened}
-use Rattle.store_open.specs.Opened.{held_with}
+use Rattle.store_replica.specs.store_open.declared.opening.Opened.{Opened}
+use Rattle.store_replica.specs.store_open.Opened.{held_with}
 use Rattle.store_replica.specs.Opening.{IsReady}
 use Rattle.store_replica.specs.Writing.{IsOn, OpensOn}
 

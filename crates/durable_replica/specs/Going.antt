@@ -6,10 +6,10 @@ use Rattle.answer_text.specs.declared.report.Report.{Report}
 use Rattle.disk_model.specs.Story.{Story, seen}
 use Rattle.disk_model.specs.Moments.{GoesOn}
 use Rattle.commit_store.specs.declared.store.Store.{Store}
-use Rattle.durable_runs.specs.Replicas.{Carries, CarriesTo}
-use Rattle.durable_runs.specs.Runs.{CallsFit}
-use Rattle.replica_model.specs.Applying.{apply}
-use Rattle.replica_model.specs.Replica.{Replica}
+use Rattle.store_replica.specs.durable_runs.Replicas.{Carries, CarriesTo}
+use Rattle.store_replica.specs.durable_runs.Runs.{CallsFit}
+use Rattle.replica_node.specs.replica_model.Applying.{apply}
+use Rattle.replica_node.specs.replica_model.Replica.{Replica}
 use Rattle.replica_node.specs.Kept.{held_of, replica_of}
 use Rattle.replica_node.specs.Steps.{IsTold}
 use Rattle.replica_node.specs.declared.told.Applied.{Applied}

@@ -4,11 +4,11 @@ ghost use Rattle.disk_model.specs.Answers.{HasNodeCause};
 ghost use Rattle.disk_model.specs.Moments.{GoesOn};
 ghost use Rattle.durable_replica.specs.Going.{HasRun, IsDone};
 ghost use Rattle.durable_replica.specs.Standing.{IsOnDisk, IsStateOf};
-ghost use Rattle.durable_runs.specs.Replicas.{Carries, CarriesTo};
-ghost use Rattle.replica_model.specs.Applying.{apply};
+ghost use Rattle.store_replica.specs.durable_runs.Replicas.{Carries, CarriesTo};
+ghost use Rattle.replica_node.specs.replica_model.Applying.{apply};
 ghost use Rattle.replica_node.specs.Kept.{held_of, replica_of};
 ghost use Rattle.replica_node.specs.Steps.{IsFront, IsTold};
-ghost use Rattle.durable_runs.specs.Runs.{CallsFit};
+ghost use Rattle.store_replica.specs.durable_runs.Runs.{CallsFit};
 ghost use Rattle.store_replica.specs.Pushed.{ArePushed};
 
 use crate::replica::DurableReplica;

@@ -6,7 +6,7 @@ ghost use Rattle.disk_model.specs.Answers.{HasOpenCause};
 ghost use Rattle.disk_model.specs.Moments.{IsSettled};
 ghost use Rattle.disk_model.specs.Story.{Story};
 ghost use Rattle.commit_store.specs.Keeping.{positions};
-ghost use Rattle.durable_runs.specs.Sources.{SourceRuns, Stored};
+ghost use Rattle.store_source.specs.durable_runs.Sources.{SourceRuns, Stored};
 ghost use Rattle.durable_source.specs.Opening.{IsReady};
 ghost use Rattle.durable_source.specs.Standing.{OpensOn};
 ghost use Rattle.store_load.specs.Loading.{TellsDamage};

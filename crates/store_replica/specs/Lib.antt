@@ -3,3 +3,5 @@ pub mod Pushed
 pub mod Opening
 -- the crate below that this one speaks of, passed on
 pub use Rattle.durable_runs.specs as durable_runs
+pub use Rattle.store_open.specs as store_open
+pub use Rattle.store_load.specs as store_load

@@ -28,7 +28,7 @@
 //! - A refusal is the disk's own, or want of memory. Failed comes only where the disk's count of faults rose.
 //!
 //! # Only tested
-//! Nothing yet: no test calls it.
+//! Where the program runs over disks: that records are kept with ample memory, and what crashes leave meanwhile.
 #![tactic(auto)]
 
 mod keeping;
@@ -42,3 +42,4 @@ pub use keeping::keep;
 pub use laws::replicas_stand;
 pub use opening::open_store;
 pub use relay::put_in_relay;
+pub use store_open;

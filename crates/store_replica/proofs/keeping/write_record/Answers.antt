@@ -6,10 +6,11 @@ use Rattle.store_replica.proofs.Standings.{apart_from, stays_leads}
 use Rattle.store_replica.proofs.keeping.write_record.Goals as goal
 
 pub stage-requires-clause-prepared : goal.stage-requires-clause-prepared
-stage-requires-clause-prepared g c =
-    (body_of c.requires.0,
-    (ready _ c.args.store.now c.take.new.self c.args.p c.requires.0 c.requires.1.0 c.requires.1.1.0 c.requires.1.1.1 c.take.ensures.ready c.take.ensures.keeps
-    (ap (λ (st : Store). st.node) c.take.ensures.rest)).bytes)
+stage-requires-clause-prepared g c = (
+  body_of c.requires.0,
+  (ready _ c.args.store.now c.take.new.self c.args.p c.requires.0 c.requires.1.0 c.requires.1.1.0 c.requires.1.1.1 c.take.ensures.ready c.take.ensures.keeps
+      (ap (λ (st : Store). st.node) c.take.ensures.rest)).bytes,
+)
 
 pub commit-requires-clause-room : goal.commit-requires-clause-room
 commit-requires-clause-room g c =
