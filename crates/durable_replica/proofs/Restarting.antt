@@ -6,7 +6,7 @@ use Rattle.disk_model.specs.declared.refusals.OpenRefusal.{OpenRefusal}
 use Rattle.disk_model.specs.declared.refusals.OpenRefusal.TheVariants.{Disk, Damaged, NoMemory}
 use Rattle.commit_store.specs.Keeping.{AreDurable}
 use Rattle.replica_node.specs.Kept.{held_of, replica_of}
-use Rattle.store_replica.specs.store_load.Loading.{TellsDamage}
+use Rattle.store_replica.specs.store_open.store_load.Loading.{TellsDamage}
 use Rattle.store_model.specs.Held.{Held}
 use Rattle.store_model.specs.Stores.{held_by}
 use Rattle.store_model.specs.declared.record.Kind.{Kind}

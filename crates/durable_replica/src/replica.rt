@@ -12,7 +12,7 @@ ghost use Rattle.replica_node.specs.replica_model.Replica.{fetched, reopened, re
 ghost use Rattle.replica_node.specs.replica_model.Selecting.{select_answer};
 ghost use Rattle.replica_node.specs.replica_model.apply_model.binlog_sizes.Sizes.{most_text};
 ghost use Rattle.replica_node.specs.Kept.{held_of, replica_of};
-ghost use Rattle.store_replica.specs.store_load.Loading.{TellsDamage};
+ghost use Rattle.store_replica.specs.store_open.store_load.Loading.{TellsDamage};
 ghost use Rattle.store_model.specs.Held.{Held};
 ghost use Rattle.store_model.specs.Stores.{held_by};
 ghost use Rattle.store_model.specs.declared.record.Kind.TheVariants.{Replica};

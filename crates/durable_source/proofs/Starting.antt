@@ -29,8 +29,8 @@ use Rattle.store_source.specs.durable_runs.Marks.{Named, source_mark}
 use Rattle.store_source.specs.durable_runs.Runs.{Runs}
 use Rattle.store_source.specs.durable_runs.Sources.{SourceRuns, SourceStands, Stored, end_of, log_in, source_side, stored_in}
 use Rattle.store_source.proofs.of_durable_runs.Joining.{runs_kept, runs_untold}
-use Rattle.store_load.specs.Loading.{TellsDamage}
-use Rattle.store_load.proofs.Whole.{same_short}
+use Rattle.store_open.specs.store_load.Loading.{TellsDamage}
+use Rattle.store_open.proofs.of_store_load.Whole.{same_short}
 use Rattle.store_open.specs.Opened.{held_with}
 use Rattle.store_source.specs.Writing.{IsOn, StaysOn}
 use Rattle.store_source.proofs.Images.{if_map, stays_both}

@@ -9,7 +9,7 @@ ghost use Rattle.commit_store.specs.Keeping.{positions};
 ghost use Rattle.store_source.specs.durable_runs.Sources.{SourceRuns, Stored};
 ghost use Rattle.durable_source.specs.Opening.{IsReady};
 ghost use Rattle.durable_source.specs.Standing.{OpensOn};
-ghost use Rattle.store_load.specs.Loading.{TellsDamage};
+ghost use Rattle.store_open.specs.store_load.Loading.{TellsDamage};
 ghost use Rattle.store_model.specs.Held.{LogEnd, last_end, most_committed, most_logs};
 ghost use Rattle.store_model.specs.declared.record.Kind.TheVariants.{Source};
 ghost use Rattle.store_source.specs.Writing.{IsOn};

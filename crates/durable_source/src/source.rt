@@ -13,7 +13,7 @@ ghost use Rattle.session_model.specs.binlog_sizes.Sizes.{most_text};
 ghost use Rattle.session_model.specs.Holding.{Holds};
 ghost use Rattle.session_model.specs.Machine.{Machine, kept_entry, machine_after, step, whole};
 ghost use Rattle.session_model.specs.Openings.{opened_from, opening_entries, restarted};
-ghost use Rattle.store_load.specs.Loading.{TellsDamage};
+ghost use Rattle.store_open.specs.store_load.Loading.{TellsDamage};
 ghost use Rattle.store_model.specs.declared.record.Kind.TheVariants.{Source};
 ghost use Rattle.source_node.specs.session_shared.waiting_entries.binlog_items.log_entry_laws.Entries.{CanLogAll};
 ghost use Rattle.store_model.specs.Entries.{writer_at};

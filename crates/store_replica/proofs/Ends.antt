@@ -13,8 +13,8 @@ use Rattle.store_model.specs.Held.{Held, applied, bodies_applied, body_applied, 
 use Rattle.store_model.specs.Snapshots.{base_in, generation_in, held_in, is_open, of_file, place_in, snapshot_in, snapshot_of}
 use Rattle.store_model.specs.Stores.{Spot, begun_by, begun_from, begun_in, greater, greater_if, held_by}
 use Rattle.store_model.proofs.Standing.{apart}
-use Rattle.store_load.specs.Whose.{IsOf}
-use Rattle.store_load.proofs.Whose.{is_of}
+use Rattle.store_open.specs.store_load.Whose.{IsOf}
+use Rattle.store_open.proofs.of_store_load.Whose.{is_of}
 
 some_same : {A : Type 0} (a b : A) → Some a ≡ Some b → a ≡ b
 some_same a b e = cc

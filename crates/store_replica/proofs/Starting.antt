@@ -25,7 +25,7 @@ use Rattle.durable_runs.specs.Marks.{Named, replica_mark}
 use Rattle.durable_runs.specs.Runs.{Runs}
 use Rattle.durable_runs.specs.Replicas.{ReplicaRuns, ReplicaStands, replica_side}
 use Rattle.durable_runs.proofs.Joining.{runs_join, runs_untold}
-use Rattle.store_load.specs.Loading.{TellsDamage}
+use Rattle.store_open.specs.store_load.Loading.{TellsDamage}
 use Rattle.store_open.specs.Opened.{held_with}
 use Rattle.store_replica.specs.Writing.{IsOn, OpensOn, StaysOn}
 use Rattle.store_replica.proofs.Ends.{no_ends}

@@ -1,7 +1,7 @@
 pub mod Writing
 pub mod Pushed
 pub mod Opening
--- the crate below that this one speaks of, passed on
+-- the crates below that this one speaks of, passed on
 pub use Rattle.durable_runs.specs as durable_runs
 pub use Rattle.store_open.specs as store_open
-pub use Rattle.store_load.specs as store_load
+pub use Rattle.store_open.specs.store_load as store_load

@@ -7,7 +7,7 @@ ghost use Rattle.disk_model.specs.Moments.{GoesOn};
 ghost use Rattle.disk_model.specs.Story.{seen};
 ghost use Rattle.durable_runs.specs.Replicas.{ReplicaRuns};
 ghost use Rattle.prog_work.specs.Contents.{base_of};
-ghost use Rattle.store_load.specs.Loading.{TellsDamage};
+ghost use Rattle.store_open.specs.store_load.Loading.{TellsDamage};
 ghost use Rattle.store_model.specs.Held.{Held};
 ghost use Rattle.store_model.specs.Stores.{held_by};
 ghost use Rattle.store_model.specs.declared.record.Kind.TheVariants.{Replica};
