@@ -1,9 +1,9 @@
 -- Bytes before a position that are read and let go.
-use Rattle.std.proofs.Common.{◌≡◌, ◌≤◌, ◌<◌, inl, inr, ℕ, ◌+◌, true, List, [], ◌++◌, length, take, Option, Some, None, option_map, Result, Ok, Err, OnErr, refl, sym, ap, ◌∙◌, arith, subst, length-append}
+use Rattle.std.proofs.Common.{◌≡◌, ◌≤◌, ◌<◌, inl, inr, ℕ, ◌+◌, Bool, true, false, List, [], ◌++◌, length, take, Option, Some, None, option_map, Result, Ok, Err, OnErr, refl, sym, ap, arith, subst, length-append}
 use Rattle.std.specs.Prelude.{IfOk}
 use Rattle.log_groups.specs.log_model.Log.{magic}
-use Rattle.log_reader.specs.Reading.{Took, Takes, IsEnd, ReadsMagic, ReadsFront, FindsFront}
-use Rattle.log_reader.specs.Filling.{Passed, PassesTo}
+use Rattle.log_reader.specs.Reading.{Took, Takes, IsEnd, ReadsMagic, ReadsFront}
+use Rattle.log_reader.specs.Filling.{FillsTo, Passed, PassesTo}
 use Rattle.log_reader.proofs.Inputs.{took_nothing, took_more, took_takes, takes_more, joined_more}
 
 pub passed_none : (from : ℕ) (left : Option (List ℕ)) → Passed from from left left
@@ -25,6 +25,13 @@ passed_takes from at start mid passed = record { taken = passed.taken; took = pa
 -- up to the position
 pub passed_all : (from at pos : ℕ) (start after : Option (List ℕ)) → at ≡ pos → Passed from at start after → Passed from pos start after
 passed_all from at pos start after same passed = subst (λ (n : ℕ). Passed from n start after) same passed
+
+-- as many bytes as were asked for, or fewer and the end
+pub filled : (whole : Bool) (count : ℕ) (bytes : List ℕ) (left : Option (List ℕ)) → whole ≡ true → FillsTo whole count bytes left → length bytes ≡ count
+filled whole count bytes left is fills = subst (λ (b : Bool). FillsTo b count bytes left) is fills
+
+pub not_filled : (whole : Bool) (count : ℕ) (bytes : List ℕ) (left : Option (List ℕ)) → whole ≡ false → FillsTo whole count bytes left → (length bytes < count) × IsEnd left
+not_filled whole count bytes left is fills = subst (λ (b : Bool). FillsTo b count bytes left) is fills
 
 -- ---- behind the magic
 

@@ -1,5 +1,5 @@
 -- What is known of the log on an input behind calls that read it group by group.
-use Rattle.std.proofs.Common.{◌≡◌, ◌<◌, ◌≤◌, inl, inr, ℕ, ◌+◌, Bool, true, false, ltb, List, [], ◌++◌, length, take, Option, Some, None, refl, sym, ap, ◌∙◌, subst, append-nil, arith}
+use Rattle.std.proofs.Common.{◌≡◌, ◌<◌, inl, inr, ℕ, ◌+◌, Bool, true, false, ltb, List, [], ◌++◌, length, Option, Some, None, refl, sym, ap, ◌∙◌, subst, append-nil, arith}
 use Rattle.std.proofs.lemmas.Bool.{ltb-true}
 use Rattle.log_groups.specs.log_model.Groups.{group, foreign_at, group_at}
 use Rattle.log_file_model.specs.Walk.{Ending, ended, damaged, foreign, Piece, Grouped, grouped, grouped_from}

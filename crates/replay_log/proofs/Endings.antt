@@ -1,6 +1,6 @@
 -- How a replay ends.
-use Rattle.std.proofs.Common.{◌≡◌, ◌⊎◌, inl, inr, ◌≤◌, ◌<◌, ℕ, ◌+◌, true, List, [], ◌∷◌, ◌++◌, length, take, Option, Some, None, Ok, refl, sym, ap, ◌∙◌, arith, subst, append-nil, length-append}
-use Rattle.std.proofs.lemmas.List.{take_all, take-append-le}
+use Rattle.std.proofs.Common.{◌≡◌, inr, ℕ, ◌+◌, true, List, [], ◌∷◌, ◌++◌, Option, Some, None, Ok, refl, sym, ap, ◌∙◌, arith, subst, append-nil, length-append}
+use Rattle.std.proofs.lemmas.List.{take-append-le}
 use Rattle.std.specs.Prelude.{IfSome}
 use Rattle.answer_text.specs.declared.report.Mark.{Mark}
 use Rattle.answer_text.specs.declared.report.Report.{Report}
@@ -8,14 +8,12 @@ use Rattle.answer_text.specs.declared.status.Status.{Status}
 use Rattle.answer_text.specs.declared.status.Status.TheVariants.{Done, BadWords, BadScript, ReadFault, WriteFault, SourceDisk, ReplicaDisk, SourceDamaged, ReplicaDamaged, LogDamaged, LogForeign, Differs, NoMemory}
 use Rattle.port_traits.specs.declared.identity.Identity.{Identity}
 use Rattle.port_traits.specs.declared.identity.Draw.{Draw}
-use Rattle.disk_model.specs.Story.{Image, Story, count, seen}
-use Rattle.disk_model.specs.Moments.{AfterCall, During, Each, GoesOn, Since}
-use Rattle.disk_model.proofs.Moments.{since_map}
+use Rattle.disk_model.specs.Story.{Story, count, seen}
+use Rattle.disk_model.specs.Moments.{Each, GoesOn, Since}
 use Rattle.store_model.specs.declared.record.Kind.TheVariants.{Replica as OfReplica}
 use Rattle.store_model.specs.Held.{Held}
-use Rattle.store_model.specs.Stores.{Spot, held_by}
-use Rattle.durable_runs.specs.Replicas.{Carries, ReplicaStands, StateImage}
-use Rattle.durable_runs.specs.Runs.{CallsFit}
+use Rattle.store_model.specs.Stores.{held_by}
+use Rattle.durable_runs.specs.Replicas.{ReplicaStands, StateImage}
 use Rattle.durable_runs.proofs.States.{carries_images, carries_widen}
 use Rattle.store_replica.specs.Writing.{OpensOn}
 use Rattle.store_replica.proofs.Standings.{each_stands, opens_now}

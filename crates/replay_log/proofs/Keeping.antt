@@ -1,5 +1,5 @@
 -- What one group more leaves on the disk and in the report.
-use Rattle.std.proofs.Common.{◌≡◌, ◌⊎◌, inl, inr, ℕ, ◌+◌, ◌^◌, ◌<◌, ◌≤◌, List, [], ◌∷◌, ◌++◌, length, map, Option, Some, None, refl, sym, ap, ◌∙◌, arith, subst, append-nil}
+use Rattle.std.proofs.Common.{◌≡◌, ◌⊎◌, inl, inr, ℕ, ◌+◌, List, [], length, Option, Some, None, refl, sym, ap, ◌∙◌, arith, subst, append-nil}
 use Rattle.std.specs.Prelude.{IfSome}
 use Rattle.port_traits.specs.declared.identity.Identity.{Identity}
 use Rattle.port_traits.specs.declared.identity.Draw.{Draw}
@@ -7,13 +7,11 @@ use Rattle.answer_text.specs.declared.report.Mark.{Mark}
 use Rattle.disk_model.specs.Story.{Story, count}
 use Rattle.disk_model.specs.Moments.{Each, GoesOn}
 use Rattle.disk_model.proofs.Moments.{on_count}
-use Rattle.disk_model.proofs.Laws.{if_on}
 use Rattle.store_model.specs.Held.{Held}
-use Rattle.durable_runs.specs.Marks.{last_named, replica_mark}
 use Rattle.durable_runs.specs.Replicas.{Carries, CarriesTo, ReplicaRuns, ReplicaStands}
 use Rattle.durable_runs.specs.Runs.{CallsFit}
 use Rattle.durable_runs.proofs.States.{carries_none, carries_idle, carries_behind, carries_join, carries_widen, carries_to_widen}
-use Rattle.store_replica.specs.Pushed.{ArePushed, NameInTurn}
+use Rattle.store_replica.specs.Pushed.{ArePushed}
 use Rattle.store_replica.proofs.Standings.{each_stands}
 use Rattle.durable_replica.specs.Standing.{IsOnDisk, IsStateOf}
 use Rattle.durable_replica.specs.declared.replica.DurableReplica.{DurableReplica}
@@ -22,12 +20,12 @@ use Rattle.log_reader.specs.Reading.{Reader}
 use Rattle.log_reader.specs.log_file_model.Passing.{names_next}
 use Rattle.log_reader.specs.log_model.Log.{LogPlace}
 use Rattle.replica_node.specs.Kept.{held_of, replica_of}
-use Rattle.replica_node.specs.replica_model.Applying.{Going, apply, go_on, going_from}
+use Rattle.replica_node.specs.replica_model.Applying.{apply, go_on, going_from}
 use Rattle.replica_node.specs.replica_model.Replica.{Replica, fetched}
 use Rattle.replica_node.specs.replica_model.Replaying.{Replay, by_form}
 use Rattle.replay_log.specs.declared.replaying.Replaying as code_replaying
 use Rattle.replay_log.specs.Ends.{held_in}
-use Rattle.replay_log.specs.Keeping.{IsWhole, IsBegun, Keeps, Follows}
+use Rattle.replay_log.specs.Keeping.{IsWhole, Keeps, Follows}
 use Rattle.replay_log.specs.Replaying.{Stands, IsNext, IsEither, GroupKept, GroupBroke, kept}
 use Rattle.replay_log.proofs.Stepping.{after_steps, group_follows}
 

@@ -1,5 +1,5 @@
 -- Marks, one for each group that was carried out.
-use Rattle.std.proofs.Common.{◌≡◌, ℕ, ◌+◌, List, [], ◌∷◌, ◌++◌, length, map, refl, sym, ap, ◌∙◌, arith, subst, length-append, append_assoc}
+use Rattle.std.proofs.Common.{◌≡◌, ℕ, ◌+◌, List, [], ◌∷◌, ◌++◌, length, map, refl, sym, ap, ◌∙◌, arith, subst}
 use Rattle.answer_text.specs.declared.report.Mark.{Mark}
 use Rattle.store_model.specs.Held.{next_applied}
 use Rattle.durable_runs.specs.Marks.{last_named, replica_mark}

@@ -1,30 +1,24 @@
 -- A replay from the opening of its replica on.
-use Rattle.std.proofs.Common.{◌≡◌, ◌≤◌, inl, ℕ, List, [], ◌∷◌, length, Option, Some, None, Ok, Err, refl, sym, ap, ◌∙◌, arith, subst}
-use Rattle.std.specs.Prelude.{IfSome}
+use Rattle.std.proofs.Common.{◌≡◌, inl, ℕ, List, [], Option, Some, None, refl, arith, subst}
 use Rattle.answer_text.specs.declared.report.Mark.{Mark}
 use Rattle.answer_text.specs.declared.report.Report.{Report}
 use Rattle.answer_text.specs.declared.status.Status.{Status}
 use Rattle.answer_text.specs.declared.status.Status.TheVariants.{Done, BadWords, BadScript, ReadFault, WriteFault, SourceDisk, ReplicaDisk, SourceDamaged, ReplicaDamaged, LogDamaged, LogForeign, Differs, NoMemory}
 use Rattle.port_traits.specs.declared.identity.Identity.{Identity}
 use Rattle.port_traits.specs.declared.identity.Draw.{Draw}
-use Rattle.disk_model.specs.Story.{Story, count, seen}
+use Rattle.disk_model.specs.Story.{Story}
 use Rattle.disk_model.specs.Moments.{GoesOn, IsSettled}
 use Rattle.disk_model.proofs.Moments.{on_trans}
-use Rattle.store_model.specs.declared.record.Kind.TheVariants.{Replica as OfReplica}
 use Rattle.store_model.specs.Held.{Held}
-use Rattle.store_model.specs.Stores.{held_by}
-use Rattle.durable_runs.specs.Replicas.{Carries, CarriesTo, ReplicaRuns}
-use Rattle.durable_runs.specs.Runs.{CallsFit}
+use Rattle.durable_runs.specs.Replicas.{CarriesTo, ReplicaRuns}
 use Rattle.durable_runs.proofs.States.{carries_none, carries_begins, carries_behind, carries_images, carries_join}
 use Rattle.store_replica.specs.Writing.{OpensOn}
 use Rattle.log_reader.specs.log_file_model.Walk.{Ending, ended, damaged, foreign, Piece}
 use Rattle.replica_node.specs.Kept.{held_of}
-use Rattle.replica_node.specs.replica_model.Replica.{Replica, replica_from, reopened, want}
-use Rattle.replica_node.specs.apply_model.Stops.{Differs as Stop}
-use Rattle.run_streams.specs.Reports.{first_mark}
+use Rattle.replica_node.specs.replica_model.Replica.{Replica, reopened}
 use Rattle.replay_log.specs.declared.replaying.Replaying as code_replaying
 use Rattle.replay_log.specs.Ends.{IsBehind, NotOpened, Opened, ReplayEnds, Survives}
-use Rattle.replay_log.specs.Replaying.{Broke, ComesTo, IsRefused, Lasts, Refused, Through, UpTo, UpToFault, kept}
+use Rattle.replay_log.specs.Replaying.{Broke, ComesTo, IsRefused, Lasts, Refused, Through, UpToFault, kept}
 
 -- ---- an opening
 

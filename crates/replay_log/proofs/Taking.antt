@@ -1,5 +1,5 @@
 -- The log on an input, group by group.
-use Rattle.std.proofs.Common.{◌≡◌, ◌⊎◌, inl, inr, ◌<◌, ◌≤◌, ℕ, ◌+◌, ◌-◌, Bool, false, List, [], ◌∷◌, ◌++◌, length, take, Option, Some, None, Result, Err, refl, sym, ap, ◌∙◌, arith, subst, length-append}
+use Rattle.std.proofs.Common.{◌≡◌, inl, inr, ◌<◌, ◌≤◌, ℕ, ◌+◌, ◌-◌, false, List, [], ◌∷◌, ◌++◌, length, Option, Some, None, Result, Err, refl, sym, ap, ◌∙◌, arith, subst, length-append}
 use Rattle.std.proofs.lemmas.List.{take_all, take-append-le}
 use Rattle.answer_text.specs.declared.report.Mark.{Mark}
 use Rattle.answer_text.specs.declared.status.Status.{Status}
@@ -7,10 +7,10 @@ use Rattle.answer_text.specs.declared.status.Status.TheVariants.{Done, BadWords,
 use Rattle.port_traits.specs.declared.identity.Identity.{Identity}
 use Rattle.port_traits.specs.declared.identity.Draw.{Draw}
 use Rattle.disk_model.specs.Story.{Story}
-use Rattle.disk_model.specs.Moments.{Each, GoesOn}
+use Rattle.disk_model.specs.Moments.{GoesOn}
 use Rattle.disk_model.proofs.Moments.{on_refl, on_trans}
 use Rattle.store_model.specs.Held.{Held}
-use Rattle.durable_runs.specs.Replicas.{Carries, CarriesTo, ReplicaStands}
+use Rattle.durable_runs.specs.Replicas.{Carries, CarriesTo}
 use Rattle.durable_runs.specs.Runs.{CallsFit}
 use Rattle.durable_runs.proofs.States.{carries_idle, carries_behind, carries_join, carries_widen, carries_to_widen}
 use Rattle.store_replica.proofs.Standings.{each_stands}
@@ -30,8 +30,8 @@ use Rattle.log_reader.proofs.of_log_group_laws.Lying.{group_lies}
 use Rattle.log_reader.specs.log_file_model.Passing.{names_next}
 use Rattle.log_reader.specs.log_file_model.Walk.{damaged, ended, Piece}
 use Rattle.replay_log.specs.declared.replaying.Replaying as code_replaying
-use Rattle.replay_log.specs.Ends.{AreMarks, IsBehind, held_in}
-use Rattle.replay_log.specs.Keeping.{IsWhole, IsBegun}
+use Rattle.replay_log.specs.Ends.{IsBehind, held_in}
+use Rattle.replay_log.specs.Keeping.{IsWhole}
 use Rattle.replay_log.specs.Replaying.{Stands, IsFresh, IsReady, IsNext, IsStop, IsEither, Went, GroupKept, GroupBroke, KeptBy, Lasts, Broke, Under, Through, UpToFault, ComesTo, kept, read_by}
 use Rattle.replay_log.proofs.Groups.{one_more}
 use Rattle.replay_log.proofs.Keeping.{fit_before, held_kept, none_named}
