@@ -4,6 +4,7 @@ pub mod Disks
 pub mod Faults
 pub mod Logged
 pub mod Marks
+pub mod Opening
 pub mod Ran
 pub mod Running
 pub mod Survives

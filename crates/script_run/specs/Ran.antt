@@ -32,12 +32,12 @@ pub record Reports (names : Names) (src rep : Draw) (from : Starts) (t u : Disks
   pub marks : AreMarks (numbers_of (both_from names src from)) (numbers_of (end_of names (both_from names src from) cs ds)) (marks_of names (both_from names src from) 1 cs ds)
       report.marks
 
--- Both nodes began where their disks stood. All commands were carried out, each at a draw, and the lines of what they were told were written. Each session's transactions are logged in the format that it had. Where the run began as one may, no
--- APPLY stopped where each item that it came to does the same at every replica, and none at anything but an item that has no effect; what
--- was committed makes the committed base, and its statements, run again one transaction after the other, give just the changes of its
--- entries; and the replica follows the source: it has carried out the first of the entries that were owed and committed, its base and
--- counters are what an applier makes of these, each at the draw of its APPLY, and where each item of them does the same at every replica,
--- its base is what they make.
+-- Both nodes began where their disks stood. All commands were carried out, each at a draw, and the lines of what they were told were written.
+-- Each session's transactions are logged in the format that it had. Where the run began as one may, no APPLY stopped where each item that it
+-- came to does the same at every replica, and none at anything but an item that has no effect; what was committed makes the committed base, and
+-- its statements, run again one transaction after the other, give just the changes of its entries; and the replica follows the source: it has
+-- carried out the first of the entries that were owed and committed, its base and counters are what an applier makes of these, each at the draw
+-- of its APPLY, and where each item of them does the same at every replica, its base is what they make.
 pub record Ran (from : Starts) (t u : Disks) (cs : List Asked) (report : Report) (before after : Option (List ℕ)) : Type 0 where
   pub names : Names
   pub src : Draw

@@ -1,5 +1,5 @@
 -- A source and a replica that stand for both nodes of a run, and what one command makes of them.
-use Rattle.std.specs.Prelude.{◌≡◌, ◌<◌, ℕ, ◌+◌, ◌^◌, min, List, [], ◌∷◌, ◌++◌, Option, Some, Ok}
+use Rattle.std.specs.Prelude.{◌≡◌, ◌<◌, ℕ, ◌+◌, ◌-◌, ◌^◌, min, List, [], ◌∷◌, ◌++◌, Option, Some, Ok}
 use Rattle.port_traits.specs.declared.identity.Draw.{Draw}
 use Rattle.answer_text.specs.declared.report.Report.{Report}
 use Rattle.answer_text.specs.declared.status.Status.{Status}
@@ -107,7 +107,7 @@ pub record Shows (names : Names) (b : Both) (k : ℕ) (c : Asked) (draw : Draw) 
 -- Where a command begins: its number and the machine's numbers, of which the replica's is within 64 bits, and the calls that each disk has had.
 pub record Began (k : ℕ) (b : Both) (t : Disks) (report : Report) : Type 0 where
   pub now : uncounted report.now ≡ mark_at k b
-  pub few : report.now.applied < 2 ^ 64
+  pub few : b.replica.number < 2 ^ 64
   pub calls : CalledNow t.source report.now.src_calls
   pub rep_calls : CalledNow t.replica report.now.rep_calls
 
