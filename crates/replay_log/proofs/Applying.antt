@@ -5,16 +5,16 @@ use Rattle.port_traits.specs.declared.identity.Identity.{Identity}
 use Rattle.port_traits.specs.declared.identity.Draw.{Draw}
 use Rattle.log_reader.specs.log_model.Groups.{Group}
 use Rattle.log_reader.specs.Reading.{Reader, next_pos}
-use Rattle.replica_node.specs.apply_model.Stops.{Differs}
-use Rattle.replica_node.specs.replica_model.Applying.{Going, apply, damaged, differs, foreign}
-use Rattle.replica_node.specs.replica_model.Replica.{Replica, fetched, want}
-use Rattle.replica_node.specs.replica_model.Replaying.{Replay, by_form}
-use Rattle.replica_node.specs.declared.told.Applied as code_applied
-use Rattle.replica_node.specs.declared.told.Stopped.{Stopped}
-use Rattle.replica_node.specs.declared.told.Stopped.TheVariants as stopped
-use Rattle.replica_node.specs.Kept.{replica_of}
+use Rattle.durable_replica.specs.replica_node.apply_model.Stops.{Differs}
+use Rattle.durable_replica.specs.replica_node.replica_model.Applying.{Going, apply, damaged, differs, foreign}
+use Rattle.durable_replica.specs.replica_node.replica_model.Replica.{Replica, fetched, want}
+use Rattle.durable_replica.specs.replica_node.replica_model.Replaying.{Replay, by_form}
+use Rattle.durable_replica.specs.replica_node.declared.told.Applied as code_applied
+use Rattle.durable_replica.specs.replica_node.declared.told.Stopped.{Stopped}
+use Rattle.durable_replica.specs.replica_node.declared.told.Stopped.TheVariants as stopped
+use Rattle.durable_replica.specs.replica_node.Kept.{replica_of}
 use Rattle.durable_replica.specs.declared.replica.DurableReplica.{DurableReplica}
-use Rattle.replica_node.specs.Steps.{IsTold, stop_of}
+use Rattle.durable_replica.specs.replica_node.Steps.{IsTold, stop_of}
 use Rattle.log_reader.specs.log_file_model.Passing.{names_next}
 use Rattle.log_reader.proofs.of_log_group_laws.Lying.{group_lies}
 use Rattle.replay_log.specs.declared.replaying.Replaying as code_replaying

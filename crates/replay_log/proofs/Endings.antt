@@ -13,17 +13,17 @@ use Rattle.disk_model.specs.Moments.{Each, GoesOn, Since}
 use Rattle.store_model.specs.declared.record.Kind.TheVariants.{Replica as OfReplica}
 use Rattle.store_model.specs.Held.{Held}
 use Rattle.store_model.specs.Stores.{held_by}
-use Rattle.durable_runs.specs.Replicas.{ReplicaStands, StateImage}
-use Rattle.durable_runs.proofs.States.{carries_images, carries_widen}
-use Rattle.store_replica.specs.Writing.{OpensOn}
-use Rattle.store_replica.proofs.Standings.{each_stands, opens_now}
-use Rattle.replica_node.specs.apply_model.Stops.{Differs as Stop}
+use Rattle.durable_replica.specs.store_replica.durable_runs.Replicas.{ReplicaStands, StateImage}
+use Rattle.durable_replica.proofs.of_store_replica.of_durable_runs.States.{carries_images, carries_widen}
+use Rattle.durable_replica.specs.store_replica.Writing.{OpensOn}
+use Rattle.durable_replica.proofs.of_store_replica.Standings.{each_stands, opens_now}
+use Rattle.durable_replica.specs.replica_node.apply_model.Stops.{Differs as Stop}
 use Rattle.log_reader.specs.log_model.Log.{LogPlace}
 use Rattle.log_reader.specs.Behind.{IsLogFront}
-use Rattle.replica_node.specs.Kept.{held_of}
-use Rattle.replica_node.specs.replica_model.Lines.{applied_words, replayed_line}
-use Rattle.replica_node.specs.replica_model.Replica.{Replica}
-use Rattle.replica_node.specs.replica_model.Replaying.{Replay, all_replayed, replay_by, replayed_from}
+use Rattle.durable_replica.specs.replica_node.Kept.{held_of}
+use Rattle.durable_replica.specs.replica_node.replica_model.Lines.{applied_words, replayed_line}
+use Rattle.durable_replica.specs.replica_node.replica_model.Replica.{Replica}
+use Rattle.durable_replica.specs.replica_node.replica_model.Replaying.{Replay, all_replayed, replay_by, replayed_from}
 use Rattle.run_streams.specs.Stops.{failed_writes}
 use Rattle.run_streams.specs.Wrote.{Wrote, WroteFront}
 use Rattle.log_reader.specs.log_file_model.Walk.{Ending, ended, damaged, foreign, Grouped, Piece}

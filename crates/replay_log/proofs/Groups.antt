@@ -2,8 +2,8 @@
 use Rattle.std.proofs.Common.{◌≡◌, List, [], ◌∷◌, ◌++◌, Option, Some, None, refl, sym, ap, ◌∙◌}
 use Rattle.port_traits.specs.declared.identity.Identity.{Identity}
 use Rattle.port_traits.specs.declared.identity.Draw.{Draw}
-use Rattle.replica_node.specs.apply_model.Stops.{Differs}
-use Rattle.replica_node.specs.replica_model.Replaying.{Replay, by_form, unless_stopped, all_replayed}
+use Rattle.durable_replica.specs.replica_node.apply_model.Stops.{Differs}
+use Rattle.durable_replica.specs.replica_node.replica_model.Replaying.{Replay, by_form, unless_stopped, all_replayed}
 use Rattle.log_reader.specs.log_file_model.Walk.{Piece}
 
 module _ (identity : Identity) (draw : Draw) where

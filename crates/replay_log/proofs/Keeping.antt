@@ -8,21 +8,21 @@ use Rattle.disk_model.specs.Story.{Story, count}
 use Rattle.disk_model.specs.Moments.{Each, GoesOn}
 use Rattle.disk_model.proofs.Moments.{on_count}
 use Rattle.store_model.specs.Held.{Held}
-use Rattle.durable_runs.specs.Replicas.{Carries, CarriesTo, ReplicaRuns, ReplicaStands}
-use Rattle.durable_runs.specs.Runs.{CallsFit}
-use Rattle.durable_runs.proofs.States.{carries_none, carries_idle, carries_behind, carries_join, carries_widen, carries_to_widen}
-use Rattle.store_replica.specs.Pushed.{ArePushed}
-use Rattle.store_replica.proofs.Standings.{each_stands}
+use Rattle.durable_replica.specs.store_replica.durable_runs.Replicas.{Carries, CarriesTo, ReplicaRuns, ReplicaStands}
+use Rattle.durable_replica.specs.store_replica.durable_runs.Runs.{CallsFit}
+use Rattle.durable_replica.proofs.of_store_replica.of_durable_runs.States.{carries_none, carries_idle, carries_behind, carries_join, carries_widen, carries_to_widen}
+use Rattle.durable_replica.specs.store_replica.Pushed.{ArePushed}
+use Rattle.durable_replica.proofs.of_store_replica.Standings.{each_stands}
 use Rattle.durable_replica.specs.Standing.{IsOnDisk, IsStateOf}
 use Rattle.durable_replica.specs.declared.replica.DurableReplica.{DurableReplica}
 use Rattle.log_reader.specs.log_model.Groups.{Group}
 use Rattle.log_reader.specs.Reading.{Reader}
 use Rattle.log_reader.specs.log_file_model.Passing.{names_next}
 use Rattle.log_reader.specs.log_model.Log.{LogPlace}
-use Rattle.replica_node.specs.Kept.{held_of, replica_of}
-use Rattle.replica_node.specs.replica_model.Applying.{apply, go_on, going_from}
-use Rattle.replica_node.specs.replica_model.Replica.{Replica, fetched}
-use Rattle.replica_node.specs.replica_model.Replaying.{Replay, by_form}
+use Rattle.durable_replica.specs.replica_node.Kept.{held_of, replica_of}
+use Rattle.durable_replica.specs.replica_node.replica_model.Applying.{apply, go_on, going_from}
+use Rattle.durable_replica.specs.replica_node.replica_model.Replica.{Replica, fetched}
+use Rattle.durable_replica.specs.replica_node.replica_model.Replaying.{Replay, by_form}
 use Rattle.replay_log.specs.declared.replaying.Replaying as code_replaying
 use Rattle.replay_log.specs.Ends.{held_in}
 use Rattle.replay_log.specs.Keeping.{IsWhole, Keeps, Follows}

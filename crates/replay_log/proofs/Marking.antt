@@ -2,8 +2,8 @@
 use Rattle.std.proofs.Common.{◌≡◌, ℕ, ◌+◌, List, [], ◌∷◌, ◌++◌, length, map, refl, sym, ap, ◌∙◌, arith, subst}
 use Rattle.answer_text.specs.declared.report.Mark.{Mark}
 use Rattle.store_model.specs.Held.{next_applied}
-use Rattle.durable_runs.specs.Marks.{last_named, replica_mark}
-use Rattle.store_replica.specs.Pushed.{ArePushed, NameInTurn}
+use Rattle.durable_replica.specs.store_replica.durable_runs.Marks.{last_named, replica_mark}
+use Rattle.durable_replica.specs.store_replica.Pushed.{ArePushed, NameInTurn}
 use Rattle.run_streams.specs.Reports.{first_mark}
 use Rattle.replay_log.specs.Ends.{AreMarks}
 

@@ -10,12 +10,12 @@ use Rattle.disk_model.specs.Story.{Story}
 use Rattle.disk_model.specs.Moments.{GoesOn, IsSettled}
 use Rattle.disk_model.proofs.Moments.{on_trans}
 use Rattle.store_model.specs.Held.{Held}
-use Rattle.durable_runs.specs.Replicas.{CarriesTo, ReplicaRuns}
-use Rattle.durable_runs.proofs.States.{carries_none, carries_begins, carries_behind, carries_images, carries_join}
-use Rattle.store_replica.specs.Writing.{OpensOn}
+use Rattle.durable_replica.specs.store_replica.durable_runs.Replicas.{CarriesTo, ReplicaRuns}
+use Rattle.durable_replica.proofs.of_store_replica.of_durable_runs.States.{carries_none, carries_begins, carries_behind, carries_images, carries_join}
+use Rattle.durable_replica.specs.store_replica.Writing.{OpensOn}
 use Rattle.log_reader.specs.log_file_model.Walk.{Ending, ended, damaged, foreign, Piece}
-use Rattle.replica_node.specs.Kept.{held_of}
-use Rattle.replica_node.specs.replica_model.Replica.{Replica, reopened}
+use Rattle.durable_replica.specs.replica_node.Kept.{held_of}
+use Rattle.durable_replica.specs.replica_node.replica_model.Replica.{Replica, reopened}
 use Rattle.replay_log.specs.declared.replaying.Replaying as code_replaying
 use Rattle.replay_log.specs.Ends.{IsBehind, NotOpened, Opened, ReplayEnds, Survives}
 use Rattle.replay_log.specs.Replaying.{Broke, ComesTo, IsRefused, Lasts, Refused, Through, UpToFault, kept}

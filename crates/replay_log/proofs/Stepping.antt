@@ -13,11 +13,11 @@ use Rattle.event_codec.specs.Reading.{Stop, short, damaged, foreign}
 use Rattle.log_reader.specs.log_model.Events.{Place, Placed, events_from, stop_from}
 use Rattle.log_reader.specs.log_model.Groups.{Form, start, next_log, ddl, txn, Group, Next, group, not_whole, damaged_at, foreign_at, Scan, done, stopped, first, scan, stop_next, statement_of, alone, txn_of, begun_by, group_of, group_at}
 use Rattle.log_reader.specs.log_model.Log.{LogPlace, moved}
-use Rattle.replica_node.specs.apply_model.Stops.{Differs}
-use Rattle.replica_node.specs.apply_model.Groups.{Applied, group_carried}
-use Rattle.replica_node.specs.replica_model.Replica.{Replica, behind_form, behind_group, fetched, past_groups, past_next, size_of, want}
-use Rattle.replica_node.specs.replica_model.Applying.{Going, apply, by_form, by_next, carry, carried_out, differs, go_on, going_from, moved_behind, next_at, one_more}
-use Rattle.replica_node.specs.replica_model.Replaying.{Replay, carried, by_form as replay_form}
+use Rattle.durable_replica.specs.replica_node.apply_model.Stops.{Differs}
+use Rattle.durable_replica.specs.replica_node.apply_model.Groups.{Applied, group_carried}
+use Rattle.durable_replica.specs.replica_node.replica_model.Replica.{Replica, behind_form, behind_group, fetched, past_groups, past_next, size_of, want}
+use Rattle.durable_replica.specs.replica_node.replica_model.Applying.{Going, apply, by_form, by_next, carry, carried_out, differs, go_on, going_from, moved_behind, next_at, one_more}
+use Rattle.durable_replica.specs.replica_node.replica_model.Replaying.{Replay, carried, by_form as replay_form}
 use Rattle.log_reader.specs.log_file_model.Passing.{names_next}
 use Rattle.log_reader.proofs.of_log_group_laws.Lying.{group_lies, nothing_there}
 use Rattle.log_reader.proofs.of_log_group_laws.Staying.{group_stays}

@@ -10,10 +10,10 @@ use Rattle.disk_model.specs.Story.{Story}
 use Rattle.disk_model.specs.Moments.{GoesOn}
 use Rattle.disk_model.proofs.Moments.{on_refl, on_trans}
 use Rattle.store_model.specs.Held.{Held}
-use Rattle.durable_runs.specs.Replicas.{Carries, CarriesTo}
-use Rattle.durable_runs.specs.Runs.{CallsFit}
-use Rattle.durable_runs.proofs.States.{carries_idle, carries_behind, carries_join, carries_widen, carries_to_widen}
-use Rattle.store_replica.proofs.Standings.{each_stands}
+use Rattle.durable_replica.specs.store_replica.durable_runs.Replicas.{Carries, CarriesTo}
+use Rattle.durable_replica.specs.store_replica.durable_runs.Runs.{CallsFit}
+use Rattle.durable_replica.proofs.of_store_replica.of_durable_runs.States.{carries_idle, carries_behind, carries_join, carries_widen, carries_to_widen}
+use Rattle.durable_replica.proofs.of_store_replica.Standings.{each_stands}
 use Rattle.durable_replica.specs.Standing.{IsOnDisk}
 use Rattle.log_reader.specs.log_model.Groups.{Group, group}
 use Rattle.log_reader.specs.log_model.Log.{LogPlace}
@@ -21,9 +21,9 @@ use Rattle.log_reader.specs.declared.reader.Found.{Found}
 use Rattle.log_reader.specs.declared.reader.Found.TheVariants as found
 use Rattle.log_reader.specs.Behind.{Behind, CallsLead, FrontLeads, FrontsAreKnown, IsLogFront, LeadsTo, piece_read}
 use Rattle.log_reader.specs.Reading.{Reader, IsGroup, IsEnd, Reads, ReadsFront, next_pos, begun_at}
-use Rattle.replica_node.specs.Kept.{held_of}
-use Rattle.replica_node.specs.replica_model.Replica.{Replica}
-use Rattle.replica_node.specs.replica_model.Replaying.{Replay, by_form, all_replayed, replay_by}
+use Rattle.durable_replica.specs.replica_node.Kept.{held_of}
+use Rattle.durable_replica.specs.replica_node.replica_model.Replica.{Replica}
+use Rattle.durable_replica.specs.replica_node.replica_model.Replaying.{Replay, by_form, all_replayed, replay_by}
 use Rattle.run_streams.specs.Reports.{first_mark}
 use Rattle.run_streams.specs.Stops.{StopsReading, status_of}
 use Rattle.log_reader.proofs.of_log_group_laws.Lying.{group_lies}

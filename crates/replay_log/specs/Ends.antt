@@ -11,14 +11,14 @@ use Rattle.disk_model.specs.Moments.{Each, Since}
 use Rattle.store_model.specs.declared.record.Kind.TheVariants.{Replica as OfReplica}
 use Rattle.store_model.specs.Held.{Held}
 use Rattle.store_model.specs.Stores.{held_by}
-use Rattle.durable_runs.specs.Marks.{last_named, replica_mark}
-use Rattle.durable_runs.specs.Replicas.{ReplicaStands, StateImage}
-use Rattle.durable_runs.specs.Runs.{CallsFit}
-use Rattle.store_replica.specs.Pushed.{NameInTurn}
-use Rattle.replica_node.specs.apply_model.Stops.{Differs as Stop}
-use Rattle.replica_node.specs.replica_model.Replica.{Replica, reopened, replica_from}
-use Rattle.replica_node.specs.replica_model.Replaying.{Replay, all_replayed, replay_by, replayed_from}
-use Rattle.replica_node.specs.replica_model.Lines.{replayed_line}
+use Rattle.durable_replica.specs.store_replica.durable_runs.Marks.{last_named, replica_mark}
+use Rattle.durable_replica.specs.store_replica.durable_runs.Replicas.{ReplicaStands, StateImage}
+use Rattle.durable_replica.specs.store_replica.durable_runs.Runs.{CallsFit}
+use Rattle.durable_replica.specs.store_replica.Pushed.{NameInTurn}
+use Rattle.durable_replica.specs.replica_node.apply_model.Stops.{Differs as Stop}
+use Rattle.durable_replica.specs.replica_node.replica_model.Replica.{Replica, reopened, replica_from}
+use Rattle.durable_replica.specs.replica_node.replica_model.Replaying.{Replay, all_replayed, replay_by, replayed_from}
+use Rattle.durable_replica.specs.replica_node.replica_model.Lines.{replayed_line}
 use Rattle.run_streams.specs.Reports.{first_mark}
 use Rattle.run_streams.specs.Wrote.{Wrote, WroteFront}
 use Rattle.log_reader.specs.log_file_model.Walk.{Ending, ended, damaged, foreign, Piece, grouped_from}

@@ -2,9 +2,9 @@
 use Rattle.std.specs.Prelude.{◌≡◌, ◌⊎◌, ℕ, ◌+◌, Bool, false, List, [], length, None}
 use Rattle.std.specs.Option.{option_map}
 use Rattle.log_reader.specs.log_model.Groups.{start, Group, group, group_at}
-use Rattle.replica_node.specs.replica_model.Applying.{Going, differs}
-use Rattle.replica_node.specs.replica_model.Replica.{Replica}
-use Rattle.replica_node.specs.replica_model.Replaying.{Replay}
+use Rattle.durable_replica.specs.replica_node.replica_model.Applying.{Going, differs}
+use Rattle.durable_replica.specs.replica_node.replica_model.Replica.{Replica}
+use Rattle.durable_replica.specs.replica_node.replica_model.Replaying.{Replay}
 
 -- some bytes are just a group
 pub record IsWhole (bytes : List ℕ) (pos : ℕ) (g : Group) : Type 0 where

@@ -14,21 +14,21 @@ use Rattle.disk_model.specs.Moments.{GoesOn}
 use Rattle.store_model.specs.declared.record.Kind.TheVariants.{Replica as OfReplica}
 use Rattle.store_model.specs.Held.{Held}
 use Rattle.store_model.specs.Stores.{held_by}
-use Rattle.durable_runs.specs.Replicas.{Carries, CarriesTo}
-use Rattle.durable_runs.specs.Runs.{CallsFit}
-use Rattle.store_replica.specs.Pushed.{ArePushed, NameInTurn}
-use Rattle.store_replica.specs.Writing.{OpensOn}
+use Rattle.durable_replica.specs.store_replica.durable_runs.Replicas.{Carries, CarriesTo}
+use Rattle.durable_replica.specs.store_replica.durable_runs.Runs.{CallsFit}
+use Rattle.durable_replica.specs.store_replica.Pushed.{ArePushed, NameInTurn}
+use Rattle.durable_replica.specs.store_replica.Writing.{OpensOn}
 use Rattle.durable_replica.specs.Standing.{IsOnDisk}
-use Rattle.replica_node.specs.apply_model.Stops.{Differs as Stop}
+use Rattle.durable_replica.specs.replica_node.apply_model.Stops.{Differs as Stop}
 use Rattle.log_reader.specs.log_model.Groups.{Group}
 use Rattle.log_reader.specs.Behind.{Behind, IsLog, IsLogFront}
 use Rattle.log_reader.specs.Reading.{Reader, IsEnd, next_pos}
-use Rattle.replica_node.specs.replica_model.Lines.{applied_words}
-use Rattle.replica_node.specs.replica_model.Replica.{Replica}
-use Rattle.replica_node.specs.replica_model.Replaying.{Replay, all_replayed, replay_by}
-use Rattle.replica_node.specs.declared.told.Stopped.{Stopped}
-use Rattle.replica_node.specs.declared.told.Stopped.TheVariants as stopped
-use Rattle.replica_node.specs.Kept.{held_of, replica_of}
+use Rattle.durable_replica.specs.replica_node.replica_model.Lines.{applied_words}
+use Rattle.durable_replica.specs.replica_node.replica_model.Replica.{Replica}
+use Rattle.durable_replica.specs.replica_node.replica_model.Replaying.{Replay, all_replayed, replay_by}
+use Rattle.durable_replica.specs.replica_node.declared.told.Stopped.{Stopped}
+use Rattle.durable_replica.specs.replica_node.declared.told.Stopped.TheVariants as stopped
+use Rattle.durable_replica.specs.replica_node.Kept.{held_of, replica_of}
 use Rattle.run_streams.specs.Reports.{first_mark}
 use Rattle.run_streams.specs.Wrote.{Wrote, WroteFront}
 use Rattle.log_reader.specs.log_file_model.Walk.{Ending, ended, damaged, foreign, Grouped, Piece, grouped_from}

@@ -3,10 +3,10 @@ ghost use Rattle.std.specs.Prelude.{◌≡◌, ◌≤◌, [], Err, IfErr, IfOk, 
 ghost use Rattle.fault_counts.specs.Causes.{Rose};
 ghost use Rattle.disk_model.specs.Moments.{GoesOn, IsSettled};
 ghost use Rattle.durable_replica.specs.Standing.{IsOnDisk};
-ghost use Rattle.durable_runs.specs.Replicas.{ReplicaRuns};
-ghost use Rattle.replica_node.specs.Kept.{held_of};
+ghost use Rattle.durable_replica.specs.store_replica.durable_runs.Replicas.{ReplicaRuns};
+ghost use Rattle.durable_replica.specs.replica_node.Kept.{held_of};
 ghost use Rattle.store_model.specs.Held.{Held};
-ghost use Rattle.store_replica.specs.Writing.{OpensOn};
+ghost use Rattle.durable_replica.specs.store_replica.Writing.{OpensOn};
 ghost use Rattle.run_streams.specs.Reports.{AllTold, IsEmpty, Tells};
 ghost use Rattle.run_streams.specs.Stops.{failed_writes, status_of};
 ghost use Rattle.replay_log.specs.Ends.{Opened, ReplayEnds, Reports};

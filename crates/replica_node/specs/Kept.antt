@@ -2,7 +2,7 @@
 use Rattle.std.specs.Prelude.{ℕ, []}
 use Rattle.port_traits.specs.declared.identity.Identity.{Identity}
 use Rattle.commit_store.specs.store_model.Held.{Held}
-use Rattle.prog_run.specs.prog_work.Contents.{Contents, base_of}
+use Rattle.stmt_apply.specs.prog_run.prog_work.Contents.{Contents, base_of}
 use Rattle.relay_log.specs.Reaching.{Fetched}
 use Rattle.replica_model.specs.Replica.{Replica}
 

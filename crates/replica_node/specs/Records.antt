@@ -8,7 +8,7 @@ use Rattle.commit_store.specs.store_model.declared.record.Head.{Head}
 use Rattle.commit_store.specs.store_model.declared.record.Kind.TheVariants as kind
 use Rattle.commit_store.specs.store_model.declared.record.Record.{Record}
 use Rattle.relay_log.specs.log_model.Groups.{Form, start, next_log, ddl, txn}
-use Rattle.prog_run.specs.prog_work.Contents.{Contents, base_of}
+use Rattle.stmt_apply.specs.prog_run.prog_work.Contents.{Contents, base_of}
 use Rattle.replica_model.specs.Replica.{Replica}
 use Rattle.relay_log.specs.declared.place.Walk.{Walk}
 use Rattle.replica_node.specs.Kept.{Kept, held_of, replica_of}

@@ -6,7 +6,7 @@ use Rattle.port_traits.specs.declared.identity.Draw.{Draw}
 use Rattle.relay_log.specs.apply_model.Stops.{Differs}
 use Rattle.relay_log.specs.apply_model.Groups.{Applied}
 use Rattle.relay_log.specs.log_model.Log.{moved}
-use Rattle.prog_run.specs.prog_work.Contents.{Contents}
+use Rattle.stmt_apply.specs.prog_run.prog_work.Contents.{Contents}
 use Rattle.replica_model.specs.Applying.{Going, Stop, differs, damaged, foreign, go_on, going_from}
 use Rattle.replica_model.specs.Replica.{Replica}
 use Rattle.relay_log.specs.declared.place.Walk.{Walk}

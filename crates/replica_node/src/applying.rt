@@ -1,7 +1,7 @@
 //! Groups carried out, one after the other.
 ghost use Rattle.std.specs.Prelude.{◌≡◌, ◌-◌, ℕ, [], length, IfOk, OnErr};
 ghost use Rattle.log_groups.specs.Views.{group_seen};
-ghost use Rattle.prog_run.specs.prog_work.Contents.{base_of};
+ghost use Rattle.stmt_apply.specs.prog_run.prog_work.Contents.{base_of};
 ghost use Rattle.relay_log.specs.Reaching.{IsAhead};
 ghost use Rattle.relay_log.specs.apply_model.Groups.{group_carried};
 ghost use Rattle.replica_model.specs.Applying.{Going as Under, apply, by_next, next_at};
@@ -12,15 +12,15 @@ ghost use Rattle.replica_node.specs.Steps.{CarriesOut, GoesOn, IsFront, IsOver, 
 use crate::records::{definition_record, head_at, place_record, transaction_record};
 use crate::replica::ReplicaNode;
 use crate::told::{Applied, Step, Stopped};
-use answer_making::NodeFault;
 use commit_store::store_model::{Head, steps_lead};
 use log_groups::{Form, Group, Next};
 use port_traits::{Draw, Identity};
-use prog_run::Work;
 use relay_log::Walk;
 use row_apply::Stop;
 use std::alloc::Global;
+use stmt_apply::answer_making::NodeFault;
 use stmt_apply::apply_group;
+use stmt_apply::prog_run::Work;
 use val_types::Duplicate;
 
 /// Why a group is not carried out, unless memory is short.

@@ -6,10 +6,10 @@ ghost use Rattle.replica_node.specs.Records.{IsMadeOf};
 
 use commit_store::store_model::{Head, Record, bodies_are_counted};
 use commit_store::{Prepared, are_changes};
-use prog_run::Work;
 use relay_log::Place;
 use std::alloc::{AllocError, Global};
 use stmt_apply::binlog_sizes::{MOST_BYTES, changes_size};
+use stmt_apply::prog_run::Work;
 use val_types::{Bytes, NoMemory};
 
 /// A text has fewer bytes: no log of a source is so long.

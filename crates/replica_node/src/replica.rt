@@ -1,6 +1,6 @@
 //! The replica.
 ghost use Rattle.std.specs.Prelude.{◌≡◌, ◌≤◌, ◌+◌, [], length, IfOk, OnErr, OnOk};
-ghost use Rattle.prog_run.specs.prog_work.Contents.{base_of};
+ghost use Rattle.stmt_apply.specs.prog_run.prog_work.Contents.{base_of};
 ghost use Rattle.relay_log.specs.Reaching.{place_seen};
 ghost use Rattle.replica_model.specs.apply_model.binlog_sizes.Sizes.{most_text};
 ghost use Rattle.replica_model.specs.Replica.{fetched, first_replica, want};
@@ -8,13 +8,13 @@ ghost use Rattle.replica_model.specs.Selecting.{select_answer};
 ghost use Rattle.replica_node.specs.Kept.{replica_of};
 
 use crate::selecting::answer;
-use answer_making::NodeFault;
 use answer_text::Answer;
 use port_traits::{Draw, Identity};
-use prog_run::Work;
 use relay_log::{Place, Relay};
 use std::alloc::Global;
 use std::marker::Model;
+use stmt_apply::answer_making::NodeFault;
+use stmt_apply::prog_run::Work;
 use val_types::Bytes;
 
 /// A replica in memory, which contracts see as who it is and what it keeps. It is dropped here.

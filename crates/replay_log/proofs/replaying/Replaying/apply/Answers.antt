@@ -1,5 +1,5 @@
 use Rattle.std.proofs.Common.{arith, ◌∙◌, ap, length, refl, List, ℕ, subst}
-use Rattle.replica_node.specs.replica_model.Replica.{fetched}
+use Rattle.durable_replica.specs.replica_node.replica_model.Replica.{fetched}
 use Rattle.replay_log.specs.Replaying.{kept}
 use Rattle.replay_log.proofs.Applying.{room_for, room_to_count, went_on, now_stands}
 use Rattle.replay_log.proofs.Keeping.{broke_before, broke_fetching, broke_applying, kept_applying}

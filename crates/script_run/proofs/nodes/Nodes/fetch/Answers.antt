@@ -1,6 +1,6 @@
 use Rattle.std.proofs.Common.{refl, ap, ◌∙◌, arith}
 use Rattle.disk_model.proofs.Moments.{on_refl}
-use Rattle.replica_node.specs.replica_model.Lines.{fetched_line}
+use Rattle.durable_replica.specs.replica_node.replica_model.Lines.{fetched_line}
 use Rattle.script_run.proofs.Spoken.{fetched_idle, fetched_on, fetched_shown, looked_on, on_disk_looked, replica_refuses}
 use Rattle.script_run.proofs.nodes.Nodes.fetch.Goals as goal
 
