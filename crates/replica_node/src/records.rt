@@ -12,12 +12,8 @@ use commit_store::{Prepared, are_changes};
 use relay_log::Place;
 use std::alloc::{AllocError, Global};
 use stmt_apply::binlog_sizes::{MOST_BYTES, changes_size};
-<<<<<<< HEAD
 use stmt_apply::prog_run::Work;
-use val_types::{Bytes, NoMemory};
-=======
 use val_types::{Bytes, Change, NoMemory};
->>>>>>> 0ba386a7 (replica_node: proofs of records and steps)
 
 /// A text has fewer bytes, as no group has so many.
 const TOO_LONG: usize = 2_147_483_648;
