@@ -45,6 +45,7 @@ fn stopped(alloc: Global, stop: Stop) -> Result<Step, NodeFault>
 
 /// Carries a transaction out, makes its record of its changes, and lets them stand; or says why it stops. Where memory is short its
 /// changes go back.
+#[tactic(auto, using(stmt_apply::proofs::Staying::given_back, crate::proofs::Carrying::transaction_opens))]
 fn carry_transaction(
     alloc: Global,
     work: &mut Work,
@@ -77,7 +78,7 @@ fn carry_transaction(
     }
 }
 
-/// IsRecorded the record of a definition and carries it out, which cannot be taken back; or says why it stops.
+/// Makes the record of a definition and carries it out, which cannot be taken back; or says why it stops.
 fn carry_definition(
     alloc: Global,
     work: &mut Work,

@@ -1,7 +1,10 @@
 //! The records of what a replica does, made before it stands.
-ghost use Rattle.std.specs.Prelude.{◌≡◌, IfOk};
+ghost use Rattle.std.specs.Prelude.{◌≡◌, ◌≤◌, IfOk};
+ghost use Rattle.std.specs.Bool.{OnTrue};
+ghost use Rattle.std.specs.List.{AllByRecursion};
 ghost use Rattle.commit_store.specs.store_model.declared.record.Record.{Record as AnyRecord};
-ghost use Rattle.commit_store.specs.store_model.Bodies.{IsHead};
+ghost use Rattle.commit_store.specs.store_model.Bodies.{IsChange, IsHead};
+ghost use Rattle.replica_model.specs.apply_model.binlog_sizes.Sizes.{changes_size, most_bytes};
 ghost use Rattle.replica_node.specs.Records.{IsMadeOf};
 
 use commit_store::store_model::{Head, Record, bodies_are_counted};
@@ -10,9 +13,9 @@ use relay_log::Place;
 use std::alloc::{AllocError, Global};
 use stmt_apply::binlog_sizes::{MOST_BYTES, changes_size};
 use stmt_apply::prog_run::Work;
-use val_types::{Bytes, NoMemory};
+use val_types::{Bytes, Change, NoMemory};
 
-/// A text has fewer bytes: no log of a source is so long.
+/// A text has fewer bytes, as no group has so many.
 const TOO_LONG: usize = 2_147_483_648;
 
 /// A fact of a head: its numbers have their widths.
@@ -22,8 +25,14 @@ fn is_head(head: Head)
     let _ = head;
 }
 
-/// The record of the changes that stand open. Changes that have not the form of a body, or too many bytes, as none have in a run, are
-/// refused as where memory is short.
+/// Whether changes have the form of a body, and no more bytes than a transaction may have. In a run all do.
+fn have_body(changes: &[Change]) -> bool
+    ensures { OnTrue result (AllByRecursion IsChange changes.now × (changes_size changes.now ≤ most_bytes)) }
+{
+    changes_size(changes) <= MOST_BYTES && are_changes(changes)
+}
+
+/// The record of the changes that stand open. Those that can have no body are refused as where memory is short.
 pub(crate) fn transaction_record(
     alloc: Global,
     head: Head,
@@ -34,13 +43,13 @@ pub(crate) fn transaction_record(
     is_head(head);
     bodies_are_counted();
     let changes = work.undo().since(0)?;
-    if changes_size(changes.as_slice()) > MOST_BYTES || !are_changes(changes.as_slice()) {
+    if !have_body(changes.as_slice()) {
         return Err(AllocError);
     }
     Prepared::new(alloc, &Record::TransactionApplied { head, changes })
 }
 
-/// The record of a definition with a text. One of 2 GiB, as none has in a run, is refused as where memory is short.
+/// The record of a definition with a text.
 pub(crate) fn definition_record(
     alloc: Global,
     head: Head,
