@@ -3,8 +3,8 @@ use Rattle.std.specs.Prelude.{◌≡◌, ℕ, length, Option, IfSome}
 use Rattle.port_traits.specs.declared.identity.Identity.{Identity}
 use Rattle.port_traits.specs.declared.identity.Draw.{Draw}
 use Rattle.disk_model.specs.Story.{Story, seen}
-use Rattle.replica_model.specs.Applying.{go_on, going_from}
-use Rattle.replica_model.specs.Replica.{Replica}
+use Rattle.replica_node.specs.replica_model.Applying.{go_on, going_from}
+use Rattle.replica_node.specs.replica_model.Replica.{Replica}
 use Rattle.store_model.specs.Held.{Held}
 use Rattle.store_model.specs.Stores.{first_log}
 use Rattle.store_replica.specs.Writing.{IsOn}

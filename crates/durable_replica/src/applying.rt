@@ -2,12 +2,14 @@
 ghost use Rattle.std.specs.Prelude.{◌≡◌, ◌+◌, IfOk, OnErr, OnOk, length};
 ghost use Rattle.disk_model.specs.Answers.{HasNodeCause};
 ghost use Rattle.disk_model.specs.Moments.{GoesOn};
+ghost use Rattle.durable_replica.specs.Going.{HasRun, IsDone};
 ghost use Rattle.durable_replica.specs.Standing.{IsOnDisk, IsStateOf};
-ghost use Rattle.durable_runs.specs.Replicas.{Carries, CarriesTo};
-ghost use Rattle.replica_model.specs.Applying.{apply};
+ghost use Rattle.store_replica.specs.durable_runs.Replicas.{Carries, CarriesTo};
+ghost use Rattle.replica_node.specs.replica_model.Applying.{apply};
 ghost use Rattle.replica_node.specs.Kept.{held_of, replica_of};
 ghost use Rattle.replica_node.specs.Steps.{IsFront, IsTold};
-ghost use Rattle.store_replica.specs.Pushed.{ArePushed, CallsFit};
+ghost use Rattle.store_replica.specs.durable_runs.Runs.{CallsFit};
+ghost use Rattle.store_replica.specs.Pushed.{ArePushed};
 
 use crate::replica::DurableReplica;
 use answer_text::Report;
@@ -42,6 +44,24 @@ impl DurableReplica {
         ensures marks { IfOk result (λ told. length report.new.marks ≡ length report.old.marks + told.count) }
         ensures rest { report.new ≡ record report.old { marks = report.new.marks } }
         ensures goes { GoesOn (D.told d.old) (D.told d.new) }
+        ensures cause { HasNodeCause (D.faults d.old) (D.faults d.new) result }
+    {
+        self.carry_on(d, wanted, draw, report)
+    }
+
+    /// The same, told of all at once.
+    fn carry_on<D: Disk>(
+        &mut self,
+        d: &mut D,
+        wanted: u32,
+        draw: &Draw,
+        report: &mut Report,
+    ) -> Result<Applied, NodeFault>
+        requires { IsOnDisk (D.told d.old) self.old }
+        ensures identity { self.new.node.identity ≡ self.old.node.identity }
+        ensures done { IfOk result (IsDone wanted self.old.node.identity draw.entry.now (replica_of self.old.node) (D.told d.old) report.old (D.told d.new) self.new report.new) }
+        ensures err { OnErr result (IsFront wanted self.old.node.identity draw.entry.now (replica_of self.old.node) (replica_of self.new.node)) }
+        ensures run { HasRun wanted self.old.node.identity draw.entry.now (replica_of self.old.node) (D.told d.old) report.old (D.told d.new) self.new.store.number report.new }
         ensures cause { HasNodeCause (D.faults d.old) (D.faults d.new) result }
     {
         let mut count: u32 = 0;

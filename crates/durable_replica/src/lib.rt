@@ -27,12 +27,13 @@
 //! - A device's fault is answered only where the disk's count of faults rose (`cause`).
 //!
 //! # Only tested
-//! Nothing yet: no test calls it.
+//! Where the program runs over disks: that a replica opens, fetches, goes on and opens again with ample memory.
 #![tactic(auto)]
 
 mod applying;
 mod replica;
 
-// What is its own, and of the crate below what it speaks of, passed on.
+// What is its own, and the crate below that it speaks of, passed on: who stands above names it through this one.
 pub use replica::DurableReplica;
+pub use replica_node;
 pub use replica_node::{Applied, Stopped};

@@ -7,12 +7,12 @@ ghost use Rattle.disk_model.specs.Moments.{GoesOn, IsSettled};
 ghost use Rattle.disk_model.specs.Story.{seen};
 ghost use Rattle.disk_model.specs.declared.refusals.OpenRefusal.TheVariants.{Damaged};
 ghost use Rattle.durable_replica.specs.Standing.{IsOnDisk};
-ghost use Rattle.durable_runs.specs.Replicas.{ReplicaRuns};
-ghost use Rattle.replica_model.specs.Replica.{fetched, reopened, replica_from, want};
-ghost use Rattle.replica_model.specs.Selecting.{select_answer};
-ghost use Rattle.replica_model.specs.apply_model.binlog_sizes.Sizes.{most_text};
+ghost use Rattle.store_replica.specs.durable_runs.Replicas.{ReplicaRuns};
+ghost use Rattle.replica_node.specs.replica_model.Replica.{fetched, reopened, replica_from, want};
+ghost use Rattle.replica_node.specs.replica_model.Selecting.{select_answer};
+ghost use Rattle.replica_node.specs.replica_model.apply_model.binlog_sizes.Sizes.{most_text};
 ghost use Rattle.replica_node.specs.Kept.{held_of, replica_of};
-ghost use Rattle.store_load.specs.Loading.{TellsDamage};
+ghost use Rattle.store_replica.specs.store_open.store_load.Loading.{TellsDamage};
 ghost use Rattle.store_model.specs.Held.{Held};
 ghost use Rattle.store_model.specs.Stores.{held_by};
 ghost use Rattle.store_model.specs.declared.record.Kind.TheVariants.{Replica};
@@ -24,7 +24,7 @@ use disk_model::{Disk, NodeFault, OpenRefusal};
 use port_traits::{Draw, Identity};
 use replica_node::{Place, ReplicaNode};
 use std::alloc::Global;
-use store_open::Opened;
+use store_replica::store_open::Opened;
 use store_replica::{open_store, put_in_relay};
 use val_types::{Bytes, Duplicate};
 
@@ -48,9 +48,9 @@ impl DurableReplica {
         ensures identity { IfOk result (λ k. k.node.identity ≡ identity) }
         ensures on { IfOk result (IsOnDisk (D.told d.new)) }
         ensures opens { (held : Held) → OpensOn (D.told d.old) held → IfOk result (λ k. IfSome (D.told d.old) (λ _.
-            replica_of k.node ≡ replica_from held.base held.number held.place)) }
+            (replica_of k.node ≡ replica_from held.base held.number held.place) × (held_of (replica_of k.node) ≡ held))) }
         ensures reopened { IfOk result (λ k. replica_of k.node ≡ reopened (replica_of k.node)) }
-        ensures held { IfOk result (λ _. IfSome (D.told d.old) (λ _. (held : Held) × (held_by Replica (seen (D.told d.old)) ≡ Ok held))) }
+        ensures held { IfOk result (λ k. IfSome (D.told d.old) (λ _. held_by Replica (seen (D.told d.old)) ≡ Ok (held_of (replica_of k.node)))) }
         ensures runs { (held : Held) (marks : Items Mark) → OpensOn (D.told d.old) held → ReplicaRuns (D.told d.old) (D.told d.new) held [] marks marks }
         ensures damaged { TellsDamage (D.told d.old) Replica result }
         ensures goes { GoesOn (D.told d.old) (D.told d.new) }
@@ -61,7 +61,7 @@ impl DurableReplica {
             log: store.log(),
             pos: store.pos(),
         };
-        let node = ReplicaNode::found(identity, alloc, work, store.number(), place);
+        let node = ReplicaNode::found(alloc, identity, work, store.number(), place);
         Ok(DurableReplica {
             alloc,
             node,
@@ -82,9 +82,9 @@ impl DurableReplica {
         ensures identity { IfOk result (λ k. k.node.identity ≡ identity) }
         ensures on { IfOk result (IsOnDisk (D.told d.new)) }
         ensures opens { (held : Held) → OpensOn (D.told d.old) held → IfOk result (λ k. IfSome (D.told d.old) (λ _.
-            replica_of k.node ≡ replica_from held.base held.number held.place)) }
+            (replica_of k.node ≡ replica_from held.base held.number held.place) × (held_of (replica_of k.node) ≡ held))) }
         ensures reopened { IfOk result (λ k. replica_of k.node ≡ reopened (replica_of k.node)) }
-        ensures held { IfOk result (λ _. IfSome (D.told d.old) (λ _. (held : Held) × (held_by Replica (seen (D.told d.old)) ≡ Ok held))) }
+        ensures held { IfOk result (λ k. IfSome (D.told d.old) (λ _. held_by Replica (seen (D.told d.old)) ≡ Ok (held_of (replica_of k.node)))) }
         ensures runs { (held : Held) (marks : Items Mark) → OpensOn (D.told d.old) held → ReplicaRuns (D.told d.old) (D.told d.new) held [] marks marks }
         ensures damaged { TellsDamage (D.told d.old) Replica result }
         ensures goes { GoesOn (D.told d.old) (D.told d.new) }
@@ -106,9 +106,9 @@ impl DurableReplica {
         ensures goes { GoesOn (D.told d.old) (D.told d.new) }
         ensures cause { HasNodeCause (D.faults d.old) (D.faults d.new) result }
     {
-        if self.node.fetch(piece).is_err() {
+        let Ok(()) = self.node.fetch(piece) else {
             return Err(NodeFault::NoMemory);
-        }
+        };
         put_in_relay(&self.store, d, self.fetched, piece.as_slice())?;
         self.fetched += piece.len() as u64;
         Ok(())

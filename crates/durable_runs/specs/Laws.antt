@@ -1,5 +1,5 @@
 -- What follows of runs.
-use Rattle.std.specs.Prelude.{◌≡◌, ◌≤◌, ◌<◌, ◌^◌, ◌⊎◌, ℕ, Bool, true, List, [], ◌∷◌, ◌++◌, map, Option, Some, None, Ok, IfSome}
+use Rattle.std.specs.Prelude.{◌≡◌, ◌≤◌, ◌<◌, ◌^◌, ◌⊎◌, ℕ, Bool, List, [], ◌∷◌, ◌++◌, map, Option, Some, None, Ok, IfSome}
 use Rattle.std.specs.Option.{option_and_then}
 use Rattle.answer_text.specs.declared.report.Mark.{Mark}
 use Rattle.disk_model.specs.Story.{Image, Story, count, seen}
@@ -11,9 +11,9 @@ use Rattle.session_model.specs.log_entries.Entries.{after}
 use Rattle.session_model.specs.log_model.Log.{LogPlace, log, counted_all, written_to}
 use Rattle.session_model.specs.Machine.{Whole, kept_entry, nowhere}
 use Rattle.session_model.specs.Holding.{EntryMade, EntriesMade, changes_of, define}
-use Rattle.store_model.specs.declared.record.Kind.TheVariants.{Source, Replica}
+use Rattle.store_model.specs.declared.record.Kind.TheVariants.{Source}
 use Rattle.store_model.specs.declared.record.Record.{Record}
-use Rattle.store_model.specs.Held.{Held, applied, nothing_held}
+use Rattle.store_model.specs.Held.{Held, nothing_held}
 use Rattle.gate_journal.specs.Records.{records, with_last}
 use Rattle.store_model.specs.Bodies.{record_of}
 use Rattle.store_model.specs.Stores.{journal_of, first_log, held_by, HasLogs, Stands}
@@ -23,7 +23,7 @@ use Rattle.durable_runs.specs.Marks.{Named, named, Between, NameNow, RiseByOne, 
 use Rattle.durable_runs.specs.Runs.{Side, behind_steps, Claim, Runs, Lasts}
 use Rattle.waiting_entries.specs.Added.{added_to}
 use Rattle.durable_runs.specs.Sources.{Stored, SourceStands, log_in, stored_in, entry_stored, held_after, records_of, records_applied, AreWithin, source_side, SourceLasts, SourceRuns, SourceImage}
-use Rattle.durable_runs.specs.Replicas.{replica_side, ReplicaStands, ReplicaRuns, ReplicaLasts, RunsBoth, Served, IsCarried, AreCarried, ReplicaImage, AreStates, Carries, CarriesTo, StateImage}
+use Rattle.durable_runs.specs.Replicas.{replica_side, ReplicaRuns, ReplicaLasts, RunsBoth, Served, IsCarried, AreCarried, ReplicaImage}
 use Rattle.durable_runs.specs.Behind.{Behind, nothing_stored}
 
 -- ---- marks
@@ -175,44 +175,6 @@ pub record CarriedGoesOn : Type 0 where
   pub steps : (follows : Whole → Bool) (before : Held) (es : List (Entry Whole)) (number : ℕ) (writer : LogPlace) (held mid : Held) (front back : List Record)
       → AreCarried follows before es number writer held front → behind_steps replica_side front held ≡ Some mid
       → AreCarried follows before es number writer mid back → AreCarried follows before es number writer held (front ++ back)
-
-module _ (P : Held → Type 0) where
-  -- How runs come to be behind each of whose steps a replica holds one of some states, and how they compose.
-  pub record CarriesCompose : Type 0 where
-    -- it holds one of them at first, and in the end
-    pub first : (t u : Option Story) (held : Held) (a b : List Mark) → Carries P t u held a b → P held
-    pub last : (t u : Option Story) (held last : Held) (a b : List Mark) → CarriesTo P t u held last a b → P last
-    -- a run without a step
-    pub none : (t u : Option Story) (held : Held) (a b : List Mark) → P held → ReplicaRuns t u held [] a b → CarriesTo P t u held held a b
-    -- a run over one record, whether it was kept or not
-    pub one : (t u : Option Story) (held now : Held) (r : Record) (a b : List Mark) → P held → P now → applied r held ≡ Some now
-        → ReplicaRuns t u held (r ∷ []) a b → CarriesTo P t u held now a b
-    -- calls that keep what the store has
-    pub stays : (t u : Option Story) (held : Held) (a : List Mark) → P held → GoesOn t u → Always (count t) u (ReplicaStands held)
-        → CarriesTo P t u held held a a
-    -- the other side pushed marks, while this disk was not called
-    pub idle : (t : Option Story) (held : Held) (a more : List Mark) → P held → Each t (ReplicaStands held)
-        → IfSome t (λ _. NameNow (count t) held.number (map replica_mark more)) → CarriesTo P t t held held a (a ++ more)
-    -- one run behind another, whatever the later one came to
-    pub join : (t u v : Option Story) (held mid last : Held) (a b c : List Mark) → CarriesTo P t u held mid a b → CarriesTo P u v mid last b c
-        → CarriesTo P t v held last a c
-    pub behind : (t u v : Option Story) (held mid : Held) (a b c : List Mark) → CarriesTo P t u held mid a b → Carries P u v mid b c
-        → Carries P t v held a c
-    -- a whole run begins on a settled disk, and claims in the end of each image of each moment what it says
-    pub begins : (t : Option Story) (held : Held) → IsSettled t → IfSome t (λ _. held_by Replica (seen t) ≡ Ok held) → P held
-        → CarriesTo P t t held held [] []
-    pub images : (t u : Option Story) (held : Held) (marks : List Mark) → Carries P t u held [] marks → Since (count t) u (StateImage P held marks)
-
-module _ (P Q : Held → Type 0) where
-  -- Such a run is one of more states too.
-  pub record CarriesWiden : Type 0 where
-    pub run : (t u : Option Story) (held : Held) (a b : List Mark) → ((h : Held) → P h → Q h) → Carries P t u held a b → Carries Q t u held a b
-    pub to : (t u : Option Story) (held last : Held) (a b : List Mark) → ((h : Held) → P h → Q h) → CarriesTo P t u held last a b
-        → CarriesTo Q t u held last a b
-
--- the states that a test of what is held picks
-abbrev pub Picked : (Held → Bool) → Held → Type 0
-Picked test held = test held ≡ true
 
 -- In the end each image of each moment of a replica's run is as it says, where what the replica holds behind each prefix of its steps has
 -- carried out a prefix of the entries.

@@ -11,9 +11,10 @@
 //!
 //! - `specs/Marks`: marks as a side reads them, and what they name
 //! - `specs/Runs`: the claim on an image, runs, and whole runs, for either side
-//! - `specs/Sources`, `specs/Replicas`: what stands for what on a source's disk and on a replica's; what an image promises in the end
+//! - `specs/Sources`, `specs/Replicas`: what stands for what on a source's disk and on a replica's; what an image promises in the end; runs
+//!   behind each of whose steps a replica holds one of some states
 //! - `specs/Behind`: a replica's store behind its source's
-//! - `marks`, `runs`, `stores`, `states`: laws; `worked`: a run by hand
+//! - `marks`, `runs`, `stores`: laws; `worked`: a run by hand
 //!
 //! # Proved
 //! - Later marks and later moments lower nothing that is named, and marks of later calls name nothing yet ([`marks_rise`]).
@@ -29,8 +30,8 @@
 //!   has carried out goes on ([`replicas_go_on`]). So each
 //!   image of each moment of a replica's run has carried out a prefix of the entries, where its steps do ([`replicas_last`]).
 //! - A replica's run behind each of whose steps it holds one of some states comes of no call, of one record, of calls that keep what the
-//!   store has and of marks that the other side pushed; such runs one behind the other are one, and it is one of more states too; in the
-//!   end each image of each moment holds one of them, no less than the marks until then name ([`carries_compose`]).
+//!   store has and of marks that the other side pushed; such runs one behind the other are one, and one of more states too; in the end
+//!   each image of each moment holds one of them, no less than the marks until then name (lemmas of `proofs/States`).
 //! - Runs over both disks compose, also where a command calls one of them ([`both_compose`]).
 //! - Of a source and a replica that have nothing, nothing is owed ([`nothing_owed`]).
 //! - Marks, entries, records, logs and images of a run by hand ([`marks_by_hand`], [`entries_by_hand`], [`logs_by_hand`],
@@ -39,13 +40,11 @@
 
 mod marks;
 mod runs;
-mod states;
 mod stores;
 mod worked;
 
 pub use marks::marks_rise;
 pub use runs::{both_compose, runs_compose, runs_last};
-pub use states::carries_compose;
 pub use stores::{
     held_goes_on, logs_go_on, nothing_owed, replicas_go_on, replicas_last, sources_last,
     sources_stand, stores_go_on,

@@ -56,7 +56,13 @@ impl Relay {
     pub fn new(alloc: Global) -> Relay
         ensures { result ≡ record { place = log_begin 1; bytes = [] } }
     {
-        let place = Place { log: 1, pos: 4 };
+        Relay::at(alloc, Place { log: 1, pos: 4 })
+    }
+
+    /// Nothing was fetched behind a place up to which all was carried out.
+    pub fn at(alloc: Global, place: Place) -> Relay
+        ensures { result ≡ record { place = place_seen place; bytes = [] } }
+    {
         Relay {
             bytes: Vec::new(alloc),
             done: 0,

@@ -1,5 +1,5 @@
 //! The replica follows its source.
-ghost use Rattle.run_laws.specs.Laws.{AllCarriedIsEqual, FollowsBegins, FollowsGoOn, FollowsOpened, NoApplyStops, NothingIsDamaged, NothingIsOwed, OthersFollow, WarnedAsShown};
+ghost use Rattle.run_laws.specs.Laws.{AllCarriedIsEqual, FollowsBegins, FollowsGoOn, FollowsOnTheWay, FollowsOpened, NoApplyStops, NothingIsDamaged, NothingIsOwed, OthersFollow, WarnedAsShown};
 ghost use Rattle.run_laws.specs.Openings.{BeginWithNothing, BothOpen, RunsEndWell};
 ghost use Rattle.run_laws.specs.Replays.{LogIsItsEntries, ReplayIsEqual};
 ghost use Rattle.run_laws.specs.Restarts.{RestartsKeep, RestartsKeepMarks, RestartsStaySound};
@@ -15,14 +15,15 @@ use apply_laws::session_replays::{
 use apply_laws::{bases_hold, entries_of_runs_follow, entry_is_carried};
 use run_model::log_file_model::{end_is_seen, group_is_passed, magic_is_passed};
 
-/// A law: a replica that begins behind its source, owing it some entries, or with nothing as it does, follows it behind each command,
-/// however FETCH cuts the log, and wherever one of both opens again. No APPLY of it stops where each item that it comes to does the same at every replica, and whatever is logged, one stops at nothing but an item
-/// that has no effect there.
+/// A law: a replica that begins behind its source, owing it some entries, or with nothing as it does, follows it behind each command and
+/// behind each step of an APPLY, however FETCH cuts the log, and wherever one of both opens again. No APPLY of it stops where each item that
+/// it comes to does the same at every replica, and whatever is logged, one stops at nothing but an item that has no effect there.
 pub fn replica_follows()
     ensures begins { FollowsBegins }
     ensures opens { FollowsOpened }
     ensures owes { NothingIsOwed }
     ensures goes_on { FollowsGoOn }
+    ensures on_the_way { FollowsOnTheWay }
     ensures stops { NoApplyStops }
     ensures damaged { NothingIsDamaged }
 {

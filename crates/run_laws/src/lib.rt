@@ -10,7 +10,7 @@
 //! stands on it.
 //!
 //! # Proved
-//! - A replica follows its source behind each command of a run (`replica_follows`), wherever both began: with nothing, or with what
+//! - A replica follows its source behind each command of a run, and behind each step of an APPLY (`replica_follows`), wherever both began: with nothing, or with what
 //!   each had, where the replica owed some entries. It has carried out the first of these and of those that the source has committed
 //!   since, each once and in their order, and its place is behind the last of them in the source's log, of which it has
 //!   what follows, as far as it has fetched. Its base and counters are what the definition of an applier makes of the groups of these
@@ -18,7 +18,7 @@
 //!   at every replica, its base is what they make of the one that it began with.
 //! - So it is behind each RESTART of the one and the other: its counters begin anew, what it had fetched is gone, and base, number and
 //!   place stay (`replica_follows`). A source's RESTART leaves all that was committed, and puts out nothing, since its log has begun;
-//!   its sessions begin anew, also with the format of a new one (`restarts_keep`). No command of the program asks the replica's yet.
+//!   its sessions begin anew, also with the format of a new one (`restarts_keep`).
 //! - Where a replica is behind its source by what stands in the log from its place on, both open there, and it follows; and a run that
 //!   began so ends where the next one may, where each item that the replica has carried out does the same at every replica: it owes what
 //!   it has not (`runs_open`).

@@ -12,7 +12,7 @@ use Rattle.store_model.specs.declared.record.Kind.TheVariants.{Source, Replica}
 use Rattle.store_model.specs.Stores.{held_by}
 use Rattle.disk_model.specs.Moments.{GoesOn}
 use Rattle.disk_model.proofs.Moments.{on_refl}
-use Rattle.replica_node.specs.Kept.{held_of}
+use Rattle.durable_replica.specs.replica_node.Kept.{held_of}
 use Rattle.script_run.specs.declared.stops.Refusal.{Refusal}
 use Rattle.script_run.specs.declared.stops.Refusal.TheVariants as refusals
 use Rattle.script_run.specs.Disks.{BothGoOn, Disks, Faults, NoFewer, Stores, disks, faults, stores_in}

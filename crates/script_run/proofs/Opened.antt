@@ -17,10 +17,10 @@ use Rattle.store_model.specs.Held.{Held, LogEnd}
 use Rattle.store_model.specs.Stores.{held_by}
 use Rattle.run_stores.specs.durable_runs.Laws.{HasFirstLog, RunsLast, SourcesLast}
 use Rattle.durable_source.specs.Standing.{OpensOn, Stands, beginning_of}
-use Rattle.replica_node.specs.replica_model.Replica.{Replica as ReplicaNow, replica_from}
-use Rattle.replica_node.specs.Kept.{held_of, replica_of}
-use Rattle.store_replica.proofs.of_durable_runs.States.{carries_begins, carries_join, carries_none}
-use Rattle.store_replica.proofs.Ends.{no_ends}
+use Rattle.durable_replica.specs.replica_node.replica_model.Replica.{Replica as ReplicaNow, replica_from}
+use Rattle.durable_replica.specs.replica_node.Kept.{held_of, replica_of}
+use Rattle.durable_replica.proofs.of_store_replica.of_durable_runs.States.{carries_begins, carries_join, carries_none}
+use Rattle.durable_replica.proofs.of_store_replica.Ends.{no_ends}
 use Rattle.run_stores.specs.durable_runs.Replicas.{CarriesTo, ReplicaRuns}
 use Rattle.run_stores.specs.durable_runs.Runs.{CallsFit}
 use Rattle.run_stores.specs.durable_runs.Sources.{SourceLasts, SourceRuns, SourceStands, Stored, source_side, stored_in}

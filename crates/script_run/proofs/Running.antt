@@ -11,8 +11,8 @@ use Rattle.answer_text.specs.declared.status.Status.TheVariants.{Done, BadWords,
 use Rattle.fault_counts.specs.Causes.{Rose}
 use Rattle.disk_model.specs.Story.{Story, seen}
 use Rattle.run_stores.specs.durable_runs.Laws.{SourcesLast}
-use Rattle.replica_node.specs.Kept.{held_of}
-use Rattle.replica_node.specs.replica_model.Replica.{Replica}
+use Rattle.durable_replica.specs.replica_node.Kept.{held_of}
+use Rattle.durable_replica.specs.replica_node.replica_model.Replica.{Replica}
 use Rattle.run_laws.specs.run_model.Asked.{Asked, say, select, take_bytes, take_groups, restart_source, restart_replica}
 use Rattle.run_laws.specs.run_model.Run.{Names, Both, Starts, both_from, next, end_of, told_lines, lines_shown, draws_of, kept_if, draws_source, draws_replica, carried_in, mark_at, last_mark}
 use Rattle.run_laws.specs.run_model.Following.{Follows}

@@ -32,22 +32,22 @@ use Rattle.run_laws.specs.session_model.Holding.{Beginning, FormatsDecide, Holds
 use Rattle.run_laws.specs.session_model.Machine.{Whole, whole, kept_entry, step, Step, Machine, machine_after, log_bytes}
 use Rattle.run_laws.specs.session_model.Openings.{RestartsHold, committed_in, opening_entries, restarted}
 use Rattle.run_laws.specs.session_replays.Replaying.{ReplaysGoOn}
-use Rattle.store_source.specs.Pushed.{ArePushed}
-use Rattle.store_source.proofs.Images.{each_stands as source_each}
-use Rattle.store_replica.specs.Pushed.{ArePushed as AppliedPushed}
-use Rattle.store_replica.proofs.Standings.{each_stands as replica_each}
-use Rattle.store_replica.proofs.of_durable_runs.States.{carries_none, carries_to_widen, carries_widen}
+use Rattle.durable_source.specs.store_source.Pushed.{ArePushed}
+use Rattle.durable_source.proofs.of_store_source.Images.{each_stands as source_each}
+use Rattle.durable_replica.specs.store_replica.Pushed.{ArePushed as AppliedPushed}
+use Rattle.durable_replica.proofs.of_store_replica.Standings.{each_stands as replica_each}
+use Rattle.durable_replica.proofs.of_store_replica.of_durable_runs.States.{carries_none, carries_to_widen, carries_widen}
 use Rattle.durable_replica.specs.Standing.{IsOnDisk, IsStateOf}
 use Rattle.durable_replica.specs.declared.replica.DurableReplica.{DurableReplica}
 use Rattle.durable_source.specs.declared.source.DurableSource.{DurableSource}
 use Rattle.durable_source.specs.Standing.{Stands, beginning_of}
-use Rattle.replica_node.specs.replica_model.Replica.{Replica, fetched, reopened, want}
-use Rattle.replica_node.specs.replica_model.Applying.{Going, apply, go_on, going_from}
-use Rattle.replica_node.specs.replica_model.Lines.{applied_line, fetched_line}
-use Rattle.replica_node.specs.replica_model.Selecting.{select_answer}
-use Rattle.replica_node.specs.declared.told.Applied.{Applied}
-use Rattle.replica_node.specs.Kept.{held_of, replica_of}
-use Rattle.replica_node.specs.Steps.{IsTold, stop_of}
+use Rattle.durable_replica.specs.replica_node.replica_model.Replica.{Replica, fetched, reopened, want}
+use Rattle.durable_replica.specs.replica_node.replica_model.Applying.{Going, apply, go_on, going_from}
+use Rattle.durable_replica.specs.replica_node.replica_model.Lines.{applied_line, fetched_line}
+use Rattle.durable_replica.specs.replica_node.replica_model.Selecting.{select_answer}
+use Rattle.durable_replica.specs.replica_node.declared.told.Applied.{Applied}
+use Rattle.durable_replica.specs.replica_node.Kept.{held_of, replica_of}
+use Rattle.durable_replica.specs.replica_node.Steps.{IsTold, stop_of}
 use Rattle.run_laws.proofs.Committing.{committed_behind, step_puts}
 use Rattle.run_laws.proofs.Restarting.{ends_there, written_both}
 use Rattle.store_model.specs.Held.{Held}

@@ -15,8 +15,8 @@ use Rattle.run_stores.specs.durable_runs.Marks.{NameNow, Named, replica_mark, so
 use Rattle.run_stores.specs.durable_runs.Replicas.{Carries, CarriesTo, ReplicaStands}
 use Rattle.run_stores.specs.durable_runs.Runs.{CallsFit, Lasts, behind_steps}
 use Rattle.run_stores.specs.durable_runs.Sources.{SourceImage, SourceLasts, SourceRuns, SourceStands, Stored, source_side, stored_in}
-use Rattle.store_replica.proofs.of_durable_runs.States.{carries_behind, carries_idle, carries_images, carries_join, carries_to_widen, carries_widen}
-use Rattle.replica_node.specs.Kept.{held_of}
+use Rattle.durable_replica.proofs.of_store_replica.of_durable_runs.States.{carries_behind, carries_idle, carries_images, carries_join, carries_to_widen, carries_widen}
+use Rattle.durable_replica.specs.replica_node.Kept.{held_of}
 use Rattle.run_laws.specs.log_entries.declared.entries.Entry.{Entry}
 use Rattle.run_laws.specs.session_model.Machine.{Whole}
 use Rattle.run_laws.specs.run_model.replica_model.Replica.{Replica as ReplicaNow}

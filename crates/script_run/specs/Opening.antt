@@ -9,7 +9,7 @@ use Rattle.durable_source.specs.Standing.{OpensOn, Stands, beginning_of}
 use Rattle.durable_source.specs.declared.source.DurableSource.{DurableSource}
 use Rattle.durable_replica.specs.Standing.{IsOnDisk}
 use Rattle.durable_replica.specs.declared.replica.DurableReplica.{DurableReplica}
-use Rattle.replica_node.specs.Kept.{held_of, replica_of}
+use Rattle.durable_replica.specs.replica_node.Kept.{held_of, replica_of}
 use Rattle.run_stores.specs.durable_runs.Replicas.{ReplicaRuns}
 use Rattle.run_stores.specs.durable_runs.Sources.{SourceRuns, Stored}
 use Rattle.run_laws.specs.run_model.replica_model.Replica.{replica_from}

@@ -5,7 +5,7 @@ use Rattle.answer_text.specs.declared.report.Report.{Report}
 use Rattle.answer_text.specs.declared.status.Status.{Status}
 use Rattle.answer_text.specs.declared.status.Status.TheVariants.{WriteFault, SourceDisk, ReplicaDisk, SourceDamaged, ReplicaDamaged, NoMemory}
 use Rattle.disk_model.specs.Story.{Story, seen}
-use Rattle.replica_node.specs.Kept.{held_of}
+use Rattle.durable_replica.specs.replica_node.Kept.{held_of}
 use Rattle.store_model.specs.declared.record.Kind.TheVariants.{Source, Replica}
 use Rattle.store_model.specs.Held.{Held}
 use Rattle.store_model.specs.Stores.{held_by}

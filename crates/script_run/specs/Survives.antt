@@ -19,7 +19,7 @@ use Rattle.run_laws.specs.run_model.replica_model.Replica.{Replica as ReplicaNow
 use Rattle.run_laws.specs.run_model.Asked.{Asked}
 use Rattle.run_laws.specs.run_model.Run.{Names, Both, next}
 use Rattle.run_laws.specs.run_model.States.{IsOnTheWay, IsStateOf}
-use Rattle.replica_node.specs.Kept.{held_of}
+use Rattle.durable_replica.specs.replica_node.Kept.{held_of}
 
 -- ---- the source's disk
 

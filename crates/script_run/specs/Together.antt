@@ -8,7 +8,7 @@ use Rattle.disk_model.specs.Story.{Story, seen}
 use Rattle.durable_source.specs.Standing.{Stands, beginning_of}
 use Rattle.durable_source.specs.declared.source.DurableSource.{DurableSource}
 use Rattle.durable_replica.specs.Standing.{IsOnDisk}
-use Rattle.replica_node.specs.Kept.{held_of, replica_of}
+use Rattle.durable_replica.specs.replica_node.Kept.{held_of, replica_of}
 use Rattle.run_stores.specs.durable_runs.Laws.{HasFirstLog}
 use Rattle.run_stores.specs.durable_runs.Sources.{Stored}
 use Rattle.store_model.specs.declared.record.Kind.TheVariants.{Source, Replica}

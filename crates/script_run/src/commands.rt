@@ -63,12 +63,7 @@ fn open_source<D: Disk, E: Env>(
     openings_hold();
     runs_last();
     sources_last();
-    let (name, draw) = open(
-        alloc,
-        env,
-        &mut report.src_identity,
-        &mut report.src_draws,
-    )?;
+    let (name, draw) = open(alloc, env, &mut report.src_identity, &mut report.src_draws)?;
     moment_fits(draw.now);
     match DurableSource::open(alloc, d, name, &draw) {
         Ok(source) => Ok(source),
@@ -97,12 +92,7 @@ fn open_replica<R: Disk, F: Env>(
         RefusesOpening refusal (disks src (R.told d.old)) (faults n (R.faults d.old)) (faults n (R.faults d.new))) }
     ensures later { R.faults d.old ≤ R.faults d.new }
 {
-    let (name, draw) = open(
-        alloc,
-        env,
-        &mut report.rep_identity,
-        &mut report.rep_draws,
-    )?;
+    let (name, draw) = open(alloc, env, &mut report.rep_identity, &mut report.rep_draws)?;
     match DurableReplica::open(alloc, d, name, &draw) {
         Ok(replica) => Ok(replica),
         Err(refusal) => Err(by_replica(refusal)),
@@ -178,9 +168,7 @@ fn lines_of<D: Disk, R: Disk, E: Env, F: Env>(
     ensures later { NoFewer (faults (D.faults src.old) (R.faults rep.old)) (faults (D.faults src.new) (R.faults rep.new)) }
 {
     report.now = nodes.mark(number, src, rep);
-    nodes.carry_out(
-        alloc, number, asked, src, rep, src_env, rep_env, report,
-    )
+    nodes.carry_out(alloc, number, asked, src, rep, src_env, rep_env, report)
 }
 
 /// Carries out the command with this number and shows its answer.

@@ -21,10 +21,10 @@ use crate::stops::{Refusal, by_open_replica, by_open_source, by_replica, by_sour
 use answer_text::{Mark, Report, shown};
 use disk_model::{Disk, DiskRefusal};
 use durable_replica::DurableReplica;
+use durable_replica::replica_node::answer_making::ok;
+use durable_replica::replica_node::{applied_line, fetched_line};
 use durable_source::DurableSource;
 use port_traits::Env;
-use replica_node::answer_making::ok;
-use replica_node::{applied_line, fetched_line};
 use run_laws::log_entry_laws::entries_can_log_on;
 use run_laws::log_model::{entries_have_length, heads_have_length, log_goes_on};
 use run_laws::session_model::{formats_decide, openings_hold, runs_hold};

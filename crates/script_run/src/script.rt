@@ -52,9 +52,7 @@ fn run<S: Source, K: Sink, D: Disk, R: Disk, E: Env, F: Env>(
     sources_last();
     let script = read_script(alloc, input)?;
     let asked = read_asked(alloc, script.as_slice())?;
-    run_commands(
-        alloc, &asked, src, rep, src_env, rep_env, report, out,
-    )
+    run_commands(alloc, &asked, src, rep, src_env, rep_env, report, out)
 }
 
 /// The word `run`, with its end as a status: carries out the script on the input, each command by a source on its disk in the one

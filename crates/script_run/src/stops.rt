@@ -14,15 +14,9 @@ pub(crate) enum Refusal {
     /// The replica's did.
     ReplicaDisk,
     /// The source's files stand for no state; this is the first place where they do not.
-    SourceDamaged {
-        file: u32,
-        at: u64,
-    },
+    SourceDamaged { file: u32, at: u64 },
     /// The replica's do.
-    ReplicaDamaged {
-        file: u32,
-        at: u64,
-    },
+    ReplicaDamaged { file: u32, at: u64 },
     NoMemory,
 }
 

@@ -8,7 +8,7 @@ use Rattle.replica_node.specs.declared.told.Step.TheVariants.{Over, Moved, Carri
 use Rattle.replica_node.specs.Kept.{Kept, replica_of}
 use Rattle.replica_node.specs.Steps.{GoesOn, stop_of}
 use Rattle.replica_node.proofs.Fronts.{IsBehind, behind_carried, behind_moved, behind_none, behind_over}
-use Rattle.replica_node.proofs.Going.{IsStep, IsUnder, begins, carried_on, full, here_over, moved_on, over, step_at, stops, told, waits}
+use Rattle.replica_node.proofs.Going.{IsStep, IsUnder, begins, carried_on, full, moved_on, over, step_at, stops, told, waits}
 use Rattle.replica_node.proofs.replica.ReplicaNode.apply.Goals as goal
 
 pub loop-count-init : goal.loop-count-init
@@ -16,7 +16,7 @@ loop-count-init c =
     let start : Replica = replica_of c.args.self.now in
     record {
       identity = refl;
-      over = here_over c.self.inside.relay start c.here-ahead.result (ap (λ (k : Kept). k.relay) c.self.view_is) c.here-ahead.ensures.ahead c.here-ahead.ensures.place c.here-ahead.ensures.passed;
+      over = c.here-ahead.ensures.over;
       low = omega arith;
       behind = subst (λ (n : ℕ). IsBehind c.args.wanted c.args.self.now.identity c.args.draw.now start start n 0) (sym c.here-ahead.ensures.passed) (behind_none c.args.wanted c.args.self.now.identity c.args.draw.now start);
       under = subst (λ (n : ℕ). IsUnder c.args.wanted c.args.self.now.identity c.args.draw.now start start n 0) (sym c.here-ahead.ensures.passed) (begins c.args.wanted c.args.self.now.identity c.args.draw.now start);
@@ -39,35 +39,35 @@ loop-count-preserved-in-Over c =
 pub loop-count-preserved-in-Moved : goal.loop-count-preserved-in-Moved
 loop-count-preserved-in-Moved c =
     let left = length (replica_of c.loop-count.self).relay - c.loop-count.ahead.passed in
-    let step : IsStep c.args.self.now.identity c.args.draw.now (replica_of c.loop-count.self) (replica_of c.step.new.self) c.loop-count.ahead.passed Moved =
-    step_at c.loop-count.self.identity _ c.args.draw.now _ _ _ c.in_ok-next.field-0 Moved c.loop-count.invariant.identity c.in-Moved.is c.in_ok-next.ensures.step in
-    let goes : GoesOn Moved left (replica_of c.step.new.self) = subst (λ (s : Step). GoesOn s left (replica_of c.step.new.self)) c.in-Moved.is c.in_ok-next.ensures.goes_on in
+    let step : IsStep c.args.self.now.identity c.args.draw.now (replica_of c.loop-count.self) (replica_of c.step.new.self) c.loop-count.ahead.passed (Moved c.in-Moved.field-0) =
+    step_at c.loop-count.self.identity _ c.args.draw.now _ _ _ c.in_ok-next.field-0 (Moved c.in-Moved.field-0) c.loop-count.invariant.identity c.in-Moved.is c.in_ok-next.ensures.step in
+    let goes : GoesOn (Moved c.in-Moved.field-0) left (replica_of c.step.new.self) = subst (λ (s : Step). GoesOn s left (replica_of c.step.new.self)) c.in-Moved.is c.in_ok-next.ensures.goes_on in
     let none = c.here-ahead-in-Moved.ensures.passed in
     record {
       identity = c.in_ok-next.ensures.identity ∙ c.loop-count.invariant.identity;
-      over = here_over c.self-in-loop-count.inside.relay (replica_of c.step.new.self) c.here-ahead-in-Moved.result (ap (λ (k : Kept). k.relay) c.self-in-loop-count.view_is) c.here-ahead-in-Moved.ensures.ahead c.here-ahead-in-Moved.ensures.place none;
+      over = c.here-ahead-in-Moved.ensures.over;
       low = c.loop-count.invariant.low;
       behind = subst (λ (n : ℕ). IsBehind c.args.wanted c.args.self.now.identity c.args.draw.now (replica_of c.args.self.now) (replica_of c.step.new.self) n c.loop-count.count) (sym none)
-          (behind_moved c.args.wanted c.args.self.now.identity c.args.draw.now (replica_of c.args.self.now) (replica_of c.loop-count.self) (replica_of c.step.new.self) c.loop-count.ahead.passed c.loop-count.count c.loop-count-test.true c.loop-count.invariant.behind step);
+          (behind_moved c.args.wanted c.args.self.now.identity c.args.draw.now (replica_of c.args.self.now) (replica_of c.loop-count.self) (replica_of c.step.new.self) c.loop-count.ahead.passed c.loop-count.count c.loop-count-test.true c.loop-count.invariant.behind c.in-Moved.field-0 step);
       under = subst (λ (n : ℕ). IsUnder c.args.wanted c.args.self.now.identity c.args.draw.now (replica_of c.args.self.now) (replica_of c.step.new.self) n c.loop-count.count) (sym none)
-          (moved_on c.args.wanted c.args.self.now.identity c.args.draw.now (replica_of c.args.self.now) (replica_of c.loop-count.self) c.loop-count.ahead.passed c.loop-count.count (replica_of c.step.new.self) c.loop-count-test.true c.loop-count.invariant.under step goes);
+          (moved_on c.args.wanted c.args.self.now.identity c.args.draw.now (replica_of c.args.self.now) (replica_of c.loop-count.self) c.loop-count.ahead.passed c.loop-count.count (replica_of c.step.new.self) c.loop-count-test.true c.loop-count.invariant.under c.in-Moved.field-0 step goes);
     }
 
 pub loop-count-preserved : goal.loop-count-preserved
 loop-count-preserved c =
     let left = length (replica_of c.loop-count.self).relay - c.loop-count.ahead.passed in
-    let step : IsStep c.args.self.now.identity c.args.draw.now (replica_of c.loop-count.self) (replica_of c.step.new.self) c.loop-count.ahead.passed Carried =
-    step_at c.loop-count.self.identity _ c.args.draw.now _ _ _ c.in_ok-next.field-0 Carried c.loop-count.invariant.identity c.in-Carried.is c.in_ok-next.ensures.step in
-    let goes : GoesOn Carried left (replica_of c.step.new.self) = subst (λ (s : Step). GoesOn s left (replica_of c.step.new.self)) c.in-Carried.is c.in_ok-next.ensures.goes_on in
+    let step : IsStep c.args.self.now.identity c.args.draw.now (replica_of c.loop-count.self) (replica_of c.step.new.self) c.loop-count.ahead.passed (Carried c.in-Carried.field-0) =
+    step_at c.loop-count.self.identity _ c.args.draw.now _ _ _ c.in_ok-next.field-0 (Carried c.in-Carried.field-0) c.loop-count.invariant.identity c.in-Carried.is c.in_ok-next.ensures.step in
+    let goes : GoesOn (Carried c.in-Carried.field-0) left (replica_of c.step.new.self) = subst (λ (s : Step). GoesOn s left (replica_of c.step.new.self)) c.in-Carried.is c.in_ok-next.ensures.goes_on in
     let none = c.here-ahead-in-Carried.ensures.passed in
     record {
       identity = c.in_ok-next.ensures.identity ∙ c.loop-count.invariant.identity;
-      over = here_over c.self-in-loop-count.inside.relay (replica_of c.step.new.self) c.here-ahead-in-Carried.result (ap (λ (k : Kept). k.relay) c.self-in-loop-count.view_is) c.here-ahead-in-Carried.ensures.ahead c.here-ahead-in-Carried.ensures.place none;
+      over = c.here-ahead-in-Carried.ensures.over;
       low = omega (arith, c.loop-count-test.true);
       behind = subst (λ (n : ℕ). IsBehind c.args.wanted c.args.self.now.identity c.args.draw.now (replica_of c.args.self.now) (replica_of c.step.new.self) n (c.loop-count.count + 1)) (sym none)
-          (behind_carried c.args.wanted c.args.self.now.identity c.args.draw.now (replica_of c.args.self.now) (replica_of c.loop-count.self) (replica_of c.step.new.self) c.loop-count.ahead.passed c.loop-count.count c.loop-count-test.true c.loop-count.invariant.behind step);
+          (behind_carried c.args.wanted c.args.self.now.identity c.args.draw.now (replica_of c.args.self.now) (replica_of c.loop-count.self) (replica_of c.step.new.self) c.loop-count.ahead.passed c.loop-count.count c.loop-count-test.true c.loop-count.invariant.behind c.in-Carried.field-0 step);
       under = subst (λ (n : ℕ). IsUnder c.args.wanted c.args.self.now.identity c.args.draw.now (replica_of c.args.self.now) (replica_of c.step.new.self) n (c.loop-count.count + 1)) (sym none)
-          (carried_on c.args.wanted c.args.self.now.identity c.args.draw.now (replica_of c.args.self.now) (replica_of c.loop-count.self) c.loop-count.ahead.passed c.loop-count.count (replica_of c.step.new.self) c.loop-count-test.true c.loop-count.invariant.under step goes);
+          (carried_on c.args.wanted c.args.self.now.identity c.args.draw.now (replica_of c.args.self.now) (replica_of c.loop-count.self) c.loop-count.ahead.passed c.loop-count.count (replica_of c.step.new.self) c.loop-count-test.true c.loop-count.invariant.under c.in-Carried.field-0 step goes);
     }
 
 pub returns-in-Waits-clause-replica : goal.returns-in-Waits-clause-replica
