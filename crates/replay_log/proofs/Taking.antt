@@ -109,7 +109,7 @@ nothing_front : (from : Replica) (start : Option (List ℕ)) → IsLogFront (rea
 nothing_front from None = record { bytes = []; input_is = tt; more = read_by from []; groups = refl }
 nothing_front from (Some all) = record { bytes = all; input_is = refl; more = read_by from all; groups = refl }
 
-broke_of : (identity : Identity) (draw : Draw) (from : Replica) (pieces : List Piece) (t u : Option Story) (r : code_replaying.Replaying) (marks : List Mark)
+pub broke_of : (identity : Identity) (draw : Draw) (from : Replica) (pieces : List Piece) (t u : Option Story) (r : code_replaying.Replaying) (marks : List Mark)
     → Lasts identity draw from pieces t u r marks → Broke identity draw from pieces t u marks
 broke_of identity draw from pieces t u r marks lasts = record { goes = lasts.goes; carries = λ fit. (lasts.carries fit).carries; named = lasts.marked.named }
 

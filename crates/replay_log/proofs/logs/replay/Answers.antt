@@ -1,5 +1,4 @@
-use Rattle.replay_log.proofs.Endings.{ends, not_written, read_told, disk_told, end_told}
-use Rattle.replay_log.proofs.Opening.{refused_ends}
+use Rattle.replay_log.proofs.Endings.{ends}
 use Rattle.replay_log.proofs.logs.replay.Goals as goal
 
 pub returns-in-Ok-clause-run : goal.returns-in-Ok-clause-run
