@@ -42,7 +42,7 @@ fn are_in_order(marks: &[Mark]) -> bool {
 }
 
 /// How many commands were answered: each answer of the shop is one line.
-fn answered(written: &[u8]) -> usize {
+pub fn answered(written: &[u8]) -> usize {
     let mut lines: usize = 0;
     for byte in written {
         if *byte == b'\n' {
