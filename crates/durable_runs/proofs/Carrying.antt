@@ -21,6 +21,7 @@ use Rattle.durable_runs.specs.Marks.{Named, named, NameNow, source_mark, replica
 use Rattle.durable_runs.specs.Runs.{behind_steps, Claim, Runs}
 use Rattle.durable_runs.specs.Sources.{Stored, SourceRuns, source_side}
 use Rattle.durable_runs.specs.Replicas.{replica_side, ReplicaRuns, ReplicaLasts, RunsBoth, Served, AreCarried, ReplicaImage}
+use Rattle.durable_runs.specs.Laws.{ReplicasLast}
 use Rattle.durable_runs.proofs.Naming.{named_rises}
 use Rattle.durable_runs.proofs.Steps.{some_same, steps_part}
 use Rattle.durable_runs.proofs.Joining.{runs_idle, runs_join, lasts_ends}
@@ -151,9 +152,7 @@ served_join start t u v a more on on' front back =
 
 -- ---- whole runs
 
-pub replica_images : (follows : Whole → Bool) (t u : Option Story) (held : Held) (rs : List Record) (es : List (Entry Whole)) (number : ℕ) (writer : LogPlace) (committed : ℕ)
-    (marks : List Mark) → ReplicaLasts t u held rs marks → Served committed (count t) u marks
-    → AreCarried follows held es number writer held rs → Since (count t) u (ReplicaImage follows held es number writer committed marks)
+pub replica_images : (follows : List (Entry Whole) → Type 0) → ReplicasLast follows
 replica_images follows t u held rs es number writer committed marks lasts served carried =
     let claim = lasts_ends replica_side t u held rs (map replica_mark marks) lasts in
     record {
