@@ -32,7 +32,8 @@
 //!   `proofs/Carried` and `proofs/Carrying`).
 //! - A replica's run behind each of whose steps it holds one of some states comes of no call, of one record, of calls that keep what the
 //!   store has and of marks that the other side pushed; such runs one behind the other are one, and one of more states too; in the end
-//!   each image of each moment holds one of them, no less than the marks until then name (lemmas of `proofs/States`).
+//!   each image of each moment holds one of them, no less than the marks until then name, and no more than was served where no state
+//!   has more (lemmas of `proofs/States`).
 //! - Runs over both disks compose, also where a command calls one of them ([`both_compose`]).
 //! - Of a source and a replica that have nothing, nothing is owed ([`nothing_owed`]).
 //! - Marks, entries, records, logs and images of a run by hand ([`marks_by_hand`], [`entries_by_hand`], [`logs_by_hand`],
