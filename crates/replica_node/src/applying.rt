@@ -215,8 +215,12 @@ impl ReplicaNode {
         while count < wanted {
             match self.step(&ahead, draw)? {
                 Step::Over(next) => ahead = next,
-                Step::Moved(_) => ahead = self.here(),
-                Step::Carried(_) => {
+                Step::Moved(kept) => {
+                    drop(kept);
+                    ahead = self.here();
+                }
+                Step::Carried(kept) => {
+                    drop(kept);
                     count += 1;
                     ahead = self.here();
                 }

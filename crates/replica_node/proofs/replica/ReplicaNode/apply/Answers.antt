@@ -39,35 +39,35 @@ loop-count-preserved-in-Over c =
 pub loop-count-preserved-in-Moved : goal.loop-count-preserved-in-Moved
 loop-count-preserved-in-Moved c =
     let left = length (replica_of c.loop-count.self).relay - c.loop-count.ahead.passed in
-    let step : IsStep c.args.self.now.identity c.args.draw.now (replica_of c.loop-count.self) (replica_of c.step.new.self) c.loop-count.ahead.passed (Moved c.in-Moved.field-0) =
-    step_at c.loop-count.self.identity _ c.args.draw.now _ _ _ c.in_ok-next.field-0 (Moved c.in-Moved.field-0) c.loop-count.invariant.identity c.in-Moved.is c.in_ok-next.ensures.step in
-    let goes : GoesOn (Moved c.in-Moved.field-0) left (replica_of c.step.new.self) = subst (λ (s : Step). GoesOn s left (replica_of c.step.new.self)) c.in-Moved.is c.in_ok-next.ensures.goes_on in
+    let step : IsStep c.args.self.now.identity c.args.draw.now (replica_of c.loop-count.self) (replica_of c.step.new.self) c.loop-count.ahead.passed (Moved c.in-Moved.kept) =
+    step_at c.loop-count.self.identity _ c.args.draw.now _ _ _ c.in_ok-next.field-0 (Moved c.in-Moved.kept) c.loop-count.invariant.identity c.in-Moved.is c.in_ok-next.ensures.step in
+    let goes : GoesOn (Moved c.in-Moved.kept) left (replica_of c.step.new.self) = subst (λ (s : Step). GoesOn s left (replica_of c.step.new.self)) c.in-Moved.is c.in_ok-next.ensures.goes_on in
     let none = c.here-ahead-in-Moved.ensures.passed in
     record {
       identity = c.in_ok-next.ensures.identity ∙ c.loop-count.invariant.identity;
       over = c.here-ahead-in-Moved.ensures.over;
       low = c.loop-count.invariant.low;
       behind = subst (λ (n : ℕ). IsBehind c.args.wanted c.args.self.now.identity c.args.draw.now (replica_of c.args.self.now) (replica_of c.step.new.self) n c.loop-count.count) (sym none)
-          (behind_moved c.args.wanted c.args.self.now.identity c.args.draw.now (replica_of c.args.self.now) (replica_of c.loop-count.self) (replica_of c.step.new.self) c.loop-count.ahead.passed c.loop-count.count c.loop-count-test.true c.loop-count.invariant.behind c.in-Moved.field-0 step);
+          (behind_moved c.args.wanted c.args.self.now.identity c.args.draw.now (replica_of c.args.self.now) (replica_of c.loop-count.self) (replica_of c.step.new.self) c.loop-count.ahead.passed c.loop-count.count c.loop-count-test.true c.loop-count.invariant.behind c.in-Moved.kept step);
       under = subst (λ (n : ℕ). IsUnder c.args.wanted c.args.self.now.identity c.args.draw.now (replica_of c.args.self.now) (replica_of c.step.new.self) n c.loop-count.count) (sym none)
-          (moved_on c.args.wanted c.args.self.now.identity c.args.draw.now (replica_of c.args.self.now) (replica_of c.loop-count.self) c.loop-count.ahead.passed c.loop-count.count (replica_of c.step.new.self) c.loop-count-test.true c.loop-count.invariant.under c.in-Moved.field-0 step goes);
+          (moved_on c.args.wanted c.args.self.now.identity c.args.draw.now (replica_of c.args.self.now) (replica_of c.loop-count.self) c.loop-count.ahead.passed c.loop-count.count (replica_of c.step.new.self) c.loop-count-test.true c.loop-count.invariant.under c.in-Moved.kept step goes);
     }
 
 pub loop-count-preserved : goal.loop-count-preserved
 loop-count-preserved c =
     let left = length (replica_of c.loop-count.self).relay - c.loop-count.ahead.passed in
-    let step : IsStep c.args.self.now.identity c.args.draw.now (replica_of c.loop-count.self) (replica_of c.step.new.self) c.loop-count.ahead.passed (Carried c.in-Carried.field-0) =
-    step_at c.loop-count.self.identity _ c.args.draw.now _ _ _ c.in_ok-next.field-0 (Carried c.in-Carried.field-0) c.loop-count.invariant.identity c.in-Carried.is c.in_ok-next.ensures.step in
-    let goes : GoesOn (Carried c.in-Carried.field-0) left (replica_of c.step.new.self) = subst (λ (s : Step). GoesOn s left (replica_of c.step.new.self)) c.in-Carried.is c.in_ok-next.ensures.goes_on in
+    let step : IsStep c.args.self.now.identity c.args.draw.now (replica_of c.loop-count.self) (replica_of c.step.new.self) c.loop-count.ahead.passed (Carried c.in-Carried.kept) =
+    step_at c.loop-count.self.identity _ c.args.draw.now _ _ _ c.in_ok-next.field-0 (Carried c.in-Carried.kept) c.loop-count.invariant.identity c.in-Carried.is c.in_ok-next.ensures.step in
+    let goes : GoesOn (Carried c.in-Carried.kept) left (replica_of c.step.new.self) = subst (λ (s : Step). GoesOn s left (replica_of c.step.new.self)) c.in-Carried.is c.in_ok-next.ensures.goes_on in
     let none = c.here-ahead-in-Carried.ensures.passed in
     record {
       identity = c.in_ok-next.ensures.identity ∙ c.loop-count.invariant.identity;
       over = c.here-ahead-in-Carried.ensures.over;
       low = omega (arith, c.loop-count-test.true);
       behind = subst (λ (n : ℕ). IsBehind c.args.wanted c.args.self.now.identity c.args.draw.now (replica_of c.args.self.now) (replica_of c.step.new.self) n (c.loop-count.count + 1)) (sym none)
-          (behind_carried c.args.wanted c.args.self.now.identity c.args.draw.now (replica_of c.args.self.now) (replica_of c.loop-count.self) (replica_of c.step.new.self) c.loop-count.ahead.passed c.loop-count.count c.loop-count-test.true c.loop-count.invariant.behind c.in-Carried.field-0 step);
+          (behind_carried c.args.wanted c.args.self.now.identity c.args.draw.now (replica_of c.args.self.now) (replica_of c.loop-count.self) (replica_of c.step.new.self) c.loop-count.ahead.passed c.loop-count.count c.loop-count-test.true c.loop-count.invariant.behind c.in-Carried.kept step);
       under = subst (λ (n : ℕ). IsUnder c.args.wanted c.args.self.now.identity c.args.draw.now (replica_of c.args.self.now) (replica_of c.step.new.self) n (c.loop-count.count + 1)) (sym none)
-          (carried_on c.args.wanted c.args.self.now.identity c.args.draw.now (replica_of c.args.self.now) (replica_of c.loop-count.self) c.loop-count.ahead.passed c.loop-count.count (replica_of c.step.new.self) c.loop-count-test.true c.loop-count.invariant.under c.in-Carried.field-0 step goes);
+          (carried_on c.args.wanted c.args.self.now.identity c.args.draw.now (replica_of c.args.self.now) (replica_of c.loop-count.self) c.loop-count.ahead.passed c.loop-count.count (replica_of c.step.new.self) c.loop-count-test.true c.loop-count.invariant.under c.in-Carried.kept step goes);
     }
 
 pub returns-in-Waits-clause-replica : goal.returns-in-Waits-clause-replica
