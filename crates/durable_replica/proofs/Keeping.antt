@@ -1,6 +1,6 @@
 -- A group more that was carried out in memory, kept on the disk.
-use Rattle.std.proofs.Common.{◌≡◌, ℕ, ◌+◌, Bool, List, [], ◌∷◌, length, map, Option, Some, None, Result, Ok, Err, refl, sym, ◌∙◌, ap, subst, arith}
-use Rattle.std.specs.Prelude.{IfSome, IfOk, OnOk}
+use Rattle.std.proofs.Common.{◌≡◌, ℕ, ◌+◌, Bool, [], ◌∷◌, length, map, Option, Some, None, Result, Ok, Err, refl, sym, ◌∙◌, ap, subst, arith}
+use Rattle.std.specs.Prelude.{IfSome, IfOk}
 use Rattle.port_traits.specs.declared.identity.Identity.{Identity}
 use Rattle.port_traits.specs.declared.identity.Draw.{Draw}
 use Rattle.answer_text.specs.declared.report.Mark.{Mark}
@@ -12,7 +12,7 @@ use Rattle.disk_model.proofs.Moments.{on_count, on_refl, on_trans}
 use Rattle.commit_store.specs.declared.prepared.Prepared.{Prepared}
 use Rattle.commit_store.specs.declared.store.Store.{Store}
 use Rattle.store_replica.specs.durable_runs.Marks.{replica_mark}
-use Rattle.store_replica.specs.durable_runs.Replicas.{Carries, CarriesTo, ReplicaRuns, replica_side}
+use Rattle.store_replica.specs.durable_runs.Replicas.{CarriesTo, ReplicaRuns, replica_side}
 use Rattle.store_replica.specs.durable_runs.Runs.{CallsFit}
 use Rattle.store_replica.proofs.of_durable_runs.Joining.{runs_none}
 use Rattle.store_replica.proofs.of_durable_runs.States.{carries_join, carries_none, carries_one}
@@ -29,7 +29,7 @@ use Rattle.store_replica.specs.Pushed.{ArePushed}
 use Rattle.store_replica.specs.Writing.{CanKeep, IsCounted, IsOn}
 use Rattle.store_replica.proofs.Standings.{each_stands}
 use Rattle.durable_replica.specs.Going.{HasKept, HasRun, IsDone}
-use Rattle.durable_replica.specs.Standing.{IsOnDisk, IsStateOf}
+use Rattle.durable_replica.specs.Standing.{IsStateOf}
 use Rattle.durable_replica.specs.declared.replica.DurableReplica.{DurableReplica}
 use Rattle.durable_replica.proofs.Marks.{none_pushed, pushed_join}
 

@@ -16,7 +16,7 @@ use Rattle.replica_node.specs.declared.told.Applied.{Applied}
 use Rattle.store_model.specs.Stores.{first_log}
 use Rattle.store_replica.specs.Pushed.{ArePushed}
 use Rattle.store_replica.specs.Writing.{IsOn}
-use Rattle.durable_replica.specs.Standing.{IsOnDisk, IsStateOf}
+use Rattle.durable_replica.specs.Standing.{IsStateOf}
 use Rattle.durable_replica.specs.declared.replica.DurableReplica.{DurableReplica}
 
 module _ (wanted : ℕ) (identity : Identity) (draw : Draw) (first : Replica) (t : Option Story) (before : Report) where

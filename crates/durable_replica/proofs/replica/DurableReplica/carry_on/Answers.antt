@@ -1,11 +1,10 @@
-use Rattle.std.proofs.Common.{◌≡◌, ℕ, ◌+◌, ◌-◌, true, false, length, refl, sym, ap, ◌∙◌, arith, subst}
+use Rattle.std.proofs.Common.{ℕ, ◌+◌, ◌-◌, true, false, length, refl, sym, ap, ◌∙◌, arith, subst}
 use Rattle.std.specs.Option.{option_map}
 use Rattle.std.proofs.lemmas.Result.{err_from_is_err_and}
-use Rattle.replica_node.specs.replica_model.Applying.{Going}
 use Rattle.replica_node.specs.replica_model.Replica.{Replica}
-use Rattle.replica_node.specs.Kept.{held_of, replica_of}
+use Rattle.replica_node.specs.Kept.{replica_of}
 use Rattle.replica_node.specs.Records.{Leaves}
-use Rattle.replica_node.specs.Steps.{GoesOn, going_at, stop_of}
+use Rattle.replica_node.specs.Steps.{GoesOn, stop_of}
 use Rattle.replica_node.specs.declared.told.Step.{Step}
 use Rattle.replica_node.specs.declared.told.Step.TheVariants.{Over, Moved, Carried, Waits, Stopped as StoppedBy}
 use Rattle.replica_node.proofs.Fronts.{IsBehind, behind_carried, behind_moved, behind_none, behind_over, is_front}
