@@ -1,5 +1,5 @@
 -- How a replay ends.
-use Rattle.std.proofs.Common.{◌≡◌, inr, ℕ, ◌+◌, true, List, [], ◌∷◌, ◌++◌, Option, Some, None, Ok, refl, sym, ap, ◌∙◌, arith, subst, append-nil, length-append}
+use Rattle.std.proofs.Common.{◌≡◌, ◌⊎◌, inl, inr, ℕ, ◌+◌, true, List, [], ◌∷◌, ◌++◌, Option, Some, None, Ok, refl, sym, ap, ◌∙◌, arith, subst, append-nil, length-append}
 use Rattle.std.proofs.lemmas.List.{take-append-le}
 use Rattle.std.specs.Prelude.{IfSome}
 use Rattle.answer_text.specs.declared.report.Mark.{Mark}
@@ -232,22 +232,32 @@ module _ (start left : Option (List ℕ)) (t u : Option Story) (report : Report)
   ends_told (SourceDamaged file at) comes line wrote = absurd comes
   ends_told (ReplicaDamaged file at) comes line wrote = absurd comes
 
-  -- a front of it
+  -- a front of it: all groups were carried out, or those up to one that differs
+  abbrev CameThrough : Type 0
+  CameThrough = ((ending : Ending) × Through ending identity draw from start t u r report.marks) ⊎ ((stop : Stop) × UpTo stop identity draw from start t u r report.marks)
+
+  came_through : (came : Status) → ComesTo came identity draw from start left t u r report.marks → is_told came ≡ true → CameThrough
+  came_through Done comes line = inl (ended, comes.0)
+  came_through (LogDamaged pos) comes line = inl (damaged pos, comes)
+  came_through (LogForeign pos kind) comes line = inl (foreign pos kind, comes)
+  came_through (Differs pos code table key) comes line = inr (record { place = pos; code = code; table = table; key = key }, comes)
+  came_through ReadFault comes line = cc
+  came_through ReplicaDisk comes line = cc
+  came_through NoMemory comes line = cc
+  came_through BadWords comes line = absurd comes
+  came_through (BadScript at) comes line = absurd comes
+  came_through WriteFault comes line = absurd comes
+  came_through SourceDisk comes line = absurd comes
+  came_through (SourceDamaged file at) comes line = absurd comes
+  came_through (ReplicaDamaged file at) comes line = absurd comes
+
+  front_by : CameThrough → WroteFront before after (line_of r) → ReplayedFront start t u report before after
+  front_by (inl came) wrote = all_front came.0 came.1 wrote
+  front_by (inr came) wrote = stop_front came.0 came.1 wrote
+
   ends_front : (came : Status) → ComesTo came identity draw from start left t u r report.marks → is_told came ≡ true → WroteFront before after (line_of r)
       → ReplayedFront start t u report before after
-  ends_front Done comes line wrote = all_front ended comes.0 wrote
-  ends_front (LogDamaged pos) comes line wrote = all_front (damaged pos) comes wrote
-  ends_front (LogForeign pos kind) comes line wrote = all_front (foreign pos kind) comes wrote
-  ends_front (Differs pos code table key) comes line wrote = stop_front _ comes wrote
-  ends_front ReadFault comes line wrote = cc
-  ends_front ReplicaDisk comes line wrote = cc
-  ends_front NoMemory comes line wrote = cc
-  ends_front BadWords comes line wrote = absurd comes
-  ends_front (BadScript at) comes line wrote = absurd comes
-  ends_front WriteFault comes line wrote = absurd comes
-  ends_front SourceDisk comes line wrote = absurd comes
-  ends_front (SourceDamaged file at) comes line wrote = absurd comes
-  ends_front (ReplicaDamaged file at) comes line wrote = absurd comes
+  ends_front came comes line wrote = front_by (came_through came comes line) wrote
 
   comes_as : (came status : Status) → status ≡ came → ComesTo came identity draw from start left t u r report.marks → ComesTo status identity draw from start left t u r report.marks
   comes_as came status same comes = subst (λ (s : Status). ComesTo s identity draw from start left t u r report.marks) (sym same) comes
