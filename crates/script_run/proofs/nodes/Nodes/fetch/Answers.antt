@@ -1,5 +1,5 @@
 use Rattle.std.proofs.Common.{refl, ap, ◌∙◌}
-use Rattle.replica_node.specs.replica_model.Lines.{fetched_line}
+use Rattle.durable_replica.specs.replica_node.replica_model.Lines.{fetched_line}
 use Rattle.script_run.proofs.Spoken.{fetched_idle, fetched_on, fetched_shown, looked_on}
 use Rattle.script_run.proofs.nodes.Nodes.fetch.Goals as goal
 
