@@ -1,5 +1,5 @@
 -- Runs behind each of whose steps a replica holds one of some states.
-use Rattle.std.proofs.Common.{◌≡◌, ◌⊎◌, inl, inr, ℕ, zero, suc, ◌-◌, ◌<◌, ◌≤◌, List, [], ◌∷◌, ◌++◌, length, map, take, Option, Some, Ok, refl, sym, ◌∙◌, ap, subst, arith}
+use Rattle.std.proofs.Common.{◌≡◌, ◌⊎◌, inl, inr, ℕ, zero, suc, ◌-◌, ◌<◌, ◌≤◌, List, [], ◌∷◌, ◌++◌, length, map, take, Option, Some, Result, Ok, refl, sym, ◌∙◌, ap, subst, arith, append-nil}
 use Rattle.std.specs.Prelude.{IfSome}
 use Rattle.std.specs.Option.{option_and_then}
 use Rattle.std.proofs.lemmas.Bool.{cases_lt}
@@ -11,10 +11,11 @@ use Rattle.disk_model.proofs.Moments.{since_map}
 use Rattle.store_model.specs.declared.record.Kind.TheVariants.{Replica}
 use Rattle.store_model.specs.declared.record.Record.{Record}
 use Rattle.store_model.specs.Held.{Held, applied}
-use Rattle.store_model.specs.Stores.{held_by}
-use Rattle.durable_runs.specs.Marks.{Named, NameNow, replica_mark}
+use Rattle.store_model.specs.Stores.{Spot, held_by}
+use Rattle.durable_runs.specs.Marks.{Named, named, NameNow, replica_mark, served_mark}
 use Rattle.durable_runs.specs.Runs.{behind_steps, Claim, Runs, Lasts}
-use Rattle.durable_runs.specs.Replicas.{replica_side, ReplicaStands, ReplicaRuns, AreStates, Carries, CarriesTo, StateImage}
+use Rattle.durable_runs.specs.Replicas.{replica_side, ReplicaStands, ReplicaRuns, AreStates, Carries, CarriesTo, Served, StateImage}
+use Rattle.durable_runs.proofs.Naming.{named_rises}
 use Rattle.durable_runs.proofs.Steps.{some_same, steps_behind}
 use Rattle.durable_runs.proofs.Joining.{runs_kept, runs_idle, runs_join, lasts_begins, lasts_ends}
 
@@ -24,6 +25,13 @@ take_beyond (r ∷ front) back zero le = absurd (omega (arith, le))
 take_beyond (r ∷ front) back (suc k) le =
     let e : k - length front ≡ suc k - suc (length front) = omega arith in
     ap (λ (l : List Record). r ∷ l) (take_beyond front back k (omega (arith, le)) ∙ ap (λ (n : ℕ). front ++ take n back) e)
+
+-- an image holds one number
+pub same_stands : (image : Image) (a b : Held) → held_by Replica image ≡ Ok a → held_by Replica image ≡ Ok b → a.number ≡ b.number
+same_stands image a b p q = let e : Path (Result Held Spot) (Ok a) (Ok b) = sym p ∙ q in ap (λ (h : Held). h.number) (same a b e)
+  where
+    same : (a b : Held) → Path (Result Held Spot) (Ok a) (Ok b) → a ≡ b
+    same a b is = cc
 
 none_taken : (k : ℕ) → Path (List Record) (take k []) []
 none_taken zero = refl
@@ -115,6 +123,22 @@ module _ (P : Held → Type 0) where
   carries_images t u held marks c =
       since_map (count t) u (Claim replica_side held c.records (map replica_mark marks)) (StateImage P held marks)
       (λ n image le ge claim. image_is held marks c.records c.states n image claim) (lasts_ends replica_side t u held c.records (map replica_mark marks) c.runs)
+
+  -- a run serves no more than its source had committed before, as the marks until its first call say, where no state has more
+  pub states_served : (start : ℕ) (t u : Option Story) (held : Held) (a b : List Mark) → ((h : Held) → P h → h.number ≤ named start (map served_mark b) (count t))
+      → Carries P t u held a b → Served start (count t) u b
+  states_served start t u held a b low c =
+      since_map (count t) u (Claim replica_side held c.records c.runs.more)
+      (λ n image. (now : Held) → held_by Replica image ≡ Ok now → now.number ≤ named start (map served_mark b) n)
+      (λ n image le ge claim now stands. at n le claim.now now (c.states claim.first claim.now claim.after) (same_stands image now claim.now stands claim.stands))
+      c.runs.claim
+    where
+      at : (n : ℕ) → count t ≤ n → (reached now : Held) → P reached → now.number ≡ reached.number → now.number ≤ named start (map served_mark b) n
+      at n le reached now state same =
+          let rises : named start (map served_mark b) (count t) ≤ named start (map served_mark b) n =
+          subst (λ (l : List Named). named start (map served_mark b) (count t) ≤ named start l n) (append-nil (map served_mark b))
+          (named_rises start (count t) n (map served_mark b) [] le) in
+          omega (arith, same, low reached state, rises)
 
 -- ---- more states
 

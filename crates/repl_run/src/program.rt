@@ -48,7 +48,7 @@ use store_model::Kind;
 ///
 /// Any other words are [`Status::BadWords`], and nothing is read. The report is empty before, and tells after, at any status, who the
 /// source and the replica are, as far as they were opened, and what they drew.
-#[tactic(auto, using(crate::proofs::Unread::are_bad, crate::proofs::Unread::are_not_read, crate::proofs::Unread::not_made, crate::proofs::Unread::not_dumped, crate::proofs::Unread::not_printed, crate::proofs::Unread::not_run, crate::proofs::Unread::not_taken, disk_model::proofs::Quiet::quiet_none))]
+#[tactic(auto, using(crate::proofs::Unread::are_bad, crate::proofs::Unread::are_not_read, crate::proofs::Unread::not_made, crate::proofs::Unread::not_dumped, crate::proofs::Unread::not_printed, crate::proofs::Unread::not_replayed, crate::proofs::Unread::not_run, crate::proofs::Unread::not_taken, disk_model::proofs::Quiet::quiet_none))]
 pub fn top<S: Source, K: Sink, E: Env, F: Env, D: Disk, R: Disk>(
     alloc: Global,
     words: &[String],

@@ -1,5 +1,5 @@
 -- What a replica tells of one group more.
-use Rattle.std.proofs.Common.{◌≡◌, ◌≤◌, ◌<◌, ℕ, ◌+◌, Bool, false, List, length, Option, Some, None, refl, sym, ap, ◌∙◌, arith, subst}
+use Rattle.std.proofs.Common.{◌≡◌, ◌≤◌, ◌<◌, ℕ, ◌+◌, Bool, false, List, [], length, Option, Some, None, refl, sym, ap, ◌∙◌, arith, subst}
 use Rattle.std.specs.Option.{option_map}
 use Rattle.port_traits.specs.declared.identity.Identity.{Identity}
 use Rattle.port_traits.specs.declared.identity.Draw.{Draw}
@@ -7,7 +7,7 @@ use Rattle.log_reader.specs.log_model.Groups.{Group}
 use Rattle.log_reader.specs.Reading.{Reader, next_pos}
 use Rattle.durable_replica.specs.replica_node.apply_model.Stops.{Differs}
 use Rattle.durable_replica.specs.replica_node.replica_model.Applying.{Going, apply, damaged, differs, foreign}
-use Rattle.durable_replica.specs.replica_node.replica_model.Replica.{Replica, fetched, want}
+use Rattle.durable_replica.specs.replica_node.replica_model.Replica.{Replica, fetched, past_groups, want}
 use Rattle.durable_replica.specs.replica_node.replica_model.Replaying.{Replay, by_form}
 use Rattle.durable_replica.specs.replica_node.declared.told.Applied as code_applied
 use Rattle.durable_replica.specs.replica_node.declared.told.Stopped.{Stopped}
@@ -19,8 +19,29 @@ use Rattle.log_reader.specs.log_file_model.Passing.{names_next}
 use Rattle.log_reader.proofs.of_log_group_laws.Lying.{group_lies}
 use Rattle.replay_log.specs.declared.replaying.Replaying as code_replaying
 use Rattle.replay_log.specs.Keeping.{IsWhole, IsBegun, Keeps, Follows}
-use Rattle.replay_log.specs.Replaying.{Stands, IsReady, IsNext, WentOn, kept}
+use Rattle.replay_log.specs.Replaying.{Stands, IsFresh, IsReady, IsNext, WentOn, kept}
 use Rattle.replay_log.proofs.Stepping.{few, group_follows, room}
+
+-- ---- a replica that has just opened
+
+want_fresh : (r : Replica) → r.relay ≡ [] → want r ≡ r.place
+unfolding want
+want_fresh r none =
+    ap (λ (bs : List ℕ). past_groups (length bs) r.place bs) none
+    ∙ ap (λ (n : ℕ). record { log = r.place.log; pos = n }) (omega arith)
+
+pub is_fresh : (node : DurableReplica) (log pos : ℕ) → (replica_of node.node).relay ≡ [] → record { log = log; pos = pos } ≡ want (replica_of node.node)
+    → IsFresh (record { node = node; count = 0; log = log; pos = pos })
+is_fresh node log pos none at = record {
+  stands = record {
+    keeps = record { base = refl; counters = refl; number = refl; place = refl };
+    count = refl;
+    place = at ∙ want_fresh (replica_of node.node) none;
+  };
+  relay = none;
+}
+
+-- ---- one group more
 
 -- the group that a reader has can be fetched
 pub room_for : (r : code_replaying.Replaying) (reader : Reader) (bytes : List ℕ) → IsNext r reader → bytes ≡ reader.bytes → (want (kept r)).pos + length bytes ≤ 4294967295

@@ -70,11 +70,11 @@ same_held : (t : Option Story) (u : Option Story) (goes : GoesOn t u) (P : Held 
 same_held None None goes P held first marks opens holds since = record { after = λ n le ge image left. absurd left; during = λ n le lt image left. absurd left }
 same_held None (Some u) goes P held first marks opens holds since = absurd goes
 same_held (Some t) u goes P held first marks opens holds since =
-    let same : first ≡ held = ok_same (sym opens ∙ holds) in
+    let same : first ≡ held = ok_same opens holds in
     subst (λ (h : Held). Since (count (Some t)) u (StateImage P h marks)) same since
   where
-    ok_same : {A E : Type 0} {a b : A} → Ok {E = E} a ≡ Ok b → a ≡ b
-    ok_same e = cc
+    ok_same : held_by OfReplica (seen (Some t)) ≡ Ok first → held_by OfReplica (seen (Some t)) ≡ Ok held → first ≡ held
+    ok_same a b = cc
 
 module _ (identity : Identity) (draw : Draw) (from : Replica) (ps qs all : List Piece) (is : all ≡ ps ++ qs) (t u : Option Story) (marks : List Mark) (opens : OpensOn t (held_of from))
     (broke : Broke identity draw from ps t u marks) where
@@ -106,7 +106,7 @@ marks_now r s t first marks stands same are = record {
 module _ (start left : Option (List ℕ)) (t u : Option Story) (report : Report) (r : code_replaying.Replaying) (before after : Option (List ℕ)) (identity : Identity) (draw : Draw)
     (told : Reports identity draw report) (from : Replica) (opened : Opened t from) (opens : OpensOn t (held_of from)) where
   -- the groups of the log on the input, of which some were carried out
-  replays_by : (ps : List Piece) → IsLogFront (read_by from) start ps → Broke identity draw from ps t u report.marks → Replays start t u report
+  abbrev replays_by : (ps : List Piece) → IsLogFront (read_by from) start ps → Broke identity draw from ps t u report.marks → Replays start t u report
   replays_by ps log broke = record {
     identity = identity;
     draw = draw;
@@ -121,13 +121,13 @@ module _ (start left : Option (List ℕ)) (t u : Option Story) (report : Report)
   -- ---- all of them
 
   module _ (ending : Ending) (through : Through ending identity draw from start t u r report.marks) where
-    front : IsLogFront (read_by from) start through.pieces
-    front = record { bytes = through.log.bytes; input_is = through.log.input_is; more = record { pieces = []; ending = ending }; groups = through.log.groups ∙ ending_same }
-      where
-        ending_same : record { pieces = through.pieces; ending = ending } ≡ with_pieces through.pieces (record { pieces = []; ending = ending })
-        ending_same = ap (λ (ps : List Piece). record { pieces = ps; ending = ending }) (sym (append-nil through.pieces))
+    ending_same : record { pieces = through.pieces; ending = ending } ≡ with_pieces through.pieces (record { pieces = []; ending = ending })
+    ending_same = ap (λ (ps : List Piece). record { pieces = ps; ending = ending }) (sym (append-nil through.pieces))
 
-    all_of : Replays start t u report
+    abbrev front : IsLogFront (read_by from) start through.pieces
+    front = record { bytes = through.log.bytes; input_is = through.log.input_is; more = record { pieces = []; ending = ending }; groups = through.log.groups ∙ ending_same }
+
+    abbrev all_of : Replays start t u report
     all_of = replays_by through.pieces front (broke_of identity draw from through.pieces t u r report.marks through.lasts)
 
     replay_is : replayed_from identity draw from through.log.bytes ≡ all_replayed identity draw through.pieces (replay_by from)
@@ -158,7 +158,7 @@ module _ (start left : Option (List ℕ)) (t u : Option Story) (report : Report)
   -- ---- up to one that differs
 
   module _ (stop : Stop) (up_to : UpTo stop identity draw from start t u r report.marks) where
-    first_of : Replays start t u report
+    abbrev first_of : Replays start t u report
     first_of = replays_by up_to.pieces up_to.log (broke_of identity draw from up_to.pieces t u r report.marks up_to.lasts)
 
     stop_is : replayed_from identity draw from up_to.log.bytes ≡ all_replayed identity draw up_to.pieces (replay_by from)
@@ -294,14 +294,14 @@ not_written NoMemory identity draw from start left t u r marks comes = refl
 -- ---- from the replay to what it tells
 
 -- a status that came of no other
-pub read_told : (P : Type 0) (came ends : Status) (r : code_replaying.Replaying) (before after : Option (List ℕ)) → Tells came ends r before after → (came ≡ ReadFault → P) → ends ≡ ReadFault → P
-read_told P came ends r before after tells holds is =
+pub read_told : (P : Type 0) (came last : Status) (r : code_replaying.Replaying) (before after : Option (List ℕ)) → Tells came last r before after → (came ≡ ReadFault → P) → last ≡ ReadFault → P
+read_told P came last r before after tells holds is =
     holds (sym (subst (λ (s : Status). Tells came s r before after) is tells).0)
 
-pub disk_told : (P : Type 0) (came ends : Status) (r : code_replaying.Replaying) (before after : Option (List ℕ)) → Tells came ends r before after → (came ≡ ReplicaDisk → P) → ends ≡ ReplicaDisk → P
-disk_told P came ends r before after tells holds is =
+pub disk_told : (P : Type 0) (came last : Status) (r : code_replaying.Replaying) (before after : Option (List ℕ)) → Tells came last r before after → (came ≡ ReplicaDisk → P) → last ≡ ReplicaDisk → P
+disk_told P came last r before after tells holds is =
     holds (sym (subst (λ (s : Status). Tells came s r before after) is tells).0)
 
-pub end_told : (P : Type 0) (came ends : Status) (r : code_replaying.Replaying) (before after : Option (List ℕ)) → Tells came ends r before after → (came ≡ Done → P) → ends ≡ Done → P
-end_told P came ends r before after tells holds is =
+pub end_told : (P : Type 0) (came last : Status) (r : code_replaying.Replaying) (before after : Option (List ℕ)) → Tells came last r before after → (came ≡ Done → P) → last ≡ Done → P
+end_told P came last r before after tells holds is =
     holds (sym (subst (λ (s : Status). Tells came s r before after) is tells).0)

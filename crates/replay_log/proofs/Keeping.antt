@@ -1,9 +1,10 @@
 -- What one group more leaves on the disk and in the report.
-use Rattle.std.proofs.Common.{◌≡◌, ◌⊎◌, inl, inr, ℕ, ◌+◌, List, [], length, Option, Some, None, refl, sym, ap, ◌∙◌, arith, subst, append-nil}
+use Rattle.std.proofs.Common.{◌≡◌, ◌⊎◌, inl, inr, ℕ, ◌+◌, List, [], length, Option, Some, None, Result, Err, refl, sym, ap, ◌∙◌, arith, subst, append-nil}
 use Rattle.std.specs.Prelude.{IfSome}
 use Rattle.port_traits.specs.declared.identity.Identity.{Identity}
 use Rattle.port_traits.specs.declared.identity.Draw.{Draw}
 use Rattle.answer_text.specs.declared.report.Mark.{Mark}
+use Rattle.disk_model.specs.declared.refusals.NodeFault.{NodeFault}
 use Rattle.disk_model.specs.Story.{Story, count}
 use Rattle.disk_model.specs.Moments.{Each, GoesOn}
 use Rattle.disk_model.proofs.Moments.{on_count}
@@ -26,7 +27,7 @@ use Rattle.durable_replica.specs.replica_node.replica_model.Replaying.{Replay, b
 use Rattle.replay_log.specs.declared.replaying.Replaying as code_replaying
 use Rattle.replay_log.specs.Ends.{held_in}
 use Rattle.replay_log.specs.Keeping.{IsWhole, Keeps, Follows}
-use Rattle.replay_log.specs.Replaying.{Stands, IsNext, IsEither, GroupKept, GroupBroke, kept}
+use Rattle.replay_log.specs.Replaying.{Stands, IsNext, IsEither, IsKept, GroupKept, GroupBroke, kept}
 use Rattle.replay_log.proofs.Stepping.{after_steps, group_follows}
 
 -- what is held where a replica keeps what a replay has
@@ -42,11 +43,16 @@ fit_before None u on fit = tt
 fit_before (Some t) None on fit = absurd on
 fit_before (Some t) (Some u) on fit = let less = on_count (Some t) (Some u) on in omega (arith, less, fit)
 
+-- what is kept at a fault
+pub kept_err : {A : Type 0} (r : Result A NodeFault) (e : NodeFault) → r ≡ Err e → (t u : Option Story) (old new : code_replaying.Replaying) (s behind : Replay) (now : Mark) (marks more : List Mark)
+    → GroupBroke t u old s behind now marks more → IsKept r t u old new s behind now marks more
+kept_err r e is t u old new s behind now marks more broke = rw is broke
+
 -- no mark was pushed
 none_pushed : (now : Mark) (number : ℕ) (marks : List Mark) → ArePushed now number number marks marks
 none_pushed now number marks = record { more = []; marks = sym (append-nil marks); named = tt; number = refl }
 
-none_named : (u : Option Story) → IfSome u (λ (x : Story). Unit {0})
+pub none_named : (u : Option Story) → IfSome u (λ (x : Story). Unit {0})
 none_named None = tt
 none_named (Some u) = tt
 

@@ -1,5 +1,5 @@
 -- A replay from the opening of its replica on.
-use Rattle.std.proofs.Common.{◌≡◌, inl, ℕ, List, [], Option, Some, None, refl, arith, subst}
+use Rattle.std.proofs.Common.{◌≡◌, inl, ℕ, List, [], Option, Some, None, refl, ap, ◌∙◌, arith, subst}
 use Rattle.answer_text.specs.declared.report.Mark.{Mark}
 use Rattle.answer_text.specs.declared.report.Report.{Report}
 use Rattle.answer_text.specs.declared.status.Status.{Status}
@@ -17,8 +17,8 @@ use Rattle.log_reader.specs.log_file_model.Walk.{Ending, ended, damaged, foreign
 use Rattle.durable_replica.specs.replica_node.Kept.{held_of}
 use Rattle.durable_replica.specs.replica_node.replica_model.Replica.{Replica, reopened}
 use Rattle.replay_log.specs.declared.replaying.Replaying as code_replaying
-use Rattle.replay_log.specs.Ends.{IsBehind, NotOpened, Opened, ReplayEnds, Survives}
-use Rattle.replay_log.specs.Replaying.{Broke, ComesTo, IsRefused, Lasts, Refused, Through, UpToFault, kept}
+use Rattle.replay_log.specs.Ends.{IsBehind, NotOpened, Opened, ReplayEnds, Reports, Survives}
+use Rattle.replay_log.specs.Replaying.{Broke, CameTo, ComesTo, IsRefused, Lasts, Refused, Through, UpToFault, kept}
 
 -- ---- an opening
 
@@ -86,6 +86,35 @@ opened_by (Some t) from counters opens = record { counters = counters; held = (h
 
 pub opened_on : (t : Option Story) (from : Replica) → from ≡ reopened from → OpensOn t (held_of from) → Opened t from
 opened_on t from counters opens = opened_by t from counters opens
+
+-- what the replica of an opening keeps, it has read
+pub relay_none : (from : Replica) → from ≡ reopened from → from.relay ≡ []
+relay_none from counters = ap (λ (r : Replica). r.relay) counters
+
+-- ---- the whole replay
+
+pub came_from : (status : Status) (identity : Identity) (draw : Draw) (from : Replica) (start left : Option (List ℕ)) (t u v : Option Story) (report : Report) (r : code_replaying.Replaying)
+    → Reports identity draw report → Opened t from → OpensOn t (held_of from) → ((held : Held) → OpensOn t held → ReplicaRuns t u held [] [] []) → GoesOn t u
+    → ComesTo status identity draw from start left u v r report.marks → CameTo status start left t v report r
+came_from status identity draw from start left t u v report r told opened opens runs goes comes = record {
+  identity = identity;
+  draw = draw;
+  told = told;
+  from = from;
+  opened = opened;
+  holds = opens;
+  comes = comes_from identity draw from t u v opens runs goes start left r report.marks status comes;
+}
+
+-- a report to which marks were put tells the same
+pub still_told : (identity : Identity) (draw : Draw) (old new : Report) → new ≡ record old { marks = new.marks } → Reports identity draw old → Reports identity draw new
+still_told identity draw old new is told = record {
+  source = ap (λ (r : Report). r.src_identity) is ∙ told.source;
+  replica = ap (λ (r : Report). r.rep_identity) is ∙ told.replica;
+  src_draws = ap (λ (r : Report). r.src_draws) is ∙ told.src_draws;
+  rep_draws = ap (λ (r : Report). r.rep_draws) is ∙ told.rep_draws;
+  now = ap (λ (r : Report). r.now) is ∙ told.now;
+}
 
 -- ---- the status of an opening that was refused
 

@@ -109,7 +109,7 @@ nothing_front : (from : Replica) (start : Option (List ℕ)) → IsLogFront (rea
 nothing_front from None = record { bytes = []; input_is = tt; more = read_by from []; groups = refl }
 nothing_front from (Some all) = record { bytes = all; input_is = refl; more = read_by from all; groups = refl }
 
-broke_of : (identity : Identity) (draw : Draw) (from : Replica) (pieces : List Piece) (t u : Option Story) (r : code_replaying.Replaying) (marks : List Mark)
+pub broke_of : (identity : Identity) (draw : Draw) (from : Replica) (pieces : List Piece) (t u : Option Story) (r : code_replaying.Replaying) (marks : List Mark)
     → Lasts identity draw from pieces t u r marks → Broke identity draw from pieces t u marks
 broke_of identity draw from pieces t u r marks lasts = record { goes = lasts.goes; carries = λ fit. (lasts.carries fit).carries; named = lasts.marked.named }
 
@@ -129,6 +129,11 @@ stops_reading identity draw from start left t u r marks (LogDamaged pos) first l
 stops_reading identity draw from start left t u r marks (LogForeign pos kind) first last stops fault = absurd stops
 stops_reading identity draw from start left t u r marks (Differs pos code table key) first last stops fault = absurd stops
 stops_reading identity draw from start left t u r marks NoMemory first last stops fault = fault
+
+-- there were no marks
+pub unmarked : (status : Status) (identity : Identity) (draw : Draw) (from : Replica) (start left : Option (List ℕ)) (t u : Option Story) (r : code_replaying.Replaying) (marks : List Mark) → marks ≡ []
+    → ComesTo status identity draw from start left t u r [] → ComesTo status identity draw from start left t u r marks
+unmarked status identity draw from start left t u r marks none comes = subst (λ (ms : List Mark). ComesTo status identity draw from start left t u r ms) (sym none) comes
 
 -- before the first group
 pub nothing_read : (identity : Identity) (draw : Draw) (start : Option (List ℕ)) (t : Option Story) (r : code_replaying.Replaying) → IsFresh r → IsOnDisk t r.node
@@ -171,24 +176,28 @@ module _ (identity : Identity) (draw : Draw) (start after : Option (List ℕ)) (
       lasts = lasts_first identity draw t r fresh on;
     }
 
+pub under_marked : (identity : Identity) (draw : Draw) (from : Replica) (start left : Option (List ℕ)) (t u : Option Story) (reader : Reader) (r : code_replaying.Replaying) (marks : List Mark) → marks ≡ []
+    → Under identity draw from start left t u reader r [] → Under identity draw from start left t u reader r marks
+under_marked identity draw from start left t u reader r marks none under = subst (λ (ms : List Mark). Under identity draw from start left t u reader r ms) (sym none) under
+
 -- ---- what is kept of one group more
 
 module _ (identity : Identity) (draw : Draw) (from : Replica) (pieces : List Piece) (p : Piece) (t u v : Option Story) (r : code_replaying.Replaying) (marks more : List Mark)
     (lasts : Lasts identity draw from pieces t u r marks) (s behind : Replay) (before : all_replayed identity draw pieces (replay_by from) ≡ s)
     (then : all_replayed identity draw (pieces ++ p ∷ []) (replay_by from) ≡ behind) (goes : GoesOn u v) (stands : Stands r s) where
-  abbrev all : List Piece
-  all = pieces ++ p ∷ []
+  abbrev grown : List Piece
+  grown = pieces ++ p ∷ []
 
   abbrev P : Held → Type 0
   P = IsBehind identity draw from pieces
 
   abbrev Q : Held → Type 0
-  Q = IsBehind identity draw from all
+  Q = IsBehind identity draw from grown
 
   abbrev replayed_to : List Piece → Held
   replayed_to ps = held_in (all_replayed identity draw ps (replay_by from))
 
-  longer : length all ≡ length pieces + 1
+  longer : length grown ≡ length pieces + 1
   longer = length-append pieces (p ∷ [])
 
   front_in : (h : Held) → P h → Q h
@@ -206,9 +215,9 @@ module _ (identity : Identity) (draw : Draw) (from : Replica) (pieces : List Pie
         ∙ ap replayed_to (sym (take-append-le (length pieces) pieces (p ∷ []) (omega arith) ∙ take_all (length pieces) pieces (omega arith)));
   }
   either_in h (inr is) = record {
-    first = length all;
+    first = length grown;
     within = omega arith;
-    is = is ∙ ap held_in (sym then) ∙ ap replayed_to (sym (take_all (length all) all (omega arith)));
+    is = is ∙ ap held_in (sym then) ∙ ap replayed_to (sym (take_all (length grown) grown (omega arith)));
   }
 
   was : CallsFit v → CarriesTo Q t u (held_of from) (held_of (kept r)) [] marks
@@ -217,7 +226,7 @@ module _ (identity : Identity) (draw : Draw) (from : Replica) (pieces : List Pie
   holds_before : held_in s ≡ held_of (kept r)
   holds_before = sym (held_kept (kept r) s stands.keeps)
 
-  pub lasts_more : (r' : code_replaying.Replaying) → Stands r' behind → GroupKept u v r r' s behind first_mark marks more → Lasts identity draw from all t v r' more
+  pub lasts_more : (r' : code_replaying.Replaying) → Stands r' behind → GroupKept u v r r' s behind first_mark marks more → Lasts identity draw from grown t v r' more
   lasts_more r' there group_kept = record {
     on = group_kept.on;
     goes = on_trans t u v lasts.goes goes;
@@ -229,7 +238,7 @@ module _ (identity : Identity) (draw : Draw) (from : Replica) (pieces : List Pie
     marked = marks_more from.number r.count (kept r).number marks lasts.marked (kept r').number more group_kept.pushed r'.count group_kept.counted;
   }
 
-  pub broke_more : GroupBroke u v r s behind first_mark marks more → Broke identity draw from all t v more
+  pub broke_more : GroupBroke u v r s behind first_mark marks more → Broke identity draw from grown t v more
   broke_more broke = record {
     goes = on_trans t u v lasts.goes goes;
     carries = λ fit.

@@ -7,8 +7,6 @@ use Rattle.answer_text.specs.declared.status.Status.{Status}
 use Rattle.answer_text.specs.declared.status.Status.TheVariants.{Done, ReadFault, WriteFault, ReplicaDisk, ReplicaDamaged, LogDamaged, LogForeign, Differs, NoMemory}
 use Rattle.answer_text.specs.declared.report.Report.{Report}
 use Rattle.disk_model.specs.declared.refusals.NodeFault.{NodeFault}
-use Rattle.disk_model.specs.declared.refusals.OpenRefusal.{OpenRefusal}
-use Rattle.disk_model.specs.declared.refusals.OpenRefusal.TheVariants as opening
 use Rattle.disk_model.specs.Story.{Story, seen}
 use Rattle.disk_model.specs.Moments.{GoesOn}
 use Rattle.store_model.specs.declared.record.Kind.TheVariants.{Replica as OfReplica}
@@ -92,10 +90,9 @@ Went _ r s closed pos = ⊥
 
 -- a status that tells why a group is not carried out
 abbrev pub IsStop : Status → Type 0
-IsStop (Differs pos code table key) = Unit {0}
-IsStop ReplicaDisk = Unit {0}
-IsStop NoMemory = Unit {0}
-IsStop _ = ⊥
+IsStop Done = ⊥
+IsStop ReadFault = ⊥
+IsStop _ = Unit {0}
 
 -- ---- on the disk
 
@@ -206,12 +203,6 @@ pub record CameTo (status : Status) (start left : Option (List ℕ)) (t u : Opti
   pub comes : ComesTo status identity draw from start left t u r report.marks
 
 -- ---- a replica that was not opened
-
--- as a status
-abbrev pub status_by : OpenRefusal → Status
-status_by opening.Disk = ReplicaDisk
-status_by (opening.Damaged file at) = ReplicaDamaged file at
-status_by opening.NoMemory = NoMemory
 
 -- why
 abbrev pub IsRefused : Status → Option Story → Type 0

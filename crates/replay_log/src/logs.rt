@@ -10,7 +10,7 @@ ghost use Rattle.durable_replica.specs.store_replica.Writing.{OpensOn};
 ghost use Rattle.run_streams.specs.Reports.{AllTold, IsEmpty, Tells};
 ghost use Rattle.run_streams.specs.Stops.{failed_writes, status_of};
 ghost use Rattle.replay_log.specs.Ends.{Opened, ReplayEnds, Reports};
-ghost use Rattle.replay_log.specs.Replaying.{CameTo, IsFresh, IsRefused, Refused, kept, status_by};
+ghost use Rattle.replay_log.specs.Replaying.{CameTo, IsFresh, IsRefused, Refused, kept};
 
 use crate::replaying::Replaying;
 use answer_text::{Report, Status};
@@ -19,17 +19,6 @@ use durable_replica::DurableReplica;
 use port_traits::{Draw, Env, Identity, Sink, Source};
 use run_streams::open;
 use std::alloc::Global;
-
-/// Why a replica was not opened, as a status.
-fn status_by(refusal: OpenRefusal) -> Status
-    ensures { result ≡ status_by refusal }
-{
-    match refusal {
-        OpenRefusal::Disk => Status::ReplicaDisk,
-        OpenRefusal::Damaged { file, at } => Status::ReplicaDamaged { file, at },
-        OpenRefusal::NoMemory => Status::NoMemory,
-    }
-}
 
 /// Opens a replica on what its disk has.
 fn opened_on<R: Disk>(
@@ -52,7 +41,9 @@ fn opened_on<R: Disk>(
 {
     match DurableReplica::open(alloc, rep, identity, draw) {
         Ok(node) => Ok(Replaying::new(node)),
-        Err(refusal) => Err(status_by(refusal)),
+        Err(OpenRefusal::Disk) => Err(Status::ReplicaDisk),
+        Err(OpenRefusal::Damaged { file, at }) => Err(Status::ReplicaDamaged { file, at }),
+        Err(OpenRefusal::NoMemory) => Err(Status::NoMemory),
     }
 }
 

@@ -8,12 +8,17 @@ use Rattle.commit_store.specs.store_model.declared.record.Record.TheVariants.{Pl
 use Rattle.commit_store.specs.store_model.Held.{next_applied, carried_out as carried_to}
 use Rattle.commit_store.specs.store_model.Laws.{StepsRecordsLead}
 use Rattle.log_groups.specs.log_group_laws.Laws.{Lies}
+use Rattle.log_groups.specs.Views.{form_of, group_seen, next_of}
+use Rattle.log_groups.specs.declared.group.Form as code_form_type
+use Rattle.log_groups.specs.declared.group.Group as code_group_type
+use Rattle.log_groups.specs.declared.group.Next as code_next_type
+use Rattle.log_groups.specs.declared.group.Next.TheVariants as code_next
 use Rattle.relay_log.specs.apply_model.Stops.{Differs}
 use Rattle.relay_log.specs.apply_model.Groups.{Applied, group_carried}
 use Rattle.relay_log.specs.log_model.Groups.{Form, start, next_log, ddl, txn, Group, Next, group, group_at}
 use Rattle.relay_log.specs.log_model.Log.{LogPlace, moved}
 use Rattle.relay_log.specs.declared.place.Walk.{Walk}
-use Rattle.relay_log.specs.Reaching.{IsAhead, ahead_of, place_seen}
+use Rattle.relay_log.specs.Reaching.{Fetched, ahead_of, place_seen}
 use Rattle.stmt_apply.specs.prog_run.prog_work.Contents.{Contents, base_of}
 use Rattle.stmt_apply.specs.Applying.{applied_in}
 use Rattle.replica_model.specs.Applying.{Going, by_form, by_next, carry, next_at}
@@ -186,3 +191,47 @@ module _ (identity : Identity) (draw : Draw) (k : Kept) (ahead behind : Walk) (g
   pub moved_leaves : {E : Type 0} (result : Result Step E) (k' : Kept) → IfOk result (λ step. MovesOn step k k' behind) → IfOk result (λ step. Leaves step (replica_of k) (replica_of k'))
   moved_leaves (Ok step) k' out = leaves_by step k' out
   moved_leaves (Err e) k' out = tt
+
+-- ---- the same, as the code has it
+
+-- what was found at a place stands there
+pub stands_so : (k : Kept) (relay : Fetched) (ahead behind : Walk) (found : code_next_type.Next) (g : code_group_type.Group) → relay ≡ k.relay → IsOver (replica_of k) ahead
+    → next_of found ≡ group_at (ahead_of relay ahead) → found ≡ code_next.Group g → place_seen behind.place ≡ behind_group (place_seen ahead.place) (group_seen g)
+    → behind.passed ≡ ahead.passed + size_of (group_seen g) → Lies ahead.place.pos (length (drop ahead.passed relay.bytes)) (group_seen g) → StandsAt k ahead behind (group_seen g)
+stands_so k relay ahead behind found g same over there is place passed lies = record {
+  over = over;
+  at = ap (λ (f : Fetched). group_at (ahead_of f ahead)) (sym same) ∙ sym there ∙ ap next_of is;
+  place = place;
+  passed = passed;
+  lies = subst (λ (f : Fetched). Lies ahead.place.pos (length (drop ahead.passed f.bytes)) (group_seen g)) same lies;
+}
+
+-- what holds of the form of a group in the code holds of the group
+pub form_is : (P : Form → Type 0) (g : code_group_type.Group) (form : code_form_type.Form) → g.form ≡ form → P (form_of form) → P (group_seen g).form
+form_is P g form is holds = subst (λ (f : code_form_type.Form). P (form_of f)) (sym is) holds
+
+-- a replica that was carried out on, from one that is the same as another, and the step that it leaves
+module _ (draw : Draw) (k now new : Kept) (ahead behind : Walk) (g : Group) (stands : StandsAt k ahead behind g) (result step : Step) (work : Contents) (same : k ≡ now) (is : result ≡ step)
+    (passes : new ≡ behind_step step behind (record k { work = work })) (out : CarriesOut step k.work work (group_carried k.identity draw (base_of k.work) k.work.counters g)) where
+  pub so_carried : Carries k.identity draw g → (more : Going → Going) (count : ℕ)
+      → by_next more now.identity draw (going_at (replica_of now) ahead.passed count) (next_at (going_at (replica_of now) ahead.passed count)) ≡ ended_by more result (replica_of new) ahead.passed count
+  so_carried carries more count =
+      subst (λ (n : Kept). by_next more n.identity draw (going_at (replica_of n) ahead.passed count) (next_at (going_at (replica_of n) ahead.passed count)) ≡ ended_by more result (replica_of new) ahead.passed count) same
+      (carried_step k.identity draw k ahead behind g stands step work carries out more count
+      ∙ ap (λ (n : Kept). ended_by more step (replica_of n) ahead.passed count) (sym passes)
+      ∙ ap (λ (s : Step). ended_by more s (replica_of new) ahead.passed count) (sym is))
+
+  pub so_goes : GoesOn result (length (replica_of now).relay - ahead.passed) (replica_of new)
+  so_goes =
+      subst (λ (n : Kept). GoesOn result (length (replica_of n).relay - ahead.passed) (replica_of new)) same
+      (subst (λ (n : Kept). GoesOn result (length k.relay.bytes - ahead.passed) (replica_of n)) (sym passes)
+      (subst (λ (s : Step). GoesOn s (length k.relay.bytes - ahead.passed) (replica_of (behind_step step behind (record k { work = work })))) (sym is)
+      (carried_goes k.identity draw k ahead behind g stands step work out)))
+
+  pub so_leaves : (head : Head) → IsRecorded step head k.work work → head ≡ record { number = next_applied k.number; log = behind.place.log; pos = behind.place.pos }
+      → Leaves result (replica_of now) (replica_of new)
+  so_leaves head recorded made =
+      subst (λ (n : Kept). Leaves result (replica_of n) (replica_of new)) same
+      (subst (λ (n : Kept). Leaves result (replica_of k) (replica_of n)) (sym passes)
+      (subst (λ (s : Step). Leaves s (replica_of k) (replica_of (behind_step step behind (record k { work = work })))) (sym is)
+      (carried_leaves k.identity draw k ahead behind g stands step work head out recorded made)))

@@ -3,22 +3,11 @@ ghost use Rattle.std.specs.Prelude.{Some, IfSome};
 ghost use Rattle.disk_model.specs.Files.{story_of};
 ghost use Rattle.disk_model.specs.Moments.{IsSettled};
 
-use crate::playing::{Ended, asked, bytes, over};
+use crate::left::again;
+use crate::playing::{asked, bytes, comes_to, over};
 use crash_images::{disk_left, no_files};
 use disk_model::{MemDisk, TwistDisk};
 use std::alloc::Global;
-use val_types::{Bytes, List};
-
-/// Whether a call of the program over a disk writes these lines and ends with this line.
-fn comes_to(ended: &Option<Ended>, written: &str, line: &str) -> bool {
-    match ended {
-        Some(ended) => {
-            ended.written.as_slice() == written.as_bytes()
-                && ended.line.as_slice() == line.as_bytes()
-        }
-        None => false,
-    }
-}
 
 /// A disk with a file 2 of these bytes, and else without any.
 fn with_journal(alloc: Global, journal: &[u8]) -> Option<MemDisk>
@@ -144,17 +133,6 @@ fn is_dumped(alloc: Global, disk: &MemDisk, lines: &str) -> bool {
         }
         None => false,
     }
-}
-
-/// The disk that comes up with all that is read of this one.
-fn again(alloc: Global, disk: &MemDisk) -> Option<MemDisk>
-    ensures { IfSome result (λ d. IsSettled (Some (story_of d))) }
-{
-    let mut files: List<Bytes> = List::new(alloc);
-    for file in 0..10 {
-        files.push(bytes(alloc, disk.contents(file))).ok()?;
-    }
-    disk_left(alloc, files.as_slice())
 }
 
 // ---- RESTART

@@ -1,13 +1,13 @@
-use Rattle.std.proofs.Common.{◌∙◌, ◌≡◌, Ok, Err, Some, None, ap, refl, arith, subst, Option, ℕ}
+use Rattle.std.proofs.Common.{rules, [], ◌∙◌, ◌≡◌, Ok, Err, Some, None, ap, refl, arith, subst, Option, ℕ}
 use Rattle.std.proofs.lemmas.Result.{err_from_is_err_and}
-use Rattle.answer_text.specs.declared.report.Mark.{Mark}
 use Rattle.answer_text.specs.declared.report.Report.{Report}
-use Rattle.answer_text.specs.declared.status.Status.TheVariants.{Done}
-use Rattle.disk_model.proofs.Moments.{on_refl}
+use Rattle.answer_text.specs.declared.status.Status.TheVariants.{Done, LogDamaged}
+use Rattle.disk_model.proofs.Moments.{on_trans}
 use Rattle.log_reader.specs.declared.reader.Found.TheVariants as found
+use Rattle.log_reader.specs.Reading.{ReadsFront}
 use Rattle.run_streams.specs.Reports.{first_mark}
 use Rattle.replay_log.specs.Replaying.{kept}
-use Rattle.replay_log.proofs.Taking.{further, next_is, under_more, stops_more, at_end, at_damage, at_foreign, at_fault, no_fault, no_end, found_is, leads_by, leaves_by, stops_reading, nothing_read, damaged_first, under_first}
+use Rattle.replay_log.proofs.Taking.{further, under_more, stops_more, at_end, at_damage, at_foreign, at_fault, no_fault, no_end, found_is, leads_by, leaves_by, stops_reading, unmarked, nothing_read, damaged_first, under_first, under_marked}
 use Rattle.replay_log.proofs.replaying.Replaying.carry_out_all.Goals as goal
 
 pub loop-reader-smaller : goal.loop-reader-smaller
@@ -89,3 +89,52 @@ returns-in-Foreign-clause-comes_to g c =
     (g.S.Source.left c.args.input.now) (g.S.Source.left c.loop-reader.input) (g.S.Source.left c.next.new.input) (g.R.Disk.told c.args.rep.now) (g.R.Disk.told c.loop-reader.rep)
     c.loop-reader.reader c.next.new.self c.loop-reader.self c.loop-reader.report.marks c.loop-reader.invariant.under c.in-Foreign.pos c.in-Foreign.kind
     (found_is _ _ _ _ c.in_ok-next.field-0 (found.Foreign c.in-Foreign.pos c.in-Foreign.kind) c.in-Foreign.is c.in_ok-next.ensures.reads)
+
+pub returns-in_err-damaged-clause-comes_to : goal.returns-in_err-damaged-clause-comes_to
+returns-in_err-damaged-clause-comes_to g c =
+    let p = err_from_is_err_and c.from_residual.result c.from_residual.ensures.1 in
+    rw (p.1, p.2)
+    (unmarked _ c.args.self.now.node.node.identity c.args.draw.now (kept c.args.self.now) (g.S.Source.left c.args.input.now) (g.S.Source.left c.read_front.new.input) (g.R.Disk.told c.args.rep.now) (g.R.Disk.told c.args.rep.now)
+    c.args.self.now c.args.report.now.marks c.requires.marks
+    (stops_reading c.args.self.now.node.node.identity c.args.draw.now (kept c.args.self.now) (g.S.Source.left c.args.input.now) (g.S.Source.left c.read_front.new.input) (g.R.Disk.told c.args.rep.now) (g.R.Disk.told c.args.rep.now)
+    c.args.self.now [] c.in_err-damaged.field-0.0 _ _ c.in_err-damaged.ensures.stop
+    (nothing_read c.args.self.now.node.node.identity c.args.draw.now (g.S.Source.left c.args.input.now) (g.R.Disk.told c.args.rep.now) c.args.self.now c.requires.fresh c.requires.on)))
+
+pub returns-in-Some-clause-comes_to : goal.returns-in-Some-clause-comes_to
+returns-in-Some-clause-comes_to g c =
+    let is : c.in_ok-damaged.damaged ≡ Some c.in-Some.pos = search rules in
+    unmarked (LogDamaged c.in-Some.pos) c.args.self.now.node.node.identity c.args.draw.now (kept c.args.self.now) (g.S.Source.left c.args.input.now) (g.S.Source.left c.read_front.new.input) (g.R.Disk.told c.args.rep.now) (g.R.Disk.told c.args.rep.now)
+    c.args.self.now c.args.report.now.marks c.requires.marks
+    (damaged_first c.args.self.now.node.node.identity c.args.draw.now (g.S.Source.left c.args.input.now) (g.S.Source.left c.read_front.new.input) (g.R.Disk.told c.args.rep.now) c.args.self.now c.requires.fresh c.requires.on
+    c.front_leads.ensures c.in-Some.pos
+    (subst (λ (o : Option ℕ). ReadsFront c.args.self.now.pos (g.S.Source.left c.args.input.now) (g.S.Source.left c.read_front.new.input) o) is c.in_ok-damaged.ensures.front))
+
+pub loop-reader-init : goal.loop-reader-init
+loop-reader-init g c =
+    let none : c.in_ok-damaged.damaged ≡ None = search rules in
+    record {
+      identity = refl;
+      under =
+          under_marked _ _ _ _ _ _ _ _ _ c.args.report.now.marks c.requires.marks
+          (under_first c.args.self.now.node.node.identity c.args.draw.now (g.S.Source.left c.args.input.now) (g.S.Source.left c.read_front.new.input) (g.R.Disk.told c.args.rep.now) c.args.self.now c.requires.fresh c.requires.on
+          c.front_leads.ensures
+          (subst (λ (o : Option ℕ). ReadsFront c.args.self.now.pos (g.S.Source.left c.args.input.now) (g.S.Source.left c.read_front.new.input) o) none c.in_ok-damaged.ensures.front)
+          c.at-reader.result c.at-reader.ensures);
+      rest = refl;
+      later_disk = omega arith;
+      later = c.in_ok-damaged.ensures.later;
+      ended = λ fresh. c.in_ok-damaged.ensures.goes_on (ap Ok none) fresh;
+    }
+
+pub returns-in_err-next-clause-comes_to : goal.returns-in_err-next-clause-comes_to
+returns-in_err-next-clause-comes_to g c =
+    let p = err_from_is_err_and c.from_residual-in_err-next.result c.from_residual-in_err-next.ensures.1 in
+    rw (p.1, p.2)
+    (stops_reading c.args.self.now.node.node.identity c.args.draw.now (kept c.args.self.now) (g.S.Source.left c.args.input.now) (g.S.Source.left c.next.new.input) (g.R.Disk.told c.args.rep.now) (g.R.Disk.told c.loop-reader.rep)
+    c.loop-reader.self c.loop-reader.report.marks c.in_err-next.field-0.0 _ _ c.in_err-next.ensures.stop
+    (at_fault c.calls_lead.ensures c.fronts_are_known.ensures c.args.self.now.node.node.identity c.args.draw.now (kept c.args.self.now)
+    (g.S.Source.left c.args.input.now) (g.S.Source.left c.loop-reader.input) (g.S.Source.left c.next.new.input) (g.R.Disk.told c.args.rep.now) (g.R.Disk.told c.loop-reader.rep)
+    c.loop-reader.reader c.next.new.self c.loop-reader.self c.loop-reader.report.marks c.loop-reader.invariant.under))
+
+pub returns-in_err-carry_out-in-Group-clause-goes : goal.returns-in_err-carry_out-in-Group-clause-goes
+returns-in_err-carry_out-in-Group-clause-goes g c = on_trans _ _ _ c.loop-reader.invariant.under.lasts.goes c.in_err-carry_out-in-Group.ensures.goes
