@@ -1,5 +1,5 @@
 -- What a replica has carried out of what its source logged.
-use Rattle.std.proofs.Common.{◌≡◌, ◌≤◌, inl, inr, ℕ, ◌+◌, ◌-◌, List, [], ◌∷◌, ◌++◌, length, map, take, Some, Ok, refl, sym, ap, ◌∙◌, subst, append_assoc, append-nil, arith, length-append}
+use Rattle.std.proofs.Common.{◌≡◌, ◌≤◌, inl, inr, ℕ, ◌+◌, ◌-◌, List, [], ◌∷◌, ◌++◌, length, map, take, Some, Ok, refl, sym, ap, ◌∙◌, subst, append_assoc, arith, length-append}
 use Rattle.std.specs.Prelude.{◌^◌, min}
 use Rattle.std.proofs.Math.Seq.{take-append_seam}
 use Rattle.std.proofs.lemmas.List.{map-append, length-map}
@@ -27,7 +27,6 @@ use Rattle.run_laws.specs.run_model.replica_model.Applying.{go_on, going_from}
 use Rattle.run_laws.specs.run_model.Asked.{Asked, say, select, take_bytes, take_groups, restart_source, restart_replica}
 use Rattle.run_laws.specs.run_model.Run.{Names, Both, Read, nothing, bytes_to, Starts, number_before, place_before, applied, next, end_of}
 use Rattle.run_laws.specs.run_model.Following.{AreCommitted, Follows, head_entries, reader_at, reader_from}
-use Rattle.run_laws.specs.run_model.States.{IsOnTheWay, IsStateOf}
 use Rattle.run_laws.specs.Laws.{FollowsGoOn, FollowsOnTheWay, IsSound}
 use Rattle.run_laws.specs.Openings.{Begins, owed_behind}
 use Rattle.run_laws.proofs.Carrying.{first_ones}
