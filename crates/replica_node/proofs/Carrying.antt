@@ -1,8 +1,7 @@
 -- What a group leaves that was carried out, and why one is not.
-use Rattle.std.proofs.Common.{◌≡◌, List, [], Bool, true, false, ℕ, Option, Some, None, Result, Ok, Err, IfOk, refl, sym, ap, ◌∙◌, subst}
+use Rattle.std.proofs.Common.{◌≡◌, List, [], Bool, ℕ, Some, None, Result, Ok, Err, IfOk, sym, ap, ◌∙◌, subst}
 use Rattle.std.specs.Prelude.{if◌then◌else◌}
 use Rattle.std.specs.Option.{option_map, option_and_then}
-use Rattle.val_types.specs.declared.change.Change.{Change}
 use Rattle.commit_store.specs.declared.prepared.Prepared.{Prepared}
 use Rattle.commit_store.specs.store_model.declared.record.Head.{Head}
 use Rattle.commit_store.specs.store_model.declared.record.Record.TheVariants.{TransactionApplied, DefinitionApplied}
@@ -20,7 +19,7 @@ use Rattle.stmt_apply.specs.Applying.{applied_in}
 use Rattle.stmt_apply.specs.Leading.{LeadsBy, MakesBy, Opens}
 use Rattle.replica_node.specs.declared.told.Step.{Step}
 use Rattle.replica_node.specs.declared.told.Step.TheVariants.{Carried}
-use Rattle.replica_node.specs.Records.{IsDefinition, IsMadeOf, IsRecorded, IsTransaction, RecordLeads}
+use Rattle.replica_node.specs.Records.{IsDefinition, IsMadeOf, IsRecorded, IsTransaction}
 use Rattle.replica_node.specs.Steps.{CarriesOut, Tells}
 
 -- ---- why it stops

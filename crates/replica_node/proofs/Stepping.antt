@@ -1,5 +1,5 @@
 -- A group at a place of the relay: what the definition makes of it, and what a step leaves.
-use Rattle.std.proofs.Common.{◌≡◌, ◌≤◌, ◌<◌, ℕ, ◌+◌, ◌-◌, List, [], length, drop, length-drop, Option, Some, None, Result, Ok, Err, IfOk, refl, sym, ap, ◌∙◌, arith, subst}
+use Rattle.std.proofs.Common.{◌≡◌, ◌<◌, ℕ, ◌+◌, ◌-◌, List, [], length, drop, length-drop, Some, Result, Ok, Err, IfOk, refl, sym, ap, ◌∙◌, arith, subst}
 use Rattle.port_traits.specs.declared.identity.Identity.{Identity}
 use Rattle.port_traits.specs.declared.identity.Draw.{Draw}
 use Rattle.commit_store.specs.declared.prepared.Prepared.{Prepared}
@@ -16,11 +16,10 @@ use Rattle.log_groups.specs.declared.group.Next.TheVariants as code_next
 use Rattle.relay_log.specs.apply_model.Stops.{Differs}
 use Rattle.relay_log.specs.apply_model.Groups.{Applied, group_carried}
 use Rattle.relay_log.specs.log_model.Groups.{Form, start, next_log, ddl, txn, Group, Next, group, group_at}
-use Rattle.relay_log.specs.log_model.Log.{LogPlace, moved}
+use Rattle.relay_log.specs.log_model.Log.{LogPlace}
 use Rattle.relay_log.specs.declared.place.Walk.{Walk}
 use Rattle.relay_log.specs.Reaching.{Fetched, ahead_of, place_seen}
 use Rattle.stmt_apply.specs.prog_run.prog_work.Contents.{Contents, base_of}
-use Rattle.stmt_apply.specs.Applying.{applied_in}
 use Rattle.replica_model.specs.Applying.{Going, by_form, by_next, carry, next_at}
 use Rattle.replica_model.specs.Replica.{Replica, behind_form, behind_group, size_of}
 use Rattle.replica_node.specs.declared.told.Step.{Step}

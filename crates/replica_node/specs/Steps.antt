@@ -1,5 +1,5 @@
 -- APPLY, step by step.
-use Rattle.std.specs.Prelude.{◌≡◌, ◌≤◌, ◌<◌, ℕ, ◌+◌, drop, length, Option, Some, None, Result, Ok, Err}
+use Rattle.std.specs.Prelude.{◌≡◌, ◌<◌, ℕ, ◌+◌, drop, length, Some, None, Result, Ok, Err}
 use Rattle.std.specs.Option.{option_map}
 use Rattle.port_traits.specs.declared.identity.Identity.{Identity}
 use Rattle.port_traits.specs.declared.identity.Draw.{Draw}

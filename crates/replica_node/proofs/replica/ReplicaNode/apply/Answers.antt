@@ -1,11 +1,10 @@
-use Rattle.std.proofs.Common.{◌≡◌, ℕ, ◌+◌, ◌-◌, length, refl, sym, ap, ◌∙◌, arith, subst}
+use Rattle.std.proofs.Common.{ℕ, ◌+◌, ◌-◌, length, refl, sym, ap, ◌∙◌, arith, subst}
 use Rattle.std.specs.Option.{option_map}
-use Rattle.relay_log.specs.Reaching.{Fetched}
 use Rattle.replica_model.specs.Applying.{Going}
 use Rattle.replica_model.specs.Replica.{Replica}
 use Rattle.replica_node.specs.declared.told.Step.{Step}
 use Rattle.replica_node.specs.declared.told.Step.TheVariants.{Over, Moved, Carried, Waits, Stopped as StoppedBy}
-use Rattle.replica_node.specs.Kept.{Kept, replica_of}
+use Rattle.replica_node.specs.Kept.{replica_of}
 use Rattle.replica_node.specs.Steps.{GoesOn, stop_of}
 use Rattle.replica_node.proofs.Fronts.{IsBehind, behind_carried, behind_moved, behind_none, behind_over}
 use Rattle.replica_node.proofs.Going.{IsStep, IsUnder, begins, carried_on, full, moved_on, over, step_at, stops, told, waits}
