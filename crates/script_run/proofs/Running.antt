@@ -11,10 +11,16 @@ use Rattle.answer_text.specs.declared.status.Status.TheVariants.{Done, BadWords,
 use Rattle.fault_counts.specs.Causes.{Rose}
 use Rattle.disk_model.specs.Story.{Story, seen}
 use Rattle.run_stores.specs.durable_runs.Laws.{SourcesLast}
+use Rattle.run_stores.specs.durable_runs.Replicas.{IsCarried}
+use Rattle.run_stores.specs.durable_runs.Sources.{Stored}
+use Rattle.run_stores.specs.Carried.{AllSound, StatesHaveCarried}
+use Rattle.run_stores.specs.Standing.{StandAt}
+use Rattle.run_laws.specs.session_replays.Followed.{EntriesFollow}
+use Rattle.store_model.specs.Held.{Held}
 use Rattle.durable_replica.specs.replica_node.Kept.{held_of}
 use Rattle.durable_replica.specs.replica_node.replica_model.Replica.{Replica}
 use Rattle.run_laws.specs.run_model.Asked.{Asked, say, select, take_bytes, take_groups, restart_source, restart_replica}
-use Rattle.run_laws.specs.run_model.Run.{Names, Both, Starts, both_from, next, end_of, told_lines, lines_shown, draws_of, kept_if, draws_source, draws_replica, carried_in, mark_at, last_mark}
+use Rattle.run_laws.specs.run_model.Run.{Names, Both, Starts, both_from, next, end_of, told_lines, lines_shown, draws_of, kept_if, draws_source, draws_replica, carried_in, mark_at, last_mark, number_before, place_before}
 use Rattle.run_laws.specs.run_model.Following.{Follows}
 use Rattle.run_laws.specs.Laws.{GoesThrough, IsLoggedAsSet, IsSound, OfEach}
 use Rattle.run_laws.specs.Openings.{Begins}
@@ -33,11 +39,16 @@ use Rattle.script_run.specs.Marks.{AreMarks, CalledNow, Numbers, Pushed, command
 use Rattle.script_run.specs.Together.{Before, Began, Together, Drew, GaveUp, Grew, CarriedOut, Marked, Told, ToldFront, Stopped, Opened}
 use Rattle.script_run.specs.Ran.{Reports, Ran, Broke, Ceased, NotBegun}
 use Rattle.script_run.specs.Running.{Going, Ends, EndsRunning}
-use Rattle.script_run.specs.Survives.{CarriedSince, CarriesOn, CarriesSome, IsHeldOf, Lasted, LastsOn, ReplicaSurvives, Survives}
+use Rattle.script_run.specs.Survives.{CarriedSince, CarriesOn, HasCarriedPrefix, CarriesSome, IsHeldOf, Lasted, LastsOn, ReplicaSurvives, Survives}
 use Rattle.script_run.proofs.Surviving.{carried_next, carried_some, rep_survives_by, rep_survives_since, survives_by}
 use Rattle.script_run.proofs.Beginning.{each_from}
 use Rattle.script_run.proofs.Disks.{both_trans, if_told, where_told}
 use Rattle.script_run.proofs.Marks.{called_last, called_within, marks_begin, marks_last, marks_on, no_marks, numbers_are}
+
+-- what the laws say of disks, and of what a replica has carried out
+pub record Lasting : Type 0 where
+  pub sources : SourcesLast
+  pub states : StatesHaveCarried
 
 -- ---- no draw yet
 
@@ -183,6 +194,10 @@ end_none : (names : Names) (b : Both) (cs : List Asked) → end_of names b cs []
 end_none names b [] = refl
 end_none names b (c ∷ cs) = refl
 
+-- a source is sound before a command
+abbrev SoundBefore : Both → Asked → Draw → Type 0
+SoundBefore before c draw = IsSound before.from before.machine
+
 -- before any command the states are those of no command
 since_none : (t u : Option Story) (names : Names) (b : Both) (cs : List Asked) (marks : List Mark) → CarriedSince t u names b [] [] b.replica marks → CarriedSince t u names b cs [] b.replica marks
 since_none t u names b [] marks since = since
@@ -212,6 +227,8 @@ starts from t u cs report before nodes opened =
       wrote = subst (λ (l : List ℕ). Wrote before before l) (sym (no_lines opened.names b 1 cs)) (wrote_nothing before);
       unstopped = λ begins. each_none (GoesThrough opened.names) opened.names b cs;
       formats = each_none (IsLoggedAsSet opened.names) opened.names b cs;
+      followed = opened.together.follows;
+      sounds = λ begins. each_none SoundBefore opened.names b cs;
       on = opened.on;
       held = opened.held;
       holds = opened.holds;
@@ -252,6 +269,8 @@ goes_on from t u v cs i k c old new before now after nodes nodes' is k_is going 
           (subst (λ (n : ℕ). Wrote now after (told_lines n (next names b c told.draw).told)) number told.wrote));
       unstopped = λ begins. each_last (GoesThrough names) names first cs ds told.draw c here (going.unstopped begins) (told.through (from_there names going.src from cs ds begins));
       formats = each_last (IsLoggedAsSet names) names first cs ds told.draw c here going.formats told.logged;
+      followed = going.followed;
+      sounds = λ begins. each_last SoundBefore names first cs ds told.draw c here (going.sounds begins) (going.together.sound (from_there names going.src from cs ds begins));
       on = both_trans t u v going.on told.on;
       held = going.held;
       holds = going.holds;
@@ -262,9 +281,40 @@ goes_on from t u v cs i k c old new before now after nodes nodes' is k_is going 
       together = subst (λ (e : Both). Together names v start nodes' e) (sym (end_last names first cs ds told.draw c here)) told.together;
     }
 
+-- ---- what the replica has carried out
+
+has_carried : StatesHaveCarried → (names : Names) (src : Draw) (from : Starts) (cs : List Asked) (ds : List Draw) (source : Stored) → Follows names (both_from names src from) → AllSound names (both_from names src from) cs ds → Begins from
+    → StandAt source (held_of from.replica) from → HasCarriedPrefix names src from cs ds
+has_carried law names src from cs ds source follows sounds begins stand held state =
+    let first : Both = both_from names src from in
+    let begun : (end_of names first cs ds).from ≡ from = end_from names first cs ds in
+    subst (λ (h : Held). IsCarried EntriesFollow (held_of from.replica) (from.owed ++ (end_of names first cs ds).machine.history) (number_before from.read) (place_before from.read) h) (sym state.1.1)
+    (subst (λ (x : Starts). IsCarried EntriesFollow (held_of from.replica) (x.owed ++ (end_of names first cs ds).machine.history) (number_before x.read) (place_before x.read) (held_of state.0)) begun
+    (law names first cs ds source (held_of from.replica) state.0 follows sounds begins stand state.1.0))
+
+-- where the run began
+stood_at : (from : Starts) (t u : Disks) (cs : List Asked) (count : ℕ) (report : Report) (before now : Option (List ℕ)) (nodes : Nodes) (going : Going from t u cs count report before now nodes)
+    → StandAt (stores_in t going.held (held_of from.replica)).source (held_of from.replica) from
+stood_at from t u cs count report before now nodes going =
+    subst (λ (x : Starts). StandAt (stores_in t going.held (held_of from.replica)).source (held_of from.replica) x) (end_from going.names (both_from going.names going.src from) cs going.draws) going.together.began
+
+-- through the commands until now, and through one more
+carried_now : Lasting → (from : Starts) (t u : Disks) (cs : List Asked) (count : ℕ) (report : Report) (before now : Option (List ℕ)) (nodes : Nodes) (going : Going from t u cs count report before now nodes)
+    → Begins from → HasCarriedPrefix going.names going.src from cs going.draws
+carried_now law from t u cs count report before now nodes going begins =
+    has_carried law.states going.names going.src from cs going.draws (stores_in t going.held (held_of from.replica)).source (going.followed begins) (going.sounds begins) begins
+    (stood_at from t u cs count report before now nodes going)
+
+carried_more : Lasting → (from : Starts) (t u : Disks) (cs : List Asked) (count : ℕ) (report : Report) (before now : Option (List ℕ)) (nodes : Nodes) (going : Going from t u cs count report before now nodes) (d : Draw) (c : Asked)
+    → slice_get cs (length going.draws) ≡ Some c → Begins from → HasCarriedPrefix going.names going.src from cs (going.draws ++ d ∷ [])
+carried_more law from t u cs count report before now nodes going d c here begins =
+    has_carried law.states going.names going.src from cs (going.draws ++ d ∷ []) (stores_in t going.held (held_of from.replica)).source (going.followed begins)
+    (each_last SoundBefore going.names (both_from going.names going.src from) cs going.draws d c here (going.sounds begins) (going.together.sound (from_there going.names going.src from cs going.draws begins))) begins
+    (stood_at from t u cs count report before now nodes going)
+
 -- ---- a run stops
 
-ceased : SourcesLast → (from : Starts) (t u v : Disks) (cs : List Asked) (i k : ℕ) (c : Asked) (old new : Report) (before now after : Option (List ℕ)) (nodes : Nodes) → slice_get cs i ≡ Some c → k ≡ i + 1 → after ≡ now → Grew old new
+ceased : Lasting → (from : Starts) (t u v : Disks) (cs : List Asked) (i k : ℕ) (c : Asked) (old new : Report) (before now after : Option (List ℕ)) (nodes : Nodes) → slice_get cs i ≡ Some c → k ≡ i + 1 → after ≡ now → Grew old new
     → (going : Going from t u cs i old before now nodes) → GaveUp going.names (end_of going.names (both_from going.names going.src from) cs going.draws) k c u v (stores_in t going.held (held_of from.replica)) old new
     → Ceased from t v cs new before after
 ceased law from t u v cs i k c old new before now after nodes is k_is same grew going left =
@@ -296,17 +346,18 @@ ceased law from t u v cs i k c old new before now after nodes is k_is same grew 
       calls = called_within t.source u.source v.source new.now.src_calls going.on.source left.on.source began.calls;
       rep_calls = called_within t.replica u.replica v.replica new.now.rep_calls going.on.replica left.on.replica began.rep_calls;
       kept = left.commits;
-      carried = left.groups;
+      groups = left.groups;
       marks = marks_on (numbers_of first) (numbers_of b) left.commits left.groups (mark_at (1 + length ds) b) (marks_of names first 1 cs ds) old.marks new.marks refl refl began.few going.told.marks pushed;
       put = left.put;
       may = left.may;
-      survives = survives_by law t.source v.source going.held left.put new.marks going.holds left.begins (left.lasts t.source going.lasts);
+      survives = survives_by law.sources t.source v.source going.held left.put new.marks going.holds left.begins (left.lasts t.source going.lasts);
       at = left.at;
       rep_survives = rep_survives_by (IsHeldOf names first cs (ds ++ left.at ∷ [])) t.replica v.replica (held_of from.replica) new.marks going.rep_holds
           (carried_some names first cs ds left.at c here t.replica u.replica v.replica old.marks new.marks left.on.replica going.carries left.carries);
+      carried = carried_more law from t u cs i old before now nodes going left.at c here;
     }
 
-broke : SourcesLast → (from : Starts) (t u v : Disks) (cs : List Asked) (i k : ℕ) (c : Asked) (old new : Report) (before now after : Option (List ℕ)) (nodes : Nodes) → slice_get cs i ≡ Some c → k ≡ i + 1
+broke : Lasting → (from : Starts) (t u v : Disks) (cs : List Asked) (i k : ℕ) (c : Asked) (old new : Report) (before now after : Option (List ℕ)) (nodes : Nodes) → slice_get cs i ≡ Some c → k ≡ i + 1
     → (going : Going from t u cs i old before now nodes) → ToldFront going.names (end_of going.names (both_from going.names going.src from) cs going.draws) k c u v (stores_in t going.held (held_of from.replica)) old new now after
     → Broke from t v cs new before after
 broke law from t u v cs i k c old new before now after nodes is k_is going told =
@@ -333,12 +384,13 @@ broke law from t u v cs i k c old new before now after nodes is k_is going told 
       unstopped = λ begins. each_last (GoesThrough names) names first cs ds told.draw c here (going.unstopped begins) (told.through (from_there names going.src from cs ds begins));
       formats = each_last (IsLoggedAsSet names) names first cs ds told.draw c here going.formats told.logged;
       survives = subst (λ (e : Both). Survives t.source v.source e.machine.history new.marks) (sym (end_last names first cs ds told.draw c here))
-          (survives_by law t.source v.source going.held b'.machine.history new.marks going.holds told.begins (told.lasts t.source going.lasts));
+          (survives_by law.sources t.source v.source going.held b'.machine.history new.marks going.holds told.begins (told.lasts t.source going.lasts));
       rep_survives = rep_survives_since t.replica v.replica names first cs (ds ++ told.draw ∷ []) b'.replica new.marks going.rep_holds
           (carried_next names first cs ds told.draw c here t.replica u.replica v.replica old.marks new.marks told.on.replica going.carries told.carries);
+      carried = carried_more law from t u cs i old before now nodes going told.draw c here;
     }
 
-stops_by : SourcesLast → (status : Status) (from : Starts) (t u v : Disks) (cs : List Asked) (i k : ℕ) (c : Asked) (old new : Report) (before now after : Option (List ℕ)) (nodes : Nodes) → slice_get cs i ≡ Some c → k ≡ i + 1 → Grew old new
+stops_by : Lasting → (status : Status) (from : Starts) (t u v : Disks) (cs : List Asked) (i k : ℕ) (c : Asked) (old new : Report) (before now after : Option (List ℕ)) (nodes : Nodes) → slice_get cs i ≡ Some c → k ≡ i + 1 → Grew old new
     → (going : Going from t u cs i old before now nodes) → Stopped status going.names (end_of going.names (both_from going.names going.src from) cs going.draws) k c u v (stores_in t going.held (held_of from.replica)) old new now after → Ends status from t v cs new before after
 stops_by law Done from t u v cs i k c old new before now after nodes is k_is grew going stopped = stopped
 stops_by law BadWords from t u v cs i k c old new before now after nodes is k_is grew going stopped = stopped
@@ -354,7 +406,7 @@ stops_by law (LogForeign pos kind) from t u v cs i k c old new before now after 
 stops_by law (Differs pos code table key) from t u v cs i k c old new before now after nodes is k_is grew going stopped = stopped
 stops_by law NoMemory from t u v cs i k c old new before now after nodes is k_is grew going stopped = ceased law from t u v cs i k c old new before now after nodes is k_is stopped.0 grew going stopped.1
 
-pub stops : SourcesLast → (r : Result (Unit {0}) Status) (from : Starts) (t u v : Disks) (cs : List Asked) (i k : ℕ) (c : Asked) (old new : Report) (before now after : Option (List ℕ)) (nodes : Nodes) → slice_get cs i ≡ Some c → k ≡ i + 1 → Grew old new
+pub stops : Lasting → (r : Result (Unit {0}) Status) (from : Starts) (t u v : Disks) (cs : List Asked) (i k : ℕ) (c : Asked) (old new : Report) (before now after : Option (List ℕ)) (nodes : Nodes) → slice_get cs i ≡ Some c → k ≡ i + 1 → Grew old new
     → Going from t u cs i old before now nodes → ((names : Names) (start : Stores) (b : Both) → Together names u start nodes b → IfErr r (λ status. Stopped status names b k c u v start old new now after))
     → IfErr r (λ status. Ends status from t v cs new before after)
 stops law (Ok done) from t u v cs i k c old new before now after nodes is k_is grew going stopped = tt
@@ -363,7 +415,7 @@ stops law (Err status) from t u v cs i k c old new before now after nodes is k_i
 
 -- ---- a run ends
 
-ends : SourcesLast → (from : Starts) (t u : Disks) (cs : List Asked) (report : Report) (before after : Option (List ℕ)) (nodes : Nodes) → Going from t u cs (length cs) report before after nodes → Ran from t u cs report before after
+ends : Lasting → (from : Starts) (t u : Disks) (cs : List Asked) (report : Report) (before after : Option (List ℕ)) (nodes : Nodes) → Going from t u cs (length cs) report before after nodes → Ran from t u cs report before after
 ends law from t u cs report before after nodes going =
     let names = going.names in
     let first : Both = both_from names going.src from in
@@ -381,19 +433,20 @@ ends law from t u cs report before after nodes going =
       formats = going.formats;
       sound = λ begins. subst (λ (x : Starts). IsSound x b.machine) begun (going.together.sound (from_there names going.src from cs going.draws begins));
       begun = begun;
-      survives = survives_by law t.source u.source going.held b.machine.history report.marks going.holds going.together.stands.first going.lasts;
+      survives = survives_by law.sources t.source u.source going.held b.machine.history report.marks going.holds going.together.stands.first going.lasts;
       rep_survives = rep_survives_since t.replica u.replica names first cs going.draws b.replica report.marks going.rep_holds going.carries;
+      carried = carried_now law from t u cs (length cs) report before after nodes going;
       follows = λ begins. going.together.follows (from_there names going.src from cs going.draws begins);
     }
 
 -- all commands, as they were counted
-all_going : SourcesLast → {A : Type 0} (seen : A → Asked) (xs : List A) (from : Starts) (t u : Disks) (report : Report) (before after : Option (List ℕ)) (nodes : Nodes) → Going from t u (map seen xs) (length xs) report before after nodes
+all_going : Lasting → {A : Type 0} (seen : A → Asked) (xs : List A) (from : Starts) (t u : Disks) (report : Report) (before after : Option (List ℕ)) (nodes : Nodes) → Going from t u (map seen xs) (length xs) report before after nodes
     → Ran from t u (map seen xs) report before after
 all_going law seen xs from t u report before after nodes going =
     let count : length xs ≡ length (map seen xs) = sym (simp length-map) in
     ends law from t u (map seen xs) report before after nodes (subst (λ (n : ℕ). Going from t u (map seen xs) n report before after nodes) count going)
 
-pub all_ran : SourcesLast → {A : Type 0} (r : Result (Unit {0}) Status) (seen : A → Asked) (xs : List A) (t u v : Disks) (old new : Report) (before after : Option (List ℕ)) (nodes nodes' : Nodes) → FromEach t (λ from. Opened from t u nodes old)
+pub all_ran : Lasting → {A : Type 0} (r : Result (Unit {0}) Status) (seen : A → Asked) (xs : List A) (t u v : Disks) (old new : Report) (before after : Option (List ℕ)) (nodes nodes' : Nodes) → FromEach t (λ from. Opened from t u nodes old)
     → ((from : Starts) (t : Disks) → Opened from t u nodes old → OnOk r (Going from t v (map seen xs) (length xs) new before after nodes'))
     → OnOk r (FromEach t (λ from. Ran from t v (map seen xs) new before after))
 all_ran law (Err status) seen xs t u v old new before after nodes nodes' opened going = tt

@@ -11,7 +11,9 @@ use Rattle.store_model.specs.Held.{Held}
 use Rattle.store_model.specs.Stores.{held_by}
 use Rattle.run_laws.specs.run_model.Asked.{Asked}
 use Rattle.run_laws.specs.run_model.Run.{Names, Starts, both_from, end_of, lines_shown}
+use Rattle.run_laws.specs.run_model.Following.{Follows}
 use Rattle.run_laws.specs.Laws.{AllLoggedAsSet, NoneStops}
+use Rattle.run_stores.specs.Carried.{AllSound}
 use Rattle.run_laws.specs.Openings.{Begins}
 use Rattle.run_streams.specs.Wrote.{Wrote}
 use Rattle.script_run.specs.declared.nodes.Nodes.{Nodes}
@@ -32,6 +34,8 @@ pub record Going (from : Starts) (t u : Disks) (cs : List Asked) (count : ℕ) (
   pub wrote : Wrote before now (lines_shown names (both_from names src from) 1 cs draws)
   pub unstopped : Begins from → NoneStops names (both_from names src from) cs draws
   pub formats : AllLoggedAsSet names (both_from names src from) cs draws
+  pub followed : Begins from → Follows names (both_from names src from)
+  pub sounds : Begins from → AllSound names (both_from names src from) cs draws
   pub on : BothGoOn t u
   pub held : Held
   pub holds : held_by Source (seen t.source) ≡ Ok held

@@ -1,5 +1,5 @@
 -- What a crash leaves of both disks at any moment of a run.
-use Rattle.std.specs.Prelude.{◌≡◌, ◌⊎◌, List, [], ◌∷◌, Option, IfSome, Ok}
+use Rattle.std.specs.Prelude.{◌≡◌, ◌⊎◌, List, [], ◌++◌, Option, IfSome, Ok}
 use Rattle.port_traits.specs.declared.identity.Draw.{Draw}
 use Rattle.port_traits.specs.declared.identity.Identity.{Identity}
 use Rattle.answer_text.specs.declared.report.Mark.{Mark}
@@ -11,13 +11,14 @@ use Rattle.store_model.specs.Held.{Held}
 use Rattle.store_model.specs.Stores.{held_by}
 use Rattle.run_stores.specs.durable_runs.Runs.{CallsFit}
 use Rattle.run_stores.specs.durable_runs.Sources.{SourceImage, SourceLasts, Stored, stored_in}
-use Rattle.run_stores.specs.durable_runs.Replicas.{Carries, CarriesTo, StateImage}
+use Rattle.run_stores.specs.durable_runs.Replicas.{Carries, CarriesTo, IsCarried, StateImage}
 use Rattle.run_laws.specs.log_entries.declared.entries.Entry.{Entry}
 use Rattle.run_laws.specs.session_model.Machine.{Whole}
 use Rattle.run_laws.specs.session_model.Openings.{opening_entries}
+use Rattle.run_laws.specs.session_replays.Followed.{EntriesFollow}
 use Rattle.run_laws.specs.run_model.replica_model.Replica.{Replica as ReplicaNow}
 use Rattle.run_laws.specs.run_model.Asked.{Asked}
-use Rattle.run_laws.specs.run_model.Run.{Names, Both, next}
+use Rattle.run_laws.specs.run_model.Run.{Names, Both, Starts, both_from, end_of, next, number_before, place_before}
 use Rattle.run_laws.specs.run_model.States.{IsOnTheWay, IsStateOf}
 use Rattle.durable_replica.specs.replica_node.Kept.{held_of}
 
@@ -71,6 +72,15 @@ IsHeldOnTheWay names b c draw held = (r : ReplicaNow) × (IsOnTheWay names b c d
 
 abbrev pub IsHeldOf : Names → Both → List Asked → List Draw → Held → Type 0
 IsHeldOf names b cs draws held = (r : ReplicaNow) × (IsStateOf names b cs draws r × (held ≡ held_of r))
+
+-- Whatever is held at a moment of these commands has carried out the first of the entries that were owed as the run began and of those that the
+-- source put out until their end: its place is behind them, and where they do the same at every replica, its base is what they make of the one
+-- that the replica had.
+abbrev pub HasCarriedPrefix : Names → (src : Draw) → Starts → List Asked → List Draw → Type 0
+HasCarriedPrefix names src from cs draws =
+    (held : Held) → IsHeldOf names (both_from names src from) cs draws held
+    → IsCarried EntriesFollow (held_of from.replica) (from.owed ++ (end_of names (both_from names src from) cs draws).machine.history) (number_before from.read)
+    (place_before from.read) held
 
 -- a command that was carried out leads the disk from what the replica was to what it is, through nothing but what it is on the way
 abbrev pub CarriesOn : (t u : Option Story) → Names → Both → Asked → Draw → (old new : List Mark) → Type 0

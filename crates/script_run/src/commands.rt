@@ -27,6 +27,7 @@ use port_traits::{Env, Sink};
 use run_laws::runs_open;
 use run_laws::session_model::openings_hold;
 use run_stores::durable_runs::{runs_last, sources_last};
+use run_stores::replica_has_carried;
 use run_streams::{draws_begin, open, write_line};
 use std::alloc::Global;
 use val_types::{Bytes, List};
@@ -243,6 +244,7 @@ pub(crate) fn answer_all<K: Sink, D: Disk, R: Disk, E: Env, F: Env>(
     ensures ended { K.ended out.old ≡ 0 → K.ended out.new ≡ failed_writes (status_of result) }
 {
     sources_last();
+    replica_has_carried();
     for (i, command) in asked.as_slice().iter().enumerate() {
         let number = i as u32 + 1;
         answer_command(
@@ -283,6 +285,7 @@ pub(crate) fn run_commands<K: Sink, D: Disk, R: Disk, E: Env, F: Env>(
     ensures ended { K.ended out.old ≡ 0 → K.ended out.new ≡ failed_writes (status_of result) }
 {
     sources_last();
+    replica_has_carried();
     match open_nodes(alloc, src, rep, src_env, rep_env, report) {
         Ok(mut nodes) => answer_all(
             alloc, asked, &mut nodes, src, rep, src_env, rep_env, report, out,

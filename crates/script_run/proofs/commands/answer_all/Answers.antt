@@ -14,7 +14,7 @@ pub returns-in_err-answer_command-clause-ends : goal.returns-in_err-answer_comma
 returns-in_err-answer_command-clause-ends g c from t opened =
     let p = err_from_is_err_and c.from_residual.result c.from_residual.ensures.1 in
     rw (p.1, p.2)
-    (stops c.sources_last.ensures (Err c.in_err-answer_command.field-0.0) from t _ _ (map asked_seen c.args.asked.now) c.loop-i.i (c.loop-i.i + 1) _ c.loop-i.report c.answer_command.new.report (g.K.Sink.written c.args.out.now) (g.K.Sink.written c.loop-i.out)
+    (stops (record { sources = c.sources_last.ensures; states = c.replica_has_carried.ensures.states }) (Err c.in_err-answer_command.field-0.0) from t _ _ (map asked_seen c.args.asked.now) c.loop-i.i (c.loop-i.i + 1) _ c.loop-i.report c.answer_command.new.report (g.K.Sink.written c.args.out.now) (g.K.Sink.written c.loop-i.out)
     (g.K.Sink.written c.answer_command.new.out) c.loop-i.nodes
     (item_seen asked_seen c.args.asked.now c.as_slice-command-items.result.now c.loop-i.i _ c.as_slice-command-items.ensures c.loop-i-test.true)
     refl c.in_err-answer_command.ensures.grew (c.loop-i.invariant.0 from t opened) c.in_err-answer_command.ensures.stopped)
