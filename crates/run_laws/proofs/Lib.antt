@@ -3,6 +3,7 @@ pub mod Carrying
 pub mod Committing
 pub mod Fetching
 pub mod Following
+pub mod Fronts
 pub mod Groups
 pub mod Openings
 pub mod Places
