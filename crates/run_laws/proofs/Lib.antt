@@ -1,6 +1,7 @@
 pub mod Applying
 pub mod Carrying
 pub mod Committing
+pub mod Cut
 pub mod Fetching
 pub mod Following
 pub mod Fronts

@@ -1,5 +1,5 @@
 //! The replica follows its source.
-ghost use Rattle.run_laws.specs.Fronts.{FrontsAreRead};
+ghost use Rattle.run_laws.specs.Fronts.{FrontsAreRead, NoReplayStops, ReplaysHaveCarried};
 ghost use Rattle.run_laws.specs.Laws.{AllCarriedIsEqual, FollowsBegins, FollowsGoOn, FollowsOnTheWay, FollowsOpened, NoApplyStops, NothingIsDamaged, NothingIsOwed, OthersFollow, WarnedAsShown};
 ghost use Rattle.run_laws.specs.Openings.{BeginWithNothing, BothOpen, RunsEndWell};
 ghost use Rattle.run_laws.specs.Replays.{LogIsItsEntries, ReplayIsEqual};
@@ -121,6 +121,20 @@ pub fn fronts_are_read()
     entries_can_log_on();
     group_is_first();
     front_is_passed();
+}
+
+/// A law: of such a log the replica carries out the groups of the first entries that it owes, and where all that it owes does the same at every
+/// replica, no item stops it.
+pub fn replays_carry()
+    ensures carried { ReplaysHaveCarried }
+    ensures stops { NoReplayStops }
+{
+    entries_have_length();
+    groups_have_bounds();
+    bases_hold();
+    entry_is_carried();
+    entries_of_runs_follow();
+    fronts_are_read();
 }
 
 /// A law: where no session is under STATEMENT as it says something, each item that is committed does the same at every replica,
