@@ -119,9 +119,10 @@ module _ (walks : Walks) where
   parted : (bytes rest front back : List ℕ) → bytes ++ rest ≡ front ++ back → length front ≤ length bytes
       → (bytes ≡ front ++ drop (length front) bytes) × (drop (length front) bytes ++ rest ≡ back)
   parted bytes rest front back is le =
-      let k : ℕ = length front in
-      (sym (take-append-drop k bytes) ∙ ap (λ (xs : List ℕ). xs ++ drop k bytes) (sym (take-append-le k bytes rest le) ∙ ap (take k) is ∙ take-append_seam front back),
-      sym (drop-append-le k bytes rest le) ∙ ap (drop k) is ∙ drop-append_seam front back)
+      let k : ℕ = length front in (
+        sym (take-append-drop k bytes) ∙ ap (λ (xs : List ℕ). xs ++ drop k bytes) (sym (take-append-le k bytes rest le) ∙ ap (take k) is ∙ take-append_seam front back),
+        sym (drop-append-le k bytes rest le) ∙ ap (drop k) is ∙ drop-append_seam front back,
+      )
 
   -- Bytes from the first on, read from a place on.
   record Comes (read : Read) (owed : List (Entry Whole)) (bytes : List ℕ) (g : Grouped) : Type 0 where

@@ -43,6 +43,6 @@ mod laws;
 // What is its own, and the crates below that it speaks of, passed on: who stands above names them through it.
 pub use apply_laws::{log_entry_laws, log_model, session_model, session_replays};
 pub use laws::{
-    all_carried_is_equal, fronts_are_read, log_is_its_entries, others_follow, replay_is_equal, replays_carry, replica_follows,
-    restarts_keep, runs_open, warned_as_shown,
+    all_carried_is_equal, fronts_are_read, log_is_its_entries, others_follow, replay_is_equal,
+    replays_carry, replica_follows, restarts_keep, runs_open, warned_as_shown,
 };
