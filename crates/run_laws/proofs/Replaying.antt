@@ -122,11 +122,11 @@ log_is_its_entries reads m stamp server committed logged =
 
 module _ (identity : Identity) (draw : Draw) where
   -- only the groups count
-  abbrev all_by : List Group → Replay → Replay
+  abbrev pub all_by : List Group → Replay → Replay
   all_by [] r = r
   all_by (g ∷ gs) r = let s = by_form identity draw g r g.form in unless_stopped (all_by gs) s s.stop
 
-  by_groups : (ps : List Piece) (r : Replay) → all_replayed identity draw ps r ≡ all_by (groups_in ps) r
+  pub by_groups : (ps : List Piece) (r : Replay) → all_replayed identity draw ps r ≡ all_by (groups_in ps) r
   by_groups [] r = refl
   by_groups (p ∷ ps) r = let s = by_form identity draw p.group r p.group.form in by s s.stop (by_groups ps s)
     where

@@ -3,13 +3,19 @@
 -- What equals what. A replica is behind its source where a run may begin (`Begins`), by the entries that it owes. Of the source's log it is
 -- given some bytes, from the first on, which reach its place. From there on they are read as the groups of the first of these entries, and
 -- then the bytes end, or what follows is a part of a group and is damaged.
-use Rattle.std.specs.Prelude.{◌≡◌, ◌≤◌, ℕ, ◌+◌, List, [], ◌∷◌, ◌++◌, length, map}
+use Rattle.std.specs.Prelude.{◌≡◌, ◌≤◌, ℕ, ◌+◌, List, [], ◌∷◌, ◌++◌, length, map, take, Some, None}
+use Rattle.port_traits.specs.declared.identity.Identity.{Identity}
+use Rattle.port_traits.specs.declared.identity.Draw.{Draw}
 use Rattle.apply_laws.specs.log_entries.declared.entries.Entry.{Entry}
 use Rattle.apply_laws.specs.log_entries.declared.entries.Entry.TheVariants.{Transaction, Definition, LogStart}
+use Rattle.apply_laws.specs.log_entries.Entries.{after}
 use Rattle.apply_laws.specs.log_entry_laws.Entries.{start_group}
 use Rattle.apply_laws.specs.log_model.Groups.{Group}
-use Rattle.apply_laws.specs.log_model.Log.{log, written_to}
+use Rattle.apply_laws.specs.log_model.Log.{end_from, log, written_to}
 use Rattle.apply_laws.specs.session_model.Machine.{Whole, first_place, kept_entry}
+use Rattle.apply_laws.specs.session_model.Holding.{changes_of, define}
+use Rattle.apply_laws.specs.session_replays.Followed.{EntriesFollow}
+use Rattle.run_model.specs.replica_model.Replaying.{Replay, all_replayed, replay_by, replayed_from}
 use Rattle.run_model.specs.log_file_model.Walk.{Ending, ended, damaged, grouped_from}
 use Rattle.run_model.specs.Run.{Read, nothing, bytes_to, Starts, bytes_before, number_before, place_before}
 use Rattle.run_model.specs.Following.{groups_of, reader_from}
@@ -57,3 +63,31 @@ pub record FrontIsRead (from : Starts) (bytes : List ℕ) : Type 0 where
 -- so it is wherever the log is cut
 abbrev pub FrontsAreRead : Type 0
 FrontsAreRead = (from : Starts) (bytes : List ℕ) → Begins from → IsFrontOf from bytes → FrontIsRead from bytes
+
+-- ---- what a replica makes of it
+
+-- What a replay has come to that has carried out the first of what was owed: its place is where a reader stands behind them, and where they
+-- do the same at every replica, its base is what they make of the replica's.
+pub record HasReplayed (from : Starts) (s : Replay) : Type 0 where
+  pub front : List (Entry Whole)
+  pub left : List (Entry Whole)
+  pub all : from.owed ≡ front ++ left
+  pub place : s.place ≡ end_from (reader_from from.read) (map kept_entry front) (number_before from.read) (place_before from.read)
+  pub base : EntriesFollow front → after changes_of define front from.replica.base ≡ Some s.base
+
+-- what it makes of the first so many groups
+abbrev pub replayed_to : Identity → Draw → Starts → (bytes : List ℕ) → ℕ → Replay
+replayed_to identity draw from bytes k =
+    all_replayed identity draw (take k (grouped_from from.replica.place.pos bytes).pieces) (replay_by from.replica)
+
+-- so it has behind each of the groups, whoever it is and whatever its draw
+abbrev pub ReplaysHaveCarried : Type 0
+ReplaysHaveCarried =
+    (identity : Identity) (draw : Draw) (from : Starts) (bytes : List ℕ) (k : ℕ) → Begins from → IsFrontOf from bytes
+    → HasReplayed from (replayed_to identity draw from bytes k)
+
+-- and where all that is owed does the same at every replica, no item stops it
+abbrev pub NoReplayStops : Type 0
+NoReplayStops =
+    (identity : Identity) (draw : Draw) (from : Starts) (bytes : List ℕ) → Begins from → IsFrontOf from bytes → EntriesFollow from.owed
+    → (replayed_from identity draw from.replica bytes).stop ≡ None

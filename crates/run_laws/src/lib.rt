@@ -5,7 +5,7 @@
 //!
 //! - `laws`: the laws, each a function that does nothing
 //!
-//! In specs/: `Laws` (what each says), `Restarts` (what is said of a RESTART), `Openings` (where a run may begin and where it ends), `Replays` (what is said of a whole log and its replay). It stands on the laws of sessions
+//! In specs/: `Laws` (what each says), `Restarts` (what is said of a RESTART), `Openings` (where a run may begin and where it ends), `Replays` (what is said of a whole log and its replay), `Fronts` (what is said of a log that is cut). It stands on the laws of sessions
 //! (`session_model`, `session_replays`), of logged entries (`log_entry_laws`, `log_file_model`) and of appliers (`apply_laws`); `repl_run`
 //! stands on it.
 //!
@@ -30,6 +30,9 @@
 //! - The log of a source, read from its bytes alone, is its start and then just the groups of the entries (`log_is_its_entries`).
 //!   Where each item does the same at every replica, who has nothing and carries out the whole log goes through to its end and has the
 //!   source's committed base (`replay_is_equal`).
+//! - A source's log, cut anywhere behind the place of a replica that is behind the source, is read from there on as the groups of the first
+//!   entries that it owes, and then ends, or is damaged where a part of a group begins (`fronts_are_read`). Behind each of these groups the replica has carried out a prefix of what it
+//!   owes, and where all of it does the same at every replica, no item stops it (`replays_carry`).
 //! - An item does the same at every replica where it is logged by its rows, or where it is not warned, or by RAND() alone
 //!   (`apply_laws::session_replays::unwarned_items_follow`). So in a run each does in which no session is under STATEMENT as it says something
 //!   (`others_follow`), and what is warned is what the answers show as warned (`warned_as_shown`).
@@ -40,6 +43,6 @@ mod laws;
 // What is its own, and the crates below that it speaks of, passed on: who stands above names them through it.
 pub use apply_laws::{log_entry_laws, log_model, session_model, session_replays};
 pub use laws::{
-    all_carried_is_equal, log_is_its_entries, others_follow, replay_is_equal, replica_follows,
-    restarts_keep, runs_open, warned_as_shown,
+    all_carried_is_equal, fronts_are_read, log_is_its_entries, others_follow, replay_is_equal,
+    replays_carry, replica_follows, restarts_keep, runs_open, warned_as_shown,
 };
