@@ -31,6 +31,9 @@ static HEAD: [u8; 19] = [
     0x00, 0xf1, 0x53, 0x65, 0x0f, 0x01, 0, 0, 0, 0x77, 0, 0, 0, 0x7b, 0, 0, 0, 0, 0,
 ];
 
+/// The journal of a replica that has carried out nothing: its first gate, closed.
+static OPENED: [u8; 1] = [0x00];
+
 #[test]
 fn a_source_begins_its_log(rt: HostRuntime) {
     let alloc = rt.alloc();
@@ -41,7 +44,8 @@ fn a_source_begins_its_log(rt: HostRuntime) {
     assert!(&rt; disk.contents(2) == BEGUN.as_slice());
     assert_eq!(&rt; disk.contents(8).len(), 123);
     assert!(&rt; disk.contents(8)[4..23] == HEAD[..]);
-    assert_eq!(&rt; other.history().len(), 0);
+    assert!(&rt; other.contents(2) == OPENED.as_slice());
+    assert_eq!(&rt; other.contents(8).len(), 0);
 }
 
 // ---- a call goes on where the one before it ended
