@@ -1,13 +1,13 @@
-//! Groups carried out, one after the other.
+//! One step of an APPLY: a group that is carried out, passed over or passed, or what stops it.
 ghost use Rattle.std.specs.Prelude.{◌≡◌, ◌-◌, ℕ, [], length, IfOk, OnErr};
 ghost use Rattle.log_groups.specs.Views.{group_seen};
 ghost use Rattle.stmt_apply.specs.prog_run.prog_work.Contents.{base_of};
 ghost use Rattle.relay_log.specs.Reaching.{IsAhead};
 ghost use Rattle.relay_log.specs.apply_model.Groups.{group_carried};
-ghost use Rattle.replica_model.specs.Applying.{Going as Under, apply, by_next, next_at};
+ghost use Rattle.replica_model.specs.Applying.{Going as Under, by_next, next_at};
 ghost use Rattle.replica_node.specs.Kept.{replica_of};
 ghost use Rattle.replica_node.specs.Records.{IsDefinition, IsTransaction, Leaves, IsRecorded, MovesOn};
-ghost use Rattle.replica_node.specs.Steps.{CarriesOut, GoesOn, IsFront, IsOver, IsTold, Tells, behind_step, ended_by, going_at};
+ghost use Rattle.replica_node.specs.Steps.{CarriesOut, GoesOn, IsOver, Tells, behind_step, ended_by, going_at};
 
 use crate::records::{definition_record, head_at, place_record, transaction_record};
 use crate::replica::ReplicaNode;
@@ -198,36 +198,5 @@ impl ReplicaNode {
             pos: place.pos,
             stop,
         }
-    }
-
-    /// Carries out up to so many definitions and transactions of what was fetched. It stops at one that differs from what is
-    /// there, and at bytes that no group has; that group is left as it is, and a later call tries it again. Where memory is short,
-    /// what was carried out before stands.
-    #[tactic(auto, unfolding(replica_model::specs::Applying::apply))]
-    pub fn apply(&mut self, wanted: u32, draw: &Draw) -> Result<Applied, NodeFault>
-        ensures identity { self.new.identity ≡ self.old.identity }
-        ensures replica { IfOk result (λ told. replica_of self.new ≡ (apply wanted self.old.identity draw.entry.now (replica_of self.old)).replica) }
-        ensures err { OnErr result (IsFront wanted self.old.identity draw.entry.now (replica_of self.old) (replica_of self.new)) }
-        ensures told { IfOk result (λ told. IsTold told (apply wanted self.old.identity draw.entry.now (replica_of self.old))) }
-    {
-        let mut count: u32 = 0;
-        let mut ahead = self.here();
-        while count < wanted {
-            match self.step(&ahead, draw)? {
-                Step::Over(next) => ahead = next,
-                Step::Moved(kept) => {
-                    drop(kept);
-                    ahead = self.here();
-                }
-                Step::Carried(kept) => {
-                    drop(kept);
-                    count += 1;
-                    ahead = self.here();
-                }
-                Step::Waits => return Ok(self.applied(count, None)),
-                Step::Stopped(stop) => return Ok(self.applied(count, Some(stop))),
-            }
-        }
-        Ok(self.applied(count, None))
     }
 }

@@ -3,7 +3,7 @@ ghost use Rattle.std.specs.Prelude.{◌≡◌, ◌≤◌, ◌+◌, [], length, I
 ghost use Rattle.stmt_apply.specs.prog_run.prog_work.Contents.{base_of};
 ghost use Rattle.relay_log.specs.Reaching.{place_seen};
 ghost use Rattle.replica_model.specs.apply_model.binlog_sizes.Sizes.{most_text};
-ghost use Rattle.replica_model.specs.Replica.{fetched, first_replica, want};
+ghost use Rattle.replica_model.specs.Replica.{fetched, want};
 ghost use Rattle.replica_model.specs.Selecting.{select_answer};
 ghost use Rattle.replica_node.specs.Kept.{replica_of};
 
@@ -58,21 +58,6 @@ impl Drop for ReplicaNode {
 }
 
 impl ReplicaNode {
-    /// A replica that has fetched nothing. It uses nothing of its draw as long as it opens no files.
-    pub fn open(alloc: Global, identity: Identity, draw: &Draw) -> ReplicaNode
-        ensures identity { result.identity ≡ identity }
-        ensures replica { replica_of result ≡ first_replica }
-    {
-        let _ = draw;
-        ReplicaNode {
-            alloc,
-            identity,
-            work: Work::new(alloc),
-            number: 0,
-            relay: Relay::new(alloc),
-        }
-    }
-
     /// A replica on rows where no change is open, which has carried out so many definitions and transactions, up to a place.
     pub fn found(
         alloc: Global,
