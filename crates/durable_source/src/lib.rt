@@ -25,7 +25,7 @@
 //! - A device's fault is answered only where the disk's count of faults rose (`cause`).
 //!
 //! # Only tested
-//! Nothing yet: no test calls it.
+//! In `test_stops`, where the program runs over disks: that a source opens, goes on and opens again with ample memory.
 #![tactic(auto)]
 
 mod opening;

@@ -25,7 +25,7 @@
 //! - A refusal is the disk's own, or want of memory. Failed comes only where the disk's count of faults rose.
 //!
 //! # Only tested
-//! Nothing yet: no test calls it.
+//! In `test_stops`, where the program runs over disks: that entries are written with ample memory, and what crashes leave meanwhile.
 #![tactic(auto)]
 
 mod beginning;
