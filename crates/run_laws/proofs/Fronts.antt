@@ -6,12 +6,12 @@ use Rattle.apply_laws.specs.log_entries.declared.entries.Entry.{Entry}
 use Rattle.apply_laws.specs.log_entries.declared.entries.Entry.TheVariants.{Transaction, Definition, LogStart}
 use Rattle.apply_laws.specs.log_entry_laws.Entries.{group_of_entry, start_group, StaysInLog, CanLog, CanLogAll}
 use Rattle.apply_laws.specs.log_entry_laws.Laws.{Fetched, partly, wholly}
-use Rattle.apply_laws.specs.log_model.Groups.{Group, Next, not_whole, group, group_at}
+use Rattle.apply_laws.specs.log_model.Groups.{Group, not_whole, group_at}
 use Rattle.apply_laws.specs.log_model.Log.{LogPlace, behind, counted, description, entry_bytes, head, log, magic, written_to}
 use Rattle.apply_laws.specs.log_model.Written.{bytes_of}
-use Rattle.apply_laws.specs.session_model.Machine.{Whole, first_place, kept_entry, nowhere}
+use Rattle.apply_laws.specs.session_model.Machine.{Whole, first_place, kept_entry}
 use Rattle.run_model.specs.log_file_model.Passing.{FrontIsPassed, GroupIsFirst, walked}
-use Rattle.run_model.specs.log_file_model.Walk.{Grouped, Ending, ended, damaged, Piece, by_form, by_next, groups_from, grouped_from, nothing_but, unless_ended, with_piece, piece_of, size_of, behind as past}
+use Rattle.run_model.specs.log_file_model.Walk.{Grouped, damaged, by_form, by_next, groups_from, grouped_from, nothing_but, with_piece, piece_of, size_of, behind as past}
 use Rattle.run_model.specs.Run.{Read, nothing, bytes_to, bytes_before, number_before, place_before}
 use Rattle.run_model.specs.Following.{AreCommitted, groups_of, reader_from}
 use Rattle.run_laws.specs.Fronts.{FrontsAreRead, cut_at, ends_at, groups_owed}

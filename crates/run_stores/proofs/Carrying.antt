@@ -33,7 +33,7 @@ use Rattle.run_laws.proofs.Carrying.{first_ones}
 use Rattle.run_laws.proofs.Openings.{counts_by_one, counts_there}
 use Rattle.run_laws.proofs.Places.{front_place}
 use Rattle.run_stores.specs.Standing.{StandAt}
-use Rattle.run_stores.specs.Carried.{held_in, logged, HasCarried, IsServed, IsHeldState, FollowersHaveCarried, FollowersAreServed, CarriedOnTheWay, StatesHaveCarried, ImagesHaveCarried}
+use Rattle.run_stores.specs.Carried.{held_in, logged, HasCarried, IsServed, IsHeldState, FollowersHaveCarried, FollowersAreServed, CarriedOnTheWay, StatesHaveCarried, ImagesHaveCarried, ReplayedIsCarried, held_of_replay}
 
 -- ---- places
 
@@ -226,3 +226,13 @@ images_have_carried states names b cs ds source replica t calls committed marks 
         → ((now : Held) → held_by kinds.Replica image ≡ Ok now → now.number ≤ named committed (map served_mark marks) n)
         → ReplicaImage EntriesFollow replica entries (number_before b.from.read) (place_before b.from.read) committed marks n image
     image_is n image is low = record { now = is.now; stands = is.stands; carried = carried is.now is.state; holds = is.holds; served = low is.now is.stands }
+
+-- ---- a log that is replayed
+
+pub replayed_is_carried : ReplayedIsCarried
+replayed_is_carried from s begins h =
+    let n : ℕ = number_before from.read in
+    let w : LogPlace = place_before from.read in
+    subst (λ (es : List (Entry Whole)). IsCarried EntriesFollow (held_in from.replica) es n w (held_of_replay s)) (sym h.all)
+    (carried_first (held_in from.replica) (held_of_replay s) h.front h.left n w
+    (h.place ∙ ap (λ (q : LogPlace). end_from q (map kept_entry h.front) n w) (sym begins.behind.place)) h.base)

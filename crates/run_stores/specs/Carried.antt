@@ -17,10 +17,12 @@ use Rattle.run_laws.specs.session_model.Holding.{Holds}
 use Rattle.run_laws.specs.session_model.Machine.{Whole}
 use Rattle.run_laws.specs.session_replays.Followed.{EntriesFollow}
 use Rattle.run_laws.specs.run_model.replica_model.Replica.{Replica}
+use Rattle.run_laws.specs.run_model.replica_model.Replaying.{Replay}
 use Rattle.run_laws.specs.run_model.Asked.{Asked}
-use Rattle.run_laws.specs.run_model.Run.{Names, Both, number_before, place_before, source_from, end_of}
+use Rattle.run_laws.specs.run_model.Run.{Names, Both, Starts, number_before, place_before, source_from, end_of}
 use Rattle.run_laws.specs.run_model.Following.{Follows}
 use Rattle.run_laws.specs.run_model.States.{IsOnTheWay, IsStateOf}
+use Rattle.run_laws.specs.Fronts.{HasReplayed}
 use Rattle.run_laws.specs.Laws.{IsSound, OfEach}
 use Rattle.run_laws.specs.Openings.{Begins}
 use Rattle.run_stores.specs.Standing.{StandAt}
@@ -80,3 +82,15 @@ ImagesHaveCarried =
     → Follows names b → AllSound names b cs ds → Begins b.from → StandAt source replica b.from
     → Since calls t (StateImage (IsHeldState names b cs ds) replica marks) → Served committed calls t marks
     → Since calls t (ReplicaImage EntriesFollow replica (logged (end_of names b cs ds)) (number_before b.from.read) (place_before b.from.read) committed marks)
+
+-- ---- a log that is replayed
+
+-- what a replay has that a store keeps
+abbrev pub held_of_replay : Replay → Held
+held_of_replay s = record { base = s.base; number = s.number; ends = []; place = s.place }
+
+-- where it has carried out the first of what a replica owed, so has what a store holds of it
+abbrev pub ReplayedIsCarried : Type 0
+ReplayedIsCarried =
+    (from : Starts) (s : Replay) → Begins from → HasReplayed from s
+    → IsCarried EntriesFollow (held_in from.replica) from.owed (number_before from.read) (place_before from.read) (held_of_replay s)

@@ -1,7 +1,7 @@
 //! A run begins with a replica's store behind its source's, and ends so.
 ghost use Rattle.durable_runs.specs.Laws.{CarriedGoesOn, ReplicasLast};
 ghost use Rattle.run_laws.specs.session_replays.Followed.{EntriesFollow};
-ghost use Rattle.run_stores.specs.Carried.{CarriedOnTheWay, FollowersAreServed, FollowersHaveCarried, ImagesHaveCarried, StatesHaveCarried};
+ghost use Rattle.run_stores.specs.Carried.{CarriedOnTheWay, FollowersAreServed, FollowersHaveCarried, ImagesHaveCarried, ReplayedIsCarried, StatesHaveCarried};
 ghost use Rattle.run_stores.specs.Laws.{NothingBegins, RunsEndBehind, StoresBegin, StoresLetBegin, StoresOpen};
 
 use durable_runs::logs_go_on;
@@ -32,6 +32,7 @@ pub fn replica_has_carried()
     ensures on_the_way { CarriedOnTheWay }
     ensures states { StatesHaveCarried }
     ensures images { ImagesHaveCarried }
+    ensures replayed { ReplayedIsCarried }
     ensures goes_on { CarriedGoesOn EntriesFollow }
     ensures last { ReplicasLast EntriesFollow }
 {

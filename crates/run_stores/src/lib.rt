@@ -18,7 +18,8 @@
 //!   that were owed and of those that its source has put out, and no more transactions than that has committed: its place is behind the
 //!   prefix, and where its items do the same at every replica, its base is what it makes of the one that its store had. For all
 //!   commands the source has to be sound before each, which who carries them out shows. So each image of each moment of its disk has
-//!   carried out a prefix, where it holds what the replica was at some moment ([`replica_has_carried`]).
+//!   carried out a prefix, where it holds what the replica was at some moment; and so has a store that holds what a replay of its source's
+//!   log came to ([`replica_has_carried`]).
 #![tactic(auto)]
 
 mod laws;

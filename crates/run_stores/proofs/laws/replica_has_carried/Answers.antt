@@ -1,7 +1,7 @@
 use Rattle.durable_runs.proofs.Carried.{carried_goes_on}
 use Rattle.durable_runs.proofs.Carrying.{replica_images}
 use Rattle.run_laws.specs.session_replays.Followed.{EntriesFollow}
-use Rattle.run_stores.proofs.Carrying.{followers_have_carried, followers_are_served, carried_on_the_way, states_have_carried, images_have_carried}
+use Rattle.run_stores.proofs.Carrying.{followers_have_carried, followers_are_served, carried_on_the_way, states_have_carried, images_have_carried, replayed_is_carried}
 use Rattle.run_stores.proofs.laws.replica_has_carried.Goals as goal
 
 pub returns : goal.returns
@@ -16,6 +16,7 @@ returns c =
       on_the_way = carried_on_the_way have heads way;
       states = states;
       images = images_have_carried states;
+      replayed = replayed_is_carried;
       goes_on = carried_goes_on EntriesFollow;
       last = replica_images EntriesFollow;
     }
