@@ -157,29 +157,41 @@ fn first_bad(alloc: Global, from: u64, to: u64) -> u64 {
     to
 }
 
-/// Whether each of the calls of one half stops well: 17 groups take four calls each, and opening some before them.
-fn half_stops_well(alloc: Global, half: u64) -> bool {
-    let Some(calls) = calls_of_all(alloc) else {
-        return false;
-    };
-    if calls <= 68 || calls >= 160 {
-        return false;
+/// Whether each of the calls from one on stops well, up to another one, or to the last: 17 groups take four calls each, and opening some
+/// before them.
+fn stop_well(alloc: Global, from: u64, to: u64) -> bool {
+    match calls_of_all(alloc) {
+        Some(calls) if calls > 68 && calls < 120 => {
+            let end = to.min(calls.saturating_add(1));
+            first_bad(alloc, from, end) == end
+        }
+        _ => false,
     }
-    let (from, to) = match half {
-        0 => (1, 40),
-        _ => (40, calls + 1),
-    };
-    first_bad(alloc, from, to) == to
 }
 
 #[test]
-fn a_replica_stops_at_the_first_calls(rt: HostRuntime) {
-    assert!(&rt; half_stops_well(rt.alloc(), 0));
+fn a_replica_stops_while_it_opens(rt: HostRuntime) {
+    assert!(&rt; stop_well(rt.alloc(), 1, 20));
 }
 
 #[test]
-fn a_replica_stops_at_the_last_calls(rt: HostRuntime) {
-    assert!(&rt; half_stops_well(rt.alloc(), 1));
+fn a_replica_stops_at_the_first_groups(rt: HostRuntime) {
+    assert!(&rt; stop_well(rt.alloc(), 20, 40));
+}
+
+#[test]
+fn a_replica_stops_at_the_middle_groups(rt: HostRuntime) {
+    assert!(&rt; stop_well(rt.alloc(), 40, 56));
+}
+
+#[test]
+fn a_replica_stops_at_the_later_groups(rt: HostRuntime) {
+    assert!(&rt; stop_well(rt.alloc(), 56, 70));
+}
+
+#[test]
+fn a_replica_stops_at_the_last_groups(rt: HostRuntime) {
+    assert!(&rt; stop_well(rt.alloc(), 70, 120));
 }
 
 // ---- a second stop inside the opening of what the first one left
@@ -248,9 +260,17 @@ fn opens_behind(alloc: Global, k: u64) -> bool {
 }
 
 #[test]
-fn an_opening_of_a_replica_may_stop_too(rt: HostRuntime) {
+fn an_opening_behind_an_opening_may_stop_too(rt: HostRuntime) {
     let alloc = rt.alloc();
-    for k in [1, 5, 9, 12, 40, 41, 42, 43] {
+    for k in [1, 9, 12] {
+        assert!(&rt; opens_behind(alloc, k), "call {k}");
+    }
+}
+
+#[test]
+fn an_opening_behind_groups_may_stop_too(rt: HostRuntime) {
+    let alloc = rt.alloc();
+    for k in [40, 41, 42] {
         assert!(&rt; opens_behind(alloc, k), "call {k}");
     }
 }
@@ -303,21 +323,36 @@ fn is_replayed(alloc: Global, files: &[Bytes], log: &[u8]) -> Option<bool> {
     Some(ended.line.is_empty() && shows_shop(alloc, behind.as_slice(), 17))
 }
 
-/// How many of its calls, from the first on, stop well one after the other, until a replay ends.
-fn replays_stopped(alloc: Global) -> u64 {
+/// Whether each of the calls from one on stops well, up to another one, or to the end of the replay, which opens, takes in each of 18
+/// groups, and writes 17 of them with four calls each.
+fn replays_stop_well(alloc: Global, from: u64, to: u64) -> bool {
     let log = log_of(alloc, SHOP);
-    for k in 1..160 {
+    for k in from..to {
         match replay_stops_well(alloc, log.as_slice(), k) {
             Some(true) => {}
-            Some(false) => return 0,
-            None => return k.saturating_sub(1),
+            Some(false) => return false,
+            None => return k > 80,
         }
     }
-    0
+    true
 }
 
-/// A replay opens, takes in each of 18 groups, and writes 17 of them with four calls each.
 #[test]
-fn a_replay_stops_at_each_call(rt: HostRuntime) {
-    assert!(&rt; replays_stopped(rt.alloc()) > 68);
+fn a_replay_stops_at_the_first_calls(rt: HostRuntime) {
+    assert!(&rt; replays_stop_well(rt.alloc(), 1, 30));
+}
+
+#[test]
+fn a_replay_stops_at_the_middle_calls(rt: HostRuntime) {
+    assert!(&rt; replays_stop_well(rt.alloc(), 30, 55));
+}
+
+#[test]
+fn a_replay_stops_at_the_later_calls(rt: HostRuntime) {
+    assert!(&rt; replays_stop_well(rt.alloc(), 55, 76));
+}
+
+#[test]
+fn a_replay_stops_at_the_last_calls(rt: HostRuntime) {
+    assert!(&rt; replays_stop_well(rt.alloc(), 76, 160));
 }
