@@ -42,8 +42,9 @@ mod prepared;
 mod reserved;
 mod store;
 
-// What is its own, and the crate below that it speaks of, passed on.
+// What is its own, and of the crates below what it speaks of, passed on.
 pub use laws::other_files_leave_the_store;
 pub use prepared::Prepared;
 pub use store::Store;
+pub use store_bodies::are_changes;
 pub use store_model;

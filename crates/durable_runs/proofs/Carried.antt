@@ -1,6 +1,5 @@
 -- What a replica has carried out, as entries and steps go on.
-use Rattle.std.proofs.Common.{◌≡◌, ◌⊎◌, inl, inr, ℕ, zero, suc, ◌-◌, ◌<◌, ◌≤◌, Bool, List, [], ◌∷◌, ◌++◌, length, map, take, Some, sym, ◌∙◌, ap, subst, arith}
-use Rattle.std.proofs.lemmas.Bool.{cases_lt}
+use Rattle.std.proofs.Common.{◌≡◌, ℕ, List, ◌++◌, length, map, take, Some, sym, ◌∙◌, ap, subst, arith}
 use Rattle.std.proofs.lemmas.List.{map-append, length-map, length-append, take-append-le}
 use Rattle.session_model.specs.log_entries.declared.entries.Item.{Item}
 use Rattle.session_model.specs.log_entries.declared.entries.Entry.{Entry}
@@ -11,10 +10,11 @@ use Rattle.session_model.specs.Holding.{changes_of, define}
 use Rattle.store_model.specs.declared.record.Record.{Record}
 use Rattle.store_model.specs.Held.{Held}
 use Rattle.durable_runs.specs.Runs.{behind_steps}
-use Rattle.durable_runs.specs.Replicas.{replica_side, AllFollow, IsCarried, AreCarried}
-use Rattle.durable_runs.proofs.Steps.{steps_behind}
+use Rattle.durable_runs.specs.Replicas.{replica_side, IsCarried, AreCarried}
+use Rattle.durable_runs.specs.Laws.{CarriedGoesOn}
+use Rattle.durable_runs.proofs.States.{states_join}
 
-pub carried_entries : (follows : Whole → Bool) (before : Held) (es more : List (Entry Whole)) (number : ℕ) (writer : LogPlace) (now : Held)
+pub carried_entries : (follows : List (Entry Whole) → Type 0) (before : Held) (es more : List (Entry Whole)) (number : ℕ) (writer : LogPlace) (now : Held)
     → IsCarried follows before es number writer now → IsCarried follows before (es ++ more) number writer now
 carried_entries follows before es more number writer now c =
     let same : take c.first (es ++ more) ≡ take c.first es = take-append-le c.first es more c.within in
@@ -25,25 +25,15 @@ carried_entries follows before es more number writer now c =
       first = c.first;
       within = omega (arith, c.within, length-append es more);
       place = c.place ∙ ap (λ (l : List (Entry Item)). end_from before.place l number writer) (sym kept);
-      base = subst (λ (l : List (Entry Whole)). AllFollow follows l → after changes_of define l before.base ≡ Some now.base) (sym same) c.base;
+      base = subst (λ (l : List (Entry Whole)). follows l → after changes_of define l before.base ≡ Some now.base) (sym same) c.base;
     }
 
-take_beyond : (front back : List Record) (k : ℕ) → length front ≤ k → take k (front ++ back) ≡ front ++ take (k - length front) back
-take_beyond [] back k le = let e : k ≡ k - 0 = omega arith in ap (λ (n : ℕ). take n back) e
-take_beyond (r ∷ front) back zero le = absurd (omega (arith, le))
-take_beyond (r ∷ front) back (suc k) le =
-    let e : k - length front ≡ suc k - suc (length front) = omega arith in
-    ap (λ (l : List Record). r ∷ l) (take_beyond front back k (omega (arith, le)) ∙ ap (λ (n : ℕ). front ++ take n back) e)
-
-pub carried_steps : (follows : Whole → Bool) (before : Held) (es : List (Entry Whole)) (number : ℕ) (writer : LogPlace) (held mid : Held) (front back : List Record)
+pub carried_steps : (follows : List (Entry Whole) → Type 0) (before : Held) (es : List (Entry Whole)) (number : ℕ) (writer : LogPlace) (held mid : Held) (front back : List Record)
     → AreCarried follows before es number writer held front → behind_steps replica_side front held ≡ Some mid
     → AreCarried follows before es number writer mid back → AreCarried follows before es number writer held (front ++ back)
-carried_steps follows before es number writer held mid front back first made rest k now is = by_part (cases_lt k (length front))
-  where
-    by_part : (k < length front) ⊎ (length front ≤ k) → IsCarried follows before es number writer now
-    by_part (inl lt) =
-        first k now (sym (ap (λ (l : List Record). behind_steps replica_side l held) (take-append-le k front back (omega arith))) ∙ is)
-    by_part (inr ge) =
-        rest (k - length front) now
-        (sym (steps_behind replica_side front (take (k - length front) back) held mid made)
-        ∙ sym (ap (λ (l : List Record). behind_steps replica_side l held) (take_beyond front back k ge)) ∙ is)
+carried_steps follows before es number writer held mid front back first made rest =
+    states_join (IsCarried follows before es number writer) held mid front back first made rest
+
+-- whatever makes entries do the same at every replica
+pub carried_goes_on : (follows : List (Entry Whole) → Type 0) → CarriedGoesOn follows
+carried_goes_on follows = record { entries = carried_entries follows; steps = carried_steps follows }

@@ -1,27 +1,28 @@
 -- A replica's steps, what it serves, and both disks of a run.
-use Rattle.std.proofs.Common.{◌≡◌, ℕ, ◌+◌, ◌^◌, ◌<◌, ◌≤◌, Bool, true, false, eqb, leb, ltb, List, [], ◌∷◌, ◌++◌, length, map, take, drop, Option, Some, None, Result, Ok, refl, sym, ◌∙◌, ap, subst, arith, append-nil}
+use Rattle.std.proofs.Common.{◌≡◌, ℕ, ◌+◌, ◌^◌, ◌<◌, ◌≤◌, Bool, true, false, eqb, leb, ltb, List, [], ◌∷◌, ◌++◌, length, map, take, drop, Option, Some, None, Ok, refl, sym, ◌∙◌, ap, subst, arith, append-nil}
 use Rattle.std.specs.Prelude.{◌&&◌, IfSome}
 use Rattle.std.specs.Option.{option_map, option_and_then}
 use Rattle.std.proofs.lemmas.Bool.{eqb-true, leb-true}
 use Rattle.std.proofs.lemmas.List.{map-append, take-append-drop}
 use Rattle.answer_text.specs.declared.report.Mark.{Mark}
 use Rattle.disk_model.specs.Story.{Image, Story, count}
-use Rattle.disk_model.specs.Moments.{Each, Since, GoesOn}
+use Rattle.disk_model.specs.Moments.{Each, GoesOn}
 use Rattle.disk_model.proofs.Moments.{since_map, since_joined, on_count}
 use Rattle.session_model.specs.log_entries.declared.entries.Entry.{Entry}
-use Rattle.session_model.specs.log_model.Log.{LogPlace}
 use Rattle.session_model.specs.Machine.{Whole}
 use Rattle.store_model.specs.declared.record.Kind.TheVariants.{Replica}
 use Rattle.store_model.specs.declared.record.Head.{Head}
 use Rattle.store_model.specs.declared.record.Record.{Record}
 use Rattle.store_model.specs.declared.record.Record.TheVariants.{Transaction, Definition, LogStart, TransactionApplied, DefinitionApplied, PlaceMoved}
 use Rattle.store_model.specs.Held.{Held, most_committed, latest_end, is_next_commit, committed, begins_log, log_begun, next_applied, carried_out, changed, defined_by, where_so, applied}
-use Rattle.store_model.specs.Stores.{Spot, held_by}
+use Rattle.store_model.specs.Stores.{held_by}
 use Rattle.durable_runs.specs.Marks.{Named, named, NameNow, source_mark, replica_mark, served_mark}
 use Rattle.durable_runs.specs.Runs.{behind_steps, Claim, Runs}
 use Rattle.durable_runs.specs.Sources.{Stored, SourceRuns, source_side}
-use Rattle.durable_runs.specs.Replicas.{replica_side, ReplicaRuns, ReplicaLasts, RunsBoth, Served, AreCarried, ReplicaImage}
+use Rattle.durable_runs.specs.Replicas.{replica_side, ReplicaRuns, RunsBoth, Served, ReplicaImage}
+use Rattle.durable_runs.specs.Laws.{ReplicasLast}
 use Rattle.durable_runs.proofs.Naming.{named_rises}
+use Rattle.durable_runs.proofs.States.{same_stands}
 use Rattle.durable_runs.proofs.Steps.{some_same, steps_part}
 use Rattle.durable_runs.proofs.Joining.{runs_idle, runs_join, lasts_ends}
 
@@ -110,12 +111,6 @@ prefix_low rs k held now last fits first all =
     let fits' : part.0.number < 2 ^ 64 = (replicas_rise (take k rs) held part.0 fits part.1.0).1 in
     omega (arith, ap (λ (h : Held). h.number) same, (replicas_rise (drop k rs) part.0 last fits' part.1.1).0)
 
-same_stands : (image : Image) (a b : Held) → held_by Replica image ≡ Ok a → held_by Replica image ≡ Ok b → a.number ≡ b.number
-same_stands image a b p q = let e : Path (Result Held Spot) (Ok a) (Ok b) = sym p ∙ q in ap (λ (h : Held). h.number) (same a b e)
-  where
-    same : (a b : Held) → Path (Result Held Spot) (Ok a) (Ok b) → a ≡ b
-    same a b is = cc
-
 pub served_runs : (t u : Option Story) (start : ℕ) (held last : Held) (records : List Record) (a b : List Mark) → held.number < 2 ^ 64 → ReplicaRuns t u held records a b
     → behind_steps replica_side records held ≡ Some last → last.number ≤ named start (map served_mark b) (count t) → Served start (count t) u b
 served_runs t u start held last records a b fits runs all low =
@@ -151,9 +146,7 @@ served_join start t u v a more on on' front back =
 
 -- ---- whole runs
 
-pub replica_images : (follows : Whole → Bool) (t u : Option Story) (held : Held) (rs : List Record) (es : List (Entry Whole)) (number : ℕ) (writer : LogPlace) (committed : ℕ)
-    (marks : List Mark) → ReplicaLasts t u held rs marks → Served committed (count t) u marks
-    → AreCarried follows held es number writer held rs → Since (count t) u (ReplicaImage follows held es number writer committed marks)
+pub replica_images : (follows : List (Entry Whole) → Type 0) → ReplicasLast follows
 replica_images follows t u held rs es number writer committed marks lasts served carried =
     let claim = lasts_ends replica_side t u held rs (map replica_mark marks) lasts in
     record {

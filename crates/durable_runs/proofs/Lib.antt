@@ -6,6 +6,7 @@ pub mod Composing
 pub mod Storing
 pub mod Framing
 pub mod OneLog
+pub mod States
 pub mod Carried
 pub mod Carrying
 pub mod Owing

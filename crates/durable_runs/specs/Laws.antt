@@ -1,5 +1,5 @@
 -- What follows of runs.
-use Rattle.std.specs.Prelude.{◌≡◌, ◌≤◌, ◌<◌, ◌^◌, ◌⊎◌, ℕ, Bool, List, [], ◌∷◌, ◌++◌, map, Option, Some, None, Ok, IfSome}
+use Rattle.std.specs.Prelude.{◌≡◌, ◌≤◌, ◌<◌, ◌^◌, ◌⊎◌, ℕ, List, [], ◌∷◌, ◌++◌, map, Option, Some, None, Ok, IfSome}
 use Rattle.std.specs.Option.{option_and_then}
 use Rattle.answer_text.specs.declared.report.Mark.{Mark}
 use Rattle.disk_model.specs.Story.{Image, Story, count, seen}
@@ -168,19 +168,19 @@ pub record ServedGoesOn : Type 0 where
   pub join : (start : ℕ) (t u v : Option Story) (a more : List Mark) → GoesOn t u → GoesOn u v → Served start (count t) u a → Served start (count u) v (a ++ more)
       → Served start (count t) v (a ++ more)
 
--- What was carried out goes on, with entries that come later, and with steps that do.
-pub record CarriedGoesOn : Type 0 where
-  pub entries : (follows : Whole → Bool) (before : Held) (es more : List (Entry Whole)) (number : ℕ) (writer : LogPlace) (now : Held)
+-- What was carried out goes on, with entries that come later, and with steps that do, whatever makes entries do the same at every replica.
+pub record CarriedGoesOn (follows : List (Entry Whole) → Type 0) : Type 0 where
+  pub entries : (before : Held) (es more : List (Entry Whole)) (number : ℕ) (writer : LogPlace) (now : Held)
       → IsCarried follows before es number writer now → IsCarried follows before (es ++ more) number writer now
-  pub steps : (follows : Whole → Bool) (before : Held) (es : List (Entry Whole)) (number : ℕ) (writer : LogPlace) (held mid : Held) (front back : List Record)
+  pub steps : (before : Held) (es : List (Entry Whole)) (number : ℕ) (writer : LogPlace) (held mid : Held) (front back : List Record)
       → AreCarried follows before es number writer held front → behind_steps replica_side front held ≡ Some mid
       → AreCarried follows before es number writer mid back → AreCarried follows before es number writer held (front ++ back)
 
 -- In the end each image of each moment of a replica's run is as it says, where what the replica holds behind each prefix of its steps has
 -- carried out a prefix of the entries.
-abbrev pub ReplicasLast : Type 0
-ReplicasLast =
-    (follows : Whole → Bool) (t u : Option Story) (held : Held) (rs : List Record) (es : List (Entry Whole)) (number : ℕ) (writer : LogPlace) (committed : ℕ)
+abbrev pub ReplicasLast : (follows : List (Entry Whole) → Type 0) → Type 0
+ReplicasLast follows =
+    (t u : Option Story) (held : Held) (rs : List Record) (es : List (Entry Whole)) (number : ℕ) (writer : LogPlace) (committed : ℕ)
     (marks : List Mark) → ReplicaLasts t u held rs marks → Served committed (count t) u marks
     → AreCarried follows held es number writer held rs → Since (count t) u (ReplicaImage follows held es number writer committed marks)
 

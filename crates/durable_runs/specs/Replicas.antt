@@ -1,10 +1,9 @@
 -- What may stand on a replica's disk, and on both disks of a run.
-use Rattle.std.specs.Prelude.{◌≡◌, ◌≤◌, ℕ, Bool, true, List, [], ◌∷◌, length, map, take, Option, Some, Ok}
+use Rattle.std.specs.Prelude.{◌≡◌, ◌≤◌, ℕ, List, length, map, take, Option, Some, Ok}
 use Rattle.answer_text.specs.declared.report.Mark.{Mark}
 use Rattle.disk_model.specs.Story.{Image, Story}
 use Rattle.disk_model.specs.Moments.{Since}
 use Rattle.session_model.specs.log_entries.declared.entries.Entry.{Entry}
-use Rattle.session_model.specs.log_entries.declared.entries.Entry.TheVariants.{Transaction, Definition, LogStart}
 use Rattle.session_model.specs.log_entries.Entries.{after}
 use Rattle.session_model.specs.log_model.Log.{LogPlace, end}
 use Rattle.session_model.specs.Machine.{Whole, kept_entry}
@@ -32,6 +31,31 @@ ReplicaRuns t u held rs old new = Runs replica_side t u held rs (map replica_mar
 abbrev pub ReplicaLasts : (t u : Option Story) → Held → List Record → List Mark → Type 0
 ReplicaLasts t u held rs marks = Lasts replica_side t u held rs (map replica_mark marks)
 
+-- ---- what a replica is meanwhile
+
+-- What a replica holds behind each prefix of its steps from somewhere on is one of some states.
+abbrev pub AreStates : (Held → Type 0) → Held → List Record → Type 0
+AreStates P held rs = (k : ℕ) (now : Held) → behind_steps replica_side (take k rs) held ≡ Some now → P now
+
+-- A run of a replica over some records, behind each of which it holds one of some states.
+pub record Carries (P : Held → Type 0) (t u : Option Story) (held : Held) (old new : List Mark) : Type 0 where
+  pub records : List Record
+  pub states : AreStates P held records
+  pub runs : ReplicaRuns t u held records old new
+
+-- ... and it comes to this.
+pub record CarriesTo (P : Held → Type 0) (t u : Option Story) (held last : Held) (old new : List Mark) : Type 0 where
+  pub carries : Carries P t u held old new
+  pub reached : behind_steps replica_side carries.records held ≡ Some last
+
+-- When n calls of the replica's disk had returned, an image of it holds one of the states, whose number is no less than any that a mark of
+-- up to n calls names.
+pub record StateImage (P : Held → Type 0) (before : Held) (marks : List Mark) (n : ℕ) (image : Image) : Type 0 where
+  pub now : Held
+  pub stands : held_by Replica image ≡ Ok now
+  pub state : P now
+  pub holds : named before.number (map replica_mark marks) n ≤ now.number
+
 -- ---- no more than what was served
 
 -- At each moment since the start an image holds no more transactions than the source had committed by then.
@@ -41,33 +65,22 @@ Served start calls t marks =
 
 -- ---- what a run promises of an image
 
--- each item of entries does the same at every replica, as a test of items says
-abbrev pub ItemsFollow : (Whole → Bool) → List Whole → Type 0
-ItemsFollow follows [] = Unit {0}
-ItemsFollow follows (i ∷ items) = (follows i ≡ true) × ItemsFollow follows items
-
-abbrev pub AllFollow : (Whole → Bool) → List (Entry Whole) → Type 0
-AllFollow follows [] = Unit {0}
-AllFollow follows (Transaction stamp server items ∷ es) = ItemsFollow follows items × AllFollow follows es
-AllFollow follows (Definition stamp server i ∷ es) = AllFollow follows es
-AllFollow follows (LogStart stamp server ∷ es) = AllFollow follows es
-
 -- What a replica holds that has carried out the first of entries, which a writer logged at a place behind so many transactions: it stands
--- where a reader stands behind them, and where each item of them does the same at every replica, its base is what they make of the first.
-pub record IsCarried (follows : Whole → Bool) (before : Held) (entries : List (Entry Whole)) (number : ℕ) (writer : LogPlace) (now : Held) : Type 0 where
+-- where a reader stands behind them, and where they do the same at every replica, as `follows` says of entries, its base is what they make of
+-- the first.
+pub record IsCarried (follows : List (Entry Whole) → Type 0) (before : Held) (entries : List (Entry Whole)) (number : ℕ) (writer : LogPlace) (now : Held) : Type 0 where
   pub first : ℕ
   pub within : first ≤ length entries
   pub place : now.place ≡ end before.place (map kept_entry entries) first number writer
-  pub base : AllFollow follows (take first entries) → after changes_of define (take first entries) before.base ≡ Some now.base
+  pub base : follows (take first entries) → after changes_of define (take first entries) before.base ≡ Some now.base
 
 -- What a replica holds behind each prefix of its steps from somewhere on has carried out the first of these entries.
-abbrev pub AreCarried : (follows : Whole → Bool) (before : Held) (entries : List (Entry Whole)) (number : ℕ) (writer : LogPlace) → Held → List Record → Type 0
-AreCarried follows before entries number writer held rs =
-    (k : ℕ) (now : Held) → behind_steps replica_side (take k rs) held ≡ Some now → IsCarried follows before entries number writer now
+abbrev pub AreCarried : (follows : List (Entry Whole) → Type 0) (before : Held) (entries : List (Entry Whole)) (number : ℕ) (writer : LogPlace) → Held → List Record → Type 0
+AreCarried follows before entries number writer held rs = AreStates (IsCarried follows before entries number writer) held rs
 
 -- When n calls of the replica's disk had returned, an image of it holds what has carried out the first of the entries. Its number is no less
 -- than any that a mark of up to n calls names as carried out, and no more than one as committed, or than what the source had at its start.
-pub record ReplicaImage (follows : Whole → Bool) (before : Held) (entries : List (Entry Whole)) (number : ℕ) (writer : LogPlace) (committed : ℕ)
+pub record ReplicaImage (follows : List (Entry Whole) → Type 0) (before : Held) (entries : List (Entry Whole)) (number : ℕ) (writer : LogPlace) (committed : ℕ)
     (marks : List Mark) (n : ℕ) (image : Image) : Type 0 where
   pub now : Held
   pub stands : held_by Replica image ≡ Ok now

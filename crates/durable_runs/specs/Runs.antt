@@ -1,9 +1,13 @@
 -- What may stand on a disk at any moment of a run: one relation for a commit, a command and all commands, for either side.
-use Rattle.std.specs.Prelude.{◌≡◌, ◌≤◌, ℕ, List, [], ◌∷◌, ◌++◌, length, take, Option, Some, IfSome}
+use Rattle.std.specs.Prelude.{◌≡◌, ◌<◌, ◌≤◌, ◌^◌, ℕ, List, [], ◌∷◌, ◌++◌, length, take, Option, Some, IfSome}
 use Rattle.std.specs.Option.{option_and_then}
 use Rattle.disk_model.specs.Story.{Image, Story, count}
 use Rattle.disk_model.specs.Moments.{Since, GoesOn}
 use Rattle.durable_runs.specs.Marks.{Named, named, Between}
+
+-- a disk has had no more calls than a mark can say
+abbrev pub CallsFit : Option Story → Type 0
+CallsFit t = IfSome t (λ _. count t < 2 ^ 64)
 
 -- One side of a run: what a step makes of what its store has, None where it cannot be made; how many transactions that has; and which
 -- images stand for it.

@@ -11,7 +11,8 @@
 //!
 //! - `specs/Marks`: marks as a side reads them, and what they name
 //! - `specs/Runs`: the claim on an image, runs, and whole runs, for either side
-//! - `specs/Sources`, `specs/Replicas`: what stands for what on a source's disk and on a replica's; what an image promises in the end
+//! - `specs/Sources`, `specs/Replicas`: what stands for what on a source's disk and on a replica's; what an image promises in the end; runs
+//!   behind each of whose steps a replica holds one of some states
 //! - `specs/Behind`: a replica's store behind its source's
 //! - `marks`, `runs`, `stores`: laws; `worked`: a run by hand
 //!
@@ -25,9 +26,14 @@
 //!   after the other ([`held_goes_on`]); its logs have what the entries put there ([`stores_go_on`], [`logs_go_on`]), and an image with the entry's record open stands for that
 //!   ([`sources_stand`]). So each image of
 //!   each moment of a source's run holds the base, the number and the logs of a prefix of its entries ([`sources_last`]).
-//! - A replica's number does not fall, it serves no more than its source had committed as the run began, and what it
-//!   has carried out goes on ([`replicas_go_on`]). So each
-//!   image of each moment of a replica's run has carried out a prefix of the entries, where its steps do ([`replicas_last`]).
+//! - A replica's number does not fall, and it serves no more than its source had committed as the run began ([`replicas_go_on`]).
+//! - What a replica has carried out goes on, with entries and with steps that come later. So each image of each moment of its run has
+//!   carried out a prefix of the entries, where its steps do, whatever makes entries do the same at every replica (lemmas of
+//!   `proofs/Carried` and `proofs/Carrying`).
+//! - A replica's run behind each of whose steps it holds one of some states comes of no call, of one record, of calls that keep what the
+//!   store has and of marks that the other side pushed; such runs one behind the other are one, and one of more states too; in the end
+//!   each image of each moment holds one of them, no less than the marks until then name, and no more than was served where no state
+//!   has more (lemmas of `proofs/States`).
 //! - Runs over both disks compose, also where a command calls one of them ([`both_compose`]).
 //! - Of a source and a replica that have nothing, nothing is owed ([`nothing_owed`]).
 //! - Marks, entries, records, logs and images of a run by hand ([`marks_by_hand`], [`entries_by_hand`], [`logs_by_hand`],
@@ -42,7 +48,7 @@ mod worked;
 pub use marks::marks_rise;
 pub use runs::{both_compose, runs_compose, runs_last};
 pub use stores::{
-    held_goes_on, logs_go_on, nothing_owed, replicas_go_on, replicas_last, sources_last,
-    sources_stand, stores_go_on,
+    held_goes_on, logs_go_on, nothing_owed, replicas_go_on, sources_last, sources_stand,
+    stores_go_on,
 };
 pub use worked::{entries_by_hand, images_by_hand, logs_by_hand, marks_by_hand, runs_by_hand};

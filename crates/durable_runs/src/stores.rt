@@ -1,12 +1,10 @@
 //! What stores have behind entries and records: laws, each a function that does nothing.
 ghost use Rattle.durable_runs.specs.Laws.{
   AddedGoesOn,
-  CarriedGoesOn,
   HeldGoesOn,
   NothingIsOwed,
   OneLog,
   RecordsLead,
-  ReplicasLast,
   ReplicasRise,
   ServedGoesOn,
   SourcesLast,
@@ -42,17 +40,10 @@ pub fn sources_last()
     ensures { SourcesLast }
 {}
 
-/// A replica's number does not fall, and what it serves and has carried out goes on.
+/// A replica's number does not fall, and what it serves goes on.
 pub fn replicas_go_on()
     ensures rises { ReplicasRise }
     ensures served { ServedGoesOn }
-    ensures carried { CarriedGoesOn }
-{}
-
-/// Each image of each moment of a replica's run has carried out a prefix of what its source logged, no less than was named and no more than
-/// was committed, where its steps do.
-pub fn replicas_last()
-    ensures { ReplicasLast }
 {}
 
 /// Where neither has anything, the replica is behind its source by nothing.

@@ -25,12 +25,12 @@ use Rattle.store_model.specs.Held.{Held, LogEnd, last_end, most_committed}
 use Rattle.store_model.specs.Entries.{held_behind, writer_at}
 use Rattle.store_model.specs.Stores.{held_by}
 use Rattle.commit_store.specs.declared.store.Store.{Store}
-use Rattle.durable_runs.specs.Laws.{HasFirstLog, StoredBehind}
-use Rattle.durable_runs.specs.Marks.{source_mark}
-use Rattle.durable_runs.specs.Runs.{behind_steps}
-use Rattle.durable_runs.specs.Sources.{SourceRuns, Stored, source_side, stored_behind}
-use Rattle.durable_runs.proofs.Joining.{runs_join, runs_more}
-use Rattle.durable_runs.proofs.Storing.{stored_is, stored_rises}
+use Rattle.store_source.specs.durable_runs.Laws.{HasFirstLog, StoredBehind}
+use Rattle.store_source.specs.durable_runs.Marks.{source_mark}
+use Rattle.store_source.specs.durable_runs.Runs.{behind_steps}
+use Rattle.store_source.specs.durable_runs.Sources.{SourceRuns, Stored, source_side, stored_behind}
+use Rattle.store_source.proofs.of_durable_runs.Joining.{runs_join, runs_more}
+use Rattle.store_source.proofs.of_durable_runs.Storing.{stored_is, stored_rises}
 use Rattle.store_open.specs.declared.opening.Opened.{Opened}
 use Rattle.store_open.specs.Opened.{held_with}
 use Rattle.store_source.specs.Beginning.{begun_with}

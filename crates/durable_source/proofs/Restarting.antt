@@ -18,9 +18,9 @@ use Rattle.store_model.specs.declared.record.Kind.TheVariants.{Source}
 use Rattle.store_model.specs.Entries.{writer_at}
 use Rattle.store_model.specs.Stores.{held_by, Stands as StandsStored}
 use Rattle.store_model.proofs.Standing.{together}
-use Rattle.durable_runs.specs.Sources.{SourceRuns, SourceStands, Stored, source_side}
-use Rattle.durable_runs.proofs.Steps.{steps_behind}
-use Rattle.store_load.specs.Loading.{TellsDamage}
+use Rattle.store_source.specs.durable_runs.Sources.{SourceRuns, SourceStands, Stored, source_side}
+use Rattle.store_source.proofs.of_durable_runs.Steps.{steps_behind}
+use Rattle.store_open.specs.store_load.Loading.{TellsDamage}
 use Rattle.store_source.proofs.Images.{Told, durable, if_map, told}
 use Rattle.store_source.proofs.Steps.{on_looked}
 use Rattle.durable_source.specs.declared.source.DurableSource.{DurableSource}

@@ -16,13 +16,13 @@ use Rattle.session_model.specs.Holding.{Beginning, Holds, RunsGoOn}
 use Rattle.session_model.specs.Openings.{committed_in}
 use Rattle.store_model.specs.Held.{Held}
 use Rattle.store_model.specs.Entries.{writer_at}
-use Rattle.durable_runs.specs.Laws.{HasFirstLog, StoredBehind}
-use Rattle.durable_runs.specs.Marks.{source_mark}
-use Rattle.durable_runs.specs.Runs.{behind_steps}
-use Rattle.durable_runs.specs.Sources.{SourceRuns, Stored, held_after, source_side}
-use Rattle.durable_runs.proofs.Storing.{stored_is, stored_rises, stored_some}
-use Rattle.durable_runs.proofs.Joining.{runs_more, runs_none}
-use Rattle.durable_runs.proofs.Steps.{some_same, steps_behind}
+use Rattle.store_source.specs.durable_runs.Laws.{HasFirstLog, StoredBehind}
+use Rattle.store_source.specs.durable_runs.Marks.{source_mark}
+use Rattle.store_source.specs.durable_runs.Runs.{behind_steps}
+use Rattle.store_source.specs.durable_runs.Sources.{SourceRuns, Stored, held_after, source_side}
+use Rattle.store_source.proofs.of_durable_runs.Storing.{stored_is, stored_rises, stored_some}
+use Rattle.store_source.proofs.of_durable_runs.Joining.{runs_more, runs_none}
+use Rattle.store_source.proofs.of_durable_runs.Steps.{some_same, steps_behind}
 use Rattle.store_source.specs.Pushed.{ArePushed}
 use Rattle.store_source.specs.Writing.{CanWrite, IsOn}
 use Rattle.store_source.proofs.Images.{each_stands}

@@ -1,5 +1,5 @@
 -- A log by its groups, one after the other, and why no other follows.
-use Rattle.std.specs.Prelude.{ℕ, zero, suc, ◌-◌, if◌then◌else◌, List, [], ◌∷◌, length, take, drop}
+use Rattle.std.specs.Prelude.{ℕ, zero, suc, ◌-◌, nat_le, if◌then◌else◌, List, [], ◌∷◌, length, take, drop}
 use Rattle.std.specs.Str.{bytes_eq}
 use Rattle.log_group_laws.specs.log_model.Events.{Place}
 use Rattle.log_group_laws.specs.log_model.Groups.{Form, start, next_log, ddl, txn, Group, Next, group, not_whole, damaged_at, foreign_at, group_at}
@@ -73,3 +73,17 @@ groups_from (suc most) p = unless_ended (by_next (groups_from most) p (group_at 
 unfoldable pub grouped : List ℕ → Grouped
 grouped bytes =
     if bytes_eq (take 4 bytes) magic then groups_from (length bytes) (record { bytes = drop 4 bytes; pos = 4 }) else nothing_but (damaged 0)
+
+-- ---- from a position on
+
+-- the groups from a position on, whatever stands before it: within the magic none begins, and a log that does not reach so far is damaged
+-- where it ends
+abbrev pub reached : (pos : ℕ) → List ℕ → Grouped
+reached pos bytes =
+    if nat_le 4 pos
+    then (if nat_le pos (length bytes) then groups_from (length bytes) (record { bytes = drop pos bytes; pos = pos }) else nothing_but (damaged (length bytes)))
+    else nothing_but (damaged pos)
+
+-- a log from a position on; its magic is looked at first, wherever that is
+unfoldable pub grouped_from : (pos : ℕ) → List ℕ → Grouped
+grouped_from pos bytes = if bytes_eq (take 4 bytes) magic then reached pos bytes else nothing_but (damaged 0)

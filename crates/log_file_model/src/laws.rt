@@ -1,5 +1,5 @@
 //! Laws of logs that are read group by group: each function proves one, and does nothing.
-ghost use Rattle.log_file_model.specs.Passing.{EndIsSeen, GroupIsFirst, GroupIsPassed, MagicIsPassed, NothingBehindNames, OthersAreDamaged, StopIsSeen, TurnsAreEnough};
+ghost use Rattle.log_file_model.specs.Passing.{AllFromFour, EndIsSeen, FrontIsPassed, FrontsAreDamaged, GroupIsFirst, GroupIsPassed, MagicIsPassed, NothingAbove, NothingBehindNames, OthersAreDamaged, StopIsSeen, TurnsAreEnough};
 
 /// More turns of the walk than there are bytes change nothing.
 pub fn turns_are_enough()
@@ -19,6 +19,26 @@ pub fn magic_is_passed()
 /// A log without its magic is damaged at its first byte.
 pub fn others_are_damaged()
     ensures { OthersAreDamaged }
+{}
+
+/// From position 4 a log is read as it is read.
+pub fn all_from_four()
+    ensures { AllFromFour }
+{}
+
+/// Behind the bytes before a position the first group from there on begins.
+pub fn front_is_passed()
+    ensures { FrontIsPassed }
+{}
+
+/// Without its magic a log is damaged at its first byte; with a position in the magic, there; and at its end where that comes before.
+pub fn fronts_are_damaged()
+    ensures { FrontsAreDamaged }
+{}
+
+/// Behind the greatest position that a group may end at, any byte is damaged.
+pub fn nothing_above()
+    ensures { NothingAbove }
 {}
 
 /// Behind groups that were passed, one more is.

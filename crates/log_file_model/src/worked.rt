@@ -3,7 +3,7 @@ ghost use Rattle.std.specs.Prelude.{◌≡◌, ◌∷◌, ◌++◌, [], codes, l
 ghost use Rattle.log_group_laws.specs.log_model.Log.{magic};
 ghost use Rattle.log_group_laws.specs.log_model.Worked.{first_log};
 ghost use Rattle.log_file_model.specs.Printed.{log_lines};
-ghost use Rattle.log_file_model.specs.Walk.{damaged, ended, foreign, grouped, nothing_but};
+ghost use Rattle.log_file_model.specs.Walk.{damaged, ended, foreign, grouped, grouped_from, nothing_but};
 ghost use Rattle.log_file_model.specs.Worked.{lines_shown, rotated, with_unknown};
 
 /// A log without events, and what is none.
@@ -26,4 +26,15 @@ pub fn stops_by_hand()
     ensures whole { (grouped rotated).ending ≡ ended }
     ensures behind { (grouped (rotated ++ 0 ∷ [])).ending ≡ damaged 163 }
     ensures unknown { (grouped with_unknown).ending ≡ foreign 336 34 }
+{}
+
+/// From the transaction of the log of a table and a row on; with a position behind a log's end, and in its magic; a log without its magic,
+/// which is looked at before its length.
+pub fn positions_by_hand()
+    ensures one { length (grouped_from 206 first_log).pieces ≡ 1 }
+    ensures whole { (grouped_from 206 first_log).ending ≡ ended }
+    ensures short { grouped_from 206 (take 205 first_log) ≡ nothing_but (damaged 205) }
+    ensures within { grouped_from 3 first_log ≡ nothing_but (damaged 3) }
+    ensures other { grouped_from 206 (0xfe ∷ 0x62 ∷ 0x69 ∷ 0x6f ∷ []) ≡ nothing_but (damaged 0) }
+    ensures alone { grouped_from 4 magic ≡ nothing_but ended }
 {}

@@ -1,5 +1,5 @@
 -- Groups that are looked at while their bytes are read.
-use Rattle.std.proofs.Common.{◌≡◌, ◌≤◌, inl, inr, ℕ, ◌+◌, Bool, true, false, List, length, Option, refl, sym, ap, ◌∙◌, subst, arith}
+use Rattle.std.proofs.Common.{◌≡◌, ◌≤◌, inl, inr, ℕ, ◌+◌, Bool, true, false, List, [], length, Option, refl, sym, ap, ◌∙◌, subst, arith}
 use Rattle.log_groups.specs.log_model.Groups.{Next, group, not_whole, damaged_at, foreign_at, group_at}
 use Rattle.log_groups.specs.declared.growing.Progress.{Progress}
 use Rattle.log_groups.specs.Growing.{IsLooked, IsSettled}
@@ -10,7 +10,7 @@ use Rattle.log_groups.proofs.of_log_group_laws.Lying.{group_lies}
 use Rattle.log_reader.specs.Reading.{Reader, next_pos, Took, IsEnd, IsDamaged, Reads}
 use Rattle.log_reader.specs.Reading as reading
 use Rattle.log_reader.specs.Filling.{Grows}
-use Rattle.log_reader.specs.Taking.{FindsSettled, Ends, Finds, FindsNext, IsKept}
+use Rattle.log_reader.specs.Taking.{FindsSettled, Ends, Finds, FindsBehindName, FindsNext, IsKept}
 
 pub looked_more : (old new : List ℕ) (pos : ℕ) (p : Progress) → Grows old new → IsLooked old pos p → IsLooked new pos p
 looked_more old new pos p grows looked = subst (λ (bs : List ℕ). IsLooked bs pos p) (sym grows.1) (looks_stay old grows.0 pos p looked)
@@ -66,14 +66,37 @@ call_reads old new before after bytes begin closed f took finds place there kept
   finds = tells old.closed bytes begin closed after f finds old new refl there kept;
 }
 
+-- ---- how far a reader stands
+
 -- a group that is kept ends within a log
-pub kept_low : (was : Bool) (bytes : List ℕ) (begin : ℕ) (closed : Bool) (left : Option (List ℕ)) (f : Found) (after : List ℕ) (now : Bool) → FindsNext was bytes begin closed left f
-    → IsKept f closed bytes was after now → begin ≤ 1200000000 → begin + length after ≤ 1200000000
-kept_low true bytes begin closed left found.Group after now is kept low = absurd is
-kept_low false bytes begin closed left found.Group after now is kept low =
+kept_low : (bytes : List ℕ) (begin : ℕ) (closed : Bool) (left : Option (List ℕ)) (f : Found) (after : List ℕ) (now : Bool) → Finds bytes begin closed left f
+    → IsKept f closed bytes false after now → begin ≤ 1200000000 → begin + length after ≤ 1200000000
+kept_low bytes begin closed left found.Group after now is kept low =
     let lies = group_lies bytes begin is.one is.reads in
     let same = ap length kept.0 in
     omega (arith, lies.ends, is.whole, same)
-kept_low was bytes begin closed left found.End after now is kept low = let none = ap length kept.0 in omega (arith, none, low)
-kept_low was bytes begin closed left (found.Damaged pos) after now is kept low = let none = ap length kept.0 in omega (arith, none, low)
-kept_low was bytes begin closed left (found.Foreign pos kind) after now is kept low = let none = ap length kept.0 in omega (arith, none, low)
+kept_low bytes begin closed left found.End after now is kept low = let none = ap length kept.0 in omega (arith, none, low)
+kept_low bytes begin closed left (found.Damaged pos) after now is kept low = let none = ap length kept.0 in omega (arith, none, low)
+kept_low bytes begin closed left (found.Foreign pos kind) after now is kept low = let none = ap length kept.0 in omega (arith, none, low)
+
+-- behind the name of the next log nothing is kept, and it stays so
+kept_closed : (bytes : List ℕ) (begin : ℕ) (closed : Bool) (left : Option (List ℕ)) (f : Found) (after : List ℕ) (now : Bool) → FindsBehindName bytes begin left f
+    → IsKept f closed bytes true after now → (after ≡ []) × (now ≡ true)
+kept_closed bytes begin closed left found.Group after now is kept = absurd is
+kept_closed bytes begin closed left found.End after now is kept = kept
+kept_closed bytes begin closed left (found.Damaged pos) after now is kept = kept
+kept_closed bytes begin closed left (found.Foreign pos kind) after now is kept = kept
+
+-- a reader stands within 32 bits, and within a log where a group may follow
+abbrev pub StandsLow : (begin : ℕ) → List ℕ → Bool → Type 0
+StandsLow begin bytes closed = (begin + length bytes ≤ 4294967295) × (closed ≡ false → begin + length bytes ≤ 1200000000)
+
+pub stays_low : (was : Bool) (bytes : List ℕ) (begin : ℕ) (closed : Bool) (left : Option (List ℕ)) (f : Found) (after : List ℕ) (now : Bool) → FindsNext was bytes begin closed left f
+    → IsKept f closed bytes was after now → begin ≤ 4294967295 → (was ≡ false → begin ≤ 1200000000) → StandsLow begin after now
+stays_low true bytes begin closed left f after now is kept low unclosed =
+    let none = kept_closed bytes begin closed left f after now is kept in
+    let size = ap length none.0 in
+    (omega (arith, size, low), λ no. cc)
+stays_low false bytes begin closed left f after now is kept low unclosed =
+    let most = kept_low bytes begin closed left f after now is kept (unclosed refl) in
+    (omega (arith, most), λ no. most)

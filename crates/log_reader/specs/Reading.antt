@@ -1,5 +1,5 @@
 -- A log read from an input, group by group: what one call takes and finds.
-use Rattle.std.specs.Prelude.{◌≡◌, ◌≤◌, ◌<◌, ◌⊎◌, ℕ, ◌+◌, Bool, true, false, List, [], ◌++◌, length, Option, option_map, IfSome}
+use Rattle.std.specs.Prelude.{◌≡◌, ◌≤◌, ◌<◌, ◌⊎◌, ℕ, ◌+◌, nat_lt, Bool, true, false, List, [], ◌++◌, length, take, Option, Some, None, option_map, IfSome}
 use Rattle.log_groups.specs.log_model.Groups.{Group, group, not_whole, damaged_at, foreign_at, group_at}
 use Rattle.log_groups.specs.log_model.Log.{magic}
 use Rattle.log_file_model.specs.Passing.{names_next}
@@ -14,6 +14,10 @@ pub record Reader : Type 0 where
   pub bytes : List ℕ
   pub begin : ℕ
   pub closed : Bool
+
+-- one that has read nothing, at a position; behind the greatest one that a group may end at none follows
+abbrev pub begun_at : (pos : ℕ) → Reader
+begun_at pos = record { bytes = []; begin = pos; closed = nat_lt 1200000000 pos }
 
 -- where the next byte of the input stands in the log
 abbrev pub next_pos : Reader → ℕ
@@ -76,3 +80,18 @@ pub record ReadsMagic (before after : Option (List ℕ)) (found : Bool) : Type 0
   pub taken : List ℕ
   pub took : Took before after taken
   pub finds : FindsMagic found taken after
+
+-- ---- bytes before a position
+
+-- those up to the position were taken, the magic first; or it is known where the log is damaged: at its first byte, without the magic; at a
+-- position in the magic; or at the log's end, where that comes before the position
+abbrev pub FindsFront : (pos : ℕ) → List ℕ → Option (List ℕ) → Option ℕ → Type 0
+FindsFront pos taken left None = (take 4 taken ≡ magic) × (4 ≤ pos) × (length taken ≡ pos)
+FindsFront pos taken left (Some at) =
+    ((at ≡ 0) × FindsMagic false taken left)
+    ⊎ (((at ≡ pos) × (pos < 4) × (taken ≡ magic)) ⊎ ((at ≡ length taken) × (at < pos) × (4 ≤ pos) × (take 4 taken ≡ magic) × IsEnd left))
+
+pub record ReadsFront (pos : ℕ) (before after : Option (List ℕ)) (found : Option ℕ) : Type 0 where
+  pub taken : List ℕ
+  pub took : Took before after taken
+  pub finds : FindsFront pos taken after found

@@ -142,7 +142,7 @@ pub(crate) fn read_next<S: Source>(
     closed: bool,
 ) -> Result<Taken, Status>
     requires room { 0 < length buffer.old }
-    requires place { begin ≤ 1200000000 }
+    requires place { closed ≡ false → begin ≤ 1200000000 }
     requires empty { bytes.old ≡ [] }
     ensures took { OnOk result (S.left input.old ≡ option_map (λ rest. bytes.new ++ rest) (S.left input.new)) }
     ensures finds { IfOk result (λ taken. FindsNext closed bytes.new begin taken.closed (S.left input.new) taken.found) }

@@ -1,7 +1,7 @@
 //! A reader of a log.
 ghost use Rattle.std.specs.Prelude.{◌≡◌, ◌≤◌, ◌+◌, [], false, length, IfErr, IfOk, OnErr, OnOk, vec_len};
 ghost use Rattle.run_streams.specs.Stops.{StopsReading};
-ghost use Rattle.log_reader.specs.Reading.{Reads, Takes};
+ghost use Rattle.log_reader.specs.Reading.{Reads, Takes, begun_at};
 
 use crate::groups::{keep, read_next};
 use answer_text::Status;
@@ -12,7 +12,10 @@ use std::marker::Model;
 use val_types::{Bytes, NoMemory};
 
 /// How many bytes are asked of the input at once at most.
-const PIECE: usize = 65_536;
+pub(crate) const PIECE: usize = 65_536;
+
+/// The greatest position that a group may end at.
+const MOST_POSITION: u32 = 1_200_000_000;
 
 /// What stands in a log behind the groups that were read: one more group; nothing; an event that is damaged, or bytes of no whole
 /// group at the input's end, with the place; an event of a type that is not known.
@@ -24,8 +27,9 @@ pub enum Found {
     Foreign { pos: u64, kind: u8 },
 }
 
-/// A reader of the log on an input. It holds the group that was read last; behind what is damaged or not known, at the end and
-/// behind an error it holds none.
+/// A reader of the log on an input, from its first group or from a position on. It holds the group that was read last; behind what is
+/// damaged or not known, at the end and behind an error it holds none. Behind the name of the next log it is closed, and so it is from the
+/// beginning where no group can end behind its position.
 #[derive(Drop)]
 pub struct LogReader {
     alloc: Global,
@@ -36,18 +40,18 @@ pub struct LogReader {
 }
 
 impl Model for LogReader {
-    ghost use Rattle.std.specs.Prelude.{◌+◌, ◌≤◌, length};
+    ghost use Rattle.std.specs.Prelude.{◌≡◌, ◌+◌, ◌≤◌, false, length};
     ghost use Rattle.log_reader.specs.Reading.{Reader};
 
     ghost Value = { Reader };
 
     ghost view = { λ r. record { bytes = r.bytes; begin = r.begin; closed = r.closed } };
 
-    ghost invariant = { λ r. r.begin + length r.bytes ≤ 1200000000 };
+    ghost invariant = { λ r. (r.begin + length r.bytes ≤ 4294967295) × (r.closed ≡ false → r.begin + length r.bytes ≤ 1200000000) };
 }
 
 /// Makes a buffer for pieces of the input, where there is none yet.
-fn make_buffer(alloc: Global, buffer: &mut Vec<u8>) -> Result<(), NoMemory>
+pub(crate) fn make_buffer(alloc: Global, buffer: &mut Vec<u8>) -> Result<(), NoMemory>
     ensures { OnOk result (vec_len buffer.new ≡ 65536) }
 {
     if buffer.len() != PIECE {
@@ -67,6 +71,19 @@ impl LogReader {
             bytes: Bytes::new(alloc),
             begin: 4,
             closed: false,
+        }
+    }
+
+    /// At a position of a log, from which its groups are to be read.
+    pub fn at(alloc: Global, pos: u32) -> LogReader
+        ensures { result ≡ begun_at pos }
+    {
+        LogReader {
+            alloc,
+            buffer: Vec::new(alloc),
+            bytes: Bytes::new(alloc),
+            begin: pos as u64,
+            closed: pos > MOST_POSITION,
         }
     }
 

@@ -60,7 +60,7 @@ lines_over ms p old all (read.Foreign pos kind) not is so = lines_end ms p (stop
 
 -- ---- a log that was read
 
-printed : (start before now : Option (List ℕ)) (ps : List Piece) (e : Ending) → IsLog start ps e → Wrote before now (flat_map piece_lines ps) → Printed e start before now
+printed : (start before now : Option (List ℕ)) (ps : List Piece) (e : Ending) → IsLog grouped start ps e → Wrote before now (flat_map piece_lines ps) → Printed e start before now
 printed start before now ps e log wrote = record {
   bytes = log.bytes;
   input_is = log.input_is;
@@ -69,7 +69,7 @@ printed start before now ps e log wrote = record {
 }
 
 -- and a front of it, of which a front of the lines of these groups was written
-fronted : (start before now : Option (List ℕ)) (ps : List Piece) → IsLogFront start ps → WroteFront before now (flat_map piece_lines ps) → PrintedFront start before now
+fronted : (start before now : Option (List ℕ)) (ps : List Piece) → IsLogFront grouped start ps → WroteFront before now (flat_map piece_lines ps) → PrintedFront start before now
 fronted start before now ps log front =
     let lines : log_lines log.bytes ≡ flat_map piece_lines ps ++ flat_map piece_lines log.more.pieces =
     lines_of log.bytes (ps ++ log.more.pieces) _ log.groups refl ∙ flat_map-append piece_lines ps log.more.pieces in
@@ -99,12 +99,12 @@ module _ (start left before now : Option (List ℕ)) (old : Reader) (shown : IsS
   -- it stopped
   pub stopped : PrintedFront start before now
   stopped =
-      fronted start before now shown.groups (fronts_are_known start left shown.groups old shown.behind)
+      fronted start before now shown.groups (fronts_are_known grouped start left shown.groups old shown.behind)
       (whole_front before now (flat_map piece_lines shown.groups) shown.wrote)
 
   module _ (after : Option (List ℕ)) (new : Reader) where
-    leads : (f : Found) → Reads old new left after f → LeadsTo start after shown.groups new f
-    leads f reads = calls_lead start left after shown.groups old new f shown.behind reads
+    leads : (f : Found) → Reads old new left after f → LeadsTo grouped start after shown.groups new f
+    leads f reads = calls_lead grouped start left after shown.groups old new f shown.behind reads
 
     -- the group begins where the reader says
     begins : (reads : Reads old new left after found.Group) → (leads found.Group reads).0.begin ≡ new.begin
@@ -132,7 +132,7 @@ module _ (start left before now : Option (List ℕ)) (old : Reader) (shown : IsS
     pub group_broken : (then : Option (List ℕ)) → Reads old new left after found.Group → WroteFront now then (lines_from [] (events_from (record { bytes = new.bytes; pos = new.begin })))
         → PrintedFront start before then
     group_broken then reads front =
-        fronted start before then (shown.groups ++ piece_read new (leads found.Group reads).0 ∷ []) (fronts_are_known start after _ new (leads found.Group reads).2)
+        fronted start before then (shown.groups ++ piece_read new (leads found.Group reads).0 ∷ []) (fronts_are_known grouped start after _ new (leads found.Group reads).2)
         (subst (WroteFront before then) (sym (all_lines reads)) (broken_behind before now then _ _ shown.wrote front))
 
     pub end_shown : Reads old new left after found.End → PrintEnds status.Done start after before now

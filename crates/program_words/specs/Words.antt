@@ -83,8 +83,8 @@ calls_source (Some (Gen n)) = false
 
 abbrev pub calls_replica : Option Word → Bool
 calls_replica None = false
-calls_replica (Some Run) = false
-calls_replica (Some Replay) = false
+calls_replica (Some Run) = true
+calls_replica (Some Replay) = true
 calls_replica (Some Print) = false
 calls_replica (Some DumpSource) = false
 calls_replica (Some DumpReplica) = true

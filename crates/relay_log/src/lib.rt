@@ -11,6 +11,7 @@
 //! groups lead is `replica_model`'s.
 //!
 //! # Proved
+//! - [`Relay::at`] has no bytes, at just the place that it is given.
 //! - [`Relay::append`] puts just the piece behind the others, or memory is short and all is as before.
 //! - [`Relay::next`] is just the group that the definition has at a place ahead, and [`Relay::behind`] the place behind it, which
 //!   is ahead, too, and lies within the bytes.

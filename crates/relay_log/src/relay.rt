@@ -2,7 +2,7 @@
 ghost use Rattle.std.specs.Prelude.{◌≡◌, ◌<◌, ◌≤◌, ◌+◌, ◌^◌, ◌++◌, [], drop, length, OnErr, OnOk};
 ghost use Rattle.log_groups.specs.Views.{group_seen, next_of};
 ghost use Rattle.log_groups.specs.log_model.Groups.{group as whole, group_at};
-ghost use Rattle.replica_model.specs.Replica.{behind_group, log_begin, size_of};
+ghost use Rattle.replica_model.specs.Replica.{behind_group, size_of};
 ghost use Rattle.log_groups.specs.log_group_laws.Laws.{Lies};
 ghost use Rattle.relay_log.specs.Reaching.{ahead_of, IsAhead, past_all, place_seen};
 
@@ -52,11 +52,10 @@ fn compact(bytes: &mut Vec<u8>, done: usize) -> usize
 }
 
 impl Relay {
-    /// Nothing was fetched: the first log is behind its magic.
-    pub fn new(alloc: Global) -> Relay
-        ensures { result ≡ record { place = log_begin 1; bytes = [] } }
+    /// Nothing was fetched behind a place up to which all was carried out.
+    pub fn at(alloc: Global, place: Place) -> Relay
+        ensures { result ≡ record { place = place_seen place; bytes = [] } }
     {
-        let place = Place { log: 1, pos: 4 };
         Relay {
             bytes: Vec::new(alloc),
             done: 0,

@@ -1,8 +1,9 @@
 //! The program with told identities and draws: a run gives the same bytes everywhere.
 //!
 //! It is the program `repl_cli` but for its environments, in which the clock and the random source of the system have no part, for its
-//! disks, which are in memory, empty as it is called and gone behind it, and for a further word: `log` carries out the script on standard input as `run` does, and writes the bytes of the source's binary log
-//! in place of the answers, for whoever prints or replays it, compares logs or reads them with other programs.
+//! disks, which are in memory, empty as it is called and gone behind it, and for a further word: `log` carries out the script on standard
+//! input as `run` does, and writes the bytes of the source's binary log in place of the answers, for whoever prints or replays it, compares
+//! logs or reads them with other programs.
 //!
 //! - `main` (here): both nodes at environments and disks in memory, handed to [`start`]
 //! - `draws`: who the nodes are and what they draw

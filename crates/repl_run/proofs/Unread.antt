@@ -2,14 +2,18 @@
 use Rattle.std.proofs.Common.{◌≡◌, ◌⊎◌, ℕ, List, [], Option, Some, None, inl, inr, refl, arith}
 use Rattle.answer_text.specs.declared.report.Report.{Report}
 use Rattle.answer_text.specs.declared.status.Status.TheVariants as status
+use Rattle.disk_model.specs.Moments.{IsSettled}
 use Rattle.disk_model.specs.Story.{Story}
 use Rattle.run_streams.specs.Read.{TakesUpToLimit}
 use Rattle.run_streams.specs.Reports.{IsEmpty}
 use Rattle.run_streams.specs.Wrote.{WroteFront}
 use Rattle.run_streams.proofs.Writing.{wrote_nothing}
 use Rattle.durable_runs.specs.Laws.{SourcesLast}
+use Rattle.durable_runs.proofs.States.{carries_begins, carries_images}
+use Rattle.script_run.specs.Disks.{disks}
 use Rattle.script_run.specs.Ran.{EndsBy}
-use Rattle.script_run.proofs.Opened.{idle_survives, none_begun}
+use Rattle.script_run.proofs.Opened.{idle_survives, none_begun, replica_idle}
+use Rattle.replay_log.specs.Ends.{ReplayEnds, Survives}
 use Rattle.print_log.specs.Ends.{PrintEnds, PrintedFront}
 use Rattle.gen_script.specs.Ends.{GenEnds}
 use Rattle.store_model.specs.declared.record.Kind.{Kind}
@@ -22,9 +26,19 @@ pub not_taken : (input : Option (List ℕ)) → TakesUpToLimit input input
 not_taken None = record { count = 0; within = omega arith; rest = refl }
 not_taken (Some bytes) = record { count = 0; within = omega arith; rest = refl }
 
-pub not_run : SourcesLast → (script left : Option (List ℕ)) (t : Option Story) (report : Report) (before : Option (List ℕ)) → IsEmpty report
-    → EndsBy status.NoMemory script left t t report before before
-not_run law script left t report before empty = inl (none_begun t t report before empty.marks empty.stands (idle_survives law t))
+pub not_run : SourcesLast → (script left : Option (List ℕ)) (t r : Option Story) (report : Report) (before : Option (List ℕ)) → IsEmpty report → IsSettled t → IsSettled r
+    → EndsBy status.NoMemory script left (disks t r) (disks t r) report before before
+not_run law script left t r report before empty settled rep_settled =
+    inl (none_begun (disks t r) (disks t r) report before empty.marks empty.stands (idle_survives law t settled) (replica_idle r rep_settled))
+
+-- what a replica's disk held stays there
+idle : (t : Option Story) → IsSettled t → Survives (λ held now. now ≡ held) t t []
+idle t settled held holds fits = carries_images (λ now. now ≡ held) t t held [] (carries_begins (λ now. now ≡ held) t held settled holds refl).carries
+
+pub not_replayed : (input : Option (List ℕ)) (t : Option Story) (report : Report) (before : Option (List ℕ)) → IsEmpty report → IsSettled t
+    → ReplayEnds status.NoMemory input input t t report before before
+not_replayed input t report before empty settled =
+    inl (record { unread = refl; written = refl; now = empty.stands; marks = empty.marks; survives = idle t settled })
 
 printed_front : (input before : Option (List ℕ)) → PrintedFront input before before
 printed_front None before = record { bytes = []; input_is = tt; front = nothing_written before _ }

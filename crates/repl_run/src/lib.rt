@@ -15,33 +15,36 @@
 //!   `REPL_SERVER_ID` gives the source ([`number_of`])
 //!
 //! It stands on `program_words`, on `script_run` for the word that is given a script, on `print_log` and `replay_log` for the
-//! words that are given a log, and on `gen_script` for the one that makes a script; the programs give it the real edges. What stands around [`top`] is no crate of its own, since `rt` sums
-//! up all that a library is made from, which takes minutes for one more on top of all.
+//! words that are given a log, and on `gen_script` for the one that makes a script; the programs give it the real edges. What stands around
+//! [`top`] is no crate of its own, since `rt` sums up all that a library is made from, which takes minutes for one more on top of all.
 //!
 //! # Proved
-//! Over any input, output and environments that keep the contracts of `port_traits`:
+//! Over any input, output, environments and settled disks that keep the contracts of `port_traits` and `disk_model`:
 //!
-//! - [`top`] answers BadWords exactly where the words ask for none of `run`, `print`, `replay` and `gen n`, want of memory apart, and
-//!   then reads and touches nothing (`words`, `other_words`, `unread`, `untouched`). In a run, at BadScript and ReadFault all but the input is as before (`idle`). `print`
-//!   touches no environment and no report, and `replay` none of a source (`print_alone`, `replay_alone`).
+//! - [`top`] answers BadWords exactly where the words ask for none of `run`, `print`, `replay`, `dump` and `gen n`, want of memory apart,
+//!   and then reads and touches nothing (`words`, `other_words`, `unread`, `untouched`). In a run, at BadScript and ReadFault all but the
+//!   input is as before (`idle`). `print` touches no environment and no report, and `replay` none of a source (`print_alone`,
+//!   `replay_alone`). `run` calls both disks, `replay` and `dump replica` the replica's, `dump source` the source's, and no other word any
+//!   (`source_disk_alone`, `replica_disk_alone`).
 //! - What a run comes to (`run`) is what `script_run` says of it, by its status. At Done each session's transactions are logged in the
 //!   format that it had before: under MIXED the text items are exactly those without a reason (field `formats`). The replica has
 //!   carried out the first entries that the source committed, each once, and its base and counters are what the definition of an
 //!   applier makes of their groups, each at the draw of its APPLY (`follows`). Where no item of them is warned, or by RAND() alone, its
-//!   base is what they make of an empty one, whatever its clock, seeds, identity and counters; and no APPLY stopped where this holds of
+//!   base is what they make of the one that it began with, whatever its clock, seeds, identity and counters; and no APPLY stopped where this holds of
 //!   the entries carried out and of the next one (`unstopped`). Under MIXED and ROW nothing is warned.
 //! - What `print` comes to (`print`). At Done, LogDamaged and LogForeign the log on the input ends so, at this place, and the lines of
 //!   all its groups were written; at ReadFault, WriteFault and NoMemory a front of them. No other status comes.
 //! - What `replay` comes to (`replay`). At Done, LogDamaged and LogForeign the log on the input ends so, at this place, and all its
-//!   groups were carried out as the definition of a replay has it, by a replica that had nothing, at one draw; at Differs the first
-//!   that is not carried out stops so, and those before it were. The report tells who the replica is and the draw. Just the line of
-//!   what was carried out was written; at WriteFault a front of it, at ReadFault and NoMemory nothing. No other status comes.
+//!   groups from the replica's place on were carried out as the definition of a replay has it, by the replica that its disk stood for, at
+//!   one draw; at Differs the first that is not carried out stops so, and those before it were. The disk has what they make, and each
+//!   image of each moment what the first of them make, no less than the marks name. The report tells who the replica is, the draw, and a
+//!   mark for each group. Just the line of what was carried out was written; at WriteFault a front of it, and else nothing.
 //! - What `gen n` comes to (`made`). At Done just the made script with n changes was written, at WriteFault and NoMemory a front of it.
 //!   No other status comes; the input, the environments and the report are as before (`made_alone`).
 //! - At BadScript the input was read to its end or to one byte past the limit (`refused`), and in a run never further (`limit`). At
 //!   Done of `run`, `print` and `replay` it was read to its end (`read_end`).
-//! - A fault comes only where the stream's count of faults rose, or stands at its last value
-//!   (`read_fault`, `write_fault`), and is the last call on its stream (`last_read`, `last_write`, `reads_once`).
+//! - A fault comes only where the count of faults of that stream or disk rose, or stands at its last value (`read_fault`, `write_fault`,
+//!   `source_disk`, `replica_disk`), and is the last call on its stream (`last_read`, `last_write`, `reads_once`).
 //! - The report's identities and draws are the environments' at any status (`source`, `replica`), and at any but NoMemory all
 //!   that was drawn is told (`src_drawn`, `rep_drawn`).
 //!

@@ -15,8 +15,8 @@ pub enum Page {
 /// How the program is called: the words that every program has.
 const WORDS_HELP: &str = "A MySQL 5.7 source and replica for a subset of SQL.
 
-usage: run < SCRIPT      carries out the script on standard input, by a source that goes on with what its disk has
-       replay < LOG      carries out the binary log on standard input, by a replica that begins without tables
+usage: run < SCRIPT      carries out the script on standard input, by a source and a replica that go on with what their disks have
+       replay < LOG      carries out the binary log on standard input by the replica, which goes on where its disk stands
        print < LOG       shows the binary log on standard input, a line for each event
        dump source       shows what the source's disk has: the CREATE statement of each object, the rows of each table
        dump replica      shows what the replica's disk has
@@ -38,10 +38,10 @@ A script is a list of commands `actor: text //`, each with its `//` at the end o
     replica: APPLY 2 //
     replica: SELECT * FROM t //
 Actors are the sessions s1 to s99 of the source, whose texts are statements, and the replica, which fetches so many bytes
-of the source's log, applies so many groups of them, and shows its rows. `source: RESTART` opens the source again on what
-its disk has. Each command is answered on standard output before the next is carried out, and what it committed is on the
-source's disk by then: the folder `source` where the program is called. Behind a replay stands how many groups were carried out, and
-the place behind them.
+of the source's log, applies so many groups of them, and shows its rows. `source: RESTART` and `replica: RESTART` open a node
+again on what its disk has. Each command is answered on standard output before the next is carried out, and what it committed or
+applied is on its node's disk by then: the folders `source` and `replica` where the program is called. Behind a replay stands how
+many groups were carried out, and the place behind them.
 
 Exit status, with a line on standard error but for 0:
     0 done              1 bad words         2 bad script

@@ -10,6 +10,7 @@ ghost use Rattle.program_words.specs.Words.{IfGen, calls_replica, calls_source, 
 ghost use Rattle.program_words.specs.declared.words.Word.TheVariants.{DumpReplica, DumpSource, Print, Replay, Run};
 ghost use Rattle.store_model.specs.declared.record.Kind.TheVariants.{Replica as OfReplica, Source as OfSource};
 ghost use Rattle.dump_store.specs.Ends.{DumpEnds, IsDoneOrShort, IsFaultless, IsHeld};
+ghost use Rattle.script_run.specs.Disks.{disks};
 ghost use Rattle.script_run.specs.Ran.{EndsBy};
 ghost use Rattle.print_log.specs.Ends.{PrintEnds};
 ghost use Rattle.replay_log.specs.Ends.{ReplayEnds};
@@ -31,23 +32,23 @@ use store_model::Kind;
 /// The whole program: the words ask for something to be done with the input and the output, by a
 /// source in the one environment and on the one disk, and a replica in the other and on the other.
 ///
-/// - `run` carries out the script on the input: each command is carried out by the source, which opens on what its disk has, or by the
-///   replica, which begins without tables, and what it is told is written before the next begins. What is committed is on the source's
-///   disk before the command is answered. What a session commits is logged in its format: by its text under
+/// - `run` carries out the script on the input: each command is carried out by the source or by the replica, which open on what their
+///   disks have, and what it is told is written before the next begins. What is committed is on the source's disk, and what is carried out
+///   on the replica's, before the command is answered. What a session commits is logged in its format: by its text under
 ///   STATEMENT, by its rows under ROW, and under MIXED by its text exactly where it has no reason for which that is unsafe. The
 ///   replica fetches the log of the source and carries out what stands there; it follows the source, however the log is cut, and
 ///   whatever its clock, its seeds, its identity and its counters are. No APPLY stops, and once all is carried out the tables are
 ///   equal, as long as nothing is warned, or by RAND() alone; under MIXED and ROW nothing is.
 /// - `print` shows the binary log on the input, a line for each event of each whole group.
-/// - `replay` carries out the binary log on the input, by a replica that begins without tables and is gone behind the call, and writes
-///   how many groups these were and the place behind them.
+/// - `replay` carries out the binary log on the input, from the replica's place on, by the replica on its disk, and writes how many groups
+///   these were and the place behind them.
 /// - `dump source` and `dump replica` write what the store of a disk holds: of each object its CREATE statement, and behind a table its
 ///   rows. They read that disk, and write nothing there.
 /// - `gen n` writes the made script with n changes, and reads and touches nothing else.
 ///
 /// Any other words are [`Status::BadWords`], and nothing is read. The report is empty before, and tells after, at any status, who the
 /// source and the replica are, as far as they were opened, and what they drew.
-#[tactic(auto, using(crate::proofs::Unread::are_bad, crate::proofs::Unread::are_not_read, crate::proofs::Unread::not_made, crate::proofs::Unread::not_dumped, crate::proofs::Unread::not_printed, crate::proofs::Unread::not_run, crate::proofs::Unread::not_taken, disk_model::proofs::Quiet::quiet_none))]
+#[tactic(auto, using(crate::proofs::Unread::are_bad, crate::proofs::Unread::are_not_read, crate::proofs::Unread::not_made, crate::proofs::Unread::not_dumped, crate::proofs::Unread::not_printed, crate::proofs::Unread::not_replayed, crate::proofs::Unread::not_run, crate::proofs::Unread::not_taken, disk_model::proofs::Quiet::quiet_none))]
 pub fn top<S: Source, K: Sink, E: Env, F: Env, D: Disk, R: Disk>(
     alloc: Global,
     words: &[String],
@@ -61,6 +62,7 @@ pub fn top<S: Source, K: Sink, E: Env, F: Env, D: Disk, R: Disk>(
 ) -> Status
     requires empty { IsEmpty report.old }
     requires settled { IsSettled (D.told src.old) }
+    requires rep_settled { IsSettled (R.told rep.old) }
     ensures words { result ≡ Status.BadWords → word_asked (map string_bytes words.now) ≡ None }
     ensures other_words { word_asked (map string_bytes words.now) ≡ None → (result ≡ Status.BadWords) ⊎ (result ≡ Status.NoMemory) }
 
@@ -69,18 +71,18 @@ pub fn top<S: Source, K: Sink, E: Env, F: Env, D: Disk, R: Disk>(
     // (under MIXED the items without a reason by their texts, and no others), and the replica follows the source; at any other status
     // a front of these lines was written.
     ensures run { word_asked (map string_bytes words.now) ≡ Some Run → EndsBy result (S.left input.old) (S.left input.new)
-        (D.told src.old) (D.told src.new) report.new (K.written out.old) (K.written out.new) }
+        (disks (D.told src.old) (R.told rep.old)) (disks (D.told src.new) (R.told rep.new)) report.new (K.written out.old) (K.written out.new) }
 
     // What `print` comes to: the lines of all groups of the log on the input were written, at Done up to its end, at LogDamaged and
     // LogForeign up to what is damaged or not known; at any other status a front of them.
     ensures print { word_asked (map string_bytes words.now) ≡ Some Print → PrintEnds result (S.left input.old) (S.left input.new)
         (K.written out.old) (K.written out.new) }
 
-    // What `replay` comes to: all groups of the log on the input were carried out, at one draw that the report tells, at Done up to
-    // its end, at LogDamaged and LogForeign up to what is damaged or not known, at Differs up to the first that is not carried out; and
-    // the line of these was written, at WriteFault a front of it, at ReadFault and NoMemory nothing.
+    // What `replay` comes to: all groups of the log on the input from the replica's place on were carried out and kept on its disk, at one
+    // draw that the report tells, at Done up to the log's end, at LogDamaged and LogForeign up to what is damaged or not known, at Differs
+    // up to the first that is not carried out; and the line of these was written, at WriteFault a front of it, and else nothing.
     ensures replay { word_asked (map string_bytes words.now) ≡ Some Replay → ReplayEnds result (S.left input.old) (S.left input.new)
-        report.new (K.written out.old) (K.written out.new) }
+        (R.told rep.old) (R.told rep.new) report.new (K.written out.old) (K.written out.new) }
 
     // What `dump` comes to: the lines of what the store of that disk holds were written, or a front of them; nothing where it is damaged.
     ensures dump_source { word_asked (map string_bytes words.now) ≡ Some DumpSource → DumpEnds result OfSource (D.told src.old)
@@ -107,11 +109,11 @@ pub fn top<S: Source, K: Sink, E: Env, F: Env, D: Disk, R: Disk>(
 
     // Behind bad words nothing is touched; before a script was read and split, nothing but the input; `print` touches no
     // environment and no report, `replay` none of a source, `dump` neither, and `gen` nothing but the output. No word calls a disk
-    // but `run` and `dump source` the source's, and `dump replica` the replica's.
+    // but `run` both, `dump source` the source's, and `replay` and `dump replica` the replica's.
     ensures untouched { result ≡ Status.BadWords → (out.new ≡ out.old)
         × (src_env.new ≡ src_env.old) × (rep_env.new ≡ rep_env.old) × (report.new ≡ report.old) }
     ensures idle { word_asked (map string_bytes words.now) ≡ Some Run → is_early result ≡ true → (out.new ≡ out.old)
-        × (src_env.new ≡ src_env.old) × (rep_env.new ≡ rep_env.old) × (src.new ≡ src.old) × (report.new ≡ report.old) }
+        × (src_env.new ≡ src_env.old) × (rep_env.new ≡ rep_env.old) × (src.new ≡ src.old) × (rep.new ≡ rep.old) × (report.new ≡ report.old) }
     ensures source_disk_alone { calls_source (word_asked (map string_bytes words.now)) ≡ false → src.new ≡ src.old }
     ensures replica_disk_alone { calls_replica (word_asked (map string_bytes words.now)) ≡ false → rep.new ≡ rep.old }
     ensures dumped_alone { shows_store (word_asked (map string_bytes words.now)) ≡ true → (input.new ≡ input.old)
@@ -147,9 +149,9 @@ pub fn top<S: Source, K: Sink, E: Env, F: Env, D: Disk, R: Disk>(
     match asked_word(alloc, words) {
         Err(_) => Status::NoMemory,
         Ok(None) => Status::BadWords,
-        Ok(Some(Word::Run)) => run_script(alloc, input, out, src, src_env, rep_env, report),
+        Ok(Some(Word::Run)) => run_script(alloc, input, out, src, rep, src_env, rep_env, report),
         Ok(Some(Word::Print)) => print(alloc, input, out),
-        Ok(Some(Word::Replay)) => replay(alloc, input, out, rep_env, report),
+        Ok(Some(Word::Replay)) => replay(alloc, input, out, rep, rep_env, report),
         Ok(Some(Word::DumpSource)) => dump(alloc, src, out, Kind::Source),
         Ok(Some(Word::DumpReplica)) => dump(alloc, rep, out, Kind::Replica),
         Ok(Some(Word::Gen(changes))) => write_script(alloc, changes, out),

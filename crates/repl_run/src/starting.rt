@@ -38,7 +38,8 @@ fn call<E: Env, F: Env, D: Disk, R: Disk>(
     src_env: &mut E,
     rep_env: &mut F,
 ) -> Status
-    requires { IsSettled (D.told src.old) }
+    requires settled { IsSettled (D.told src.old) }
+    requires rep_settled { IsSettled (R.told rep.old) }
 {
     // A log is read a header and a body at a time, of which the system gives many at once.
     let Ok(reader) = BufReader::with_capacity(rt.alloc(), READ_AHEAD, rt.reader()) else {
@@ -53,6 +54,7 @@ fn call<E: Env, F: Env, D: Disk, R: Disk>(
             &mut input,
             &mut out,
             src,
+            rep,
             src_env,
             rep_env,
             &mut report,
@@ -80,7 +82,8 @@ fn asked<E: Env, F: Env, D: Disk, R: Disk>(
     src_env: &mut E,
     rep_env: &mut F,
 ) -> Status
-    requires { IsSettled (D.told src.old) }
+    requires settled { IsSettled (D.told src.old) }
+    requires rep_settled { IsSettled (R.told rep.old) }
 {
     match words(rt) {
         Err(status) => status,
@@ -101,7 +104,8 @@ pub fn start<E: Env, F: Env, D: Disk, R: Disk>(
     src_env: &mut E,
     rep_env: &mut F,
 ) -> ExitCode
-    requires { IsSettled (D.told src.old) }
+    requires settled { IsSettled (D.told src.old) }
+    requires rep_settled { IsSettled (R.told rep.old) }
 {
     let status = asked(rt, known, src, rep, src_env, rep_env);
     // where standard error takes nothing, the exit status says it

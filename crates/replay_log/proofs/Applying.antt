@@ -1,54 +1,76 @@
 -- What a replica tells of one group more.
-use Rattle.std.proofs.Common.{◌≡◌, ◌≤◌, ◌<◌, ℕ, ◌+◌, Bool, false, List, length, Option, Some, None, refl, sym, ap, ◌∙◌, arith, subst}
+use Rattle.std.proofs.Common.{◌≡◌, ◌≤◌, ◌<◌, ℕ, ◌+◌, Bool, false, List, [], length, Option, Some, None, refl, sym, ap, ◌∙◌, arith, subst}
 use Rattle.std.specs.Option.{option_map}
 use Rattle.port_traits.specs.declared.identity.Identity.{Identity}
 use Rattle.port_traits.specs.declared.identity.Draw.{Draw}
 use Rattle.log_reader.specs.log_model.Groups.{Group}
 use Rattle.log_reader.specs.Reading.{Reader, next_pos}
-use Rattle.replica_node.specs.apply_model.Stops.{Differs}
-use Rattle.replica_node.specs.replica_model.Applying.{Going, apply, damaged, differs, foreign}
-use Rattle.replica_node.specs.replica_model.Replica.{Replica, fetched, want}
-use Rattle.replica_node.specs.replica_model.Replaying.{Replay, by_form}
-use Rattle.replica_node.specs.declared.told.Applied as code_applied
-use Rattle.replica_node.specs.declared.told.Stopped.{Stopped}
-use Rattle.replica_node.specs.declared.told.Stopped.TheVariants as stopped
-use Rattle.replica_node.specs.Kept.{Kept, replica_of}
-use Rattle.replica_node.specs.Steps.{IsTold, stop_of}
+use Rattle.durable_replica.specs.replica_node.apply_model.Stops.{Differs}
+use Rattle.durable_replica.specs.replica_node.replica_model.Applying.{Going, apply, damaged, differs, foreign}
+use Rattle.durable_replica.specs.replica_node.replica_model.Replica.{Replica, fetched, past_groups, want}
+use Rattle.durable_replica.specs.replica_node.replica_model.Replaying.{Replay, by_form}
+use Rattle.durable_replica.specs.replica_node.declared.told.Applied as code_applied
+use Rattle.durable_replica.specs.replica_node.declared.told.Stopped.{Stopped}
+use Rattle.durable_replica.specs.replica_node.declared.told.Stopped.TheVariants as stopped
+use Rattle.durable_replica.specs.replica_node.Kept.{replica_of}
+use Rattle.durable_replica.specs.declared.replica.DurableReplica.{DurableReplica}
+use Rattle.durable_replica.specs.replica_node.Steps.{IsTold, stop_of}
 use Rattle.log_reader.specs.log_file_model.Passing.{names_next}
 use Rattle.log_reader.proofs.of_log_group_laws.Lying.{group_lies}
 use Rattle.replay_log.specs.declared.replaying.Replaying as code_replaying
 use Rattle.replay_log.specs.Keeping.{IsWhole, IsBegun, Keeps, Follows}
-use Rattle.replay_log.specs.Replaying.{Stands, IsReady, IsNext, WentOn}
+use Rattle.replay_log.specs.Replaying.{Stands, IsFresh, IsReady, IsNext, WentOn, kept}
 use Rattle.replay_log.proofs.Stepping.{few, group_follows, room}
 
+-- ---- a replica that has just opened
+
+want_fresh : (r : Replica) → r.relay ≡ [] → want r ≡ r.place
+unfolding want
+want_fresh r none =
+    ap (λ (bs : List ℕ). past_groups (length bs) r.place bs) none
+    ∙ ap (λ (n : ℕ). record { log = r.place.log; pos = n }) (omega arith)
+
+pub is_fresh : (node : DurableReplica) (log pos : ℕ) → (replica_of node.node).relay ≡ [] → record { log = log; pos = pos } ≡ want (replica_of node.node)
+    → IsFresh (record { node = node; count = 0; log = log; pos = pos })
+is_fresh node log pos none at = record {
+  stands = record {
+    keeps = record { base = refl; counters = refl; number = refl; place = refl };
+    count = refl;
+    place = at ∙ want_fresh (replica_of node.node) none;
+  };
+  relay = none;
+}
+
+-- ---- one group more
+
 -- the group that a reader has can be fetched
-pub room_for : (r : code_replaying.Replaying) (reader : Reader) (bytes : List ℕ) → IsNext r reader → bytes ≡ reader.bytes → (want (replica_of r.node)).pos + length bytes ≤ 4294967295
+pub room_for : (r : code_replaying.Replaying) (reader : Reader) (bytes : List ℕ) → IsNext r reader → bytes ≡ reader.bytes → (want (kept r)).pos + length bytes ≤ 4294967295
 room_for r reader bytes next same =
-    subst (λ (bs : List ℕ). (want (replica_of r.node)).pos + length bs ≤ 4294967295) (sym same)
-    (room (replica_of r.node) reader.bytes reader.begin next.group next.ready.0 next.is)
+    subst (λ (bs : List ℕ). (want (kept r)).pos + length bs ≤ 4294967295) (sym same)
+    (room (kept r) reader.bytes reader.begin next.group next.ready.0 next.is)
 
 module _ (draw : Draw) (old : code_replaying.Replaying) (reader : Reader) (next : IsNext old reader) (bytes : List ℕ) (same : bytes ≡ reader.bytes)
-    (between after : Kept) (who : between.identity ≡ old.node.identity) (took : replica_of between ≡ fetched bytes (replica_of old.node))
-    (told : code_applied.Applied)
-    (made : replica_of after ≡ (apply 1 between.identity draw (replica_of between)).replica) (tells : IsTold told (apply 1 between.identity draw (replica_of between))) where
+    (between after : DurableReplica) (who : between.node.identity ≡ old.node.node.identity) (took : replica_of between.node ≡ fetched bytes (kept old))
+    (told : code_applied.Applied) (made : replica_of after.node ≡ (apply 1 between.node.identity draw (replica_of between.node)).replica)
+    (tells : IsTold told (apply 1 between.node.identity draw (replica_of between.node))) where
   -- the APPLY behind the group
   abbrev ran : Going
-  ran = apply 1 old.node.identity draw (fetched reader.bytes (replica_of old.node))
+  ran = apply 1 old.node.node.identity draw (fetched reader.bytes (kept old))
 
-  ran_is : apply 1 between.identity draw (replica_of between) ≡ ran
+  ran_is : apply 1 between.node.identity draw (replica_of between.node) ≡ ran
   ran_is =
-      ap (λ (i : Identity). apply 1 i draw (replica_of between)) who
-      ∙ ap (λ (r : Replica). apply 1 old.node.identity draw r) took
-      ∙ ap (λ (bs : List ℕ). apply 1 old.node.identity draw (fetched bs (replica_of old.node))) same
+      ap (λ (i : Identity). apply 1 i draw (replica_of between.node)) who
+      ∙ ap (λ (r : Replica). apply 1 old.node.node.identity draw r) took
+      ∙ ap (λ (bs : List ℕ). apply 1 old.node.node.identity draw (fetched bs (kept old))) same
 
   told_is : IsTold told ran
   told_is = subst (λ (a : Going). IsTold told a) ran_is tells
 
-  made_is : replica_of after ≡ ran.replica
+  made_is : replica_of after.node ≡ ran.replica
   made_is = made ∙ ap (λ (a : Going). a.replica) ran_is
 
   few_told : told.count ≤ 1
-  few_told = omega (arith, told_is.count, few old.node.identity draw (replica_of old.node) reader.bytes reader.begin next.group next.is next.ready.0)
+  few_told = omega (arith, told_is.count, few old.node.node.identity draw (kept old) reader.bytes reader.begin next.group next.is next.ready.0)
 
   -- at most one group more is counted, and there is room to count it
   pub room_to_count : (told.count ≤ 1) × (old.count + 1 < 4294967296)
@@ -59,12 +81,12 @@ module _ (draw : Draw) (old : code_replaying.Replaying) (reader : Reader) (next 
 
   module _ (g : Group) (s : Replay) (is : IsWhole reader.bytes reader.begin g) (stands : Stands old s) (running : s.stop ≡ None) where
     abbrev behind : Replay
-    behind = by_form old.node.identity draw g s g.form
+    behind = by_form old.node.node.identity draw g s g.form
 
     follows : Follows s behind (names_next g.form) (reader.begin + length reader.bytes) ran
-    follows = group_follows old.node.identity draw (replica_of old.node) reader.bytes reader.begin g is s stands.keeps running next.ready.0
+    follows = group_follows old.node.node.identity draw (kept old) reader.bytes reader.begin g is s stands.keeps running next.ready.0
 
-    now_stands : Stands new behind
+    pub now_stands : Stands new behind
     now_stands = record {
       keeps = subst (λ (r : Replica). Keeps r behind) (sym made_is) follows.keeps;
       count = omega (arith, told_is.count, follows.count, stands.count);

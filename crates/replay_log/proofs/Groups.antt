@@ -2,8 +2,8 @@
 use Rattle.std.proofs.Common.{◌≡◌, List, [], ◌∷◌, ◌++◌, Option, Some, None, refl, sym, ap, ◌∙◌}
 use Rattle.port_traits.specs.declared.identity.Identity.{Identity}
 use Rattle.port_traits.specs.declared.identity.Draw.{Draw}
-use Rattle.replica_node.specs.apply_model.Stops.{Differs}
-use Rattle.replica_node.specs.replica_model.Replaying.{Replay, by_form, unless_stopped, all_replayed, first_replay}
+use Rattle.durable_replica.specs.replica_node.apply_model.Stops.{Differs}
+use Rattle.durable_replica.specs.replica_node.replica_model.Replaying.{Replay, by_form, unless_stopped, all_replayed}
 use Rattle.log_reader.specs.log_file_model.Walk.{Piece}
 
 module _ (identity : Identity) (draw : Draw) where
@@ -30,17 +30,17 @@ module _ (identity : Identity) (draw : Draw) where
   one_by s (Some d) = refl
 
   -- one group more
-  pub one_more : (ps : List Piece) (p : Piece) (s : Replay) → all_replayed identity draw ps first_replay ≡ s → s.stop ≡ None
-      → all_replayed identity draw (ps ++ p ∷ []) first_replay ≡ by_form identity draw p.group s p.group.form
-  one_more ps p s is running =
+  pub one_more : (ps : List Piece) (p : Piece) (first s : Replay) → first.stop ≡ None → all_replayed identity draw ps first ≡ s → s.stop ≡ None
+      → all_replayed identity draw (ps ++ p ∷ []) first ≡ by_form identity draw p.group s p.group.form
+  one_more ps p first s fresh is running =
       let there : Replay = by_form identity draw p.group s p.group.form in
-      joined ps (p ∷ []) first_replay refl
+      joined ps (p ∷ []) first fresh
       ∙ ap (λ (t : Replay). unless_stopped (all_replayed identity draw (p ∷ [])) t t.stop) is
       ∙ ap (unless_stopped (all_replayed identity draw (p ∷ [])) s) running
       ∙ one_by there there.stop
 
   -- behind an item that has no effect nothing is carried out
-  pub stopped_there : (ps qs : List Piece) (stop : Differs) → (all_replayed identity draw ps first_replay).stop ≡ Some stop
-      → all_replayed identity draw (ps ++ qs) first_replay ≡ all_replayed identity draw ps first_replay
-  stopped_there ps qs stop is =
-      joined ps qs first_replay refl ∙ ap (unless_stopped (all_replayed identity draw qs) (all_replayed identity draw ps first_replay)) is
+  pub stopped_there : (ps qs : List Piece) (first : Replay) (stop : Differs) → first.stop ≡ None → (all_replayed identity draw ps first).stop ≡ Some stop
+      → all_replayed identity draw (ps ++ qs) first ≡ all_replayed identity draw ps first
+  stopped_there ps qs first stop fresh is =
+      joined ps qs first fresh ∙ ap (unless_stopped (all_replayed identity draw qs) (all_replayed identity draw ps first)) is

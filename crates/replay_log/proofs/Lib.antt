@@ -1,5 +1,8 @@
 pub mod Stepping
 pub mod Applying
+pub mod Keeping
 pub mod Groups
+pub mod Marking
 pub mod Taking
 pub mod Endings
+pub mod Opening

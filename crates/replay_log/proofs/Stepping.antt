@@ -13,11 +13,11 @@ use Rattle.event_codec.specs.Reading.{Stop, short, damaged, foreign}
 use Rattle.log_reader.specs.log_model.Events.{Place, Placed, events_from, stop_from}
 use Rattle.log_reader.specs.log_model.Groups.{Form, start, next_log, ddl, txn, Group, Next, group, not_whole, damaged_at, foreign_at, Scan, done, stopped, first, scan, stop_next, statement_of, alone, txn_of, begun_by, group_of, group_at}
 use Rattle.log_reader.specs.log_model.Log.{LogPlace, moved}
-use Rattle.replica_node.specs.apply_model.Stops.{Differs}
-use Rattle.replica_node.specs.apply_model.Groups.{Applied, group_carried}
-use Rattle.replica_node.specs.replica_model.Replica.{Replica, behind_form, behind_group, fetched, past_groups, past_next, size_of, want}
-use Rattle.replica_node.specs.replica_model.Applying.{Going, apply, by_form, by_next, carry, carried_out, differs, go_on, moved_behind, next_at}
-use Rattle.replica_node.specs.replica_model.Replaying.{Replay, carried, by_form as replay_form}
+use Rattle.durable_replica.specs.replica_node.apply_model.Stops.{Differs}
+use Rattle.durable_replica.specs.replica_node.apply_model.Groups.{Applied, group_carried}
+use Rattle.durable_replica.specs.replica_node.replica_model.Replica.{Replica, behind_form, behind_group, fetched, past_groups, past_next, size_of, want}
+use Rattle.durable_replica.specs.replica_node.replica_model.Applying.{Going, apply, by_form, by_next, carry, carried_out, differs, go_on, going_from, moved_behind, next_at, one_more}
+use Rattle.durable_replica.specs.replica_node.replica_model.Replaying.{Replay, carried, by_form as replay_form}
 use Rattle.log_reader.specs.log_file_model.Passing.{names_next}
 use Rattle.log_reader.proofs.of_log_group_laws.Lying.{group_lies, nothing_there}
 use Rattle.log_reader.proofs.of_log_group_laws.Staying.{group_stays}
@@ -198,6 +198,46 @@ module _ (identity : Identity) (draw : Draw) (r : Replica) (bytes : List ℕ) (p
   unfolding apply
   applied begun = applied_by begun.0 begun.1
 
+  -- ---- behind so many steps
+
+  -- the replica is as before, or as behind the group
+  abbrev AsBeforeOrBehind : Going → Type 0
+  AsBeforeOrBehind a = (a.replica ≡ more) ⊎ (a.replica ≡ (by_form (λ (b : Going). b) identity draw g (over more (length r.relay)) g.form).replica)
+
+  behind_steps : (most : ℕ) → r.place.pos + length r.relay ≡ pos → AsBeforeOrBehind (go_on most 1 identity draw (over more (length r.relay)))
+  behind_steps zero at = inl refl
+  behind_steps (suc most) at = inr (ap (λ (a : Going). a.replica) (one_behind most at))
+
+  steps_over : (most : ℕ) → r.place.pos + length r.relay ≡ pos → (s : Group) → IsWhole r.relay r.place.pos s → s.form ≡ start
+      → AsBeforeOrBehind (go_on most 1 identity draw (over more 0))
+  steps_over zero at s before form = inl refl
+  steps_over (suc most) at s before form =
+      let lies = group_lies r.relay r.place.pos s before.reads in
+      let first : next_at (over more 0) ≡ group s =
+      ap (λ (n : ℕ). group_at (record { bytes = r.relay ++ bytes; pos = n })) (omega arith) ∙ group_stays r.relay bytes r.place.pos s before.reads in
+      let before_size : 0 + size_of s ≡ length r.relay = omega (arith, before.whole, lies.begins) in
+      subst AsBeforeOrBehind
+      (sym (ap (by_next (go_on most 1 identity draw) identity draw (over more 0)) first
+      ∙ ap (by_form (go_on most 1 identity draw) identity draw s (over more 0)) form
+      ∙ ap (λ (n : ℕ). go_on most 1 identity draw (over more n)) before_size))
+      (behind_steps most at)
+
+  steps_by : (most : ℕ) → r.place.pos + length r.relay ≡ pos → ((r.relay ≡ []) ⊎ ((s : Group) × IsWhole r.relay r.place.pos s × (s.form ≡ start)))
+      → AsBeforeOrBehind (go_on most 1 identity draw (going_from more))
+  steps_by most at (inl none) =
+      let nothing : 0 ≡ length r.relay = sym (ap length none) in
+      subst AsBeforeOrBehind (sym (ap (λ (n : ℕ). go_on most 1 identity draw (over more n)) nothing)) (behind_steps most at)
+  steps_by most at (inr before) = steps_over most at before.0 before.1 before.2
+
+  pub after_steps : (most : ℕ) → IsBegun r.place.pos r.relay pos
+      → ((go_on most 1 identity draw (going_from more)).replica ≡ more) ⊎ ((go_on most 1 identity draw (going_from more)).replica ≡ (apply 1 identity draw more).replica)
+  after_steps most begun = by (steps_by most begun.0 begun.1)
+    where
+      by : AsBeforeOrBehind (go_on most 1 identity draw (going_from more))
+          → ((go_on most 1 identity draw (going_from more)).replica ≡ more) ⊎ ((go_on most 1 identity draw (going_from more)).replica ≡ (apply 1 identity draw more).replica)
+      by (inl is) = inl is
+      by (inr is) = inr (is ∙ sym (ap (λ (a : Going). a.replica) (applied begun)))
+
   few_by : (f : Form) → (by_form (λ (b : Going). b) identity draw g (over more (length r.relay)) f).count ≤ 1
   few_by start = omega arith
   few_by (next_log next) = omega arith
@@ -226,13 +266,13 @@ module _ (identity : Identity) (draw : Draw) (r : Replica) (bytes : List ℕ) (p
     carried_so there closed (Ok made) =
         let rest : drop (length r.relay + size_of g) (r.relay ++ bytes) ≡ [] = all_passed begun.0 in
         record {
-          keeps = record { base = refl; counters = refl; place = there ∙ ap (λ (p : LogPlace). record { log = p.log; pos = g.end }) keeps.place };
+          keeps = record { base = refl; counters = refl; number = ap one_more keeps.number; place = there ∙ ap (λ (p : LogPlace). record { log = p.log; pos = g.end }) keeps.place };
           count = refl;
           stop = refl;
           begun = λ on unclosed. (omega (arith, ap (λ (p : LogPlace). p.pos) there, ap length rest, is.whole), inl rest);
         }
     carried_so there closed (Err stop) = record {
-      keeps = record { base = keeps.base; counters = keeps.counters; place = keeps.place };
+      keeps = record { base = keeps.base; counters = keeps.counters; number = keeps.number; place = keeps.place };
       count = omega arith;
       stop = refl;
       begun = λ on unclosed. cc;
@@ -256,13 +296,13 @@ module _ (identity : Identity) (draw : Draw) (r : Replica) (bytes : List ℕ) (p
     form_follows : (f : Form) → g.form ≡ f
         → Follows old (replay_form identity draw g old f) (names_next f) (pos + length bytes) (by_form (λ (b : Going). b) identity draw g a f)
     form_follows start form = record {
-      keeps = record { base = keeps.base; counters = keeps.counters; place = keeps.place };
+      keeps = record { base = keeps.base; counters = keeps.counters; number = keeps.number; place = keeps.place };
       count = omega arith;
       stop = ap (option_map differs) (sym running);
       begun = λ on unclosed. (omega (arith, begun.0, length-append r.relay bytes), inr (g, start_only form begun.0 begun.1, form));
     }
     form_follows (next_log next) form = record {
-      keeps = record { base = keeps.base; counters = keeps.counters; place = ap (behind_form r.place g.end) form };
+      keeps = record { base = keeps.base; counters = keeps.counters; number = keeps.number; place = ap (behind_form r.place g.end) form };
       count = omega arith;
       stop = ap (option_map differs) (sym running);
       begun = λ on unclosed. cc;

@@ -2,9 +2,9 @@
 use Rattle.std.specs.Prelude.{◌≡◌, ◌⊎◌, ℕ, ◌+◌, Bool, false, List, [], length, None}
 use Rattle.std.specs.Option.{option_map}
 use Rattle.log_reader.specs.log_model.Groups.{start, Group, group, group_at}
-use Rattle.replica_node.specs.replica_model.Applying.{Going, differs}
-use Rattle.replica_node.specs.replica_model.Replica.{Replica}
-use Rattle.replica_node.specs.replica_model.Replaying.{Replay}
+use Rattle.durable_replica.specs.replica_node.replica_model.Applying.{Going, differs}
+use Rattle.durable_replica.specs.replica_node.replica_model.Replica.{Replica}
+use Rattle.durable_replica.specs.replica_node.replica_model.Replaying.{Replay}
 
 -- some bytes are just a group
 pub record IsWhole (bytes : List ℕ) (pos : ℕ) (g : Group) : Type 0 where
@@ -16,10 +16,11 @@ abbrev pub IsBegun : (at : ℕ) → (relay : List ℕ) → (pos : ℕ) → Type 
 IsBegun at relay pos =
     (at + length relay ≡ pos) × ((relay ≡ []) ⊎ ((g : Group) × IsWhole relay at g × (g.form ≡ start)))
 
--- a replica has the base, the counters and the place of a replay
+-- a replica has the base, the counters, the number and the place of a replay
 pub record Keeps (r : Replica) (s : Replay) : Type 0 where
   pub base : r.base ≡ s.base
   pub counters : r.counters ≡ s.counters
+  pub number : r.number ≡ s.number
   pub place : r.place ≡ s.place
 
 -- an APPLY went on as a replay did, from a state to the next one; what is in front of the next group stands where no name of a log

@@ -1,7 +1,7 @@
 //! The line that tells what was carried out.
 ghost use Rattle.std.specs.Prelude.{◌≡◌, ◌∷◌, ◌++◌, [], IfOk, OnOk};
 ghost use Rattle.std.specs.Fmt.{decimal};
-ghost use Rattle.replica_node.specs.replica_model.Lines.{applied_words};
+ghost use Rattle.durable_replica.specs.replica_node.replica_model.Lines.{applied_words};
 
 use std::alloc::Global;
 use val_types::{Bytes, NoMemory};

@@ -11,7 +11,7 @@ use Rattle.session_model.specs.log_model.Worked.{by_rows, creating, nowhere, pla
 use Rattle.apply_model.specs.Worked.{no_draw, replica}
 use Rattle.replica_model.specs.Replica.{Replica, fetched, first_replica}
 use Rattle.replica_model.specs.Applying.{Going, apply}
-use Rattle.replica_model.specs.Replaying.{Replay, replayed}
+use Rattle.replica_model.specs.Replaying.{Replay, replayed, replayed_from}
 
 abbrev pub row_item : Item
 row_item = by_rows (plainly 1700000002 1) (table_named (codes "t") (codes "v") true ∷ []) (Insert (codes "t") (Int (pos 1) ∷ Int (pos 10) ∷ []) ∷ [])
@@ -35,6 +35,20 @@ applied_from bytes = apply 10 replica no_draw (replica_with bytes)
 abbrev pub spoiled : (place byte : ℕ) → List ℕ
 spoiled place byte = slice_set served (place - 4) byte
 
--- what a replica makes of a whole log that it is given
-abbrev pub replayed_from : List ℕ → Replay
-replayed_from bytes = replayed replica no_draw bytes
+-- what a replica that has nothing makes of a log that it is given
+abbrev pub first_of : List ℕ → Replay
+first_of bytes = replayed replica no_draw bytes
+
+-- the replica behind it, which has fetched nothing
+abbrev pub behind_first : List ℕ → Replica
+behind_first bytes = record {
+  base = (first_of bytes).base;
+  counters = (first_of bytes).counters;
+  number = (first_of bytes).number;
+  place = (first_of bytes).place;
+  relay = [];
+}
+
+-- what that makes of one more log
+abbrev pub second_of : (before bytes : List ℕ) → Replay
+second_of before bytes = replayed_from replica no_draw (behind_first before) bytes

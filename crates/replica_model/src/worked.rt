@@ -3,7 +3,7 @@ ghost use Rattle.std.specs.Prelude.{◌≡◌, None, Some, drop, length, take};
 ghost use Rattle.session_model.specs.log_model.Worked.{first_log};
 ghost use Rattle.replica_model.specs.Applying.{damaged};
 ghost use Rattle.replica_model.specs.Replica.{want};
-ghost use Rattle.replica_model.specs.Worked.{applied_from, replayed_from, replica_with, served, spoiled};
+ghost use Rattle.replica_model.specs.Worked.{applied_from, first_of, replica_with, second_of, served, spoiled};
 
 /// A table and a row in it, logged as a row: where the replica fetches next, what it carries out of all bytes, of all but the last,
 /// and of bytes that are damaged in the second event.
@@ -22,10 +22,19 @@ pub fn first_row_applied()
 /// The log of the table and of the row by its text: what its replay makes of all bytes, and of a log that ends inside the
 /// transaction.
 pub fn first_text_replayed()
-    ensures count { (replayed_from first_log).count ≡ 2 }
-    ensures place { (replayed_from first_log).place ≡ record { log = 1; pos = 336 } }
-    ensures stop { (replayed_from first_log).stop ≡ None }
-    ensures cut { (replayed_from (take 330 first_log)).count ≡ 1 }
-    ensures cut_place { (replayed_from (take 330 first_log)).place ≡ record { log = 1; pos = 206 } }
-    ensures cut_stop { (replayed_from (take 330 first_log)).stop ≡ None }
+    ensures count { (first_of first_log).count ≡ 2 }
+    ensures place { (first_of first_log).place ≡ record { log = 1; pos = 336 } }
+    ensures stop { (first_of first_log).stop ≡ None }
+    ensures cut { (first_of (take 330 first_log)).count ≡ 1 }
+    ensures cut_place { (first_of (take 330 first_log)).place ≡ record { log = 1; pos = 206 } }
+    ensures cut_stop { (first_of (take 330 first_log)).stop ≡ None }
+{}
+
+/// The same log, of which 330 bytes were replayed before: the transaction is carried out, from position 206 on; a log that ends before is
+/// not, and nothing of it is carried out.
+pub fn next_text_replayed()
+    ensures count { (second_of (take 330 first_log) first_log).count ≡ 1 }
+    ensures number { (second_of (take 330 first_log) first_log).number ≡ 2 }
+    ensures place { (second_of (take 330 first_log) first_log).place ≡ record { log = 1; pos = 336 } }
+    ensures short { (second_of (take 330 first_log) (take 205 first_log)).count ≡ 0 }
 {}

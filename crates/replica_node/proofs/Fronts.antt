@@ -8,6 +8,7 @@ use Rattle.relay_log.specs.apply_model.Groups.{Applied, group_carried}
 use Rattle.relay_log.specs.log_model.Groups.{Form, start, next_log, ddl, txn, Group, Next, group, not_whole, damaged_at, foreign_at}
 use Rattle.replica_model.specs.Applying.{Going, Stop, differs, damaged, foreign, by_form, by_next, carried_out, carry, go_on, going_from, moved_behind, next_at}
 use Rattle.replica_model.specs.Replica.{Replica, size_of}
+use Rattle.commit_store.specs.declared.prepared.Prepared.{Prepared}
 use Rattle.replica_node.specs.declared.told.Step.{Step}
 use Rattle.replica_node.specs.declared.told.Step.TheVariants.{Over, Moved, Carried}
 use Rattle.relay_log.specs.declared.place.Walk.{Walk}
@@ -89,11 +90,11 @@ module _ (wanted : ℕ) (identity : Identity) (draw : Draw) (first r r' : Replic
   pub behind_over : (ahead : Walk) → IsStep identity draw r r' passed (Over ahead) → IsBehind wanted identity draw first r' ahead.passed count
   behind_over ahead is = goes ahead.passed count (Over ahead) is refl
 
-  pub behind_moved : IsStep identity draw r r' passed Moved → IsBehind wanted identity draw first r' 0 count
-  behind_moved is = goes 0 count Moved is refl
+  pub behind_moved : (p : Prepared) → IsStep identity draw r r' passed (Moved p) → IsBehind wanted identity draw first r' 0 count
+  behind_moved p is = goes 0 count (Moved p) is refl
 
-  pub behind_carried : IsStep identity draw r r' passed Carried → IsBehind wanted identity draw first r' 0 (count + 1)
-  behind_carried is = goes 0 (count + 1) Carried is refl
+  pub behind_carried : (p : Prepared) → IsStep identity draw r r' passed (Carried p) → IsBehind wanted identity draw first r' 0 (count + 1)
+  behind_carried p is = goes 0 (count + 1) (Carried p) is refl
 
 -- what is kept there
 pub is_front : (wanted : ℕ) (identity : Identity) (draw : Draw) (first r : Replica) (passed count : ℕ) → IsBehind wanted identity draw first r passed count → IsFront wanted identity draw first r

@@ -11,6 +11,7 @@ use Rattle.replica_model.specs.Replica.{Replica}
 use Rattle.relay_log.specs.declared.place.Walk.{Walk}
 use Rattle.relay_log.specs.Reaching.{Fetched, IsAhead, place_seen}
 use Rattle.relay_log.proofs.of_log_group_laws.Lying.{nothing_there}
+use Rattle.commit_store.specs.declared.prepared.Prepared.{Prepared}
 use Rattle.replica_node.specs.declared.told.Applied.{Applied}
 use Rattle.replica_node.specs.declared.told.Step.{Step}
 use Rattle.replica_node.specs.declared.told.Step.TheVariants.{Over, Moved, Carried, Waits, Stopped as StoppedBy}
@@ -89,11 +90,11 @@ module _ (wanted : ℕ) (identity : Identity) (draw : Draw) (start r : Replica) 
     pub over : (ahead : Walk) → IsStep identity draw r r' passed (Over ahead) → GoesOn (Over ahead) (length r.relay - passed) r' → IsUnder wanted identity draw start r' ahead.passed count
     over ahead is on = goes ahead.passed count (Over ahead) is (λ more. refl) under.most under.enough under.same on.1 on.0.ahead.within
 
-    pub moved_on : IsStep identity draw r r' passed Moved → GoesOn Moved (length r.relay - passed) r' → IsUnder wanted identity draw start r' 0 count
-    moved_on is on = goes 0 count Moved is (λ more. refl) under.most under.enough under.same (omega (arith, on)) (omega arith)
+    pub moved_on : (p : Prepared) → IsStep identity draw r r' passed (Moved p) → GoesOn (Moved p) (length r.relay - passed) r' → IsUnder wanted identity draw start r' 0 count
+    moved_on p is on = goes 0 count (Moved p) is (λ more. refl) under.most under.enough under.same (omega (arith, on)) (omega arith)
 
-    pub carried_on : IsStep identity draw r r' passed Carried → GoesOn Carried (length r.relay - passed) r' → IsUnder wanted identity draw start r' 0 (count + 1)
-    carried_on is on = goes 0 (count + 1) Carried is (λ more. refl) under.most under.enough under.same (omega (arith, on)) (omega arith)
+    pub carried_on : (p : Prepared) → IsStep identity draw r r' passed (Carried p) → GoesOn (Carried p) (length r.relay - passed) r' → IsUnder wanted identity draw start r' 0 (count + 1)
+    carried_on p is on = goes 0 (count + 1) (Carried p) is (λ more. refl) under.most under.enough under.same (omega (arith, on)) (omega arith)
 
     -- ---- the end
 

@@ -1,7 +1,8 @@
 -- What a replica node is, as its contracts see it.
-use Rattle.std.specs.Prelude.{ℕ}
+use Rattle.std.specs.Prelude.{ℕ, []}
 use Rattle.port_traits.specs.declared.identity.Identity.{Identity}
-use Rattle.prog_run.specs.prog_work.Contents.{Contents, base_of}
+use Rattle.commit_store.specs.store_model.Held.{Held}
+use Rattle.stmt_apply.specs.prog_run.prog_work.Contents.{Contents, base_of}
 use Rattle.relay_log.specs.Reaching.{Fetched}
 use Rattle.replica_model.specs.Replica.{Replica}
 
@@ -15,3 +16,7 @@ pub record Kept : Type 0 where
 -- as the definition has it
 abbrev pub replica_of : Kept → Replica
 replica_of k = record { base = base_of k.work; counters = k.work.counters; number = k.number; place = k.relay.place; relay = k.relay.bytes }
+
+-- what its store has to hold
+abbrev pub held_of : Replica → Held
+held_of r = record { base = r.base; number = r.number; ends = []; place = r.place }

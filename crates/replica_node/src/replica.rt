@@ -1,18 +1,20 @@
 //! The replica.
-ghost use Rattle.std.specs.Prelude.{◌≡◌, ◌≤◌, ◌+◌, length, IfOk, OnErr, OnOk};
+ghost use Rattle.std.specs.Prelude.{◌≡◌, ◌≤◌, ◌+◌, [], length, IfOk, OnErr, OnOk};
+ghost use Rattle.stmt_apply.specs.prog_run.prog_work.Contents.{base_of};
+ghost use Rattle.relay_log.specs.Reaching.{place_seen};
 ghost use Rattle.replica_model.specs.apply_model.binlog_sizes.Sizes.{most_text};
-ghost use Rattle.replica_model.specs.Replica.{fetched, first_replica, want};
+ghost use Rattle.replica_model.specs.Replica.{fetched, want};
 ghost use Rattle.replica_model.specs.Selecting.{select_answer};
 ghost use Rattle.replica_node.specs.Kept.{replica_of};
 
 use crate::selecting::answer;
-use answer_making::NodeFault;
 use answer_text::Answer;
 use port_traits::{Draw, Identity};
-use prog_run::Work;
-use relay_log::Relay;
+use relay_log::{Place, Relay};
 use std::alloc::Global;
 use std::marker::Model;
+use stmt_apply::answer_making::NodeFault;
+use stmt_apply::prog_run::Work;
 use val_types::Bytes;
 
 /// A replica in memory, which contracts see as who it is and what it keeps. It is dropped here.
@@ -56,19 +58,32 @@ impl Drop for ReplicaNode {
 }
 
 impl ReplicaNode {
-    /// A replica that has fetched nothing. It uses nothing of its draw as long as it opens no files.
-    pub fn open(alloc: Global, identity: Identity, draw: &Draw) -> ReplicaNode
+    /// A replica on rows where no change is open, which has carried out so many definitions and transactions, up to a place.
+    pub fn found(
+        alloc: Global,
+        identity: Identity,
+        work: Work,
+        number: u64,
+        place: Place,
+    ) -> ReplicaNode
+        requires { work.changes ≡ [] }
         ensures identity { result.identity ≡ identity }
-        ensures replica { replica_of result ≡ first_replica }
+        ensures replica { replica_of result ≡ record { base = base_of work; counters = work.counters; number = number; place = place_seen place; relay = [] } }
     {
-        let _ = draw;
         ReplicaNode {
             alloc,
             identity,
-            work: Work::new(alloc),
-            number: 0,
-            relay: Relay::new(alloc),
+            work,
+            number,
+            relay: Relay::at(alloc, place),
         }
+    }
+
+    /// Who it is.
+    pub fn identity(&self) -> &Identity
+        ensures { result.now ≡ self.now.identity }
+    {
+        &self.identity
     }
 
     /// How many definitions and transactions were carried out.

@@ -1,21 +1,21 @@
 //! A text of a reader: a SELECT, in a session of its own that has no number.
 ghost use Rattle.std.specs.Prelude.{◌≡◌, ◌≤◌, [], false, length, IfOk};
 ghost use Rattle.sql_tree.specs.StatementView.{view};
-ghost use Rattle.prog_run.specs.prog_work.Contents.{base_of};
+ghost use Rattle.stmt_apply.specs.prog_run.prog_work.Contents.{base_of};
 ghost use Rattle.unsafe_rules.specs.sql_reach.Reach.{is_definition};
 ghost use Rattle.replica_model.specs.apply_model.binlog_sizes.Sizes.{most_text};
 ghost use Rattle.row_apply.specs.Ends.{Stays};
 ghost use Rattle.replica_model.specs.Selecting.{select_answer, select_checked, select_run};
 
-use answer_making::{NodeFault, refused, refused_at, statement_of, told};
 use answer_text::Answer;
 use port_traits::{Draw, Identity};
-use prog_run::{Meter, Work, run_stmt};
 use session_ctx::SessionVars;
 use sql_parse::ParseRefusal;
 use sql_tree::Stmt;
 use std::alloc::Global;
+use stmt_apply::answer_making::{NodeFault, refused, refused_at, statement_of, told};
 use stmt_apply::checked;
+use stmt_apply::prog_run::{Meter, Work, run_stmt};
 use unsafe_rules::writes;
 use val_types::{Duplicate, SqlRefusal};
 

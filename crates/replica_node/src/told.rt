@@ -1,5 +1,6 @@
 //! What an APPLY tells.
 
+use commit_store::Prepared;
 use relay_log::Walk;
 use val_types::{Bytes, Row, SqlError};
 
@@ -34,15 +35,15 @@ pub struct Applied {
     pub stop: Option<Stopped>,
 }
 
-/// What was done at a place of the relay.
+/// What was done at a place of the relay, with the record that is to be kept of it.
 #[derive(Drop)]
-pub(crate) enum Step {
+pub enum Step {
     /// The beginning of a log, which is passed over: where to look next.
     Over(Walk),
     /// The end of a log, behind which the replica stands now.
-    Moved,
+    Moved(Prepared),
     /// A definition or a transaction, carried out.
-    Carried,
+    Carried(Prepared),
     /// Nothing, as there is no whole group.
     Waits,
     /// Nothing, for this reason.

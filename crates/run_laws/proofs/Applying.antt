@@ -19,7 +19,7 @@ use Rattle.apply_laws.specs.session_model.Machine.{Whole, kept_entry, Machine, f
 use Rattle.apply_laws.specs.session_model.Holding.{changes_of, define}
 use Rattle.apply_laws.specs.session_replays.Followed.{EntriesFollow}
 use Rattle.run_model.specs.replica_model.Replica.{Replica, behind_group, log_begin, size_of}
-use Rattle.run_model.specs.replica_model.Applying.{differs, Going, going_from, next_at, carried_out, carry, by_next, go_on, apply}
+use Rattle.run_model.specs.replica_model.Applying.{differs, Going, going_from, next_at, carried_out, carry, by_next, go_on}
 use Rattle.run_model.specs.Run.{Names, Read, nothing, bytes_to, ReplicaStep, carried_at, carried_in, Starts, log_with, number_before, place_before}
 use Rattle.run_model.specs.Following.{AreCommitted, all_carried, applied_of, Follows, groups_of, head_entries, place_behind, reader_at, reader_from}
 use Rattle.run_laws.proofs.Places.{Line, begun, front_of, count_of, place_of, front_place, behind_front, first_event_length, count_last, log_is, place_last, reader_last, reader_log}
@@ -381,13 +381,13 @@ module _ (below : Below) (appliers : Appliers) (t : Round) (from : Starts) (m : 
   -- ---- an APPLY
 
   -- of a replica that has carried out nothing
-  from_first : (wanted : ℕ) (more : List (Entry Whole)) (rest : List ℕ) (r : Replica) → First t from m l more rest r → CanLogAll (map kept_entry more) (number_before from.read) (place_behind from.read)
-      → Starting l more r.place (r.relay ++ rest) → Came t from m (go_on (length r.relay) wanted t.names.replica t.draw (going_from r))
-  from_first wanted more rest r f can (unread place none behind fits bytes) =
-      starts (length r.relay) wanted more rest r f place none behind fits
+  from_first : (most wanted : ℕ) (more : List (Entry Whole)) (rest : List ℕ) (r : Replica) → First t from m l more rest r → CanLogAll (map kept_entry more) (number_before from.read) (place_behind from.read)
+      → Starting l more r.place (r.relay ++ rest) → Came t from m (go_on most wanted t.names.replica t.draw (going_from r))
+  from_first most wanted more rest r f can (unread place none behind fits bytes) =
+      starts most wanted more rest r f place none behind fits
       (subst (λ (n : ℕ). CanLogAll (map kept_entry more) n first_place) none (subst (λ (q : LogPlace). CanLogAll (map kept_entry more) (number_before from.read) q) behind can)) bytes
-  from_first wanted more rest r f can (there place bytes) =
-      goes (length r.relay) wanted [] more (number_before from.read) (place_behind from.read) rest (going_from r) (record {
+  from_first most wanted more rest r f can (there place bytes) =
+      goes most wanted [] more (number_before from.read) (place_behind from.read) rest (going_from r) (record {
         history = f.history;
         committed = f.committed;
         steps = none_yet f.steps;
@@ -404,15 +404,15 @@ module _ (below : Below) (appliers : Appliers) (t : Round) (from : Starts) (m : 
         at = let a : r.place.pos ≡ (place_behind from.read).pos = ap (λ (q : LogPlace). q.pos) place in omega (arith, a);
       })
 
-  going : (wanted : ℕ) (carried more : List (Entry Whole)) (rest : List ℕ) (r : Replica) → from.owed ++ m.history ≡ begun l (carried ++ more) → AreCommitted (carried ++ more)
+  going : (most wanted : ℕ) (carried more : List (Entry Whole)) (rest : List ℕ) (r : Replica) → from.owed ++ m.history ≡ begun l (carried ++ more) → AreCommitted (carried ++ more)
       → carried_in t.before ≡ length carried
       → all_carried t.names.replica (groups_of (map kept_entry carried) (number_before from.read) (place_behind from.read)) t.before (applied_of from.replica) ≡ Ok (applied_of r)
       → (EntriesFollow carried → after changes_of define carried from.replica.base ≡ Some r.base) → r.number ≡ min (from.replica.number + length carried) (2 ^ 64 - 1)
       → r.place ≡ reader_at from.read stamp server carried → r.relay ++ rest ≡ drop r.place.pos (log_with from m)
       → HeadFits from.read stamp × CanLogAll (map kept_entry (carried ++ more)) (number_before from.read) (place_behind from.read)
-      → Came t from m (go_on (length r.relay) wanted t.names.replica t.draw (going_from r))
-  going wanted [] more rest r history committed steps makes base number place relay can =
-      from_first wanted more rest r
+      → Came t from m (go_on most wanted t.names.replica t.draw (going_from r))
+  going most wanted [] more rest r history committed steps makes base number place relay can =
+      from_first most wanted more rest r
       (record {
         history = history;
         committed = committed;
@@ -424,10 +424,10 @@ module _ (below : Below) (appliers : Appliers) (t : Round) (from : Starts) (m : 
         relay = relay;
       })
       can.1 (subst (Starting l more r.place) (sym relay) (starting from.read stamp server more r.place (log_with from m) can.0 place (log_is from m stamp server more history)))
-  going wanted (x ∷ xs) more rest r history committed steps makes base number place relay can =
+  going most wanted (x ∷ xs) more rest r history committed steps makes base number place relay can =
       let carried : List (Entry Whole) = x ∷ xs in
       let end : place_of l carried ≡ record { log = 1; pos = length (front_of l carried) } = front_place below.have below.heads l carried (first_ones carried more committed) in
-      goes (length r.relay) wanted carried more (count_of l carried) (place_of l carried) rest (going_from r) (record {
+      goes most wanted carried more (count_of l carried) (place_of l carried) rest (going_from r) (record {
         history = history;
         committed = committed;
         steps = let here : carried_in t.before + 0 ≡ length carried = omega (arith, steps) in here;
@@ -446,12 +446,12 @@ module _ (below : Below) (appliers : Appliers) (t : Round) (from : Starts) (m : 
             omega (arith, a, b);
       })
 
-  pub apply_from : (wanted : ℕ) (carried more : List (Entry Whole)) (rest : List ℕ) (r : Replica) → from.owed ++ m.history ≡ begun l (carried ++ more) → AreCommitted (carried ++ more)
+  -- behind so many steps of it
+  pub steps_from : (most wanted : ℕ) (carried more : List (Entry Whole)) (rest : List ℕ) (r : Replica) → from.owed ++ m.history ≡ begun l (carried ++ more) → AreCommitted (carried ++ more)
       → carried_in t.before ≡ length carried
       → all_carried t.names.replica (groups_of (map kept_entry carried) (number_before from.read) (place_behind from.read)) t.before (applied_of from.replica) ≡ Ok (applied_of r)
       → (EntriesFollow carried → after changes_of define carried from.replica.base ≡ Some r.base) → r.number ≡ min (from.replica.number + length carried) (2 ^ 64 - 1)
-      → r.place ≡ reader_at from.read stamp server carried → r.relay ++ rest ≡ drop r.place.pos (log_with from m) → Came t from m (apply wanted t.names.replica t.draw r)
-  unfolding apply
-  apply_from wanted carried more rest r history committed steps makes base number place relay =
-      going wanted carried more rest r history committed steps makes base number place relay
+      → r.place ≡ reader_at from.read stamp server carried → r.relay ++ rest ≡ drop r.place.pos (log_with from m) → Came t from m (go_on most wanted t.names.replica t.draw (going_from r))
+  steps_from most wanted carried more rest r history committed steps makes base number place relay =
+      going most wanted carried more rest r history committed steps makes base number place relay
       (can_head from.read stamp server (carried ++ more) (subst (λ (es : List (Entry Whole)). CanLogAll (map kept_entry es) (number_before from.read) (place_before from.read)) history sound.logs))

@@ -16,18 +16,18 @@ use Rattle.apply_laws.specs.session_model.Holding.{changes_of, define, EntriesIn
 use Rattle.apply_laws.specs.session_model.Openings.{opening_entries}
 use Rattle.apply_laws.specs.session_replays.Followed.{EntriesFollow, UnwarnedFollow, MixedIsUnwarned, RowsAreUnwarned}
 use Rattle.run_model.specs.replica_model.Replica.{Replica, want, fetched, reopened}
-use Rattle.run_model.specs.replica_model.Applying.{apply}
+use Rattle.run_model.specs.replica_model.Applying.{apply, go_on, going_from}
 use Rattle.run_model.specs.Asked.{Asked, say, select, take_bytes, take_groups, restart_source, restart_replica}
 use Rattle.run_model.specs.Run.{Names, Both, ReplicaStep, opened_again, carried_in, Starts, first_both, log_with, next, number_before}
 use Rattle.run_model.specs.Following.{AreCommitted, all_carried, applied_of, begun_anew, Follows, groups_of, head_entries, place_behind}
-use Rattle.run_laws.specs.Laws.{IsSound, FollowsBegins, FollowsOpened, FollowsGoOn, NoApplyStops, NothingIsDamaged, AllCarriedIsEqual, IsLoggedAsSet, IsUnderOther, OthersFollow, WarnedAsShown, may_warn}
+use Rattle.run_laws.specs.Laws.{IsSound, FollowsBegins, FollowsOpened, FollowsGoOn, FollowsOnTheWay, NoApplyStops, NothingIsDamaged, AllCarriedIsEqual, IsLoggedAsSet, IsUnderOther, OthersFollow, WarnedAsShown, may_warn}
 use Rattle.run_laws.proofs.Places.{Line, count_of, log_grows, place_of}
 use Rattle.run_laws.proofs.Committing.{committed_behind, step_puts}
 use Rattle.run_laws.proofs.Fetching.{Below, want_at, piece_is, fetched_rest}
 use Rattle.run_laws.proofs.Carrying.{Appliers, all_ready, in_both, nothing_is_owed}
 use Rattle.run_laws.proofs.Groups.{carried_both, groups_length, opened_last}
 use Rattle.run_laws.proofs.Restarting.{head_follows, source_follows}
-use Rattle.run_laws.proofs.Applying.{Came, Round, apply_from}
+use Rattle.run_laws.proofs.Applying.{Came, Round, steps_from}
 
 pub follows_begins : FollowsBegins
 follows_begins names b stamp server es rest behind same none history committed relay = record {
@@ -109,11 +109,20 @@ fetch_follows below names b n f sound =
 
 -- ---- APPLY
 
+-- behind so many steps of it
+steps_came : Below → Appliers → (names : Names) (draw : Draw) (steps wanted : ℕ) (b : Both) → Follows names b → IsSound b.from b.machine
+    → Came (record { names = names; draw = draw; before = b.steps }) b.from b.machine (go_on steps wanted names.replica draw (going_from b.replica))
+steps_came below appliers names draw steps wanted b f sound =
+    let t : Round = record { names = names; draw = draw; before = b.steps } in
+    steps_from below appliers t b.from b.machine f.stamp f.server sound steps wanted f.carried f.more f.rest b.replica f.history f.committed f.steps f.makes f.base f.number f.place f.relay
+
 apply_came : Below → Appliers → (names : Names) (draw : Draw) (wanted : ℕ) (b : Both) → Follows names b → IsSound b.from b.machine
     → Came (record { names = names; draw = draw; before = b.steps }) b.from b.machine (apply wanted names.replica draw b.replica)
-apply_came below appliers names draw wanted b f sound =
-    let t : Round = record { names = names; draw = draw; before = b.steps } in
-    apply_from below appliers t b.from b.machine f.stamp f.server sound wanted f.carried f.more f.rest b.replica f.history f.committed f.steps f.makes f.base f.number f.place f.relay
+unfolding apply
+apply_came below appliers names draw wanted b f sound = steps_came below appliers names draw (length b.replica.relay) wanted b f sound
+
+pub follows_on_the_way : Below → Appliers → FollowsOnTheWay
+follows_on_the_way below appliers names b draw steps wanted f sound = (steps_came below appliers names draw steps wanted b f sound).follows
 
 -- ---- RESTART of the replica
 

@@ -1,8 +1,10 @@
 pub mod Applying
 pub mod Carrying
 pub mod Committing
+pub mod Cut
 pub mod Fetching
 pub mod Following
+pub mod Fronts
 pub mod Groups
 pub mod Openings
 pub mod Places

@@ -96,7 +96,7 @@ past_head_count nothing stamp server es = refl
 past_head_count (bytes_to bytes number) stamp server es = refl
 
 -- how many transactions a source has
-counts_there : (from : Starts) (m : Machine) (stamp server : ℕ) (es : List (Entry Whole)) → Holds (source_from from) m → from.owed ++ m.history ≡ head_entries from.read stamp server ++ es
+pub counts_there : (from : Starts) (m : Machine) (stamp server : ℕ) (es : List (Entry Whole)) → Holds (source_from from) m → from.owed ++ m.history ≡ head_entries from.read stamp server ++ es
     → m.state.shared.committed ≡ counted_all (map kept_entry es) (number_before from.read)
 counts_there from m stamp server es holds is =
     sym holds.count ∙ sym (counted_both from.owed m.history (number_before from.read))
@@ -240,7 +240,7 @@ module _ (below : Below) (sizes : SizesStay) (well : RunsStayWell) (from : Start
 -- ---- a run that ends
 
 -- transactions and definitions count by one
-counts_by_one : (es : List (Entry Whole)) (number : ℕ) → AreCommitted es → counted_all (map kept_entry es) number ≡ number + length es
+pub counts_by_one : (es : List (Entry Whole)) (number : ℕ) → AreCommitted es → counted_all (map kept_entry es) number ≡ number + length es
 counts_by_one [] number committed = let e : number ≡ number + 0 = omega arith in e
 counts_by_one (Transaction stamp server items ∷ es) number committed = omega (arith, counts_by_one es (number + 1) committed)
 counts_by_one (Definition stamp server item ∷ es) number committed = omega (arith, counts_by_one es (number + 1) committed)

@@ -10,7 +10,7 @@ use Rattle.apply_laws.specs.log_model.Log.{LogPlace, behind, counted, descriptio
 use Rattle.apply_laws.specs.log_model.Written.{bytes_of}
 use Rattle.apply_laws.specs.log_entry_laws.Entries.{group_of_entry, start_group, StaysInLog, CanLog, CanLogAll}
 use Rattle.apply_laws.specs.log_entry_laws.Laws.{EntryIsRead, GroupsHaveBounds, StartIsRead}
-use Rattle.run_model.specs.log_file_model.Passing.{EndIsSeen, GroupIsPassed, MagicIsPassed, Passed, ending_with, names_next}
+use Rattle.run_model.specs.log_file_model.Passing.{EndIsSeen, GroupIsPassed, MagicIsPassed, Passed as PassedBy, ending_with, names_next}
 use Rattle.run_model.specs.log_file_model.Walk.{ended, grouped, Grouped, Piece}
 use Rattle.apply_laws.specs.apply_model.Stops.{Differs}
 use Rattle.apply_laws.specs.apply_model.Groups.{Applied, group_carried}
@@ -41,6 +41,10 @@ pub record Reads : Type 0 where
   pub group_passed : GroupIsPassed
   pub end_seen : EndIsSeen
 
+-- a log's bytes that were passed, from its first group on
+abbrev Passed : (front : List ℕ) → List Piece → (pos : ℕ) → (closed : Bool) → Type 0
+Passed front ps pos closed = PassedBy grouped front ps pos closed
+
 -- entries read behind bytes of a log that were passed
 record Read (es : List (Entry Whole)) (number : ℕ) (p : LogPlace) (front : List ℕ) (ps : List Piece) : Type 0 where
   pub more : List Piece
@@ -64,7 +68,7 @@ start_passed reads stamp server fits =
     let size : length first ≡ 119 = first_event_length reads.heads stamp server in
     let end : 123 ≡ 4 + length first = omega (arith, size) in
     subst (λ (pos : ℕ). Passed (magic ++ first) (record { bytes = first; group = start_group } ∷ []) pos false) (sym end)
-    (reads.group_passed magic first [] 4 start_group reads.magic_passed read end)
+    (reads.group_passed grouped magic first [] 4 start_group reads.magic_passed read end)
 
 -- one entry more
 entry_passed : Reads → (e : Entry Whole) (number : ℕ) (p : LogPlace) (front : List ℕ) (ps : List Piece) → StaysInLog (kept_entry e) → CanLog (kept_entry e) number p → Passed front ps p.pos false
@@ -76,7 +80,7 @@ entry_passed reads e number p front ps stay can passed =
     let read : group_at (record { bytes = bytes; pos = p.pos }) ≡ group g =
     ap (λ (bs : List ℕ). group_at (record { bytes = bs; pos = p.pos })) (sym (append-nil bytes)) ∙ reads.entry (kept_entry e) number p [] stay can in
     let on : Passed (front ++ bytes) all (p.pos + length bytes) (names_next g.form) =
-    reads.group_passed front bytes ps p.pos g passed read (reads.bounds (kept_entry e) number p stay).1 in
+    reads.group_passed grouped front bytes ps p.pos g passed read (reads.bounds (kept_entry e) number p stay).1 in
     let to : p.pos + length bytes ≡ (behind (kept_entry e) number p).pos = sym (ap (λ (q : LogPlace). q.pos) (entry_moves reads.have (kept_entry e) number p stay)) in
     subst (λ (pos : ℕ). Passed (front ++ bytes) all pos false) to
     (subst (λ (closed : Bool). Passed (front ++ bytes) all (p.pos + length bytes) closed) (names_none e number p stay) on)
@@ -111,18 +115,18 @@ log_is_its_entries reads m stamp server committed logged =
     let r : Read committed 0 first_place (magic ++ first) (record { bytes = first; group = start_group } ∷ []) =
     entries_read reads committed 0 first_place (magic ++ first) (record { bytes = first; group = start_group } ∷ []) logged.are can.1 (start_passed reads stamp server can.0) in
     let read : grouped (log_of m) ≡ ending_with (record { bytes = first; group = start_group } ∷ r.more) ended =
-    ap (λ (es : List (Entry Whole)). grouped (log (map kept_entry es) 0 nowhere)) logged.history ∙ reads.end_seen _ _ r.pos false r.passed in
+    ap (λ (es : List (Entry Whole)). grouped (log (map kept_entry es) 0 nowhere)) logged.history ∙ reads.end_seen grouped _ _ r.pos false r.passed in
     (ap (λ (g : Grouped). groups_in g.pieces) read ∙ ap (λ (gs : List Group). start_group ∷ gs) r.groups, ap (λ (g : Grouped). g.ending) read)
 
 -- ---- its replay
 
 module _ (identity : Identity) (draw : Draw) where
   -- only the groups count
-  abbrev all_by : List Group → Replay → Replay
+  abbrev pub all_by : List Group → Replay → Replay
   all_by [] r = r
   all_by (g ∷ gs) r = let s = by_form identity draw g r g.form in unless_stopped (all_by gs) s s.stop
 
-  by_groups : (ps : List Piece) (r : Replay) → all_replayed identity draw ps r ≡ all_by (groups_in ps) r
+  pub by_groups : (ps : List Piece) (r : Replay) → all_replayed identity draw ps r ≡ all_by (groups_in ps) r
   by_groups [] r = refl
   by_groups (p ∷ ps) r = let s = by_form identity draw p.group r p.group.form in by s s.stop (by_groups ps s)
     where

@@ -25,9 +25,9 @@ use Rattle.apply_laws.specs.session_replays.Again.{EntriesGive}
 use Rattle.apply_laws.specs.session_replays.Texts.{EntriesSay}
 use Rattle.apply_laws.specs.session_replays.Followed.{EntriesFollow}
 use Rattle.apply_laws.specs.session_replays.Replaying.{Replays}
-use Rattle.run_model.specs.replica_model.Applying.{Going, Stop, differs, damaged, foreign, apply}
+use Rattle.run_model.specs.replica_model.Applying.{Going, Stop, differs, damaged, foreign, apply, go_on, going_from}
 use Rattle.run_model.specs.Asked.{Asked, say, select, take_bytes, take_groups, restart_source, restart_replica}
-use Rattle.run_model.specs.Run.{Names, Both, Starts, carried_in, from_nothing, number_before, place_before, source_from, log_with, Told, answered, got, went, first_both, next, end_of}
+use Rattle.run_model.specs.Run.{Names, Both, Starts, carried_in, from_nothing, number_before, place_before, source_from, log_with, Told, answered, got, went, applied, first_both, next, end_of}
 use Rattle.run_model.specs.Following.{AreCommitted, Follows, head_entries, reader_from}
 
 -- ---- one command
@@ -67,6 +67,12 @@ FollowsOpened = (names : Names) (src : Draw) → Follows names (first_both names
 -- it follows behind each command, however FETCH cuts the log, wherever one of both opens again, and whatever its draws are
 abbrev pub FollowsGoOn : Type 0
 FollowsGoOn = (names : Names) (b : Both) (c : Asked) (draw : Draw) → Follows names b → IsSound b.from b.machine → Follows names (next names b c draw).both
+
+-- so it does behind each step of an APPLY, with what the steps until then carried out
+abbrev pub FollowsOnTheWay : Type 0
+FollowsOnTheWay =
+    (names : Names) (b : Both) (draw : Draw) (steps wanted : ℕ) → Follows names b → IsSound b.from b.machine
+    → Follows names (applied b draw (go_on steps wanted names.replica draw (going_from b.replica))).both
 
 -- entries behind the head of a log
 abbrev pub behind_head : List (Entry Whole) → List (Entry Whole)

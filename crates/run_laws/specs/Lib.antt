@@ -1,5 +1,6 @@
 pub mod Laws
 pub mod Openings
+pub mod Fronts
 pub mod Replays
 pub mod Restarts
 -- the crates below that this one speaks of, passed on

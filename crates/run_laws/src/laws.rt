@@ -1,5 +1,6 @@
 //! The replica follows its source.
-ghost use Rattle.run_laws.specs.Laws.{AllCarriedIsEqual, FollowsBegins, FollowsGoOn, FollowsOpened, NoApplyStops, NothingIsDamaged, NothingIsOwed, OthersFollow, WarnedAsShown};
+ghost use Rattle.run_laws.specs.Fronts.{FrontsAreRead, NoReplayStops, ReplaysHaveCarried};
+ghost use Rattle.run_laws.specs.Laws.{AllCarriedIsEqual, FollowsBegins, FollowsGoOn, FollowsOnTheWay, FollowsOpened, NoApplyStops, NothingIsDamaged, NothingIsOwed, OthersFollow, WarnedAsShown};
 ghost use Rattle.run_laws.specs.Openings.{BeginWithNothing, BothOpen, RunsEndWell};
 ghost use Rattle.run_laws.specs.Replays.{LogIsItsEntries, ReplayIsEqual};
 ghost use Rattle.run_laws.specs.Restarts.{RestartsKeep, RestartsKeepMarks, RestartsStaySound};
@@ -13,16 +14,19 @@ use apply_laws::session_replays::{
     bodies_stay_well, openings_replay, sizes_stay, unwarned_items_follow,
 };
 use apply_laws::{bases_hold, entries_of_runs_follow, entry_is_carried};
-use run_model::log_file_model::{end_is_seen, group_is_passed, magic_is_passed};
+use run_model::log_file_model::{
+    end_is_seen, front_is_passed, group_is_first, group_is_passed, magic_is_passed,
+};
 
-/// A law: a replica that begins behind its source, owing it some entries, or with nothing as it does, follows it behind each command,
-/// however FETCH cuts the log, and wherever one of both opens again. No APPLY of it stops where each item that it comes to does the same at every replica, and whatever is logged, one stops at nothing but an item
-/// that has no effect there.
+/// A law: a replica that begins behind its source, owing it some entries, or with nothing as it does, follows it behind each command and
+/// behind each step of an APPLY, however FETCH cuts the log, and wherever one of both opens again. No APPLY of it stops where each item that
+/// it comes to does the same at every replica, and whatever is logged, one stops at nothing but an item that has no effect there.
 pub fn replica_follows()
     ensures begins { FollowsBegins }
     ensures opens { FollowsOpened }
     ensures owes { NothingIsOwed }
     ensures goes_on { FollowsGoOn }
+    ensures on_the_way { FollowsOnTheWay }
     ensures stops { NoApplyStops }
     ensures damaged { NothingIsDamaged }
 {
@@ -100,6 +104,37 @@ pub fn replay_is_equal()
     bases_hold();
     entry_is_carried();
     entries_of_runs_follow();
+}
+
+/// A law: a source's log, cut anywhere behind the place of a replica that is behind the source, is read from there on as the groups of the
+/// first entries that it owes; where a part of one follows, that is damaged.
+pub fn fronts_are_read()
+    ensures { FrontsAreRead }
+{
+    entries_have_length();
+    heads_have_length();
+    log_goes_on();
+    few_are_cut();
+    groups_have_bounds();
+    start_relay_is_read();
+    relay_is_read();
+    entries_can_log_on();
+    group_is_first();
+    front_is_passed();
+}
+
+/// A law: of such a log the replica carries out the groups of the first entries that it owes, and where all that it owes does the same at every
+/// replica, no item stops it.
+pub fn replays_carry()
+    ensures carried { ReplaysHaveCarried }
+    ensures stops { NoReplayStops }
+{
+    entries_have_length();
+    groups_have_bounds();
+    bases_hold();
+    entry_is_carried();
+    entries_of_runs_follow();
+    fronts_are_read();
 }
 
 /// A law: where no session is under STATEMENT as it says something, each item that is committed does the same at every replica,

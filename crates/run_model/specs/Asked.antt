@@ -1,5 +1,4 @@
--- What the commands of a script ask of the nodes. Of a RESTART of the replica the definitions and laws of runs speak, and no command asks
--- it yet: this program carries out none, since its replica keeps nothing on a disk.
+-- What the commands of a script ask of the nodes.
 use Rattle.std.specs.Prelude.{ℕ, List, [], ◌∷◌, Option, Some, None, Result, Ok, Err}
 use Rattle.script_read.specs.Commands.{What, of_session, source_checkpoint, source_flush, source_restart, fetch, apply, replica_checkpoint, replica_restart, replica_select, Command}
 use Rattle.script_read.specs.Script.{split_of}
@@ -24,7 +23,7 @@ asked_by source_restart = Some restart_source
 asked_by (fetch n) = Some (take_bytes n)
 asked_by (apply n) = Some (take_groups n)
 asked_by replica_checkpoint = None
-asked_by replica_restart = None
+asked_by replica_restart = Some restart_replica
 
 -- one more in front, or the place of the first that is refused
 abbrev pub with_asked : ℕ → Option Asked → Result (List Asked) ℕ → Result (List Asked) ℕ

@@ -2,8 +2,7 @@
 --
 -- A node that opens again by a RESTART loses what it keeps in memory alone. A source has no session and no open transaction, its
 -- counters begin behind its rows, and what it has committed stays. A replica has nothing of what it had fetched, its counters begin
--- behind its rows, and its base, its number and its place stay, from which it fetches again. The replica of this program carries out no
--- RESTART, since it keeps nothing on a disk.
+-- behind its rows, and its base, its number and its place stay, from which it fetches again.
 use Rattle.std.specs.Prelude.{ℕ, suc, ◌+◌, Bool, true, false, List, [], ◌∷◌, ◌++◌, length, map, replicate, Option, Some, None}
 use Rattle.port_traits.specs.declared.identity.Identity.{Identity}
 use Rattle.port_traits.specs.declared.identity.Draw.{Draw}

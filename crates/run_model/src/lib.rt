@@ -6,7 +6,7 @@
 //!
 //! The definitions stand in specs/: `Asked` (what a script asks), `Run` (where both nodes began, what commands lead to, the lines that show it, whose draw each
 //! took, and the replica's steps: at which draw each group was carried out, and where it opened again), `Following` (a replica that follows its source: what
-//! equals what), `Worked`. A run has RESTARTs of both nodes too, of which commands ask the source's alone yet.
+//! equals what), `States` (what a replica is at any moment of a run), `Worked`.
 //!
 //! - `worked`: runs by hand, which the checker computes from their texts to their lines
 //!

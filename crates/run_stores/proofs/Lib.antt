@@ -1,3 +1,4 @@
 pub mod Logs
 pub mod Beginning
 pub mod Ending
+pub mod Carrying

@@ -3,7 +3,8 @@ use Rattle.std.proofs.Common.{◌≡◌, ◌≤◌, ℕ, ◌+◌, zero, suc, if�
 use Rattle.std.proofs.lemmas.List.{length-take}
 use Rattle.disk_model.specs.Story.{Image, Story, seen}
 use Rattle.disk_model.specs.Moments.{IsSettled}
-use Rattle.store_model.specs.declared.record.Kind.TheVariants.{Source}
+use Rattle.store_model.specs.declared.record.Kind.{Kind}
+use Rattle.store_model.specs.declared.record.Kind.TheVariants.{Source, Replica}
 use Rattle.store_model.specs.Held.{LogEnd, Held, last_end, nothing_held}
 use Rattle.store_model.specs.Entries.{writer_at}
 use Rattle.store_model.specs.Laws.{HeldStand, LogsAreLong}
@@ -14,19 +15,21 @@ use Rattle.run_stores.specs.durable_runs.Sources.{Stored, log_in}
 use Rattle.run_stores.specs.Standing.{StandAt}
 use Rattle.run_laws.specs.apply_laws.catalog_rules.Bases.{Base}
 use Rattle.run_laws.specs.log_model.Log.{LogPlace}
-use Rattle.run_laws.specs.run_model.replica_model.Replica.{first_replica}
+use Rattle.run_laws.specs.run_model.replica_model.Replica.{replica_from}
 use Rattle.run_laws.specs.run_model.Run.{bytes_to, Starts, from_nothing, source_from}
 use Rattle.run_laws.specs.Openings.{BeginWithNothing}
 use Rattle.script_run.specs.Beginning.{EmptyBegins, FromEach, RunStands, StoresStand}
+use Rattle.script_run.specs.Disks.{Disks}
+use Rattle.script_run.proofs.Disks.{both_map}
 
 -- ---- an empty disk
 
-empty_held : (image : Image) → ((f : ℕ) → image f ≡ []) → held_by Source image ≡ Ok nothing_held
+empty_held : (kind : Kind) (image : Image) → ((f : ℕ) → image f ≡ []) → held_by kind image ≡ Ok nothing_held
 unfolding held_by journal_applied begun_from
-empty_held image none =
-    ap (λ (xs : List ℕ). with_journal Source image (greater_if (if is_open xs then begun_by 0 (snapshot_in Source 0 xs) else Ok None) (begun_in Source image 1))) (none 0)
-    ∙ ap (λ (xs : List ℕ). with_journal Source image (greater_if (Ok None) (if is_open xs then begun_by 1 (snapshot_in Source 1 xs) else Ok None))) (none 1)
-    ∙ ap (λ (xs : List ℕ). with_logs 2 image (journal_applied Source xs nothing_held)) (none 2)
+empty_held kind image none =
+    ap (λ (xs : List ℕ). with_journal kind image (greater_if (if is_open xs then begun_by 0 (snapshot_in kind 0 xs) else Ok None) (begun_in kind image 1))) (none 0)
+    ∙ ap (λ (xs : List ℕ). with_journal kind image (greater_if (Ok None) (if is_open xs then begun_by 1 (snapshot_in kind 1 xs) else Ok None))) (none 1)
+    ∙ ap (λ (xs : List ℕ). with_logs 2 image (journal_applied kind xs nothing_held)) (none 2)
 
 none_in : (n : ℕ) (image : Image) → log_in n [] image ≡ []
 none_in zero image = refl
@@ -34,12 +37,15 @@ none_in (suc zero) image = refl
 none_in (suc (suc n)) image = refl
 
 pub empty_begins : BeginWithNothing → EmptyBegins
-empty_begins nothing_is t settled none = record {
+empty_begins nothing_is t settled rep_settled none rep_none = record {
   stands = record {
     settled = settled;
     held = nothing_held;
-    holds = empty_held (seen t) none;
-    one = record { one = omega arith; long = refl; others = λ n other. none_in n (seen t) };
+    holds = empty_held Source (seen t.source) none;
+    one = record { one = omega arith; long = refl; others = λ n other. none_in n (seen t.source) };
+    rep_settled = rep_settled;
+    rep_held = nothing_held;
+    rep_holds = empty_held Replica (seen t.replica) rep_none;
     owed = tt;
     stand = record { base = refl; number = refl; place = refl; log = refl; opens = refl };
   };
@@ -63,17 +69,21 @@ log_long (e ∷ []) image one are = omega (arith, length-take e.pos (image 8), a
 log_long (e ∷ f ∷ ends) image one are = let no : ⊥ = omega (arith, one) in absurd no
 
 -- so that all of its log is what was read of it
-stands_for : (t : Option Story) (held : Held) → IsSettled t → held_by Source (seen t) ≡ Ok held → length held.ends ≡ 1 → AreLong first_log held.ends (seen t) → (from : Starts) × RunStands t from
-stands_for t held settled holds one has =
-    let bytes : List ℕ = log_in 1 held.ends (seen t) in
-    let long : length bytes ≡ last_end held.ends = log_long held.ends (seen t) one has in
-    let from : Starts = record { read = bytes_to bytes held.number; owed = []; base = held.base; replica = first_replica } in (
+stands_for : (t : Disks) (held carried : Held) → IsSettled t.source → IsSettled t.replica → held_by Source (seen t.source) ≡ Ok held → held_by Replica (seen t.replica) ≡ Ok carried → length held.ends ≡ 1
+    → AreLong first_log held.ends (seen t.source) → (from : Starts) × RunStands t from
+stands_for t held carried settled rep_settled holds rep_holds one has =
+    let bytes : List ℕ = log_in 1 held.ends (seen t.source) in
+    let long : length bytes ≡ last_end held.ends = log_long held.ends (seen t.source) one has in
+    let from : Starts = record { read = bytes_to bytes held.number; owed = []; base = held.base; replica = replica_from carried.base carried.number carried.place } in (
       from,
       record {
         settled = settled;
         held = held;
         holds = holds;
-        one = record { one = omega (arith, one); long = long; others = λ n other. others_none held.ends n (seen t) (omega (arith, one)) other };
+        one = record { one = omega (arith, one); long = long; others = λ n other. others_none held.ends n (seen t.source) (omega (arith, one)) other };
+        rep_settled = rep_settled;
+        rep_held = carried;
+        rep_holds = rep_holds;
         owed = tt;
         stand = record {
           base = refl;
@@ -86,9 +96,9 @@ stands_for t held settled holds one has =
     )
 
 pub stores_stand : HeldStand → LogsAreLong → StoresStand
-stores_stand apart long t held settled holds one =
-    let there = apart Source (seen t) held holds in
-    stands_for t held settled holds one ((long first_log held.ends (seen t)).0 there.1.logs)
+stores_stand apart long t held carried settled rep_settled holds rep_holds one =
+    let there = apart Source (seen t.source) held holds in
+    stands_for t held carried settled rep_settled holds rep_holds one ((long first_log held.ends (seen t.source)).0 there.1.logs)
 
 -- ---- where the source stands
 
@@ -102,6 +112,5 @@ beginning_is source held from stand =
 -- ---- wherever it begins
 
 -- what is claimed of each beginning
-pub each_from : (t : Option Story) (P Q : Starts → Type 0) → ((from : Starts) → P from → Q from) → FromEach t P → FromEach t Q
-each_from None P Q step all = tt
-each_from (Some s) P Q step all = λ from stands. step from (all from stands)
+pub each_from : (t : Disks) (P Q : Starts → Type 0) → ((from : Starts) → P from → Q from) → FromEach t P → FromEach t Q
+each_from t P Q step all = both_map t ((from : Starts) → RunStands t from → P from) ((from : Starts) → RunStands t from → Q from) (λ each from stands. step from (each from stands)) all

@@ -1,9 +1,10 @@
 -- What was drawn of an environment, as its report tells.
-use Rattle.std.proofs.Common.{◌≡◌, List, Option, sym, subst}
+use Rattle.std.proofs.Common.{◌≡◌, List, [], Option, Some, None, refl, sym, subst}
+use Rattle.port_traits.specs.declared.identity.Identity.{Identity}
 use Rattle.port_traits.specs.declared.identity.Draw.{Draw}
 use Rattle.answer_text.specs.declared.status.Status.{Status}
 use Rattle.answer_text.specs.declared.status.Status.TheVariants.{Done, BadWords, BadScript, ReadFault, WriteFault, SourceDisk, ReplicaDisk, SourceDamaged, ReplicaDamaged, LogDamaged, LogForeign, Differs, NoMemory}
-use Rattle.run_streams.specs.Reports.{AllTold, AreHandedOut, Drawn, DrewUntil, GoesOnDrawing, StaysHandedOut}
+use Rattle.run_streams.specs.Reports.{AllTold, AreHandedOut, Drawn, DrewUntil, GoesOnDrawing, IsNamed, StaysHandedOut, Tells}
 
 -- where nothing was drawn
 pub none_drawn : (before : Option (List Draw)) (old new : List Draw) → new ≡ old → GoesOnDrawing before old before new
@@ -51,3 +52,26 @@ told_all (LogDamaged pos) before after new drawn = drawn
 told_all (LogForeign pos kind) before after new drawn = drawn
 told_all (Differs pos code table key) before after new drawn = drawn
 told_all NoMemory before after new drawn = tt
+
+-- the same of a report that tells them still
+pub drawn_still : (before after : Option (List Draw)) (mid new : List Draw) → new ≡ mid → Drawn before after mid → Drawn before after new
+drawn_still before after mid new same drawn = subst (λ (ds : List Draw). Drawn before after ds) (sym same) drawn
+
+pub told_still : (status : Status) (before after : Option (List Draw)) (mid new : List Draw) → new ≡ mid → Drawn before after mid → AllTold status before after new
+told_still status before after mid new same drawn = told_all status before after new (drawn_still before after mid new same drawn)
+
+pub tells_still : (told identity identity' : Option Identity) (start : Option (List Draw)) (draws draws' : List Draw) → identity' ≡ identity → draws' ≡ draws → Tells told start identity draws → Tells told start identity' draws'
+tells_still told identity identity' start draws draws' same same' tells =
+    subst (λ (i : Option Identity). Tells told start i draws') (sym same) (subst (λ (ds : List Draw). Tells told start identity ds) (sym same') tells)
+
+-- nothing was opened, and nothing drawn
+pub tells_none : (told identity : Option Identity) (start : Option (List Draw)) (draws : List Draw) → identity ≡ None → draws ≡ [] → Tells told start identity draws
+tells_none told identity start draws none empty = tells_still told None identity start [] draws none empty (record { named = unnamed told; handed = nothing start })
+  where
+    unnamed : (told : Option Identity) → IsNamed told None
+    unnamed None = tt
+    unnamed (Some name) = tt
+
+    nothing : (start : Option (List Draw)) → AreHandedOut start []
+    nothing None = tt
+    nothing (Some ds) = refl

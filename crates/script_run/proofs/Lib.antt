@@ -1,5 +1,6 @@
 pub mod Asking
 pub mod Beginning
+pub mod Disks
 pub mod Drawing
 pub mod Logged
 pub mod Marks

@@ -7,14 +7,15 @@ use Rattle.run_streams.specs.Read.{IsRead, TakesUpToLimit}
 use Rattle.answer_text.specs.declared.report.Report.{Report}
 use Rattle.answer_text.specs.declared.status.Status.{Status}
 use Rattle.answer_text.specs.declared.status.Status.TheVariants.{Done, BadWords, BadScript, ReadFault, WriteFault, SourceDisk, ReplicaDisk, SourceDamaged, ReplicaDamaged, LogDamaged, LogForeign, Differs, NoMemory}
-use Rattle.disk_model.specs.Story.{Story}
+use Rattle.disk_model.specs.Moments.{IsSettled}
 use Rattle.run_streams.specs.Reports.{IsEmpty}
 use Rattle.run_streams.specs.Stops.{StopsReading, status_of}
 use Rattle.run_stores.specs.durable_runs.Laws.{SourcesLast}
 use Rattle.script_run.specs.Asking.{GivesAsked}
-use Rattle.script_run.proofs.Opened.{idle_survives, none_begun}
+use Rattle.script_run.proofs.Opened.{idle_survives, none_begun, replica_idle}
 use Rattle.run_streams.specs.Wrote.{Wrote, WroteFront}
 use Rattle.script_run.specs.Beginning.{FromEach, StoodFor}
+use Rattle.script_run.specs.Disks.{Disks}
 use Rattle.script_run.specs.Logged.{LogEndsBy, Logged}
 use Rattle.script_run.specs.Ran.{EndsBy, IsScript, Ran}
 use Rattle.script_run.specs.Running.{EndsRunning}
@@ -50,7 +51,7 @@ bad_rest script (Some all) now read = read.rest
 -- ---- how it ends
 
 -- commands that were carried out or stopped, as the end of a script
-ends_by_status : (status : Status) (cs : List Asked) (start now : Option (List ℕ)) (t u : Option Story) (report : Report) (before after : Option (List ℕ)) → IsScript cs start now → EndsRunning status t u cs report before after
+ends_by_status : (status : Status) (cs : List Asked) (start now : Option (List ℕ)) (t u : Disks) (report : Report) (before after : Option (List ℕ)) → IsScript cs start now → EndsRunning status t u cs report before after
     → EndsBy status start now t u report before after
 ends_by_status Done cs start now t u report before after reads ends = absurd ends
 ends_by_status BadWords cs start now t u report before after reads ends = ends
@@ -59,7 +60,8 @@ ends_by_status ReadFault cs start now t u report before after reads ends = absur
 ends_by_status WriteFault cs start now t u report before after reads ends = record { commands = cs; reads = reads; stood = ends.0; came = ends.1 }
 ends_by_status SourceDisk cs start now t u report before after reads (inl none) = inl none
 ends_by_status SourceDisk cs start now t u report before after reads (inr came) = inr (record { commands = cs; reads = reads; stood = came.0; came = came.1 })
-ends_by_status ReplicaDisk cs start now t u report before after reads ends = ends
+ends_by_status ReplicaDisk cs start now t u report before after reads (inl none) = inl none
+ends_by_status ReplicaDisk cs start now t u report before after reads (inr came) = inr (record { commands = cs; reads = reads; stood = came.0; came = came.1 })
 ends_by_status (SourceDamaged file at) cs start now t u report before after reads ends = ends
 ends_by_status (ReplicaDamaged file at) cs start now t u report before after reads ends = ends
 ends_by_status (LogDamaged pos) cs start now t u report before after reads ends = ends
@@ -68,13 +70,13 @@ ends_by_status (Differs pos code table key) cs start now t u report before after
 ends_by_status NoMemory cs start now t u report before after reads (inl none) = inl none
 ends_by_status NoMemory cs start now t u report before after reads (inr came) = inr (record { commands = cs; reads = reads; stood = came.0; came = came.1 })
 
-pub ends_script : (r : Result (Unit {0}) Status) (cs : List Asked) (start now : Option (List ℕ)) (t u : Option Story) (report : Report) (before after : Option (List ℕ)) → IsScript cs start now → OnOk r (StoodFor t)
+pub ends_script : (r : Result (Unit {0}) Status) (cs : List Asked) (start now : Option (List ℕ)) (t u : Disks) (report : Report) (before after : Option (List ℕ)) → IsScript cs start now → OnOk r (StoodFor t)
     → OnOk r (FromEach t (λ from. Ran from t u cs report before after)) → IfErr r (λ status. EndsRunning status t u cs report before after) → EndsBy (status_of r) start now t u report before after
 ends_script (Ok done) cs start now t u report before after reads stood ran ends = record { commands = cs; reads = reads; stood = stood; came = ran }
 ends_script (Err status) cs start now t u report before after reads stood ran ends = ends_by_status status cs start now t u report before after reads ends
 
 -- its log, written whole or in front
-pub ends_log : (r : Result (Unit {0}) Status) (cs : List Asked) (start now : Option (List ℕ)) (t u : Option Story) (report : Report) (before after : Option (List ℕ)) (log : List ℕ) → IsScript cs start now → StoodFor t
+pub ends_log : (r : Result (Unit {0}) Status) (cs : List Asked) (start now : Option (List ℕ)) (t u : Disks) (report : Report) (before after : Option (List ℕ)) (log : List ℕ) → IsScript cs start now → StoodFor t
     → FromEach t (λ from. Logged from t u cs report log) → OnOk r (Wrote before after log) → IfErr r (λ status. status ≡ WriteFault) → OnErr r (WroteFront before after log) → LogEndsBy (status_of r) start now t u report before after
 ends_log (Ok done) cs start now t u report before after log reads stood logged wrote fault front = record { commands = cs; reads = reads; stood = stood; log = log; logged = logged; wrote = wrote }
 ends_log (Err status) cs start now t u report before after log reads stood logged wrote fault front =
@@ -83,34 +85,34 @@ ends_log (Err status) cs start now t u report before after log reads stood logge
 -- ---- nothing was begun
 
 -- reading that stopped
-pub read_ends : SourcesLast → (status : Status) (start now : Option (List ℕ)) (t : Option Story) (report : Report) (written : Option (List ℕ)) (faults later : ℕ) → IsEmpty report → StopsReading status faults later → EndsBy status start now t t report written written
-read_ends law Done start now t report written faults later empty stops = absurd stops
-read_ends law BadWords start now t report written faults later empty stops = stops
-read_ends law (BadScript at) start now t report written faults later empty stops = absurd stops
-read_ends law ReadFault start now t report written faults later empty stops = refl
-read_ends law WriteFault start now t report written faults later empty stops = absurd stops
-read_ends law SourceDisk start now t report written faults later empty stops = absurd stops
-read_ends law ReplicaDisk start now t report written faults later empty stops = stops
-read_ends law (SourceDamaged file at) start now t report written faults later empty stops = absurd stops
-read_ends law (ReplicaDamaged file at) start now t report written faults later empty stops = stops
-read_ends law (LogDamaged pos) start now t report written faults later empty stops = stops
-read_ends law (LogForeign pos kind) start now t report written faults later empty stops = stops
-read_ends law (Differs pos code table key) start now t report written faults later empty stops = stops
-read_ends law NoMemory start now t report written faults later empty stops = inl (none_begun t t report written empty.marks empty.stands (idle_survives law t))
+pub read_ends : SourcesLast → (t : Disks) → IsSettled t.source → IsSettled t.replica → (status : Status) (start now : Option (List ℕ)) (report : Report) (written : Option (List ℕ)) (faults later : ℕ) → IsEmpty report → StopsReading status faults later → EndsBy status start now t t report written written
+read_ends law t settled rep_settled Done start now report written faults later empty stops = absurd stops
+read_ends law t settled rep_settled BadWords start now report written faults later empty stops = stops
+read_ends law t settled rep_settled (BadScript at) start now report written faults later empty stops = absurd stops
+read_ends law t settled rep_settled ReadFault start now report written faults later empty stops = refl
+read_ends law t settled rep_settled WriteFault start now report written faults later empty stops = absurd stops
+read_ends law t settled rep_settled SourceDisk start now report written faults later empty stops = absurd stops
+read_ends law t settled rep_settled ReplicaDisk start now report written faults later empty stops = absurd stops
+read_ends law t settled rep_settled (SourceDamaged file at) start now report written faults later empty stops = absurd stops
+read_ends law t settled rep_settled (ReplicaDamaged file at) start now report written faults later empty stops = absurd stops
+read_ends law t settled rep_settled (LogDamaged pos) start now report written faults later empty stops = stops
+read_ends law t settled rep_settled (LogForeign pos kind) start now report written faults later empty stops = stops
+read_ends law t settled rep_settled (Differs pos code table key) start now report written faults later empty stops = stops
+read_ends law t settled rep_settled NoMemory start now report written faults later empty stops = inl (none_begun t t report written empty.marks empty.stands (idle_survives law t.source settled) (replica_idle t.replica rep_settled))
 
 -- a script that asks nothing
-pub asked_ends : SourcesLast → (status : Status) (script : List ℕ) (start now : Option (List ℕ)) (t : Option Story) (report : Report) (written : Option (List ℕ)) → IsEmpty report → GivesAsked (Err status) (asked_of script)
+pub asked_ends : SourcesLast → (t : Disks) → IsSettled t.source → IsSettled t.replica → (status : Status) (script : List ℕ) (start now : Option (List ℕ)) (report : Report) (written : Option (List ℕ)) → IsEmpty report → GivesAsked (Err status) (asked_of script)
     → IfSome start (λ all. IsRead script all now) → EndsBy status start now t t report written written
-asked_ends law Done script start now t report written empty gives read = absurd gives
-asked_ends law BadWords script start now t report written empty gives read = gives
-asked_ends law (BadScript at) script start now t report written empty gives read = (bad_script at script start now gives read, refl)
-asked_ends law ReadFault script start now t report written empty gives read = absurd gives
-asked_ends law WriteFault script start now t report written empty gives read = absurd gives
-asked_ends law SourceDisk script start now t report written empty gives read = absurd gives
-asked_ends law ReplicaDisk script start now t report written empty gives read = gives
-asked_ends law (SourceDamaged file at) script start now t report written empty gives read = absurd gives
-asked_ends law (ReplicaDamaged file at) script start now t report written empty gives read = gives
-asked_ends law (LogDamaged pos) script start now t report written empty gives read = gives
-asked_ends law (LogForeign pos kind) script start now t report written empty gives read = gives
-asked_ends law (Differs pos code table key) script start now t report written empty gives read = gives
-asked_ends law NoMemory script start now t report written empty gives read = inl (none_begun t t report written empty.marks empty.stands (idle_survives law t))
+asked_ends law t settled rep_settled Done script start now report written empty gives read = absurd gives
+asked_ends law t settled rep_settled BadWords script start now report written empty gives read = gives
+asked_ends law t settled rep_settled (BadScript at) script start now report written empty gives read = (bad_script at script start now gives read, refl)
+asked_ends law t settled rep_settled ReadFault script start now report written empty gives read = absurd gives
+asked_ends law t settled rep_settled WriteFault script start now report written empty gives read = absurd gives
+asked_ends law t settled rep_settled SourceDisk script start now report written empty gives read = absurd gives
+asked_ends law t settled rep_settled ReplicaDisk script start now report written empty gives read = absurd gives
+asked_ends law t settled rep_settled (SourceDamaged file at) script start now report written empty gives read = absurd gives
+asked_ends law t settled rep_settled (ReplicaDamaged file at) script start now report written empty gives read = absurd gives
+asked_ends law t settled rep_settled (LogDamaged pos) script start now report written empty gives read = gives
+asked_ends law t settled rep_settled (LogForeign pos kind) script start now report written empty gives read = gives
+asked_ends law t settled rep_settled (Differs pos code table key) script start now report written empty gives read = gives
+asked_ends law t settled rep_settled NoMemory script start now report written empty gives read = inl (none_begun t t report written empty.marks empty.stands (idle_survives law t.source settled) (replica_idle t.replica rep_settled))

@@ -5,12 +5,11 @@ use Rattle.std.proofs.lemmas.List.{length-take, map-append, take_min}
 use Rattle.run_laws.specs.log_model.Log.{LogGoesOn, LogPlace, behind, counted_all, head, log, written_to}
 use Rattle.run_laws.specs.session_model.Machine.{Whole, first_place, kept_entry, log_bytes, nowhere}
 use Rattle.run_laws.specs.session_model.Holding.{Beginning, Holds}
-use Rattle.store_model.specs.Held.{nothing_held}
 use Rattle.store_model.specs.Entries.{writer_at}
 use Rattle.durable_source.specs.Standing.{Stands, beginning_of}
 use Rattle.waiting_entries.specs.Added.{added_to, rotation_at}
 use Rattle.run_stores.specs.durable_runs.Laws.{OneLog, StoredBehind, StoresGoOn}
-use Rattle.run_stores.specs.durable_runs.Sources.{Stored, end_of}
+use Rattle.run_stores.specs.durable_runs.Sources.{Stored, end_of, log_in}
 use Rattle.run_stores.specs.Standing.{HasOneLog}
 use Rattle.run_stores.proofs.Logs.{added_none, none_begins}
 use Rattle.run_laws.proofs.Carrying.{first_ones, last_ones}
@@ -21,6 +20,7 @@ use Rattle.run_laws.specs.run_model.Following.{AreCommitted, head_entries}
 use Rattle.run_laws.specs.run_model.Run.{Both, Names, Read, nothing, bytes_to, bytes_before, number_before, place_before, log_with}
 use Rattle.disk_model.specs.Story.{Story, seen}
 use Rattle.script_run.specs.declared.nodes.Nodes.{Nodes}
+use Rattle.script_run.specs.Disks.{Disks, Stores}
 use Rattle.script_run.specs.Together.{Together}
 use Rattle.script_run.specs.Marks.{committed_of}
 use Rattle.script_run.proofs.Beginning.{beginning_is}
@@ -116,13 +116,13 @@ has_all k start now (bytes_to bytes n) owed history es stamp server began behind
 
 -- ---- a source that stands for a run
 
-module _ (k : Known) (names : Names) (t : Option Story) (start : Stored) (nodes : Nodes) (b : Both) (r : Together names t start nodes b) where
-  behind_it : StoredBehind b.machine.history start r.stands.now
-  behind_it = k.stores.is b.machine.history start r.stands.now r.stands.first r.stands.reached
+module _ (k : Known) (names : Names) (t : Disks) (start : Stores) (nodes : Nodes) (b : Both) (r : Together names t start nodes b) where
+  behind_it : StoredBehind b.machine.history start.source r.stands.now
+  behind_it = k.stores.is b.machine.history start.source r.stands.now r.stands.first r.stands.reached
 
   all_logs : HasAll r.stands.now.logs b.from.read (b.from.owed ++ b.machine.history)
   all_logs =
-      has_all k start r.stands.now b.from.read b.from.owed b.machine.history r.line.entries r.line.stamp r.line.server
+      has_all k start.source r.stands.now b.from.read b.from.owed b.machine.history r.line.entries r.line.stamp r.line.server
       (record { one = r.one; log_is = r.began.log; number = r.began.number; place = r.began.place }) behind_it r.line.are r.line.committed
 
   -- the files of the disk have the log of the machine, and no other
@@ -138,8 +138,8 @@ module _ (k : Known) (names : Names) (t : Option Story) (start : Stored) (nodes 
       r.stands.on.keeps.holds.shows.number ∙ behind_it.number ∙ ap (counted_all (map kept_entry b.machine.history)) r.began.number ∙ r.holds.count
 
   -- what holds of the run holds of what the disk began with
-  pub holds_here : Holds (beginning_of start) b.machine
-  holds_here = subst (λ (x : Beginning). Holds x b.machine) (sym (beginning_is start nothing_held b.from r.began)) r.holds
+  pub holds_here : Holds (beginning_of start.source) b.machine
+  holds_here = subst (λ (x : Beginning). Holds x b.machine) (sym (beginning_is start.source start.replica b.from r.began)) r.holds
 
 -- ---- what is served
 
@@ -148,12 +148,15 @@ abbrev pub log_piece : Stored → (log pos n : ℕ) → List ℕ
 log_piece s log pos n = take n (drop pos (s.logs log))
 
 -- a log is no longer than where it ends
-pub log_short : (log : ℕ) (names : Names) (t : Option Story) (start : Stored) (nodes : Nodes) (b : Both) (r : Together names t start nodes b) → end_of log r.stands.now.held.ends ≤ 4294967295
-    → IfSome t (λ _. length (r.stands.now.logs log) ≤ 4294967295)
-log_short log names None start nodes b r end = tt
-log_short log names (Some s) start nodes b r end =
-    let same : length (r.stands.now.logs log) ≡ length (take (end_of log r.stands.now.held.ends) (seen (Some s) (7 + log))) = ap length (sym (r.stands.on.logs log)) in
-    omega (arith, same, length-take (end_of log r.stands.now.held.ends) (seen (Some s) (7 + log)), end)
+pub log_short : (log : ℕ) (names : Names) (t : Disks) (start : Stores) (nodes : Nodes) (b : Both) (r : Together names t start nodes b) → end_of log r.stands.now.held.ends ≤ 4294967295
+    → IfSome t.source (λ _. length (r.stands.now.logs log) ≤ 4294967295)
+log_short log names t start nodes b r end = by t.source r.stands.on.logs
+  where
+    by : (s : Option Story) → IfSome s (λ _. (n : ℕ) → log_in n r.stands.now.held.ends (seen s) ≡ r.stands.now.logs n) → IfSome s (λ _. length (r.stands.now.logs log) ≤ 4294967295)
+    by None logs = tt
+    by (Some s) logs =
+        let same : length (r.stands.now.logs log) ≡ length (take (end_of log r.stands.now.held.ends) (seen (Some s) (7 + log))) = ap length (sym (logs log)) in
+        omega (arith, same, length-take (end_of log r.stands.now.held.ends) (seen (Some s) (7 + log)), end)
 
 -- what is asked for up to the last place is all that is asked for
 pub served_whole : (bytes : List ℕ) (pos n : ℕ) → length bytes ≤ 4294967295 → take (min n (4294967295 - pos)) (drop pos bytes) ≡ take n (drop pos bytes)

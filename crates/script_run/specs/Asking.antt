@@ -3,7 +3,7 @@ use Rattle.std.specs.Prelude.{◌≡◌, ℕ, Bool, true, ◌&&◌, nat_lt, nat_
 use Rattle.answer_text.specs.declared.status.Status.{Status}
 use Rattle.answer_text.specs.declared.status.Status.TheVariants.{BadScript, NoMemory}
 use Rattle.script_read.specs.Script.{command_limit}
-use Rattle.run_laws.specs.run_model.Asked.{Asked, say, select, take_bytes, take_groups, restart_source}
+use Rattle.run_laws.specs.run_model.Asked.{Asked, say, select, take_bytes, take_groups, restart_source, restart_replica}
 use Rattle.script_run.specs.declared.asked.Asked as code_asked_type
 use Rattle.script_run.specs.declared.asked.Asked.TheVariants as code_asked
 
@@ -13,6 +13,7 @@ asked_seen (code_asked.Select text) = select text.now
 asked_seen (code_asked.Fetch count) = take_bytes count
 asked_seen (code_asked.Apply count) = take_groups count
 asked_seen code_asked.RestartSource = restart_source
+asked_seen code_asked.RestartReplica = restart_replica
 
 -- the greatest number of commands of a script, which have five bytes at the least
 abbrev pub most_commands : ℕ
@@ -25,6 +26,7 @@ is_fit (code_asked.Select text) = nat_le (length text.now) command_limit
 is_fit (code_asked.Fetch count) = true
 is_fit (code_asked.Apply count) = true
 is_fit code_asked.RestartSource = true
+is_fit code_asked.RestartReplica = true
 
 -- what is asked is what the definition gives, or the status says why nothing is
 abbrev pub GivesAsked : Result (List code_asked_type.Asked) Status → Result (List Asked) ℕ → Type 0

@@ -1,8 +1,10 @@
 pub mod Asking
 pub mod Beginning
+pub mod Disks
 pub mod Faults
 pub mod Logged
 pub mod Marks
+pub mod Opening
 pub mod Ran
 pub mod Running
 pub mod Survives

@@ -12,8 +12,8 @@ use script_read::{Command, What};
 use std::alloc::Global;
 use val_types::List;
 
-/// What a command asks: a text of a session; that the source opens again; of the replica a SELECT, at most so many bytes to be
-/// fetched, or at most so many groups to be carried out.
+/// What a command asks: a text of a session; of the replica a SELECT, at most so many bytes to be fetched, or at most so many groups
+/// to be carried out; that the source, or the replica, opens again.
 #[derive(Clone, Copy)]
 pub(crate) enum Asked<'a> {
     Say { session: u8, text: &'a [u8] },
@@ -21,6 +21,7 @@ pub(crate) enum Asked<'a> {
     Fetch { count: u32 },
     Apply { count: u32 },
     RestartSource,
+    RestartReplica,
 }
 
 /// What a command asks, None for what no node does yet.
@@ -36,6 +37,7 @@ fn asked_by<'a>(command: &Command<'a>) -> Option<Asked<'a>>
         What::Fetch(count) => Some(Asked::Fetch { count }),
         What::Apply(count) => Some(Asked::Apply { count }),
         What::SourceRestart => Some(Asked::RestartSource),
+        What::ReplicaRestart => Some(Asked::RestartReplica),
         _ => None,
     }
 }

@@ -4,14 +4,14 @@ ghost use Rattle.script_run.specs.Beginning.{EmptyBegins, StoresStand};
 use run_laws::runs_open;
 use store_model::images_stand;
 
-/// A law: on a disk that has nothing, a run begins with nothing.
+/// A law: on disks that have nothing, a run begins with nothing.
 pub fn empty_disks_begin()
     ensures { EmptyBegins }
 {
     runs_open();
 }
 
-/// A law: wherever a settled disk stands that has one log, there a run stands.
+/// A law: wherever settled disks stand, the source's with one log, there a run stands.
 pub fn stores_stand()
     ensures { StoresStand }
 {

@@ -5,15 +5,15 @@ ghost use Rattle.fault_counts.specs.Causes.{Rose};
 ghost use Rattle.disk_model.specs.Answers.{HasDiskCause};
 ghost use Rattle.disk_model.specs.Moments.{GoesOn, IsSettled};
 ghost use Rattle.disk_model.specs.Story.{Story};
-ghost use Rattle.run_stores.specs.durable_runs.Sources.{Stored};
 ghost use Rattle.run_laws.specs.run_model.Run.{Both, Names, Starts, log_with};
 ghost use Rattle.run_streams.specs.Reports.{IsEmpty, StaysHandedOut, Tells};
 ghost use Rattle.run_streams.specs.Stops.{status_of};
 ghost use Rattle.script_run.specs.Asking.{asked_seen, is_fit, most_commands};
 ghost use Rattle.script_run.specs.Beginning.{FromEach, StoodFor};
+ghost use Rattle.script_run.specs.Disks.{Disks, NoFewer, Stores, disks, faults};
 ghost use Rattle.script_run.specs.Faults.{HasFault, StopsLogging, StopsOpening, StopsServing};
 ghost use Rattle.script_run.specs.Logged.{LogEndsBy, Logged};
-ghost use Rattle.script_run.specs.Together.{Grew, IsOnDisk, Opened, Together};
+ghost use Rattle.script_run.specs.Together.{AreOnDisks, Grew, Opened, SourceIsOn, Together};
 
 use crate::asked::{Asked, read_asked};
 use crate::commands::{answer_all, open_nodes};
@@ -49,8 +49,8 @@ impl Sink for Dropped {
 
 /// The bytes of the source's log, from its magic on, as its file has them.
 fn whole_log<D: Disk>(alloc: Global, nodes: &Nodes, d: &mut D) -> Result<Bytes, DiskRefusal>
-    requires { IsOnDisk (D.told d.old) nodes.now }
-    ensures log { (names : Names) (start : Stored) (b : Both) → Together names (D.told d.old) start nodes.now b
+    requires { SourceIsOn (D.told d.old) nodes.now.source }
+    ensures log { (names : Names) (rep : Option Story) (start : Stores) (b : Both) → Together names (disks (D.told d.old) rep) start nodes.now b
         → IfOk result (λ log. log ≡ log_with b.from b.machine) }
     ensures goes { GoesOn (D.told d.old) (D.told d.new) }
     ensures cause { HasDiskCause (D.faults d.old) (D.faults d.new) result }
@@ -63,8 +63,8 @@ fn whole_log<D: Disk>(alloc: Global, nodes: &Nodes, d: &mut D) -> Result<Bytes, 
 
 /// The same, with a refusal as the status of a run.
 fn whole_log_by<D: Disk>(alloc: Global, nodes: &Nodes, d: &mut D) -> Result<Bytes, Status>
-    requires { IsOnDisk (D.told d.old) nodes.now }
-    ensures log { (names : Names) (start : Stored) (b : Both) → Together names (D.told d.old) start nodes.now b
+    requires { SourceIsOn (D.told d.old) nodes.now.source }
+    ensures log { (names : Names) (rep : Option Story) (start : Stores) (b : Both) → Together names (disks (D.told d.old) rep) start nodes.now b
         → IfOk result (λ log. log ≡ log_with b.from b.machine) }
     ensures goes { GoesOn (D.told d.old) (D.told d.new) }
     ensures stop { IfErr result (λ status. StopsServing status (D.faults d.old) (D.faults d.new)) }
@@ -78,117 +78,126 @@ fn whole_log_by<D: Disk>(alloc: Global, nodes: &Nodes, d: &mut D) -> Result<Byte
 }
 
 /// Carries out the commands in order, without a line of what they are told, and gives the source's log behind them.
-fn log_of_all<D: Disk, E: Env, F: Env>(
+fn log_of_all<D: Disk, R: Disk, E: Env, F: Env>(
     alloc: Global,
     asked: &List<Asked<'_>>,
     nodes: &mut Nodes,
-    d: &mut D,
+    src: &mut D,
+    rep: &mut R,
     src_env: &mut E,
     rep_env: &mut F,
     report: &mut Report,
 ) -> Result<Bytes, Status>
-    requires on { IsOnDisk (D.told d.old) nodes.old }
+    requires on { AreOnDisks (disks (D.told src.old) (R.told rep.old)) nodes.old }
     requires count { length asked.now ≤ most_commands }
     requires fit { IsTrue (list_all is_fit asked.now) }
-    ensures logged { (from : Starts) (t : Option Story) → Opened from t (D.told d.old) nodes.old report.old
-        → IfOk result (λ log. Logged from t (D.told d.new) (map asked_seen asked.now) report.new log) }
-    ensures stop { IfErr result (λ status. StopsLogging status (D.told d.old) (D.faults d.old) (D.faults d.new)) }
+    ensures logged { (from : Starts) (t : Disks) → Opened from t (disks (D.told src.old) (R.told rep.old)) nodes.old report.old
+        → IfOk result (λ log. Logged from t (disks (D.told src.new) (R.told rep.new)) (map asked_seen asked.now) report.new log) }
+    ensures stop { IfErr result (λ status. StopsLogging status (disks (D.told src.old) (R.told rep.old)) (faults (D.faults src.old) (R.faults rep.old)) (faults (D.faults src.new) (R.faults rep.new))) }
     ensures src_handed { StaysHandedOut (E.draws src_env.old) report.old.src_draws report.new.src_draws }
     ensures rep_handed { StaysHandedOut (F.draws rep_env.old) report.old.rep_draws report.new.rep_draws }
     ensures grew { Grew report.old report.new }
-    ensures later { D.faults d.old ≤ D.faults d.new }
+    ensures later { NoFewer (faults (D.faults src.old) (R.faults rep.old)) (faults (D.faults src.new) (R.faults rep.new)) }
 {
     answer_all(
         alloc,
         asked,
         nodes,
-        d,
+        src,
+        rep,
         src_env,
         rep_env,
         report,
         &mut Dropped,
     )?;
-    whole_log_by(alloc, nodes, d)
+    whole_log_by(alloc, nodes, src)
 }
 
 /// Opens both nodes, carries out the commands in order, and gives the source's log behind them.
-fn log_commands<D: Disk, E: Env, F: Env>(
+fn log_commands<D: Disk, R: Disk, E: Env, F: Env>(
     alloc: Global,
     asked: &List<Asked<'_>>,
-    d: &mut D,
+    src: &mut D,
+    rep: &mut R,
     src_env: &mut E,
     rep_env: &mut F,
     report: &mut Report,
 ) -> Result<Bytes, Status>
     requires report { IsEmpty report.old }
-    requires settled { IsSettled (D.told d.old) }
+    requires settled { IsSettled (D.told src.old) }
+    requires rep_settled { IsSettled (R.told rep.old) }
     requires count { length asked.now ≤ most_commands }
     requires fit { IsTrue (list_all is_fit asked.now) }
-    ensures logged { IfOk result (λ log. FromEach (D.told d.old) (λ from.
-        Logged from (D.told d.old) (D.told d.new) (map asked_seen asked.now) report.new log)) }
-    ensures stood { OnOk result (StoodFor (D.told d.old)) }
-    ensures stop { IfErr result (λ status. StopsOpening status (D.told d.old) (D.faults d.old) (D.faults d.new)) }
-    ensures src { Tells (E.told src_env.old) (E.draws src_env.old) report.new.src_identity report.new.src_draws }
-    ensures rep { Tells (F.told rep_env.old) (F.draws rep_env.old) report.new.rep_identity report.new.rep_draws }
+    ensures logged { IfOk result (λ log. FromEach (disks (D.told src.old) (R.told rep.old)) (λ from.
+        Logged from (disks (D.told src.old) (R.told rep.old)) (disks (D.told src.new) (R.told rep.new)) (map asked_seen asked.now) report.new log)) }
+    ensures stood { OnOk result (StoodFor (disks (D.told src.old) (R.told rep.old))) }
+    ensures stop { IfErr result (λ status. StopsOpening status (disks (D.told src.old) (R.told rep.old)) (faults (D.faults src.old) (R.faults rep.old)) (faults (D.faults src.new) (R.faults rep.new))) }
+    ensures source { Tells (E.told src_env.old) (E.draws src_env.old) report.new.src_identity report.new.src_draws }
+    ensures replica { Tells (F.told rep_env.old) (F.draws rep_env.old) report.new.rep_identity report.new.rep_draws }
 {
-    match open_nodes(alloc, d, src_env, rep_env, report) {
-        Ok(mut nodes) => log_of_all(alloc, asked, &mut nodes, d, src_env, rep_env, report),
+    match open_nodes(alloc, src, rep, src_env, rep_env, report) {
+        Ok(mut nodes) => log_of_all(alloc, asked, &mut nodes, src, rep, src_env, rep_env, report),
         Err(refusal) => Err(status_by(refusal)),
     }
 }
 
 /// Carries out the script on the input, and writes the source's log behind it.
-fn log_script<S: Source, K: Sink, D: Disk, E: Env, F: Env>(
+fn log_script<S: Source, K: Sink, D: Disk, R: Disk, E: Env, F: Env>(
     alloc: Global,
     input: &mut S,
     out: &mut K,
     src: &mut D,
+    rep: &mut R,
     src_env: &mut E,
     rep_env: &mut F,
     report: &mut Report,
 ) -> Result<(), Status>
     requires report { IsEmpty report.old }
     requires settled { IsSettled (D.told src.old) }
-    ensures run { LogEndsBy (status_of result) (S.left input.old) (S.left input.new) (D.told src.old) (D.told src.new) report.new
+    requires rep_settled { IsSettled (R.told rep.old) }
+    ensures run { LogEndsBy (status_of result) (S.left input.old) (S.left input.new) (disks (D.told src.old) (R.told rep.old)) (disks (D.told src.new) (R.told rep.new)) report.new
         (K.written out.old) (K.written out.new) }
     ensures fault { IfErr result (λ status. HasFault status (S.faults input.old) (S.faults input.new)
-        (K.faults out.old) (K.faults out.new) (D.faults src.old) (D.faults src.new)) }
-    ensures src { Tells (E.told src_env.old) (E.draws src_env.old) report.new.src_identity report.new.src_draws }
-    ensures rep { Tells (F.told rep_env.old) (F.draws rep_env.old) report.new.rep_identity report.new.rep_draws }
+        (K.faults out.old) (K.faults out.new) (faults (D.faults src.old) (R.faults rep.old)) (faults (D.faults src.new) (R.faults rep.new))) }
+    ensures source { Tells (E.told src_env.old) (E.draws src_env.old) report.new.src_identity report.new.src_draws }
+    ensures replica { Tells (F.told rep_env.old) (F.draws rep_env.old) report.new.rep_identity report.new.rep_draws }
 {
     let script = read_script(alloc, input)?;
     let asked = read_asked(alloc, script.as_slice())?;
-    let log = log_commands(alloc, &asked, src, src_env, rep_env, report)?;
+    let log = log_commands(alloc, &asked, src, rep, src_env, rep_env, report)?;
     write_line(out, log.as_slice())
 }
 
 /// Carries out the script on the input as [`run_script`](crate::run_script) does, and writes the bytes of the source's binary log
 /// behind it, from their magic on, in place of what the commands are told.
-pub fn write_log<S: Source, K: Sink, D: Disk, E: Env, F: Env>(
+pub fn write_log<S: Source, K: Sink, D: Disk, R: Disk, E: Env, F: Env>(
     alloc: Global,
     input: &mut S,
     out: &mut K,
     src: &mut D,
+    rep: &mut R,
     src_env: &mut E,
     rep_env: &mut F,
     report: &mut Report,
 ) -> Status
     requires report { IsEmpty report.old }
     requires settled { IsSettled (D.told src.old) }
+    requires rep_settled { IsSettled (R.told rep.old) }
     // At Done all commands were carried out, and the log of the machine behind them was written, at WriteFault a front of it, else
     // nothing.
-    ensures run { LogEndsBy result (S.left input.old) (S.left input.new) (D.told src.old) (D.told src.new) report.new
+    ensures run { LogEndsBy result (S.left input.old) (S.left input.new) (disks (D.told src.old) (R.told rep.old)) (disks (D.told src.new) (R.told rep.new)) report.new
         (K.written out.old) (K.written out.new) }
     ensures read_fault { result ≡ Status.ReadFault → Rose (S.faults input.old) (S.faults input.new) }
     ensures write_fault { result ≡ Status.WriteFault → Rose (K.faults out.old) (K.faults out.new) }
     ensures disk_fault { result ≡ Status.SourceDisk → Rose (D.faults src.old) (D.faults src.new) }
+    ensures rep_disk_fault { result ≡ Status.ReplicaDisk → Rose (R.faults rep.old) (R.faults rep.new) }
     // The report is true at any status.
     ensures source { Tells (E.told src_env.old) (E.draws src_env.old)
         report.new.src_identity report.new.src_draws }
     ensures replica { Tells (F.told rep_env.old) (F.draws rep_env.old)
         report.new.rep_identity report.new.rep_draws }
 {
-    match log_script(alloc, input, out, src, src_env, rep_env, report) {
+    match log_script(alloc, input, out, src, rep, src_env, rep_env, report) {
         Ok(()) => Status::Done,
         Err(status) => status,
     }

@@ -63,7 +63,8 @@ stays_run draw s (Err refusal) old new context context' meter meter' before afte
 abbrev contents : List Object → List Table → List Counter → Contents
 contents os ts cs = record { objects = os; tables = ts; changes = []; counters = cs }
 
-nothing_open : (changes : List Change) (tables : List Table) → changes ≡ [] → without_changes changes tables ≡ tables
+-- where no change is open, the tables are those that were last committed
+pub nothing_open : (changes : List Change) (tables : List Table) → changes ≡ [] → without_changes changes tables ≡ tables
 nothing_open changes tables none =
     ap (λ (cs : List Change). without_changes cs tables) none ∙ ap (λ (o : Option (List Table)). unwrap_or o tables) (applied_none tables)
 

@@ -1,6 +1,7 @@
 pub mod Applying
 pub mod Ending
 pub mod Following
+pub mod Leading
 pub mod Needing
 pub mod UnderWay
 -- the crates below that this one speaks of, passed on

@@ -1,5 +1,5 @@
 //! A CREATE, DROP or TRUNCATE of a log.
-ghost use Rattle.std.specs.Prelude.{◌≡◌, [], true, Ok, OnErr};
+ghost use Rattle.std.specs.Prelude.{◌≡◌, [], true, Ok, OnErr, OnOk};
 ghost use Rattle.sql_tree.specs.StatementView.{view};
 ghost use Rattle.apply_laws.specs.sql_reach.Reach.{is_definition};
 ghost use Rattle.apply_model.specs.Groups.{define_allowed};
@@ -8,6 +8,7 @@ ghost use Rattle.row_apply.specs.prog_work.Contents.{base_of};
 ghost use Rattle.row_apply.specs.Ends.{Ends};
 ghost use Rattle.stmt_apply.specs.Applying.{applied_in};
 ghost use Rattle.stmt_apply.specs.Ending.{EndsBy};
+ghost use Rattle.stmt_apply.specs.Leading.{Makes, MakesBy};
 
 use crate::needs::nothing_carried;
 use crate::reading::statement_in;
@@ -22,7 +23,7 @@ use std::alloc::Global;
 use val_types::SqlRefusal;
 
 /// A statement carried out, 30005 for all but definitions.
-#[tactic(auto, using(crate::proofs::Defined::no_definition))]
+#[tactic(auto, using(crate::proofs::Defined::no_definition, crate::proofs::Leading::definition_makes))]
 fn define(
     alloc: Global,
     work: &mut Work,
@@ -32,6 +33,7 @@ fn define(
 ) -> Result<(), SqlRefusal>
     requires { work.old.changes ≡ [] }
     ensures ends { EndsBy result (applied_in work.new) (define_allowed (base_of work.old) work.old.counters (Ok (view statement.now))) }
+    ensures makes { OnOk result (Makes (view statement.now) work.old work.new) }
     ensures err { OnErr result (work.new ≡ work.old) }
 {
     if !is_definition(statement) {
@@ -45,7 +47,7 @@ fn define(
 }
 
 /// The definition that a text is. It reads nothing of its context.
-#[tactic(auto, using(crate::proofs::Defined::refused_text, crate::proofs::Defined::read_text))]
+#[tactic(auto, using(crate::proofs::Defined::refused_text, crate::proofs::Defined::read_text, crate::proofs::Leading::text_makes))]
 fn define_text(
     alloc: Global,
     work: &mut Work,
@@ -55,6 +57,7 @@ fn define_text(
 ) -> Result<(), SqlRefusal>
     requires { work.old.changes ≡ [] }
     ensures ends { EndsBy result (applied_in work.new) (define_allowed (base_of work.old) work.old.counters (statement_in query.now.text.now)) }
+    ensures makes { OnOk result (MakesBy query.now.text.now work.old work.new) }
     ensures err { OnErr result (work.new ≡ work.old) }
 {
     let mut context = from_carried(alloc, &nothing_carried(alloc), identity, draw)?;
@@ -73,6 +76,7 @@ pub(crate) fn apply_definition(
 ) -> Result<(), Stop>
     requires { work.old.changes ≡ [] }
     ensures ends { Ends result (applied_in work.new) (stops_at pos (define_allowed (base_of work.old) work.old.counters (statement_in query.now.text.now))) }
+    ensures makes { OnOk result (MakesBy query.now.text.now work.old work.new) }
     ensures err { OnErr result (work.new ≡ work.old) }
 {
     match define_text(alloc, work, query, identity, draw) {

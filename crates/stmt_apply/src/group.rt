@@ -1,5 +1,5 @@
 //! A group of a log carried out.
-ghost use Rattle.std.specs.Prelude.{◌≡◌, ℕ, [], Some, OnErr};
+ghost use Rattle.std.specs.Prelude.{◌≡◌, ℕ, [], Some, OnErr, OnOk};
 ghost use Rattle.log_groups.specs.catalog_rules.Bases.{Base};
 ghost use Rattle.log_groups.specs.log_entries.declared.entries.Entry.{Entry};
 ghost use Rattle.log_groups.specs.log_entries.Entries.{entry_applied};
@@ -14,6 +14,7 @@ ghost use Rattle.row_apply.specs.prog_work.Contents.{base_of};
 ghost use Rattle.row_apply.specs.Ends.{Ends};
 ghost use Rattle.stmt_apply.specs.Applying.{applied_in};
 ghost use Rattle.stmt_apply.specs.Following.{Leaves};
+ghost use Rattle.stmt_apply.specs.Leading.{LeadsBy};
 
 use crate::definition::apply_definition;
 use crate::transaction::apply_transaction;
@@ -35,6 +36,7 @@ fn apply_form(
 ) -> Result<(), Stop>
     requires { work.old.changes ≡ [] }
     ensures ends { Ends result (applied_in work.new) (group_carried identity.now draw.entry.now (base_of work.old) work.old.counters (group_seen group.now)) }
+    ensures leads { OnOk result (LeadsBy (group_seen group.now).form work.old work.new) }
     ensures err { OnErr result (work.new ≡ work.old) }
 {
     match &group.form {
@@ -56,6 +58,7 @@ pub fn apply_group(
 ) -> Result<(), Stop>
     requires { work.old.changes ≡ [] }
     ensures ends { Ends result (applied_in work.new) (group_carried identity.now draw.entry.now (base_of work.old) work.old.counters (group_seen group.now)) }
+    ensures leads { OnOk result (LeadsBy (group_seen group.now).form work.old work.new) }
     ensures err { OnErr result (work.new ≡ work.old) }
     ensures follows { (e : Entry Whole) → (number : ℕ) → (p : LogPlace) → (next : Base) → group_seen group.now ≡ group_of_entry (kept_entry e) number p
         → CanFollow (base_of work.old) e number p → entry_applied changes_of define e (base_of work.old) ≡ Some next → Leaves result (base_of work.new) next }

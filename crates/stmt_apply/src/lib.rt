@@ -11,8 +11,8 @@
 //! - `reading`: the statement that a text is; `needs`: what stands before a text for it; `text`: a text run, and [`checked`]
 //!
 //! The definitions in specs/ join the code to the definition: `Applying` (who carries out a group, and what stands behind it),
-//! `Ending` (how statements end), `Following` (what the group of an entry that can follow leaves), `Needing` (what stands before a
-//! text), `UnderWay` (a transaction under way).
+//! `Ending` (how statements end), `Following` (what the group of an entry that can follow leaves), `Leading` (where a group leads, by its
+//! form), `Needing` (what stands before a text), `UnderWay` (a transaction under way).
 //!
 //! # Proved
 //! - [`apply_group`] makes just the base and the counters that the definition of a group gives, or stops with just its place, its
@@ -20,6 +20,9 @@
 //! - a group that is read from an entry which can follow on the base that stands there leaves just the base that the entry makes;
 //!   it never stops there, whatever identity, draw and counters the replica has; or memory is short (`follows`, by the law
 //!   `apply_laws::entry_is_carried`)
+//! - the changes of a transaction stand open: they lead from the tables before it to those that stand, and rows, catalog and counters
+//!   can be given back; a definition is the statement of its text, which makes the base that stands; the beginning and the end of a
+//!   log change nothing (`leads`)
 //! - where it stops, and where memory is short, rows, counters, catalog and changes are as before (`err`)
 //! - [`checked`] gives just the error of the first of the catalog's checks of a statement
 //!
@@ -38,6 +41,7 @@ mod under_way;
 // What is its own, and the crates below that it speaks of, passed on: who stands above names them through it.
 pub use answer_making;
 pub use answer_making::sql_parse;
+pub use apply_laws::binlog_sizes;
 pub use group::apply_group;
 pub use prog_run;
 pub use row_apply;

@@ -1,5 +1,5 @@
 //! The events of a transaction, one after the other.
-ghost use Rattle.std.specs.Prelude.{◌≡◌, ◌≤◌, [], drop, length, reverse, IfOk, OnErr};
+ghost use Rattle.std.specs.Prelude.{◌≡◌, ◌≤◌, [], drop, length, reverse, IfOk, OnErr, OnOk};
 ghost use Rattle.event_codec.specs.Event.{body_of, map_of, query_of, rows_of, size_of};
 ghost use Rattle.log_groups.specs.log_model.Groups.{find};
 ghost use Rattle.log_groups.specs.Views.{part_of, parts};
@@ -8,6 +8,7 @@ ghost use Rattle.apply_laws.specs.row_events.Sizes.{bounded};
 ghost use Rattle.apply_laws.specs.binlog_sizes.Sizes.{changes_size};
 ghost use Rattle.row_apply.specs.Ends.{Ends, Stays, progress_in};
 ghost use Rattle.stmt_apply.specs.Applying.{applied_in, applier_in};
+ghost use Rattle.stmt_apply.specs.Leading.{Opens};
 ghost use Rattle.stmt_apply.specs.Needing.{Counts, MayStand};
 ghost use Rattle.stmt_apply.specs.UnderWay.{ComesTo, Goes, Stands, items_from, text_carried, transaction_carried};
 
@@ -187,8 +188,8 @@ fn apply_items(
     Ok(())
 }
 
-/// What a transaction's items do, all of it or nothing, as want of memory does nothing.
-#[tactic(auto, using(crate::proofs::Going::transaction_done, crate::proofs::Going::transaction_stopped, crate::proofs::Staying::given_back))]
+/// What a transaction's items do, all of it or nothing, as want of memory does nothing. Its changes stand open.
+#[tactic(auto, using(crate::proofs::Going::transaction_done, crate::proofs::Going::transaction_stopped, crate::proofs::Staying::given_back, crate::proofs::Leading::opens))]
 pub(crate) fn apply_transaction(
     alloc: Global,
     work: &mut Work,
@@ -198,11 +199,15 @@ pub(crate) fn apply_transaction(
 ) -> Result<(), Stop>
     requires { work.old.changes ≡ [] }
     ensures ends { Ends result (applied_in work.new) (transaction_carried (applier_in identity.now draw.entry.now work.old) (parts items.entry) work.old) }
+    ensures opens { OnOk result (Opens work.old work.new) }
     ensures err { OnErr result (work.new ≡ work.old) }
 {
     let counters = work.counters().duplicate(alloc)?;
     match apply_items(alloc, work, items, identity, draw) {
-        Ok(()) => Ok(()),
+        Ok(()) => {
+            work.together();
+            Ok(())
+        }
         Err(stop) => {
             work.give_up(counters);
             Err(stop)

@@ -8,6 +8,7 @@
 //! - `putting`: the bytes of numbers, texts, values, rows and changes
 //! - `reading`: [`record_of`]
 //! - `changes`, `rows`, `taking`: changes, rows with their values, and texts and numbers at the front of some bytes
+//! - `forms`: [`are_changes`], whether changes have a body
 //! - `snapshots`, `ends`: parts of a snapshot's body, both ways: the texts of objects, rows, and the ends of logs
 //!
 //! # Proved
@@ -19,6 +20,7 @@
 //!   where there are none.
 //! - [`put_ends`] puts exactly the ends of a source's logs, or a front of them; [`take_ends`] takes exactly these, and what is behind
 //!   them, None exactly where there are none that may be; [`take_one`], [`take_four`] and [`take_eight`] take numbers.
+//! - [`are_changes`] says so only of changes that have the form of a body.
 //!
 //! That a body is read as the record that it was put for is a law of `store_model`.
 //!
@@ -29,6 +31,7 @@
 
 mod changes;
 mod ends;
+mod forms;
 mod putting;
 mod reading;
 mod rows;
@@ -37,6 +40,7 @@ mod taking;
 mod writing;
 
 pub use ends::{put_ends, take_ends};
+pub use forms::are_changes;
 pub use putting::put_row;
 pub use reading::record_of;
 pub use snapshots::{put_object_text, take_object_text, take_rows};

@@ -2,3 +2,5 @@ pub mod Filling
 pub mod Objects
 pub mod Begun
 pub mod Opened
+-- the crate below that this one speaks of, passed on
+pub use Rattle.store_load.specs as store_load

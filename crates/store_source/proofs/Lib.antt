@@ -8,3 +8,5 @@ pub mod Queues
 pub mod Looping
 pub mod Begun
 pub mod Served
+-- the crate below that this one speaks of, passed on
+pub use Rattle.durable_runs.proofs as of_durable_runs

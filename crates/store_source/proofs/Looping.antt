@@ -11,13 +11,13 @@ use Rattle.session_model.specs.Machine.{Whole, kept_entry}
 use Rattle.store_model.specs.Entries.{writer_at}
 use Rattle.commit_store.specs.declared.store.Store.{Store}
 use Rattle.durable_runs.specs.Marks.{source_mark}
-use Rattle.durable_runs.specs.Runs.{behind_steps}
+use Rattle.durable_runs.specs.Runs.{CallsFit, behind_steps}
 use Rattle.durable_runs.specs.Sources.{Stored, entry_stored, source_side, SourceRuns}
 use Rattle.durable_runs.proofs.Storing.{stored_rises}
 use Rattle.durable_runs.proofs.Joining.{runs_none, runs_more}
 use Rattle.waiting_entries.specs.declared.waiting.Waiting.{Waiting}
 use Rattle.store_source.specs.Writing.{IsOn, CanWrite, LeadsTo, calls_of}
-use Rattle.store_source.specs.Pushed.{CallsFit, begun, wanted, ArePushed, all_calls}
+use Rattle.store_source.specs.Pushed.{begun, wanted, ArePushed, all_calls}
 use Rattle.store_source.proofs.Images.{each_stands}
 use Rattle.store_source.proofs.Queues.{Went, went_all, first_can, entry, after, after_is, went_wrong, went_on, went_counted}
 

@@ -23,7 +23,7 @@ use Rattle.store_model.proofs.Leading.{writer_goes_on}
 use Rattle.commit_store.specs.declared.store.Store.{Store}
 use Rattle.commit_store.specs.Keeping.{positions}
 use Rattle.durable_runs.specs.Marks.{Named, source_mark}
-use Rattle.durable_runs.specs.Runs.{behind_steps, Runs}
+use Rattle.durable_runs.specs.Runs.{CallsFit, behind_steps, Runs}
 use Rattle.durable_runs.specs.Sources.{Stored, entry_stored, stored_behind, held_after, source_side, SourceRuns}
 use Rattle.durable_runs.proofs.Storing.{held_append, held_is, stored_rises}
 use Rattle.durable_runs.proofs.Joining.{runs_none, runs_failed, runs_committed, runs_join, runs_more}
@@ -32,7 +32,7 @@ use Rattle.waiting_entries.specs.declared.waiting.Waiting.{Waiting}
 use Rattle.waiting_entries.specs.Added.{rotation_at}
 use Rattle.waiting_entries.specs.Waiting.{waiting_of, all_waiting, counts, HaveBodies}
 use Rattle.store_source.specs.Writing.{IsOn, CanWrite, LeadsTo, put_calls, calls_of}
-use Rattle.store_source.specs.Pushed.{CallsFit, NameInTurn, ArePushed, calls_for, all_calls}
+use Rattle.store_source.specs.Pushed.{NameInTurn, ArePushed, calls_for, all_calls}
 use Rattle.session_model.proofs.of_log_model.Growing.{head_length}
 use Rattle.store_source.proofs.Images.{if_map, each_stands}
 use Rattle.store_source.proofs.Logs.{added_here, next_apart}

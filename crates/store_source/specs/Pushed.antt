@@ -1,16 +1,11 @@
 -- Marks that a source pushes, and the calls that entries take.
-use Rattle.std.specs.Prelude.{◌≡◌, ◌<◌, ℕ, ◌+◌, ◌^◌, ◌==◌, if◌then◌else◌, List, [], ◌∷◌, ◌++◌, length, Option, IfSome}
+use Rattle.std.specs.Prelude.{◌≡◌, ℕ, ◌+◌, ◌==◌, if◌then◌else◌, List, [], ◌∷◌, ◌++◌, length}
 use Rattle.answer_text.specs.declared.report.Mark.{Mark}
-use Rattle.disk_model.specs.Story.{Story, count}
 use Rattle.session_model.specs.log_entries.declared.entries.Item.{Item}
 use Rattle.session_model.specs.log_entries.declared.entries.Entry.{Entry}
 use Rattle.session_model.specs.log_entries.declared.entries.Entry.TheVariants.{Transaction, Definition, LogStart}
 use Rattle.session_model.specs.log_model.Log.{LogPlace, behind, counted}
 use Rattle.waiting_entries.specs.declared.waiting.Waiting.{Waiting}
-
--- a disk has had no more calls than a mark can say
-abbrev pub CallsFit : Option Story → Type 0
-CallsFit t = IfSome t (λ _. count t < 2 ^ 64)
 
 -- how many marks a queue is given
 abbrev pub wanted : List Waiting → ℕ

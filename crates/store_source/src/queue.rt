@@ -6,10 +6,10 @@ ghost use Rattle.disk_model.specs.Moments.{GoesOn};
 ghost use Rattle.session_model.specs.log_entries.declared.entries.Entry.{Entry};
 ghost use Rattle.session_model.specs.Machine.{Whole, kept_entry};
 ghost use Rattle.store_model.specs.Entries.{writer_at};
-ghost use Rattle.durable_runs.specs.Runs.{behind_steps};
+ghost use Rattle.durable_runs.specs.Runs.{CallsFit, behind_steps};
 ghost use Rattle.durable_runs.specs.Sources.{SourceRuns, Stored, source_side};
 ghost use Rattle.store_source.specs.Writing.{CanWrite, IsOn};
-ghost use Rattle.store_source.specs.Pushed.{ArePushed, CallsFit, all_calls, begun, wanted};
+ghost use Rattle.store_source.specs.Pushed.{ArePushed, all_calls, begun, wanted};
 
 use crate::entry::write_entry;
 use answer_text::{Mark, Report};

@@ -172,6 +172,7 @@ fn logged(alloc: Global, stage: &mut Stage) -> u8 {
         &mut stage.input,
         &mut stage.out,
         &mut MemDisk::new(alloc),
+        &mut MemDisk::new(alloc),
         &mut stage.source,
         &mut stage.replica,
         &mut empty_report(alloc),

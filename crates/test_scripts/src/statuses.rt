@@ -4,7 +4,7 @@ use crate::playing::{
     ANY, Outcome, REPLICA_MOMENT, SOURCE_MOMENT, Shown, asked, asked_in_pieces, draw, expect_all,
     is_rep, is_root, joined, plays, report_of, wanted,
 };
-use answer_text::{Report, Status};
+use answer_text::{Mark, Report, Status};
 use repl_run::{number_of, tell};
 use std::alloc::Global;
 use val_types::{Bytes, List};
@@ -31,7 +31,7 @@ static BAD_SCRIPTS: [(&str, &str); 13] = [
         "s1: SELECT 1 //\nsource: CHECKPOINT //",
         "bad script at 16\n",
     ),
-    ("replica: RESTART //", "bad script at 0\n"),
+    ("replica: CHECKPOINT //", "bad script at 0\n"),
     // what does not split comes before what is asked too early
     ("source: RESTART //\nx", "bad script at 19\n"),
 ];
@@ -236,20 +236,28 @@ fn tells_rest(report: &Report) -> bool {
         && tells_marks(report)
 }
 
-/// Whether it has a mark for the table and one for its row, each as its command stood, behind the six calls of the disk that keep an entry.
+/// Whether a mark names these numbers, pushed in this command.
+fn names(mark: &Mark, command: u32, committed: u64, applied: u64) -> bool {
+    mark.command == command && mark.committed == committed && mark.applied == applied
+}
+
+/// Whether it has a mark for the table and one for its row, behind the six calls of the source's disk that keep an entry, and then one for
+/// each as it is carried out: behind the one call that puts into the relay what is fetched, and the four that keep a group.
 fn tells_marks(report: &Report) -> bool {
     match report.marks.as_slice() {
-        [table, row] => {
-            (
-                table.command,
-                table.committed,
-                table.applied,
-                table.rep_calls,
-            ) == (1, 1, 0, 0)
-                && (row.command, row.committed, row.applied, row.rep_calls) == (2, 2, 0, 0)
+        [table, row, first, second] => {
+            names(table, 1, 1, 0)
+                && names(row, 2, 2, 0)
+                && names(first, 5, 2, 1)
+                && names(second, 5, 2, 2)
                 && table.src_calls.checked_add(6) == Some(row.src_calls)
-                && row.src_calls <= report.now.src_calls
-                && report.now.rep_calls == 0
+                && row.src_calls <= first.src_calls
+                && first.src_calls == second.src_calls
+                && table.rep_calls == row.rep_calls
+                && row.rep_calls.checked_add(5) == Some(first.rep_calls)
+                && first.rep_calls.checked_add(4) == Some(second.rep_calls)
+                && report.now.src_calls == first.src_calls
+                && report.now.rep_calls == second.rep_calls
         }
         _ => false,
     }

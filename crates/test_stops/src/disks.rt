@@ -3,22 +3,11 @@ ghost use Rattle.std.specs.Prelude.{Some, IfSome};
 ghost use Rattle.disk_model.specs.Files.{story_of};
 ghost use Rattle.disk_model.specs.Moments.{IsSettled};
 
-use crate::playing::{Ended, asked, bytes, over};
+use crate::left::again;
+use crate::playing::{asked, bytes, comes_to, over};
 use crash_images::{disk_left, no_files};
 use disk_model::{MemDisk, TwistDisk};
 use std::alloc::Global;
-use val_types::{Bytes, List};
-
-/// Whether a call of the program over a disk writes these lines and ends with this line.
-fn comes_to(ended: &Option<Ended>, written: &str, line: &str) -> bool {
-    match ended {
-        Some(ended) => {
-            ended.written.as_slice() == written.as_bytes()
-                && ended.line.as_slice() == line.as_bytes()
-        }
-        None => false,
-    }
-}
 
 /// A disk with a file 2 of these bytes, and else without any.
 fn with_journal(alloc: Global, journal: &[u8]) -> Option<MemDisk>
@@ -42,6 +31,9 @@ static HEAD: [u8; 19] = [
     0x00, 0xf1, 0x53, 0x65, 0x0f, 0x01, 0, 0, 0, 0x77, 0, 0, 0, 0x7b, 0, 0, 0, 0, 0,
 ];
 
+/// The journal of a replica that has carried out nothing: its first gate, closed.
+static OPENED: [u8; 1] = [0x00];
+
 #[test]
 fn a_source_begins_its_log(rt: HostRuntime) {
     let alloc = rt.alloc();
@@ -52,7 +44,8 @@ fn a_source_begins_its_log(rt: HostRuntime) {
     assert!(&rt; disk.contents(2) == BEGUN.as_slice());
     assert_eq!(&rt; disk.contents(8).len(), 123);
     assert!(&rt; disk.contents(8)[4..23] == HEAD[..]);
-    assert_eq!(&rt; other.history().len(), 0);
+    assert!(&rt; other.contents(2) == OPENED.as_slice());
+    assert_eq!(&rt; other.contents(8).len(), 0);
 }
 
 // ---- a call goes on where the one before it ended
@@ -144,17 +137,6 @@ fn is_dumped(alloc: Global, disk: &MemDisk, lines: &str) -> bool {
         }
         None => false,
     }
-}
-
-/// The disk that comes up with all that is read of this one.
-fn again(alloc: Global, disk: &MemDisk) -> Option<MemDisk>
-    ensures { IfSome result (λ d. IsSettled (Some (story_of d))) }
-{
-    let mut files: List<Bytes> = List::new(alloc);
-    for file in 0..10 {
-        files.push(bytes(alloc, disk.contents(file))).ok()?;
-    }
-    disk_left(alloc, files.as_slice())
 }
 
 // ---- RESTART

@@ -144,7 +144,8 @@ fn called<D: Disk, R: Disk>(
     src: &mut D,
     rep: &mut R,
 ) -> (Status, Report)
-    requires { IsSettled (D.told src.old) }
+    requires source { IsSettled (D.told src.old) }
+    requires replica { IsSettled (R.told rep.old) }
 {
     let mut report = empty_report(alloc);
     let status = top(
@@ -169,7 +170,8 @@ pub fn over<D: Disk, R: Disk>(
     src: &mut D,
     rep: &mut R,
 ) -> Option<Ended>
-    requires { IsSettled (D.told src.old) }
+    requires source { IsSettled (D.told src.old) }
+    requires replica { IsSettled (R.told rep.old) }
 {
     let mut stage = stage_of(alloc, asked)?;
     let (status, report) = called(alloc, &mut stage, src, rep);
@@ -178,4 +180,15 @@ pub fn over<D: Disk, R: Disk>(
         written: bytes(alloc, stage.out.written().as_slice()),
         report,
     })
+}
+
+/// Whether a call of the program writes these lines and ends with this line.
+pub fn comes_to(ended: &Option<Ended>, written: &str, line: &str) -> bool {
+    match ended {
+        Some(ended) => {
+            ended.written.as_slice() == written.as_bytes()
+                && ended.line.as_slice() == line.as_bytes()
+        }
+        None => false,
+    }
 }

@@ -6,7 +6,7 @@
 //!
 //! This crate stands on the records of `commit_store`; what the sessions of a source share and what writes to its disk stand on it.
 //!
-//! - `waiting`: [`Waiting`]; `making`: [`made_transaction`] and [`made_definition`], over `forms`
+//! - `waiting`: [`Waiting`]; `making`: [`made_transaction`] and [`made_definition`]
 //! - `specs/Added`: what entries put behind each log (`added`, `added_to`)
 //! - `specs/Waiting`: what entries leave (`waiting_of`, `all_waiting`), which can wait (`CanWaitAll`), and what was made of one (`Leaves`)
 //! - `specs/Making`: the place that a head speaks of; `proofs/Added`: what entries leave in order is what they append to the logs (`put_all`)
@@ -19,7 +19,6 @@
 //! Nothing here: that calls succeed with ample memory is tested where scripts run.
 #![tactic(auto)]
 
-mod forms;
 mod making;
 mod waiting;
 

@@ -11,12 +11,11 @@ ghost use Rattle.waiting_entries.specs.Making.{has_place};
 ghost use Rattle.commit_store.specs.Next.{prepared_of};
 ghost use Rattle.waiting_entries.specs.Waiting.{HasBody, Leaves};
 
-use crate::forms::are_changes;
 use crate::waiting::Waiting;
 use binlog_items::unsafe_rules::session_ctx::Ctx;
 use binlog_items::{Items, encode_definition};
-use commit_store::Prepared;
 use commit_store::store_model::{Head, Record, bodies_are_counted};
+use commit_store::{Prepared, are_changes};
 use event_codec::Header;
 use std::alloc::{AllocError, Global};
 use val_types::{Bytes, Change, List, NoMemory};

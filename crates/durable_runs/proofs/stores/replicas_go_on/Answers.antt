@@ -1,5 +1,4 @@
 use Rattle.durable_runs.proofs.Carrying.{replicas_rise, served_runs, served_more, served_join}
-use Rattle.durable_runs.proofs.Carried.{carried_entries, carried_steps}
 use Rattle.durable_runs.proofs.stores.replicas_go_on.Goals as goal
 
 pub returns-clause-rises : goal.returns-clause-rises
@@ -7,6 +6,3 @@ returns-clause-rises c = replicas_rise
 
 pub returns-clause-served : goal.returns-clause-served
 returns-clause-served c = record { runs = served_runs; more = served_more; join = served_join }
-
-pub returns-clause-carried : goal.returns-clause-carried
-returns-clause-carried c = record { entries = carried_entries; steps = carried_steps }

@@ -1,6 +1,6 @@
 use Rattle.run_laws.proofs.Carrying.{Appliers, nothing_is_owed}
 use Rattle.run_laws.proofs.Fetching.{Below}
-use Rattle.run_laws.proofs.Following.{follows_begins, follows_opened, follows_go_on, no_apply_stops, nothing_is_damaged}
+use Rattle.run_laws.proofs.Following.{follows_begins, follows_opened, follows_go_on, follows_on_the_way, no_apply_stops, nothing_is_damaged}
 use Rattle.run_laws.proofs.laws.replica_follows.Goals as goal
 
 pub returns : goal.returns
@@ -25,6 +25,7 @@ returns c =
       opens = follows_opened c.bases_hold.ensures;
       owes = nothing_is_owed c.bases_hold.ensures;
       goes_on = follows_go_on below appliers;
+      on_the_way = follows_on_the_way below appliers;
       stops = no_apply_stops below appliers;
       damaged = nothing_is_damaged below appliers;
     }

@@ -1,43 +1,68 @@
-use Rattle.std.proofs.Common.{List, [], ◌∷◌, ◌++◌, ap, ◌∙◌}
-use Rattle.port_traits.specs.declared.identity.Draw.{Draw}
-use Rattle.run_laws.specs.session_model.Openings.{opened_from}
-use Rattle.run_stores.specs.durable_runs.Sources.{Stored}
-use Rattle.durable_source.specs.Standing.{beginning_of}
-use Rattle.script_run.proofs.Opened.{goes_there, idle_survives, opened_each, opening_survives}
-use Rattle.script_run.proofs.Spoken.{any_err}
+use Rattle.std.proofs.Common.{ap, ◌∙◌, arith}
+use Rattle.answer_text.specs.declared.report.Report.{Report}
+use Rattle.std.proofs.lemmas.Result.{err_from_is_err_and}
+use Rattle.script_run.proofs.Drawing.{drawn_still, tells_none, tells_still, told_still}
+use Rattle.script_run.proofs.Opened.{opened_each, replica_idle, source_still}
+use Rattle.script_run.proofs.Spoken.{open_replica_behind}
 use Rattle.script_run.proofs.commands.open_nodes.Goals as goal
 
 pub returns-clause-opened : goal.returns-clause-opened
 returns-clause-opened g c =
-    opened_each c.openings_hold.ensures.openings c.runs_open.ensures.opens c.runs_last.ensures.source c.sources_last.ensures _ _ (record { source = c.in_ok-src_name.src_name; replica = c.in_ok-rep_name.rep_name }) c.in_ok-src_name.src_draw c.in_ok-rep_name.rep_draw _ _ c.moment_fits.ensures (record {
-      source_name = c.in_ok-source.ensures.identity;
-      replica_name = c.open-4.ensures.identity;
-      replica_is = c.open-4.ensures.replica;
-      stands = c.in_ok-source.ensures.stands;
-      runs = c.open-2.ensures.runs;
-      source = c.in_ok-src_name.ensures.told.0;
-      replica = c.in_ok-rep_name.ensures.told.0;
-      src_draws = c.in_ok-src_name.ensures.told.1 ∙ ap (λ (ds : List Draw). ds ++ c.in_ok-src_name.src_draw ∷ []) c.requires.report.src_draws;
-      rep_draws = c.in_ok-rep_name.ensures.told.1 ∙ ap (λ (ds : List Draw). ds ++ c.in_ok-rep_name.rep_draw ∷ []) c.requires.report.rep_draws;
-      stays = c.requires.report.stands;
-      marks = c.requires.report.marks;
-    })
-
-pub returns-clause-goes : goal.returns-clause-goes
-returns-clause-goes g c = goes_there _ _ c.in_ok-source.ensures.held (λ start on. (c.open-2.ensures.runs start [] on).on)
+    opened_each c.openings_hold.ensures.openings c.runs_open.ensures.opens c.runs_last.ensures.source c.sources_last.ensures _ _ _ _
+    (source_still _ _ _ _ _ c.in_ok-source.ensures.opened c.open_replica.ensures.rest) c.in_ok-replica.ensures.opened
+    (record { source = c.in_ok-source.ensures.goes; replica = c.open_replica.ensures.goes })
+    (ap (λ (r : Report). r.now) c.open_replica.ensures.rest ∙ ap (λ (r : Report). r.now) c.open_source.ensures.rest ∙ c.requires.report.stands)
+    (ap (λ (r : Report). r.marks) c.open_replica.ensures.rest ∙ ap (λ (r : Report). r.marks) c.open_source.ensures.rest ∙ c.requires.report.marks)
 
 pub returns-clause-on : goal.returns-clause-on
-returns-clause-on g c =
-    let from : Stored = c.in_ok-source.ensures.some.0 in
-    (from, (opened_from c.in_ok-src_name.src_name c.in_ok-src_name.src_draw (beginning_of from), (c.in_ok-source.ensures.some.1, c.openings_hold.ensures.openings c.in_ok-src_name.src_name c.in_ok-src_name.src_draw (beginning_of from))))
+returns-clause-on g c = record { source = c.in_ok-source.ensures.on; replica = c.in_ok-replica.ensures.opened.on }
 
-pub returns-in_err-src_name-clause-survives : goal.returns-in_err-src_name-clause-survives
-returns-in_err-src_name-clause-survives g c = any_err _ _ (idle_survives c.sources_last.ensures _)
+pub returns-clause-stood : goal.returns-clause-stood
+returns-clause-stood g c = record { source = c.in_ok-source.ensures.stood; replica = c.in_ok-replica.ensures.stood }
 
-pub returns-in_err-source-clause-survives : goal.returns-in_err-source-clause-survives
-returns-in_err-source-clause-survives g c =
-    any_err _ _ (opening_survives c.runs_last.ensures.source c.sources_last.ensures _ _ (record { source = c.in_ok-src_name.src_name; replica = c.in_ok-src_name.src_name }) c.in_ok-src_name.src_draw c.open-2.ensures.runs)
+pub returns-clause-goes : goal.returns-clause-goes
+returns-clause-goes g c = record { source = c.in_ok-source.ensures.goes; replica = c.open_replica.ensures.goes }
 
-pub returns-in_err-rep_name-clause-survives : goal.returns-in_err-rep_name-clause-survives
-returns-in_err-rep_name-clause-survives g c =
-    any_err _ _ (opening_survives c.runs_last.ensures.source c.sources_last.ensures _ _ (record { source = c.in_ok-src_name.src_name; replica = c.in_ok-src_name.src_name }) c.in_ok-src_name.src_draw c.open-2.ensures.runs)
+pub returns-clause-later : goal.returns-clause-later
+returns-clause-later g c = record { source = c.open_source.ensures.later; replica = c.open_replica.ensures.later }
+
+pub returns-in_err-source-clause-later : goal.returns-in_err-source-clause-later
+returns-in_err-source-clause-later g c = record { source = c.open_source.ensures.later; replica = omega arith }
+
+pub returns-in_err-replica-clause-later : goal.returns-in_err-replica-clause-later
+returns-in_err-replica-clause-later g c = record { source = c.open_source.ensures.later; replica = c.open_replica.ensures.later }
+
+pub returns-in_err-source-clause-rep_survives : goal.returns-in_err-source-clause-rep_survives
+returns-in_err-source-clause-rep_survives g c = replica_idle _ c.requires.rep_settled
+
+pub returns-in_err-source-clause-rep_drawn : goal.returns-in_err-source-clause-rep_drawn
+returns-in_err-source-clause-rep_drawn g c =
+    told_still _ _ _ _ _ (ap (λ (r : Report). r.rep_draws) c.open_source.ensures.rest ∙ c.requires.report.rep_draws) (c.draws_begin.ensures _)
+
+pub returns-in_err-source-clause-replica : goal.returns-in_err-source-clause-replica
+returns-in_err-source-clause-replica g c =
+    tells_none _ _ _ _ (ap (λ (r : Report). r.rep_identity) c.open_source.ensures.rest ∙ c.requires.report.rep_identity) (ap (λ (r : Report). r.rep_draws) c.open_source.ensures.rest ∙ c.requires.report.rep_draws)
+
+pub returns-in_err-replica-clause-src_drawn : goal.returns-in_err-replica-clause-src_drawn
+returns-in_err-replica-clause-src_drawn g c = told_still _ _ _ _ _ (ap (λ (r : Report). r.src_draws) c.open_replica.ensures.rest) c.in_ok-source.ensures.drawn
+
+pub returns-clause-src_drawn : goal.returns-clause-src_drawn
+returns-clause-src_drawn g c = drawn_still _ _ _ _ (ap (λ (r : Report). r.src_draws) c.open_replica.ensures.rest) c.in_ok-source.ensures.drawn
+
+pub returns-clause-source : goal.returns-clause-source
+returns-clause-source g c =
+    tells_still _ _ _ _ _ _ (ap (λ (r : Report). r.src_identity) c.open_replica.ensures.rest) (ap (λ (r : Report). r.src_draws) c.open_replica.ensures.rest) c.open_source.ensures.tells
+
+pub returns-in_err-replica-clause-source : goal.returns-in_err-replica-clause-source
+returns-in_err-replica-clause-source g c =
+    tells_still _ _ _ _ _ _ (ap (λ (r : Report). r.src_identity) c.open_replica.ensures.rest) (ap (λ (r : Report). r.src_draws) c.open_replica.ensures.rest) c.open_source.ensures.tells
+
+pub returns-in_err-source-clause-refuses : goal.returns-in_err-source-clause-refuses
+returns-in_err-source-clause-refuses g c =
+    let p = err_from_is_err_and c.from_residual.result c.from_residual.ensures.1 in
+    rw (p.1, p.2) (c.in_err-source.ensures.refuses _ _)
+
+pub returns-in_err-replica-clause-refuses : goal.returns-in_err-replica-clause-refuses
+returns-in_err-replica-clause-refuses g c =
+    let p = err_from_is_err_and c.from_residual-in_err-replica.result c.from_residual-in_err-replica.ensures.1 in
+    rw (p.1, p.2) (open_replica_behind c.in_err-replica.field-0.0 _ _ _ _ _ _ c.in_err-replica.ensures.refuses c.open_source.ensures.later)

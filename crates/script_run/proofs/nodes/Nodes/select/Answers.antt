@@ -1,5 +1,5 @@
 use Rattle.std.proofs.Common.{refl, ap}
-use Rattle.replica_node.specs.Kept.{Kept}
+use Rattle.durable_replica.specs.declared.replica.DurableReplica.{DurableReplica}
 use Rattle.script_run.proofs.Spoken.{any_err, gave_up_idle, rep_none, rep_one, selected, selected_drew}
 use Rattle.script_run.proofs.nodes.Nodes.select.Goals as goal
 
@@ -30,5 +30,5 @@ returns-in_ok-shown-in-Ok-clause-grew g c = rep_one c.args.report.now c.take_dra
 pub returns-in_ok-shown-in-Ok-clause-carried : goal.returns-in_ok-shown-in-Ok-clause-carried
 returns-in_ok-shown-in-Ok-clause-carried g c names t start b before =
     selected c.args.self.now _ t start c.args.number c.args.text.now c.in_ok-draw.draw c.args.report.now (record c.args.report.now { rep_draws = c.take_draw.new.draws }) c.in-Ok.answer c.in_ok-shown-in-Ok.field-0
-    (ap (λ (r : Kept). record c.args.self.now { replica = r }) c.select.ensures.same) c.in-Ok.ensures.answer c.in_ok-shown-in-Ok.ensures
+    (ap (λ (r : DurableReplica). record c.args.self.now { replica = r }) c.select.ensures.same) c.in-Ok.ensures.answer c.in_ok-shown-in-Ok.ensures
     (selected_drew c.args.report.now c.args.text.now c.take_draw.new.draws c.in_ok-draw.draw c.in_ok-draw.ensures.told) refl refl names b before

@@ -1,8 +1,0 @@
-use Rattle.std.proofs.Common.{drop}
-use Rattle.std.specs.List.{AllByRecursion}
-use Rattle.commit_store.specs.store_model.Bodies.{IsValue}
-use Rattle.waiting_entries.proofs.forms.are_values.Given as goal
-
--- those that are left are wanting
-abbrev pub invariant-loop-value : goal.invariant-loop-value
-invariant-loop-value l = AllByRecursion IsValue (drop l.value-index l.values) → AllByRecursion IsValue l.values
