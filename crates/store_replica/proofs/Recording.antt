@@ -1,14 +1,13 @@
 -- One record, staged and committed; and its mark.
-use Rattle.std.proofs.Common.{◌≡◌, ◌≢◌, ℕ, ◌+◌, ◌-◌, ◌<◌, ◌≤◌, ◌^◌, min, Bool, true, false, cond, List, [], ◌∷◌, ◌++◌, length, map, take, set, Option, Some, None, Result, Ok, Err, refl, sym, ◌∙◌, ap, subst, arith, append-nil}
+use Rattle.std.proofs.Common.{◌≡◌, ℕ, ◌+◌, ◌-◌, ◌<◌, ◌≤◌, ◌^◌, min, Bool, cond, List, [], ◌∷◌, ◌++◌, length, map, take, set, Option, Some, None, Result, Ok, Err, refl, sym, ◌∙◌, ap, subst, arith, append-nil}
 use Rattle.std.specs.Prelude.{IfSome, OnErr, OnOk, if◌then◌else◌}
 use Rattle.std.specs.Option.{option_and_then}
 use Rattle.std.proofs.lemmas.List.{map-append, length-append, take_at}
 use Rattle.answer_text.specs.declared.report.Mark.{Mark}
 use Rattle.disk_model.specs.Story.{Story, count, seen}
-use Rattle.disk_model.specs.Moments.{Always, GoesOn}
+use Rattle.disk_model.specs.Moments.{Always}
 use Rattle.disk_model.specs.Claims.{WorksOn}
 use Rattle.disk_model.proofs.Laws.{if_all}
-use Rattle.disk_model.proofs.Moments.{on_count}
 use Rattle.gate_journal.specs.declared.journal.Journal.{Journal}
 use Rattle.gate_journal.specs.Journal.{HasStaged}
 use Rattle.store_model.specs.declared.record.Kind.{Kind}
@@ -32,7 +31,7 @@ use Rattle.durable_runs.proofs.Joining.{runs_committed, runs_failed, runs_more}
 use Rattle.store_replica.specs.Pushed.{ArePushed}
 use Rattle.store_replica.specs.Writing.{CanKeep, IsCounted, IsOn, LeadsTo, StaysOn}
 use Rattle.store_replica.proofs.Ends.{ends_stay}
-use Rattle.store_replica.proofs.Standings.{each_stands, if_map, leads_of, no_call, one_rises, stays_leads, stays_of, stays_runs, stays_then}
+use Rattle.store_replica.proofs.Standings.{each_stands, leads_of, no_call, one_rises, stays_of, stays_runs, stays_then}
 
 -- what follows of two facts at Ok
 pub ok_two : {A E : Type 0} (r : Result A E) {X Y Z : Type 0} → OnOk r X → OnOk r Y → (X → Y → Z) → OnOk r Z

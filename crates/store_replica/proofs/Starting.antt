@@ -14,7 +14,6 @@ use Rattle.disk_model.proofs.Moments.{on_trans}
 use Rattle.disk_model.proofs.Putting.{since_told}
 use Rattle.gate_journal.specs.Records.{records}
 use Rattle.prog_work.specs.Contents.{Contents}
-use Rattle.store_model.specs.declared.record.Kind.{Kind}
 use Rattle.store_model.specs.declared.record.Kind.TheVariants.{Replica}
 use Rattle.store_model.specs.Held.{Held, LogEnd}
 use Rattle.store_model.specs.Stores.{HasLogs, first_log, held_by, journal_of}

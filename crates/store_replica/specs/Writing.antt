@@ -1,6 +1,6 @@
 -- What a replica has on its disk, and how keeping a record changes it.
-use Rattle.std.specs.Prelude.{◌≡◌, ◌⊎◌, ◌<◌, ℕ, ◌^◌, Bool, if◌then◌else◌, length, Option, Some, Ok, IfSome}
-use Rattle.disk_model.specs.Story.{Image, Story, count, seen}
+use Rattle.std.specs.Prelude.{◌≡◌, ◌⊎◌, ◌<◌, ◌^◌, Bool, if◌then◌else◌, length, Option, Some, Ok, IfSome}
+use Rattle.disk_model.specs.Story.{Story, count, seen}
 use Rattle.disk_model.specs.Moments.{Always, GoesOn}
 use Rattle.store_model.specs.declared.record.Kind.TheVariants.{Replica}
 use Rattle.store_model.specs.declared.record.Record.{Record}

@@ -1,4 +1,4 @@
-use Rattle.std.proofs.Common.{◌∙◌, false, true, sym, refl, arith}
+use Rattle.std.proofs.Common.{false, true, refl, arith}
 use Rattle.store_replica.proofs.Recording.{counted_as, more_marks, none_pushed, ok_from, ok_map, uncounted, unmarked_run}
 use Rattle.store_replica.proofs.keeping.keep.Goals as goal
 

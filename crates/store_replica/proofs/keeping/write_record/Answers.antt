@@ -1,8 +1,8 @@
-use Rattle.std.proofs.Common.{◌∙◌, ap, arith}
+use Rattle.std.proofs.Common.{ap}
 use Rattle.commit_store.specs.declared.store.Store.{Store}
 use Rattle.store_model.specs.Bodies.{body_of}
 use Rattle.store_replica.proofs.Recording.{all_leads, all_on, leads_on, ok_two, ready, room_is, staged_stays, taken}
-use Rattle.store_replica.proofs.Standings.{apart_from, stays_leads}
+use Rattle.store_replica.proofs.Standings.{stays_leads}
 use Rattle.store_replica.proofs.keeping.write_record.Goals as goal
 
 pub stage-requires-clause-prepared : goal.stage-requires-clause-prepared
