@@ -1,5 +1,5 @@
-use Rattle.order_laws.proofs.Keys.{rising_keys_stay, falling_keys_turn, keys_order_rows, keys_turn_rows}
-use Rattle.order_laws.proofs.laws.keys_order_rows.Goals as goal
+use Rattle.key_order.proofs.Keys.{rising_keys_stay, falling_keys_turn, keys_order_rows, keys_turn_rows}
+use Rattle.key_order.proofs.laws.keys_order_rows.Goals as goal
 
 pub returns-clause-rising : goal.returns-clause-rising
 returns-clause-rising c = rising_keys_stay

@@ -7,10 +7,10 @@ use Rattle.val_types.specs.declared.ops.Agg.TheVariants.{Count}
 use Rattle.val_types.specs.declared.definitions.TableDef.{TableDef}
 use Rattle.value_rules.specs.Selecting.{first_value, known_count}
 use Rattle.sql_tree.specs.Tree.{count_all, no_aggregate}
-use Rattle.sql_meaning.specs.Scenes.{Scene, Ending, done, then_do, pure, each, ◌>>=◌}
-use Rattle.sql_meaning.specs.Frames.{World, Frame, sees}
-use Rattle.sql_meaning.specs.Values.{argument_values, formed}
-use Rattle.order_laws.specs.Counts.{CountsRows}
+use Rattle.where_candidates.specs.session_ctx.sql_meaning.Scenes.{Scene, Ending, done, then_do, pure, each, ◌>>=◌}
+use Rattle.where_candidates.specs.session_ctx.sql_meaning.Frames.{World, Frame, sees}
+use Rattle.where_candidates.specs.session_ctx.sql_meaning.Values.{argument_values, formed}
+use Rattle.key_order.specs.Counts.{CountsRows}
 
 -- each row counts as 1
 abbrev ones : List (List Value) → List (List Value)

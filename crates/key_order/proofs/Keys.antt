@@ -13,12 +13,12 @@ use Rattle.val_types.proofs.Values.{key_order_total}
 use Rattle.value_rules.specs.Selecting.{by_items, put_in_order, in_order, comes_first_of, stand_in_order}
 use Rattle.table_rules.specs.Tables.{is_below, rise}
 use Rattle.sql_tree.specs.Tree.{Orders, no_order, order_by}
-use Rattle.sql_meaning.specs.Scenes.{Scene, Ending, done, then_do, pure, each, ◌>>=◌}
-use Rattle.sql_meaning.specs.Frames.{World, Frame, sees}
-use Rattle.sql_meaning.specs.Values.{order_values, sorted, directions}
-use Rattle.where_laws.specs.Sides.{of_column}
-use Rattle.where_laws.proofs.Sides.{sides_are_so}
-use Rattle.order_laws.specs.Keys.{with_keys, are_rising, are_falling, AreColumns, RisingKeysStay, FallingKeysTurn, KeysOrderRows, KeysTurnRows}
+use Rattle.where_candidates.specs.session_ctx.sql_meaning.Scenes.{Scene, Ending, done, then_do, pure, each, ◌>>=◌}
+use Rattle.where_candidates.specs.session_ctx.sql_meaning.Frames.{World, Frame, sees}
+use Rattle.where_candidates.specs.session_ctx.sql_meaning.Values.{order_values, sorted, directions}
+use Rattle.where_candidates.specs.where_keys.where_laws.Sides.{of_column}
+use Rattle.where_candidates.proofs.of_where_keys.of_where_laws.Sides.{sides_are_so}
+use Rattle.key_order.specs.Keys.{with_keys, are_rising, are_falling, AreColumns, RisingKeysStay, FallingKeysTurn, KeysOrderRows, KeysTurnRows}
 
 -- ---- by rising items, keys stand as they are ordered
 
@@ -127,9 +127,9 @@ all_keyed w f d os (row ∷ rows) scene are fit =
     rw (column_values w f d os d.primary are row scene both.0, all_keyed w f d os rows scene are both.1) refl
 
 pub keys_order_rows : KeysOrderRows
-keys_order_rows w f d os rows scene are up kept =
-    ap (λ (e : Ending (List Keyed)). then_do e (λ keyed. pure (sorted (directions os) keyed))) (all_keyed w f d os rows scene are kept.fit)
-    ∙ ap (λ (rs : List (List Value)). done rs scene) (rising_keys_stay d (directions os) rows up (as_many w f d os d.primary are) kept.rising)
+keys_order_rows w f d os rows scene are up fit rising =
+    ap (λ (e : Ending (List Keyed)). then_do e (λ keyed. pure (sorted (directions os) keyed))) (all_keyed w f d os rows scene are fit)
+    ∙ ap (λ (rs : List (List Value)). done rs scene) (rising_keys_stay d (directions os) rows up (as_many w f d os d.primary are) rising)
 
 -- ---- the other way round
 
@@ -203,6 +203,6 @@ falling_keys_turn d downs rows down long rising =
     ap (map (λ (r : Keyed). r.1)) (turn d downs rows down long rising) ∙ map_reversed (λ (r : Keyed). r.1) (with_keys d rows) ∙ ap reverse (rows_back d rows)
 
 pub keys_turn_rows : KeysTurnRows
-keys_turn_rows w f d os rows scene are down kept =
-    ap (λ (e : Ending (List Keyed)). then_do e (λ keyed. pure (sorted (directions os) keyed))) (all_keyed w f d os rows scene are kept.fit)
-    ∙ ap (λ (rs : List (List Value)). done rs scene) (falling_keys_turn d (directions os) rows down (as_many w f d os d.primary are) kept.rising)
+keys_turn_rows w f d os rows scene are down fit rising =
+    ap (λ (e : Ending (List Keyed)). then_do e (λ keyed. pure (sorted (directions os) keyed))) (all_keyed w f d os rows scene are fit)
+    ∙ ap (λ (rs : List (List Value)). done rs scene) (falling_keys_turn d (directions os) rows down (as_many w f d os d.primary are) rising)

@@ -4,9 +4,9 @@ use Rattle.val_types.specs.declared.value.Value.{Value}
 use Rattle.val_types.specs.declared.value.Value.TheVariants.{Int}
 use Rattle.val_types.specs.declared.definitions.TableDef.{TableDef}
 use Rattle.sql_tree.specs.Tree.{aggregates, count_all, no_aggregate}
-use Rattle.sql_meaning.specs.Scenes.{Scene, done}
-use Rattle.sql_meaning.specs.Frames.{World, Frame}
-use Rattle.sql_meaning.specs.Values.{shown_rows}
+use Rattle.where_candidates.specs.session_ctx.sql_meaning.Scenes.{Scene, done}
+use Rattle.where_candidates.specs.session_ctx.sql_meaning.Frames.{World, Frame}
+use Rattle.where_candidates.specs.session_ctx.sql_meaning.Values.{shown_rows}
 
 -- COUNT(*) alone shows how many rows there are, and changes nothing
 abbrev pub CountsRows : Type 0

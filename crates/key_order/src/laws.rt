@@ -1,7 +1,7 @@
 //! Laws of ORDER BY, COUNT(*), MIN and MAX.
-ghost use Rattle.order_laws.specs.Counts.{CountsRows};
-ghost use Rattle.order_laws.specs.Extremes.{HighestIsLast, LowestIsFirst};
-ghost use Rattle.order_laws.specs.Keys.{FallingKeysTurn, KeysOrderRows, KeysTurnRows, RisingKeysStay};
+ghost use Rattle.key_order.specs.Counts.{CountsRows};
+ghost use Rattle.key_order.specs.Extremes.{HighestIsLast, LowestIsFirst};
+ghost use Rattle.key_order.specs.Keys.{FallingKeysTurn, KeysOrderRows, KeysTurnRows, RisingKeysStay};
 
 /// A law: rows in the order of their primary key stay as they stand where they are sorted by it, all its columns rising, and turn where
 /// all are falling; so ORDER BY these columns leaves the rows of a table as they stand, or the other way round, and changes nothing.

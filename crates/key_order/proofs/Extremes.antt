@@ -9,7 +9,7 @@ use Rattle.val_types.specs.Fitting.{is_null}
 use Rattle.val_types.specs.Order.{value_order}
 use Rattle.val_types.proofs.Values.{value_order_total}
 use Rattle.value_rules.specs.Selecting.{better, comes_first, extreme}
-use Rattle.order_laws.specs.Extremes.{values_rise, last_from, LowestIsFirst, HighestIsLast}
+use Rattle.key_order.specs.Extremes.{values_rise, last_from, LowestIsFirst, HighestIsLast}
 
 -- ---- the lowest
 

@@ -1,5 +1,5 @@
-use Rattle.order_laws.proofs.Extremes.{lowest_is_first, highest_is_last}
-use Rattle.order_laws.proofs.laws.extremes_stand_outside.Goals as goal
+use Rattle.key_order.proofs.Extremes.{lowest_is_first, highest_is_last}
+use Rattle.key_order.proofs.laws.extremes_stand_outside.Goals as goal
 
 pub returns-clause-lowest : goal.returns-clause-lowest
 returns-clause-lowest c = lowest_is_first

@@ -4,13 +4,14 @@ use Rattle.std.specs.List.{list_all}
 use Rattle.val_types.specs.declared.value.Value.{Value}
 use Rattle.val_types.specs.declared.definitions.ColumnDef.{ColumnDef}
 use Rattle.val_types.specs.declared.definitions.TableDef.{TableDef}
+use Rattle.val_types.specs.Fitting.{row_fits}
 use Rattle.val_types.specs.Keys.{primary_key}
-use Rattle.table_rules.specs.Tables.{IsKept, rise}
+use Rattle.table_rules.specs.Tables.{rise}
 use Rattle.sql_tree.specs.Tree.{Tree, Orders, no_order, order_by}
-use Rattle.sql_meaning.specs.Scenes.{Scene, ◌>>=◌, pure, done, each}
-use Rattle.sql_meaning.specs.Frames.{World, Frame, sees}
-use Rattle.sql_meaning.specs.Values.{order_values, sorted, directions}
-use Rattle.where_laws.specs.Sides.{of_column, side_of}
+use Rattle.where_candidates.specs.session_ctx.sql_meaning.Scenes.{Scene, ◌>>=◌, pure, done, each}
+use Rattle.where_candidates.specs.session_ctx.sql_meaning.Frames.{World, Frame, sees}
+use Rattle.where_candidates.specs.session_ctx.sql_meaning.Values.{order_values, sorted, directions}
+use Rattle.where_candidates.specs.where_keys.where_laws.Sides.{of_column, side_of}
 
 -- rows, each with its primary key as the values by which it is sorted
 abbrev pub with_keys : TableDef → List (List Value) → List (List Value × List Value)
@@ -46,16 +47,16 @@ AreColumns world frame d no_order (place ∷ places) = ⊥
 AreColumns world frame d (order_by t down os) [] = ⊥
 AreColumns world frame d (order_by t down os) (place ∷ places) = IsColumn world frame d t place × AreColumns world frame d os places
 
--- ORDER BY the columns of the primary key, all rising: the rows of a table as they stand
+-- ORDER BY the columns of the primary key, all rising: rows that fit and rise, as those of a table do, as they stand
 abbrev pub KeysOrderRows : Type 0
 KeysOrderRows =
     (world : World) (frame : Frame) (d : TableDef) (os : Orders) (rows : List (List Value)) (scene : Scene) → AreColumns world frame d os d.primary → are_rising (directions os) ≡ true
-    → IsKept (record { definition = d; rows = rows })
+    → list_all (row_fits d.columns) rows ≡ true → rise d rows ≡ true
     → (each (λ row. order_values world (sees d row frame) os >>= λ by. pure (by, row)) rows >>= λ keyed. pure (sorted (directions os) keyed)) scene ≡ done rows scene
 
 -- the same, all falling: these rows the other way round
 abbrev pub KeysTurnRows : Type 0
 KeysTurnRows =
     (world : World) (frame : Frame) (d : TableDef) (os : Orders) (rows : List (List Value)) (scene : Scene) → AreColumns world frame d os d.primary → are_falling (directions os) ≡ true
-    → IsKept (record { definition = d; rows = rows })
+    → list_all (row_fits d.columns) rows ≡ true → rise d rows ≡ true
     → (each (λ row. order_values world (sees d row frame) os >>= λ by. pure (by, row)) rows >>= λ keyed. pure (sorted (directions os) keyed)) scene ≡ done (reverse rows) scene
