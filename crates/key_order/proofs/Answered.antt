@@ -144,7 +144,7 @@ module _ (w : World) (f : Frame) (d : TableDef) (rows : List (List Value)) where
 
 -- ---- a table as it stands
 
-all_kept : (rows : List (List Value)) (scene : Scene) → kept_by (λ (row : List Value). pure true) rows scene ≡ done rows scene
+pub all_kept : (rows : List (List Value)) (scene : Scene) → kept_by (λ (row : List Value). pure true) rows scene ≡ done rows scene
 all_kept [] scene = refl
 all_kept (row ∷ rows) scene = ap (λ (e : Ending (List (List Value))). then_do e (λ rest. pure (row ∷ rest))) (all_kept rows scene)
 
@@ -154,7 +154,7 @@ Keyed = List Value × List Value
 abbrev alone : List Value → Keyed
 alone row = ([], row)
 
-all_alone : (rows : List (List Value)) (scene : Scene) → each (λ (row : List Value). pure (alone row)) rows scene ≡ done (map alone rows) scene
+pub all_alone : (rows : List (List Value)) (scene : Scene) → each (λ (row : List Value). pure (alone row)) rows scene ≡ done (map alone rows) scene
 all_alone [] scene = refl
 all_alone (row ∷ rows) scene = ap (λ (e : Ending (List Keyed)). then_do e (λ rest. pure (alone row ∷ rest))) (all_alone rows scene)
 
@@ -173,7 +173,7 @@ alone_again : (rows : List (List Value)) → map (λ (r : Keyed). r.1) (map alon
 alone_again [] = refl
 alone_again (row ∷ rows) = ap (λ (ys : List (List Value)). row ∷ ys) (alone_again rows)
 
-nothing_sorts : (rows : List (List Value)) → sorted [] (map alone rows) ≡ rows
+pub nothing_sorts : (rows : List (List Value)) → sorted [] (map alone rows) ≡ rows
 nothing_sorts rows = ap (map (λ (r : Keyed). r.1)) (stays (map alone rows)) ∙ alone_again rows
 
 as_it_stands : (w : World) (f : Frame) (what : Selected) (name : List ℕ) (t : Table) (scene : Scene) → table_named name scene.tables ≡ Some t
@@ -198,6 +198,10 @@ table_is : (d : TableDef) (found : Option Table) → option_map (λ (t : Table).
 table_is d None here = cc
 table_is d (Some t) here = let same : t.definition ≡ d = cc in ap (λ (e : TableDef). Some (record { definition = e; rows = t.rows })) same
 
+pub named_there : (name : List ℕ) (tables : List Table) (place : ℕ) (d : TableDef) → place_of name tables ≡ Some place → slice_get (definitions_of tables) place ≡ Some d
+    → table_named name tables ≡ Some (record { definition = d; rows = rows_of name tables })
+named_there name tables place d is there = table_is d (table_named name tables) (sym (definition_there name tables place is) ∙ there)
+
 -- what is read at its ends is what the SELECT shows
 read_at_ends : (o : Outside) (as' : List Aggregate) (name : List ℕ) (store : Store) (place : ℕ) (d : TableDef) (row : List Value) → IsWhole store
     → place_of name store.tables ≡ Some place → slice_get (definitions_of store.tables) place ≡ Some d → ends_in o d (rows_of name store.tables) (map view_aggregate as') ≡ Some row
@@ -205,7 +209,7 @@ read_at_ends : (o : Outside) (as' : List Aggregate) (name : List ℕ) (store : S
     → rows_of_query w f (query (aggregates (view_aggregates as')) (from_table name no_part no_order None)) scene ≡ done (row ∷ []) scene
 read_at_ends o as' name store place d row whole is there e w f scene round tables =
     let t : Table = record { definition = d; rows = rows_of name store.tables } in
-    let named : table_named name store.tables ≡ Some t = table_is d (table_named name store.tables) (sym (definition_there name store.tables place is) ∙ there) in
+    let named : table_named name store.tables ≡ Some t = named_there name store.tables place d is there in
     let kept : IsKept t = named_kept name store.tables t whole.rows named in
     as_it_stands w f (aggregates (view_aggregates as')) name t scene (ap (table_named name) tables ∙ named)
     ∙ all_shown w f d t.rows (map view_aggregate as') row (all_known o w f d t.rows (map view_aggregate as') row round kept.fit kept.rising e) scene kept.fit

@@ -138,7 +138,7 @@ last_is : (place : ℕ) (row : List Value) (rows : List (List Value)) → edge_v
 last_is place row [] = refl
 last_is place row (next ∷ rows) = last_is place next rows
 
-one_less : (n : ℕ) → suc n - 1 ≡ n
+pub one_less : (n : ℕ) → suc n - 1 ≡ n
 one_less n = omega arith
 
 not_true : (b : Bool) → not b ≡ true → b ≡ false

@@ -6,3 +6,4 @@ pub mod Ordered
 pub mod AtEnds
 pub mod Answered
 pub mod Whole
+pub mod OneRow

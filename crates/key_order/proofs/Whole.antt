@@ -22,7 +22,7 @@ from_level : (table : List ℕ) (filter : Option (Expr)) (order : List OrderItem
 from_level table None order limit = refl
 from_level table (Some e) order limit = refl
 
-from_of_out : (f : FromClause) → view_from f ≡ from_table (out-FromClause f).table (view_part (out-FromClause f).filter) (view_orders (out-FromClause f).order) (out-FromClause f).limit
+pub from_of_out : (f : FromClause) → view_from f ≡ from_table (out-FromClause f).table (view_part (out-FromClause f).filter) (view_orders (out-FromClause f).order) (out-FromClause f).limit
 from_of_out f =
     fold_out-FromClause (Option (Agg × Tree)) Tree Selected (Tree × Tree) Origin (Tree × Bool) Query aggregate_step tree_step selected_step arm_step origin_step order_step query_step f
     ∙ from_level (out-FromClause f).table (out-FromClause f).filter (out-FromClause f).order (out-FromClause f).limit

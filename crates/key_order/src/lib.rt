@@ -6,7 +6,7 @@
 //!
 //! - `columns`: whether an expression is the column at a place
 //! - `ordering`: rows put into the order of ORDER BY without a sort ([`by_key`])
-//! - `ends`: what aggregates show without a walk ([`row_of_ends`])
+//! - `ends`: what aggregates show without a walk ([`row_of_ends`]); `edges`: the only row that LIMIT 1 leaves ([`row_at_edge`])
 //! - `laws`: what holds of ORDER BY, COUNT(*), MIN and MAX; specs/ (`Keys`, `Counts`, `Extremes`)
 //!
 //! The definitions in specs/ say what is looked for (`Columns`), and what is given (`Given`).
@@ -16,6 +16,7 @@
 //!   round the SELECT; else it gives the rows back
 //! - where [`row_of_ends`] gives a row, the SELECT gives just that row, and changes nothing, in each scene of these tables, whatever else is
 //!   round it
+//! - where [`row_at_edge`] gives a table with some rows, the SELECT shows just these of it, likewise
 //! - rows that rise by their primary key stay as they stand where they are sorted by it, and turn where all its columns are falling; so
 //!   ORDER BY just its columns gives rows as they stand, or the other way round, and changes nothing ([`keys_order_rows`])
 //! - COUNT(*) alone shows how many rows there are, and changes nothing ([`rows_are_counted`])
@@ -23,11 +24,13 @@
 #![tactic(auto)]
 
 mod columns;
+mod edges;
 mod ends;
 mod laws;
 mod ordering;
 
 // What is its own, and the crates below that it speaks of, passed on: who stands above names them through it.
+pub use edges::row_at_edge;
 pub use ends::row_of_ends;
 pub use laws::{extremes_stand_outside, keys_order_rows, rows_are_counted};
 pub use ordering::by_key;

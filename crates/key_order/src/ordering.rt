@@ -12,7 +12,7 @@ use where_candidates::where_keys::Outside;
 
 /// Whether the items of ORDER BY are just the columns at some places, in this order, all falling or all rising.
 #[tactic(auto, using(crate::proofs::Items::items))]
-fn are_columns(
+pub(crate) fn are_columns(
     outside: &Outside<'_>,
     definition: &TableDef,
     down: bool,
