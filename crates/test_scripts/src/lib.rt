@@ -6,7 +6,7 @@
 //! - `answers`: scripts and what they write: transactions, generated values, limits of trees, errors and their order
 //! - `refusals`: statements, SETs, CALLs and definitions with one cause to be refused, and SELECTs of the replica
 //! - `programs`: stored functions and triggers; `settings`: SET that is refused behind its evaluation
-//! - `keys`: conditions that name the key of a row, or seem to
+//! - `keys`: conditions that name the key of a row, or seem to; `orders`: ORDER BY the key, and COUNT, MIN and MAX
 //! - `replication`: logs fetched in pieces and carried out in groups
 //! - `logs`: the source's log in place of the answers
 //! - `texts`: that log printed and replayed: what each statement carries, by its text and by its rows, and what a procedure leaves
@@ -26,6 +26,8 @@ mod logs;
 mod made;
 #[cfg(test)]
 mod made_scripts;
+#[cfg(test)]
+mod orders;
 #[cfg(test)]
 mod playing;
 #[cfg(test)]
