@@ -18,8 +18,8 @@ use Rattle.sql_tree.specs.BuiltIns.{on_many, on_two, on_three}
 use Rattle.sql_tree.specs.View.{view_tree, view_trees, view_arms, view_arm, aggregate_step, tree_step, selected_step, arm_step, origin_step, order_step, query_step}
 use Rattle.value_rules.specs.Operators.{truth_of, comparison}
 use Rattle.value_rules.specs.Functions.{is_known_true}
-use Rattle.where_candidates.specs.session_ctx.sql_meaning.Scenes.{Scene, Ending, Action, done, failed, then_do, pure, answered, ◌>>=◌}
-use Rattle.where_candidates.specs.session_ctx.sql_meaning.Values.{holds, found_or, value_of_arms, first_known_of, value_at}
+use Rattle.key_order.specs.where_candidates.session_ctx.sql_meaning.Scenes.{Scene, Ending, Action, done, failed, then_do, pure, answered, ◌>>=◌}
+use Rattle.key_order.specs.where_candidates.session_ctx.sql_meaning.Values.{holds, found_or, value_of_arms, first_known_of, value_at}
 use Rattle.val_types.specs.declared.refusal.SqlRefusal.{SqlRefusal}
 use Rattle.val_types.specs.declared.refusal.SqlRefusal.TheVariants.{Sql, NoMemory}
 use Rattle.exec_state.specs.Stage.{EndsAs}

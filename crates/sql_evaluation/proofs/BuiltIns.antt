@@ -11,8 +11,8 @@ use Rattle.val_types.specs.declared.refusal.SqlRefusal.{SqlRefusal}
 use Rattle.value_rules.specs.Functions.{value_of_one, value_of_three, value_of_many}
 use Rattle.sql_tree.specs.Tree.{Tree, Trees}
 use Rattle.sql_tree.specs.BuiltIns.{all_arguments, about, on_none, on_one, on_three, on_many}
-use Rattle.where_candidates.specs.session_ctx.sql_meaning.Scenes.{Scene, done, failed, answered}
-use Rattle.where_candidates.specs.session_ctx.sql_meaning.Values.{session_value, values}
+use Rattle.key_order.specs.where_candidates.session_ctx.sql_meaning.Scenes.{Scene, done, failed, answered}
+use Rattle.key_order.specs.where_candidates.session_ctx.sql_meaning.Values.{session_value, values}
 use Rattle.exec_state.specs.Stage.{EndsAs}
 use Rattle.sql_evaluation.specs.declared.world.View.{View as Shown}
 use Rattle.sql_evaluation.specs.declared.world.Around.{Around}

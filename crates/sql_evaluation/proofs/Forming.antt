@@ -12,8 +12,8 @@ use Rattle.sql_tree.specs.declared.expressions.Aggregate.{Aggregate}
 use Rattle.sql_tree.specs.Tree.{Tree, Aggregates}
 use Rattle.sql_tree.specs.View.{view_aggregate, view_aggregates, aggregate_before}
 use Rattle.value_rules.specs.Selecting.{first_value, aggregate_value}
-use Rattle.where_candidates.specs.session_ctx.sql_meaning.Scenes.{Scene, Ending, done, failed, then_do, pure, answered, ◌>>=◌}
-use Rattle.where_candidates.specs.session_ctx.sql_meaning.Values.{formed, functions_of}
+use Rattle.key_order.specs.where_candidates.session_ctx.sql_meaning.Scenes.{Scene, Ending, done, failed, then_do, pure, answered, ◌>>=◌}
+use Rattle.key_order.specs.where_candidates.session_ctx.sql_meaning.Values.{formed, functions_of}
 use Rattle.exec_state.specs.Stage.{EndsAs}
 use Rattle.sql_evaluation.specs.declared.world.View.{View as Shown}
 use Rattle.sql_evaluation.specs.declared.world.Around.{Around}

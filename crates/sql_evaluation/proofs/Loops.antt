@@ -5,9 +5,9 @@ use Rattle.val_types.specs.declared.value.Value.{Value}
 use Rattle.sql_tree.specs.declared.expressions.Expr.{Expr}
 use Rattle.sql_tree.specs.Tree.{Trees}
 use Rattle.sql_tree.specs.View.{view_tree, view_trees}
-use Rattle.where_candidates.specs.session_ctx.sql_meaning.Scenes.{Scene, Ending, Action, done, failed, then_do, pure, each, ◌>>=◌}
-use Rattle.where_candidates.specs.session_ctx.sql_meaning.Frames.{World, Frame}
-use Rattle.where_candidates.specs.session_ctx.sql_meaning.Values.{value, values}
+use Rattle.key_order.specs.where_candidates.session_ctx.sql_meaning.Scenes.{Scene, Ending, Action, done, failed, then_do, pure, each, ◌>>=◌}
+use Rattle.key_order.specs.where_candidates.session_ctx.sql_meaning.Frames.{World, Frame}
+use Rattle.key_order.specs.where_candidates.session_ctx.sql_meaning.Values.{value, values}
 
 -- ---- each
 

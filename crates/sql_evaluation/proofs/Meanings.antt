@@ -6,8 +6,8 @@ use Rattle.val_types.specs.declared.value.Value.{Value}
 use Rattle.val_types.specs.declared.value.Value.TheVariants.{Null, Int, Text}
 use Rattle.val_types.specs.declared.refusal.SqlRefusal.TheVariants.{Sql, NoMemory}
 use Rattle.sql_tree.specs.Tree.{Tree, literal, name, column, new_column, old_column, user_variable, system_variable, unary, binary, is_in, choice, subquery, exists, call, values_of, name_const, floor_rand, built_in}
-use Rattle.where_candidates.specs.session_ctx.sql_meaning.Scenes.{Scene, Action, done, failed, needed}
-use Rattle.where_candidates.specs.session_ctx.sql_meaning.Frames.{capped}
+use Rattle.key_order.specs.where_candidates.session_ctx.sql_meaning.Scenes.{Scene, Action, done, failed, needed}
+use Rattle.key_order.specs.where_candidates.session_ctx.sql_meaning.Frames.{capped}
 use Rattle.sql_evaluation.specs.declared.world.View.{View as Shown}
 use Rattle.sql_evaluation.specs.declared.world.Around.{Around}
 use Rattle.sql_evaluation.specs.Seen.{Stands, StandsIf, meant, Anywhere, is_capped}

@@ -21,13 +21,13 @@ use Rattle.sql_tree.specs.declared.expressions.Arm.{Arm}
 use Rattle.sql_tree.specs.View.{view_aggregate, view_arm, view_tree, view_selected, view_origin, view_from, view_order, view_orders, view_part, view_query, aggregate_step, tree_step, selected_step, arm_step, origin_step, order_step, query_step}
 use Rattle.table_rules.specs.Tables.{Table}
 use Rattle.value_rules.specs.Selecting.{by_items, in_order, put_in_order, first_value}
-use Rattle.where_candidates.specs.session_ctx.sql_meaning.Scenes.{Scene, Ending, Action, done, failed, then_do, pure, needed, each, kept_by, table_now, ◌>>=◌}
-use Rattle.where_candidates.specs.session_ctx.sql_meaning.Frames.{sees, limited}
-use Rattle.where_candidates.specs.session_ctx.sql_meaning.Values.{is_kept, order_values, shown_rows, sorted, directions, only_value}
+use Rattle.key_order.specs.where_candidates.session_ctx.sql_meaning.Scenes.{Scene, Ending, Action, done, failed, then_do, pure, needed, each, kept_by, table_now, ◌>>=◌}
+use Rattle.key_order.specs.where_candidates.session_ctx.sql_meaning.Frames.{sees, limited}
+use Rattle.key_order.specs.where_candidates.session_ctx.sql_meaning.Values.{is_kept, order_values, shown_rows, sorted, directions, only_value}
 use Rattle.exec_state.specs.declared.stage.Stage.{Stage}
 use Rattle.exec_state.specs.Stage.{EndsAs, scene_of}
-use Rattle.where_candidates.specs.Candidates.{AreCandidates, Sees}
-use Rattle.where_candidates.specs.where_keys.declared.outside.Outside.{Outside}
+use Rattle.key_order.specs.where_candidates.Candidates.{AreCandidates, Sees}
+use Rattle.key_order.specs.where_candidates.where_keys.declared.outside.Outside.{Outside}
 use Rattle.sql_evaluation.specs.declared.world.View.{View as Shown}
 use Rattle.sql_evaluation.specs.declared.world.Around.{Around}
 use Rattle.sql_evaluation.specs.Seen.{value_in, values_in, holds_in, kept_in, where_in, keyed_in, ordered_in, order_in, items_in, shown_in, rows_in, alone_in, from_in, aggregated_in, seen, with_row, Inside, IsOutside, Anywhere, world_of, frame_of}
@@ -315,7 +315,7 @@ kept_all : (rows : List (List Value)) (scene : Scene) → kept_by (λ row. pure 
 kept_all [] scene = refl
 kept_all (row ∷ rows) scene = ap (λ (e : Ending (List (List Value))). then_do e (λ rest. pure (row ∷ rest))) (kept_all rows scene)
 
-where_is : (a : Around) (vs : List Shown) (d : TableDef) (p : Part) (rows : List (List Value)) (scene : Scene)
+pub where_is : (a : Around) (vs : List Shown) (d : TableDef) (p : Part) (rows : List (List Value)) (scene : Scene)
     → kept_by (λ row. is_kept (world_of a) (sees d row (frame_of a vs)) p) rows scene ≡ where_in a vs d p rows scene
 unfolding frame_of
 where_is a vs d no_part rows scene = kept_all rows scene

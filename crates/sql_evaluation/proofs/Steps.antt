@@ -3,14 +3,14 @@ use Rattle.std.proofs.Common.{◌≡◌, List, refl, sym, subst, Result}
 use Rattle.val_types.specs.declared.value.Value.{Value}
 use Rattle.val_types.specs.declared.refusal.SqlRefusal.{SqlRefusal}
 use Rattle.sql_tree.specs.Tree.{Tree}
-use Rattle.where_candidates.specs.session_ctx.sql_meaning.Scenes.{Scene, Action, done}
+use Rattle.key_order.specs.where_candidates.session_ctx.sql_meaning.Scenes.{Scene, Action, done}
 use Rattle.exec_state.specs.declared.stage.Stage.{Stage}
 use Rattle.exec_state.specs.Stage.{EndsAs, LeadsOn}
 use Rattle.exec_state.proofs.Leading.{stage_stays, stage_on}
 use Rattle.sql_evaluation.specs.declared.world.View.{View as Shown}
 use Rattle.sql_evaluation.specs.declared.world.Around.{Around}
-use Rattle.where_candidates.specs.where_keys.declared.outside.Outside.{Outside}
-use Rattle.where_candidates.specs.where_keys.Sides.{row_if}
+use Rattle.key_order.specs.where_candidates.where_keys.declared.outside.Outside.{Outside}
+use Rattle.key_order.specs.where_candidates.where_keys.Sides.{row_if}
 use Rattle.sql_evaluation.specs.Seen.{value_in, Stands, Anywhere, IsOutside, view_if, world_of, frame_of, running_of}
 
 pub stands_at : (a : Around) (vs : List Shown) (t : Tree) (v : Value) (scene : Scene) → Stands a vs t v → value_in a vs t scene ≡ done v scene

@@ -3,6 +3,6 @@ pub mod Seen
 pub use Rattle.catalog_objects.specs as catalog_objects
 pub use Rattle.catalog_objects.specs.catalog_rules as catalog_rules
 pub use Rattle.exec_state.specs as exec_state
-pub use Rattle.where_candidates.specs.session_ctx as session_ctx
-pub use Rattle.where_candidates.specs as where_candidates
-pub use Rattle.where_candidates.specs.session_ctx.sql_meaning as sql_meaning
+pub use Rattle.key_order.specs.where_candidates.session_ctx as session_ctx
+pub use Rattle.key_order.specs.where_candidates as where_candidates
+pub use Rattle.key_order.specs.where_candidates.session_ctx.sql_meaning as sql_meaning

@@ -10,23 +10,26 @@ use Rattle.sql_tree.specs.Tree.{Tree, name, column, new_column, old_column, valu
 use Rattle.sql_tree.specs.declared.expressions.Expr.{Expr}
 use Rattle.sql_tree.specs.View.{view_tree}
 use Rattle.std.specs.declared.cmp.Ordering.{Ordering}
-use Rattle.where_candidates.specs.session_ctx.sql_meaning.Scenes.{Scene, Action, done, answered, pure, each, kept_by, ◌>>=◌}
+use Rattle.key_order.specs.where_candidates.session_ctx.sql_meaning.Scenes.{Scene, Action, done, answered, pure, each, kept_by, ◌>>=◌}
 use Rattle.val_types.specs.declared.ops.BinOp.{BinOp}
+use Rattle.val_types.specs.Fitting.{row_fits}
+use Rattle.table_rules.specs.Tables.{rise}
+use Rattle.std.specs.List.{list_all}
 use Rattle.value_rules.specs.Operators.{decided, binary_value, comparison, with_value, truth_of}
-use Rattle.where_candidates.specs.session_ctx.sql_meaning.Frames.{World, Frame, View, Running, Setting, named_value, qualified_value, column_if}
-use Rattle.where_candidates.specs.session_ctx.sql_meaning.Values.{value, values, unless_known, holds, found_among, rows_of_query, order_values, sorted, directions, argument_values, formed, functions_of, shown_rows, value_of_part, row_alone}
+use Rattle.key_order.specs.where_candidates.session_ctx.sql_meaning.Frames.{World, Frame, View, Running, Setting, named_value, qualified_value, column_if}
+use Rattle.key_order.specs.where_candidates.session_ctx.sql_meaning.Values.{value, values, unless_known, holds, found_among, rows_of_query, order_values, sorted, directions, argument_values, formed, functions_of, shown_rows, value_of_part, row_alone}
 use Rattle.value_rules.specs.Functions.{is_known_true}
 use Rattle.value_rules.specs.Selecting.{by_items, aggregate_value}
 use Rattle.std.specs.Ordering.{is_lt}
 use Rattle.val_types.specs.declared.ops.Agg.{Agg}
-use Rattle.where_candidates.specs.session_ctx.sql_meaning.Running.{level_of}
+use Rattle.key_order.specs.where_candidates.session_ctx.sql_meaning.Running.{level_of}
 use Rattle.exec_state.specs.declared.stage.Stage.{Stage}
 use Rattle.exec_state.specs.declared.running.Running.{Running as UnderWay}
 use Rattle.exec_state.specs.UnderWay.{under_way}
 use Rattle.catalog_objects.specs.Keys.{objects_of}
 use Rattle.exec_state.specs.Stage.{scene_of, EndsAs, LeadsOn}
-use Rattle.where_candidates.specs.where_keys.declared.outside.Outside.{Outside}
-use Rattle.where_candidates.specs.where_keys.Sides.{IsRound}
+use Rattle.key_order.specs.where_candidates.where_keys.declared.outside.Outside.{Outside}
+use Rattle.key_order.specs.where_candidates.where_keys.Sides.{IsRound}
 use Rattle.sql_evaluation.specs.declared.world.View.{View as Shown}
 use Rattle.sql_evaluation.specs.declared.world.Around.{Around}
 
@@ -154,6 +157,11 @@ keyed_in a vs d os rows = each (λ row. order_in a (seen d row vs) os >>= λ by.
 
 abbrev pub ordered_in : Around → List Shown → TableDef → Orders → List (List Value) → Action (List (List Value))
 ordered_in a vs d os rows = keyed_in a vs d os rows >>= λ keyed. pure (sorted (directions os) keyed)
+
+-- rows as a table has them: they fit, and rise by its primary key
+pub record AreTabled (d : TableDef) (rows : List (List Value)) : Type 0 where
+  pub fit : list_all (row_fits d.columns) rows ≡ true
+  pub rising : rise d rows ≡ true
 
 abbrev pub items_in : Around → List Shown → TableDef → Trees → List (List Value) → Action (List (List Value))
 items_in a vs d ts rows = each (λ row. values_in a (seen d row vs) ts) rows

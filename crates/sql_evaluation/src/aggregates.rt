@@ -3,7 +3,7 @@ ghost use Rattle.std.specs.Prelude.{◌≡◌, IfOk, slice_index_or};
 ghost use Rattle.val_types.specs.Answers.{Gives};
 ghost use Rattle.val_types.specs.declared.value.Value.TheVariants.{Null};
 ghost use Rattle.sql_tree.specs.View.{view_aggregate, view_aggregates};
-ghost use Rattle.where_candidates.specs.session_ctx.sql_meaning.Values.{functions_of};
+ghost use Rattle.key_order.specs.where_candidates.session_ctx.sql_meaning.Values.{functions_of};
 ghost use Rattle.exec_state.specs.Stage.{EndsAs, LeadsOn, scene_of};
 ghost use Rattle.sql_evaluation.specs.Seen.{Evaluates, LeadsAlways, aggregated_in, argument_in, argument_rows_in, arguments_in, column_at, formed_values, function_in};
 

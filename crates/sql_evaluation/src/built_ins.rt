@@ -3,7 +3,7 @@ ghost use Rattle.std.specs.Prelude.{◌≡◌};
 ghost use Rattle.val_types.specs.declared.ops.Func.{Func};
 ghost use Rattle.sql_tree.specs.BuiltIns.{about, all_arguments, on_many, on_one, on_three, on_two};
 ghost use Rattle.sql_tree.specs.View.{view_tree, view_trees};
-ghost use Rattle.where_candidates.specs.session_ctx.sql_meaning.Values.{session_value};
+ghost use Rattle.key_order.specs.where_candidates.session_ctx.sql_meaning.Values.{session_value};
 ghost use Rattle.exec_state.specs.Stage.{EndsAs, LeadsOn, scene_of};
 ghost use Rattle.sql_evaluation.specs.Seen.{Evaluates, LeadsAlways, value_in, world_of};
 

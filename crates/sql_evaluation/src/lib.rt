@@ -11,7 +11,8 @@
 //! - `built_ins`: built-in functions, by their number of arguments; `session_values`: what the session gives
 //! - `functions`: calls of stored functions, and RAND()
 //! - `lookup`: what names mean, [`place_of`] a column; `value_lists`: lists of expressions
-//! - `queries`: SELECT with WHERE, EXISTS and scalar subqueries; `sorting`: ORDER BY and LIMIT; `aggregates`
+//! - `queries`: SELECT with WHERE, EXISTS and scalar subqueries; `sorting`: ORDER BY and LIMIT; `aggregates`; `shortcuts`: ORDER BY without a
+//!   sort, LIMIT 1, COUNT, MIN and MAX without a walk, where the primary key's order says all
 //!
 //! The definitions in specs/ say what the code's values stand for (`Seen`).
 //!
@@ -38,6 +39,7 @@ mod operators;
 mod outside;
 mod queries;
 mod session_values;
+mod shortcuts;
 mod sorting;
 mod value_lists;
 mod views;
@@ -49,6 +51,8 @@ pub use choices::{case_value, first_known, first_of_two, if_value};
 pub use exec_state;
 pub use expressions::value;
 pub use functions::{call_value, floor_rand_value};
+pub use key_order::where_candidates;
+pub use key_order::where_candidates::session_ctx;
 pub use lookup::{copied, place_of};
 pub use operators::{binary_value, membership, unary_value};
 pub use outside::outside_of;
@@ -60,6 +64,4 @@ pub use session_values::{
 pub use sorting::{count_of, cut};
 pub use value_lists::values;
 pub use views::{Views, seeing};
-pub use where_candidates;
-pub use where_candidates::session_ctx;
 pub use world::{Around, View};

@@ -6,8 +6,8 @@ ghost use Rattle.std.specs.Option.{option_copied};
 ghost use Rattle.sql_tree.specs.View.{view_tree};
 ghost use Rattle.catalog_objects.specs.catalog_rules.Names.{place_among, same_name};
 ghost use Rattle.catalog_objects.specs.catalog_rules.Objects.{columns_of};
-ghost use Rattle.where_candidates.specs.session_ctx.sql_meaning.Scenes.{needed};
-ghost use Rattle.where_candidates.specs.session_ctx.sql_meaning.Frames.{column_if, column_in, column_in_view, named_value, qualified_value};
+ghost use Rattle.key_order.specs.where_candidates.session_ctx.sql_meaning.Scenes.{needed};
+ghost use Rattle.key_order.specs.where_candidates.session_ctx.sql_meaning.Frames.{column_if, column_in, column_in_view, named_value, qualified_value};
 ghost use Rattle.sql_evaluation.specs.Seen.{Anywhere, StandsIf, frame_of, meant, view_of, view_if, views_of};
 
 use crate::session_values::is_capped;

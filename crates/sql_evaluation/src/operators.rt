@@ -2,7 +2,7 @@
 ghost use Rattle.std.specs.Prelude.{◌≡◌, Some, false};
 ghost use Rattle.sql_tree.specs.View.{view_tree, view_trees};
 ghost use Rattle.sql_tree.specs.Tree.{unary, binary, is_in};
-ghost use Rattle.where_candidates.specs.session_ctx.sql_meaning.Values.{membership};
+ghost use Rattle.key_order.specs.where_candidates.session_ctx.sql_meaning.Values.{membership};
 ghost use Rattle.exec_state.specs.Stage.{EndsAs, LeadsOn, scene_of};
 ghost use Rattle.sql_evaluation.specs.Seen.{Evaluates, LeadsAlways, behind_left, compared_in, found_in, value_in};
 

@@ -1,10 +1,10 @@
 //! What a WHERE has outside of its table.
 ghost use Rattle.std.specs.Prelude.{◌≡◌};
-ghost use Rattle.where_candidates.specs.where_keys.Sides.{row_if};
+ghost use Rattle.key_order.specs.where_candidates.where_keys.Sides.{row_if};
 ghost use Rattle.sql_evaluation.specs.Seen.{IsOutside, view_if};
 
 use crate::world::{Around, View};
-use where_candidates::where_keys::{Outside, RowOf};
+use key_order::where_candidates::where_keys::{Outside, RowOf};
 
 /// A row with its definition, if there is one.
 fn row_of(view: Option<&View>) -> Option<RowOf<'_>>

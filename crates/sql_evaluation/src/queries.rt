@@ -3,24 +3,26 @@ ghost use Rattle.std.specs.Prelude.{◌≡◌, IfOk};
 ghost use Rattle.value_rules.specs.Selecting.{first_value};
 ghost use Rattle.sql_tree.specs.Tree.{exists, subquery};
 ghost use Rattle.sql_tree.specs.View.{view_from, view_orders, view_part, view_query, view_selected, view_tree, view_trees};
-ghost use Rattle.where_candidates.specs.session_ctx.sql_meaning.Values.{has_rows, only_value};
+ghost use Rattle.key_order.specs.where_candidates.session_ctx.sql_meaning.Values.{has_rows, only_value};
 ghost use Rattle.exec_state.specs.Stage.{EndsAs, LeadsOn, scene_of};
 ghost use Rattle.sql_evaluation.specs.Seen.{Anywhere, Evaluates, LeadsAlways, alone_in, from_in, items_in, kept_in, keyed_in, ordered_in, rows_in, shown_in, value_in, where_in};
 
 use crate::aggregates::aggregate_rows;
 use crate::choices::holds;
 use crate::outside::outside_of;
+use crate::shortcuts::{placed_rows, rows_of_table};
 use crate::sorting::{in_order, limited, order_values};
 use crate::value_lists::values;
 use crate::views::{Views, seeing};
 use crate::world::Around;
 use exec_state::Stage;
 use expr_ops::value_of_truth;
+use key_order::tables_are_kept;
+use key_order::where_candidates::{SeenTable, rows_to_see};
 use sharing::Shared;
 use sql_tree::{Expr, FromClause, OrderItem, Select, Selection};
 use std::alloc::Global;
 use val_types::{Boxed, Duplicate, List, NoMemory, Row, SqlRefusal, TableDef, Value};
-use where_candidates::{SeenTable, rows_to_see};
 
 /// A copy of the first value of a row, NULL where there is none.
 fn first_value(alloc: Global, row: &Row) -> Result<Value, NoMemory>
@@ -116,7 +118,7 @@ pub fn rows_of_query<V: Fn(&mut Stage, &Expr, &Views) -> Result<Value, SqlRefusa
 {
     match &select.from {
         None => row_alone(alloc, evaluate, around, stage, &select.what, views),
-        Some(from) => rows_from(alloc, evaluate, around, stage, &select.what, from, views),
+        Some(from) => { rows_of_table(alloc, evaluate, around, stage, &select.what, from, views) }
     }
 }
 
@@ -149,7 +151,7 @@ fn row_alone<V: Fn(&mut Stage, &Expr, &Views) -> Result<Value, SqlRefusal>>(
 
 /// WHERE for all rows that it has to look at, then ORDER BY for those kept, then LIMIT, then the items.
 #[tactic(auto, using(crate::proofs::Steps::steps, crate::proofs::Scanning::clauses, crate::proofs::Steps::stage_on_twice))]
-fn rows_from<V: Fn(&mut Stage, &Expr, &Views) -> Result<Value, SqlRefusal>>(
+pub fn rows_from<V: Fn(&mut Stage, &Expr, &Views) -> Result<Value, SqlRefusal>>(
     alloc: Global,
     evaluate: &V,
     around: &Around<'_>,
@@ -165,6 +167,7 @@ fn rows_from<V: Fn(&mut Stage, &Expr, &Views) -> Result<Value, SqlRefusal>>(
     ensures leads { LeadsOn stage.old stage.new }
 {
     let outside = outside_of(around);
+    tables_are_kept(&stage.tables);
     let SeenTable { definition, rows } = rows_to_see(
         alloc,
         &stage.tables,
@@ -182,7 +185,7 @@ fn rows_from<V: Fn(&mut Stage, &Expr, &Views) -> Result<Value, SqlRefusal>>(
         rows,
         views,
     )?;
-    let rows = ordered_rows(
+    let rows = placed_rows(
         alloc,
         evaluate,
         around,
@@ -323,7 +326,7 @@ fn keyed_rows<V: Fn(&mut Stage, &Expr, &Views) -> Result<Value, SqlRefusal>>(
 
 /// What is shown of some rows of a table.
 #[tactic(auto, using(crate::proofs::Steps::steps), unfolding(crate::specs::Seen::frame_of))]
-fn shown_rows<V: Fn(&mut Stage, &Expr, &Views) -> Result<Value, SqlRefusal>>(
+pub fn shown_rows<V: Fn(&mut Stage, &Expr, &Views) -> Result<Value, SqlRefusal>>(
     alloc: Global,
     evaluate: &V,
     around: &Around<'_>,

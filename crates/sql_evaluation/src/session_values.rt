@@ -4,10 +4,10 @@
 ghost use Rattle.std.specs.Prelude.{◌≡◌};
 ghost use Rattle.catalog_objects.specs.catalog_rules.Names.{same_name};
 ghost use Rattle.val_types.specs.declared.ops.Func0.{Func0};
-ghost use Rattle.where_candidates.specs.session_ctx.log_entries.Variables.{variable_value};
-ghost use Rattle.where_candidates.specs.session_ctx.sql_meaning.Scenes.{needed, next_uuid};
-ghost use Rattle.where_candidates.specs.session_ctx.sql_meaning.Frames.{capped};
-ghost use Rattle.where_candidates.specs.session_ctx.sql_meaning.Values.{session_value, system_value};
+ghost use Rattle.key_order.specs.where_candidates.session_ctx.log_entries.Variables.{variable_value};
+ghost use Rattle.key_order.specs.where_candidates.session_ctx.sql_meaning.Scenes.{needed, next_uuid};
+ghost use Rattle.key_order.specs.where_candidates.session_ctx.sql_meaning.Frames.{capped};
+ghost use Rattle.key_order.specs.where_candidates.session_ctx.sql_meaning.Values.{session_value, system_value};
 ghost use Rattle.exec_state.specs.Stage.{EndsAs, LeadsOn, scene_of};
 ghost use Rattle.sql_evaluation.specs.Seen.{Anywhere, is_capped, world_of};
 

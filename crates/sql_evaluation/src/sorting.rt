@@ -2,8 +2,8 @@
 ghost use Rattle.std.specs.Prelude.{◌≡◌, IfOk, OnOk, map, unwrap_or};
 ghost use Rattle.value_rules.specs.Selecting.{cut, in_order};
 ghost use Rattle.sql_tree.specs.View.{view_orders};
-ghost use Rattle.where_candidates.specs.session_ctx.sql_meaning.Frames.{count_value, limited, number_or_none};
-ghost use Rattle.where_candidates.specs.session_ctx.sql_meaning.Values.{directions, sorted};
+ghost use Rattle.key_order.specs.where_candidates.session_ctx.sql_meaning.Frames.{count_value, limited, number_or_none};
+ghost use Rattle.key_order.specs.where_candidates.session_ctx.sql_meaning.Values.{directions, sorted};
 ghost use Rattle.exec_state.specs.Stage.{EndsAs, LeadsOn, scene_of};
 ghost use Rattle.sql_evaluation.specs.Seen.{Evaluates, LeadsAlways, comes_before, order_in};
 

@@ -3,10 +3,10 @@ ghost use Rattle.std.specs.Prelude.{◌≡◌, IfOk};
 
 use catalog_objects::Objects;
 use exec_state::Running;
+use key_order::where_candidates::session_ctx::Ctx;
 use sharing::Shared;
 use sql_locals::Locals;
 use val_types::{NoMemory, Row, TableDef};
-use where_candidates::session_ctx::Ctx;
 
 /// A row with the definition of its table.
 #[derive(Drop)]

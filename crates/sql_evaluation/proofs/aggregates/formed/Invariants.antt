@@ -1,6 +1,6 @@
 use Rattle.std.proofs.Common.{◌≡◌, drop}
 use Rattle.sql_tree.specs.View.{view_aggregates}
-use Rattle.where_candidates.specs.session_ctx.sql_meaning.Values.{functions_of}
+use Rattle.key_order.specs.where_candidates.session_ctx.sql_meaning.Values.{functions_of}
 use Rattle.sql_evaluation.specs.Seen.{formed_values}
 use Rattle.sql_evaluation.proofs.Forming.{formed_left}
 use Rattle.sql_evaluation.proofs.aggregates.formed.Given as goal

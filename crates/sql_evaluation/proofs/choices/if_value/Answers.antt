@@ -1,7 +1,7 @@
 use Rattle.std.proofs.Common.{ap, ◌∙◌, Bool}
 use Rattle.std.proofs.lemmas.Result.{err_from_is_err_and}
 use Rattle.sql_tree.specs.View.{view_tree}
-use Rattle.where_candidates.specs.session_ctx.sql_meaning.Scenes.{done}
+use Rattle.key_order.specs.where_candidates.session_ctx.sql_meaning.Scenes.{done}
 use Rattle.exec_state.specs.Stage.{scene_of}
 use Rattle.sql_evaluation.proofs.Branching.{if_then_ends, if_else_ends, if_fails_at}
 use Rattle.sql_evaluation.proofs.choices.if_value.Goals as goal

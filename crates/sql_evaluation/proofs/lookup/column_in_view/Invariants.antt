@@ -1,5 +1,5 @@
 use Rattle.std.proofs.Common.{◌≡◌, drop}
-use Rattle.where_candidates.specs.session_ctx.sql_meaning.Frames.{column_in_view}
+use Rattle.key_order.specs.where_candidates.session_ctx.sql_meaning.Frames.{column_in_view}
 use Rattle.sql_evaluation.specs.Seen.{views_of}
 use Rattle.sql_evaluation.proofs.lookup.column_in_view.Given as goal
 

@@ -1,6 +1,6 @@
 use Rattle.std.proofs.Common.{◌≡◌, drop, find}
 use Rattle.catalog_objects.specs.catalog_rules.Names.{same_name}
-use Rattle.where_candidates.specs.session_ctx.sql_meaning.Frames.{View}
+use Rattle.key_order.specs.where_candidates.session_ctx.sql_meaning.Frames.{View}
 use Rattle.sql_evaluation.specs.Seen.{views_of}
 use Rattle.sql_evaluation.proofs.lookup.row_of_table.Given as goal
 
