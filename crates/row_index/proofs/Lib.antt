@@ -1,0 +1,5 @@
+pub mod Changing
+pub mod Copied
+pub mod Listing
+pub mod Members
+pub mod Numbered
