@@ -12,7 +12,6 @@ use Rattle.val_types.specs.Order.{value_order, key_order}
 use Rattle.val_types.specs.Fitting.{is_null}
 use Rattle.val_types.specs.Keys.{values_at, same_values, agree_on}
 use Rattle.table_rules.specs.Stored.{first_agreed}
-use Rattle.table_sheet.specs.Agreeing.{agree_in_all}
 
 equal_both : (o p : Ordering) → is_eq (ordering_then o p) ≡ (is_eq o && is_eq p)
 equal_both Less p = refl
@@ -40,19 +39,6 @@ before_longer [] row (v ∷ key) (suc i) h up more = absurd (omega arith)
 before_longer (column ∷ columns) row key zero h up more = absurd (omega arith)
 before_longer (column ∷ columns) row [] (suc i) h up more = absurd (omega arith)
 before_longer (column ∷ columns) row (v ∷ key) (suc i) h up more = before_longer columns row key i (omega arith) (omega arith) (omega arith)
-
-agree_shuffled : (n m e f : Bool) → (not (n || m) && (e && f)) ≡ ((not n && e) && (not m && f))
-agree_shuffled true m e f = refl
-agree_shuffled false true true f = refl
-agree_shuffled false true false f = refl
-agree_shuffled false false e f = refl
-
-agree_cons : (a b : List Value) (column : ℕ) (columns : List ℕ)
-    → agree_in_all a b (column ∷ columns)
-    ≡ ((not (is_null (slice_index_or a column Null)) && is_eq (value_order (slice_index_or a column Null) (slice_index_or b column Null))) && agree_in_all a b columns)
-agree_cons a b column columns =
-    ap (λ (s : Bool). not (is_null (slice_index_or a column Null) || list_any is_null (values_at columns a)) && s) (same_values_cons (slice_index_or a column Null) (slice_index_or b column Null) (values_at columns a) (values_at columns b))
-    ∙ agree_shuffled (is_null (slice_index_or a column Null)) (list_any is_null (values_at columns a)) (is_eq (value_order (slice_index_or a column Null) (slice_index_or b column Null))) (same_values (values_at columns a) (values_at columns b))
 
 -- ---- the first unique key on which a row agrees
 

@@ -92,7 +92,7 @@ length-over : (key : List Value) (p : Option (List Value)) (cs : List Slot) (was
 length-over key p cs None rises none = omega (arith, ap length (over_one key p cs rises none), length-filled key p (with_slot key cs), length-with key cs)
 length-over key p cs (Some was) rises has = omega (arith, ap length (over_there key p was cs rises has), length-filled key p cs)
 
-length-settled : (key : List Value) (p : Option (List Value)) (cs : List Slot) → keys_rise (keys_in cs) ≡ true → length (settled_by key p cs) ≤ length cs + taken_by key cs
+pub length-settled : (key : List Value) (p : Option (List Value)) (cs : List Slot) → keys_rise (keys_in cs) ≡ true → length (settled_by key p cs) ≤ length cs + taken_by key cs
 length-settled key None cs rises = omega (arith, dropped_fewer key cs)
 length-settled key (Some row) cs rises = length-over key (Some row) cs (held key cs) rises refl
 

@@ -1,6 +1,6 @@
-pub mod Agreeing
 pub mod Costs
 pub mod Counts
+pub mod Indexed
 pub mod Numbered
 pub mod Pages
 pub mod Parts

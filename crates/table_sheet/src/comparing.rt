@@ -1,10 +1,7 @@
 //! Keys of rows, compared where they stand.
-ghost use Rattle.std.specs.Prelude.{◌≡◌, ◌&&◌, [], not, slice_index_or};
-ghost use Rattle.std.specs.Ordering.{is_eq};
-ghost use Rattle.val_types.specs.declared.value.Value.TheVariants.{Null};
-ghost use Rattle.val_types.specs.Fitting.{is_null};
-ghost use Rattle.val_types.specs.Keys.{agree_on, primary_key, same_values, values_at};
-ghost use Rattle.val_types.specs.Order.{key_order, value_order};
+ghost use Rattle.std.specs.Prelude.{◌≡◌, []};
+ghost use Rattle.val_types.specs.Keys.{primary_key, same_values, values_at};
+ghost use Rattle.val_types.specs.Order.{key_order};
 ghost use Rattle.table_sheet.specs.Standing.{have_same_keys};
 
 use std::cmp::Ordering;
@@ -67,27 +64,6 @@ pub(crate) fn nothing_row_cmp(definition: &TableDef, row: &Row) -> Ordering
     } else {
         Ordering::Less
     }
-}
-
-/// Whether two rows have the same value in a column, other than NULL.
-fn agree_in(a: &Row, b: &Row, column: u16) -> bool
-    ensures { result ≡ (not (is_null (slice_index_or a.now column Null))
-        && is_eq (value_order (slice_index_or a.now column Null) (slice_index_or b.now column Null))) }
-{
-    let a = value_at(a, column, &Value::Null);
-    !a.is_null() && a.cmp(value_at(b, column, &Value::Null)).is_eq()
-}
-
-/// Whether two rows agree on a unique key; with a NULL part they do not.
-pub(crate) fn agree_on(a: &Row, b: &Row, key: &KeyDef) -> bool
-    ensures { result ≡ agree_on a.now b.now key.now }
-{
-    for column in key.columns.as_slice() {
-        if !agree_in(a, b, *column) {
-            return false;
-        }
-    }
-    true
 }
 
 /// Whether two rows have the same values in the columns of a unique key.

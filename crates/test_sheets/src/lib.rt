@@ -5,6 +5,7 @@
 //! - `tests::beside`: a table, and the values that it has to show and to have committed of each key; what is done to all
 //! - `tests::lots`: tables of up to 1,000 rows, calls by lot
 //! - `tests::cases`: transactions by hand
+//! - `tests::values`: rows found by their values in a unique key, by hand
 //! - `tests::many`: a table of 10,000 rows that come in no order
 //!
 //! # Proved

@@ -10,7 +10,7 @@ use Rattle.table_sheet.proofs.Lasting.{last_row}
 use Rattle.table_sheet.proofs.sheet.Sheet.last.Goals as goal
 
 pub previous-requires-clause-below : goal.previous-requires-clause-below
-previous-requires-clause-below c = (sound c.self.inside.definition (committed_slots c.self.inside.definition c.self.inside.committed) c.self.invariant.whole).rising
+previous-requires-clause-below c = (sound c.self.inside.definition (committed_slots c.self.inside.definition c.self.inside.committed) c.self.invariant.holds.whole).rising
 
 pub returns : goal.returns
 returns c =
