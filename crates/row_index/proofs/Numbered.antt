@@ -34,33 +34,31 @@ slot_has_row u row_at n = at (row_at n) refl
     at None e = sym (ap (λ (s : Slot). s.row) (number_slot_is u row_at n None e)) ∙ e
     at (Some row) e = sym (ap (λ (s : Slot). s.row) (number_slot_is u row_at n (Some row) e)) ∙ e
 
-module _ (u : KeyDef) (row_at : ℕ → Option (List Value)) (row : List Value) where
-  -- ---- how a number's row stands to a row
+module _ (u : KeyDef) (row_at : ℕ → Option (List Value)) (values : List Value) where
+  -- ---- how a number's row stands to values that are looked for
 
-  pub row_compared : (n : ℕ) (other : List Value) (order : Ordering) → Some other ≡ row_at n → order ≡ key_order (values_at u.columns other) (values_at u.columns row)
-      → order ≡ by_key (number_slot u row_at) (values_at u.columns row) n
-  row_compared n other order is e = e ∙ ap (λ (s : Slot). key_order s.key (values_at u.columns row)) (number_slot_is u row_at n (Some other) is)
+  pub row_compared : (n : ℕ) (other : List Value) (order : Ordering) → Some other ≡ row_at n → order ≡ key_order (values_at u.columns other) values → order ≡ by_key (number_slot u row_at) values n
+  row_compared n other order is e = e ∙ ap (λ (s : Slot). key_order s.key values) (number_slot_is u row_at n (Some other) is)
 
-  pub nothing_compared : (n : ℕ) (order : Ordering) → None ≡ row_at n → order ≡ key_order [] (values_at u.columns row)
-      → order ≡ by_key (number_slot u row_at) (values_at u.columns row) n
-  nothing_compared n order is e = e ∙ ap (λ (s : Slot). key_order s.key (values_at u.columns row)) (number_slot_is u row_at n None is)
+  pub nothing_compared : (n : ℕ) (order : Ordering) → None ≡ row_at n → order ≡ key_order [] values → order ≡ by_key (number_slot u row_at) values n
+  nothing_compared n order is e = e ∙ ap (λ (s : Slot). key_order s.key values) (number_slot_is u row_at n None is)
 
   -- ---- what is found
 
   here : (blocks : List (List ℕ)) (spot : Spot) → IsAt blocks spot → slice_get (flat blocks) (place blocks spot) ≡ Some (slice_index (flat blocks) (place blocks spot))
   here blocks spot at = slice_get-get_or (flat blocks) (place blocks spot) 0 (place_is_within blocks spot.block spot.at at)
 
-  pub found_number : (blocks : List (List ℕ)) (spot : Spot) (o : Option ℕ) → NumbersRise (number_slot u row_at) (flat blocks) → IsFound (by_key (number_slot u row_at) (values_at u.columns row)) blocks (Ok spot)
-      → o ≡ slice_get (flat blocks) (place blocks spot) → held (values_at u.columns row) (number_slots u row_at (flat blocks)) ≡ option_map row_at o
+  pub found_number : (blocks : List (List ℕ)) (spot : Spot) (o : Option ℕ) → NumbersRise (number_slot u row_at) (flat blocks) → IsFound (by_key (number_slot u row_at) values) blocks (Ok spot)
+      → o ≡ slice_get (flat blocks) (place blocks spot) → held values (number_slots u row_at (flat blocks)) ≡ option_map row_at o
   found_number blocks spot o rises found is =
-      found_at (number_slot u row_at) (values_at u.columns row) blocks spot rises found
+      found_at (number_slot u row_at) values blocks spot rises found
       ∙ ap (λ (p : Option (List Value)). Some p) (slot_has_row u row_at (slice_index (flat blocks) (place blocks spot)))
       ∙ ap (option_map row_at) (sym (is ∙ here blocks spot found.0))
 
-  pub missing_number : (blocks : List (List ℕ)) (spot : Spot) → IsFound (by_key (number_slot u row_at) (values_at u.columns row)) blocks (Err spot)
-      → held (values_at u.columns row) (number_slots u row_at (flat blocks)) ≡ None
-  missing_number blocks spot missing = missing_at (number_slot u row_at) (values_at u.columns row) blocks spot missing
+  pub missing_number : (blocks : List (List ℕ)) (spot : Spot) → IsFound (by_key (number_slot u row_at) values) blocks (Err spot) → held values (number_slots u row_at (flat blocks)) ≡ None
+  missing_number blocks spot missing = missing_at (number_slot u row_at) values blocks spot missing
 
+module _ (u : KeyDef) (row_at : ℕ → Option (List Value)) (row : List Value) where
   -- ---- a number put
 
   pub put_null : (old : Layout) → list_any is_null (values_at u.columns row) ≡ true → IsPut u row_at row old old

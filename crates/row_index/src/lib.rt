@@ -14,8 +14,9 @@
 //! - `copying`: the lists once more
 //!
 //! # Proved
-//! - [`found_in`] and [`search_in`] give the number whose row has the values of a row in a unique key, None where there is none; the
-//!   second in at most one comparison more than the count of numbers has binary digits
+//! - [`found_in`] gives the number whose row has the values of a row in a unique key, None where there is none; [`search_in`] that whose
+//!   row has some values there, in at most one comparison more than the count of numbers has binary digits
+//! - [`columns_cmp`] and [`no_columns_cmp`] are the order of keys, for values of a row in some columns and for no values
 //! - [`put_row`] puts the number of a row into the list of each unique key, unless it has a NULL there, [`take_row`] takes it out; they
 //!   take no memory, and the lists hold as many numbers as before
 //! - [`make_hold`] makes all lists hold so many numbers, or wants memory; [`clear_lists`] takes all numbers out, [`copied_lists`] has
@@ -28,6 +29,7 @@ mod lists;
 mod numbers;
 mod rows;
 
+pub use comparing::{columns_cmp, no_columns_cmp};
 pub use copying::{copied_lists, numbers_copied};
 pub use lists::{clear_lists, found_in, make_hold, put_row, search_in, take_row};
 pub use rows::RowsByNumber;

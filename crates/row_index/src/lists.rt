@@ -39,22 +39,22 @@ pub fn found_in<R: RowsByNumber>(
     }
 }
 
-/// The same in counted comparisons.
+/// The number whose row has some values in a unique key, in counted comparisons.
 pub fn search_in<R: RowsByNumber, L: Ledger>(
     lists: &Vec<Blocks>,
     which: usize,
     key: &KeyDef,
     rows: &R,
-    row: &Row,
+    values: &Row,
     steps: &mut Steps<L>,
 ) -> Option<u32>
     requires { NumbersRise (number_slot key.now (R.row_of rows.now)) (numbers_at lists.now.items which) }
-    ensures number { held (values_at key.now.columns row.now) (number_slots key.now (R.row_of rows.now) (numbers_at lists.now.items which)) ≡ option_map (R.row_of rows.now) result }
+    ensures number { held values.now (number_slots key.now (R.row_of rows.now) (numbers_at lists.now.items which)) ≡ option_map (R.row_of rows.now) result }
     ensures cost { AreWithinDigits (length (numbers_at lists.now.items which)) (steps.new - steps.old) }
     ensures more { steps.old ≤ steps.new }
 {
     match list_of(lists, which) {
-        Some(numbers) => number_in(numbers, key, rows, row, steps),
+        Some(numbers) => number_in(numbers, key, rows, values, steps),
         None => None,
     }
 }

@@ -8,7 +8,7 @@ ghost use Rattle.row_sheets.specs.Slots.{held};
 ghost use Rattle.row_sheets.specs.Orders.{by_key, NumbersRise};
 ghost use Rattle.row_index.specs.Numbers.{number_slot, number_slots, CanPut, IsPut, IsTaken};
 
-use crate::comparing::{has_null, nothing_cmp, values_cmp};
+use crate::comparing::{columns_cmp, has_null, no_columns_cmp, nothing_cmp, values_cmp};
 use crate::rows::RowsByNumber;
 use block_list::{Blocks, Spot, Steps};
 use std::cmp::Ordering;
@@ -42,23 +42,33 @@ fn spot_of<R: RowsByNumber>(
     numbers.find(&compare)
 }
 
-/// The same in counted comparisons.
+/// How the values of a number's row stand to values that are looked for.
+fn number_cmp_to<R: RowsByNumber>(key: &KeyDef, rows: &R, values: &Row, number: u32) -> Ordering
+    ensures { result ≡ by_key (number_slot key.now (R.row_of rows.now)) values.now number }
+{
+    match rows.row(number) {
+        Some(row) => columns_cmp(row, &key.columns, values),
+        None => no_columns_cmp(values),
+    }
+}
+
+/// Where the number of the row with some values stands, or belongs, in counted comparisons.
 fn spot_in<R: RowsByNumber, L: Ledger>(
     numbers: &Blocks,
     key: &KeyDef,
     rows: &R,
-    row: &Row,
+    values: &Row,
     steps: &mut Steps<L>,
 ) -> Result<Spot, Spot>
     requires { NumbersRise (number_slot key.now (R.row_of rows.now)) (flat numbers.now.blocks) }
-    ensures found { IsFound (by_key (number_slot key.now (R.row_of rows.now)) (values_at key.now.columns row.now)) numbers.now.blocks result }
+    ensures found { IsFound (by_key (number_slot key.now (R.row_of rows.now)) values.now) numbers.now.blocks result }
     ensures spot { MatchResult result (λ spot. IsAt numbers.now.blocks spot) (λ spot. IsSpot numbers.now.blocks spot) }
     ensures cost { AreWithinDigits (length (flat numbers.now.blocks)) (steps.new - steps.old) }
     ensures more { steps.old ≤ steps.new }
 {
     let compare = |number: u32| -> Ordering
-        ensures { result ≡ by_key (number_slot key.entry.now (R.row_of rows.entry.now)) (values_at key.entry.now.columns row.entry.now) number }
-    { number_cmp(key, rows, row, number) };
+        ensures { result ≡ by_key (number_slot key.entry.now (R.row_of rows.entry.now)) values.entry.now number }
+    { number_cmp_to(key, rows, values, number) };
     numbers.search(&compare, steps)
 }
 
@@ -78,20 +88,20 @@ pub(crate) fn number_of<R: RowsByNumber>(
     }
 }
 
-/// The same in counted comparisons.
+/// The number whose row has some values, in counted comparisons.
 pub(crate) fn number_in<R: RowsByNumber, L: Ledger>(
     numbers: &Blocks,
     key: &KeyDef,
     rows: &R,
-    row: &Row,
+    values: &Row,
     steps: &mut Steps<L>,
 ) -> Option<u32>
     requires { NumbersRise (number_slot key.now (R.row_of rows.now)) (flat numbers.now.blocks) }
-    ensures number { held (values_at key.now.columns row.now) (number_slots key.now (R.row_of rows.now) (flat numbers.now.blocks)) ≡ option_map (R.row_of rows.now) result }
+    ensures number { held values.now (number_slots key.now (R.row_of rows.now) (flat numbers.now.blocks)) ≡ option_map (R.row_of rows.now) result }
     ensures cost { AreWithinDigits (length (flat numbers.now.blocks)) (steps.new - steps.old) }
     ensures more { steps.old ≤ steps.new }
 {
-    match spot_in(numbers, key, rows, row, steps) {
+    match spot_in(numbers, key, rows, values, steps) {
         Ok(spot) => numbers.get(spot),
         Err(_) => None,
     }
