@@ -1,6 +1,7 @@
 pub mod Asides
 pub mod Beside
 pub mod Exchanging
+pub mod Finding
 pub mod Keeping
 pub mod Setting
 pub mod Shelved

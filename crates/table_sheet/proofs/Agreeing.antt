@@ -22,24 +22,6 @@ equal_both Greater p = refl
 pub same_values_cons : (v w : Value) (vs ws : List Value) → same_values (v ∷ vs) (w ∷ ws) ≡ (is_eq (value_order v w) && same_values vs ws)
 same_values_cons v w vs ws = equal_both (value_order v w) (key_order vs ws)
 
--- a row's key of which another is a front stands behind that
-pub front_behind : (columns : List ℕ) (row key : List Value) (i : ℕ) → i < length columns → i ≡ length key → Greater ≡ key_order (values_at (drop i columns) row) (drop i key)
-front_behind [] row key i h e = absurd (omega arith)
-front_behind (column ∷ columns) row [] zero h e = refl
-front_behind (column ∷ columns) row (v ∷ key) zero h e = absurd (omega arith)
-front_behind (column ∷ columns) row [] (suc i) h e = absurd (omega arith)
-front_behind (column ∷ columns) row (v ∷ key) (suc i) h e = front_behind columns row key i (omega arith) (omega arith)
-
--- one that is a front of another stands before it
-pub before_longer : (columns : List ℕ) (row key : List Value) (i : ℕ) → length columns ≤ i → i ≤ length columns → length columns < length key
-    → Less ≡ key_order (values_at (drop i columns) row) (drop i key)
-before_longer [] row [] i h up more = absurd (omega arith)
-before_longer [] row (v ∷ key) zero h up more = refl
-before_longer [] row (v ∷ key) (suc i) h up more = absurd (omega arith)
-before_longer (column ∷ columns) row key zero h up more = absurd (omega arith)
-before_longer (column ∷ columns) row [] (suc i) h up more = absurd (omega arith)
-before_longer (column ∷ columns) row (v ∷ key) (suc i) h up more = before_longer columns row key i (omega arith) (omega arith) (omega arith)
-
 -- ---- the first unique key on which a row agrees
 
 shift_two : (i : ℕ) (o : Option ℕ) → option_map (λ (k : ℕ). i + k) (option_map suc o) ≡ option_map (λ (k : ℕ). (i + 1) + k) o

@@ -1,6 +1,7 @@
 pub mod Costs
 pub mod Counts
 pub mod Indexed
+pub mod Keyed
 pub mod Numbered
 pub mod Pages
 pub mod Parts

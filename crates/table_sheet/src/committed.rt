@@ -3,10 +3,10 @@ ghost use Rattle.std.specs.Prelude.{IsTrue};
 ghost use Rattle.block_list.specs.Layouts.{flat};
 ghost use Rattle.table_sheet.specs.Numbered.{are_numbered};
 
-use crate::comparing::{nothing_key_cmp, nothing_row_cmp, row_key_cmp, rows_cmp};
+use crate::comparing::{nothing_row_cmp, rows_cmp};
 use block_list::{Blocks, Spot};
 use row_arena::RowArena;
-use row_index::make_hold;
+use row_index::{columns_cmp, make_hold, no_columns_cmp};
 use sharing::Shared;
 use std::alloc::{AllocError, Global};
 use std::cmp::Ordering;
@@ -56,8 +56,8 @@ impl Committed {
     {
         let table = definition.get();
         match self.rows.get(number) {
-            Some(row) => row_key_cmp(table, row, key),
-            None => nothing_key_cmp(key),
+            Some(row) => columns_cmp(row, &table.primary, key),
+            None => no_columns_cmp(key),
         }
     }
 

@@ -7,26 +7,6 @@ ghost use Rattle.table_sheet.specs.Standing.{have_same_keys};
 use std::cmp::Ordering;
 use val_types::{KeyDef, Row, TableDef, Value, value_at};
 
-/// How the primary key of a row stands to a key.
-pub(crate) fn row_key_cmp(definition: &TableDef, row: &Row, key: &Row) -> Ordering
-    ensures { result ≡ key_order (primary_key definition.now row.now) key.now }
-{
-    for (i, column) in definition.primary.as_slice().iter().enumerate() {
-        if i == key.len() {
-            return Ordering::Greater;
-        }
-        let order = value_at(row, *column, &Value::Null).cmp(&key[i]);
-        if !order.is_eq() {
-            return order;
-        }
-    }
-    if definition.primary.len() < key.len() {
-        Ordering::Less
-    } else {
-        Ordering::Equal
-    }
-}
-
 /// How the primary key of a row stands to that of another.
 pub(crate) fn rows_cmp(definition: &TableDef, row: &Row, other: &Row) -> Ordering
     ensures { result ≡ key_order (primary_key definition.now row.now) (primary_key definition.now other.now) }
@@ -42,17 +22,6 @@ pub(crate) fn rows_cmp(definition: &TableDef, row: &Row, other: &Row) -> Orderin
         }
     }
     Ordering::Equal
-}
-
-/// How no values at all stand to a key.
-pub(crate) fn nothing_key_cmp(key: &Row) -> Ordering
-    ensures { result ≡ key_order [] key.now }
-{
-    if key.is_empty() {
-        Ordering::Equal
-    } else {
-        Ordering::Less
-    }
 }
 
 /// How no values at all stand to the primary key of a row.

@@ -15,7 +15,7 @@
 //! - `entry`, `overlay`: what a transaction has of each key that it changed, and [`Overlay`], all of it
 //! - `indexing`: the numbers of entries by the values of their rows
 //! - `sheet`: [`Sheet`], its calls by key, and the overlay set aside, put back and forgotten
-//! - `finding`: rows found by key in counted comparisons
+//! - `finding`: rows found by the values of a key in counted comparisons
 //! - `place`, `walking`: entries and committed rows walked side by side
 //! - `matching`: rows found by their values in a unique key
 //! - `reading`: all rows, and the keys in the way of one
@@ -29,7 +29,8 @@
 //! # Proved
 //! - [`Sheet::get`] and [`Sheet::get_same`] give exactly the row that is shown of a key, or of a row's key
 //! - [`Sheet::find`] does so in at most two comparisons more than the counts of entries and of committed rows have binary digits
-//!   together
+//!   together; [`Sheet::find_on_key`] gives exactly the row that is shown with some values of the key of a number, by a unique key in at
+//!   most three comparisons more than the count of entries has binary digits twice, and that of committed rows once
 //! - [`Sheet::insert`], [`Sheet::replace`] and [`Sheet::delete`] make exactly the change of the rows that the definitions say, or refuse
 //!   with exactly the first key in the way or that the row is not there; then, and where memory is wanted, what is shown is as
 //!   before (`stored`). Whatever they answer, definition and committed rows stay, each entry is there still, and there is no less room

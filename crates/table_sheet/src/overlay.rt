@@ -3,11 +3,11 @@ ghost use Rattle.std.specs.Prelude.{IsTrue};
 ghost use Rattle.block_list.specs.Layouts.{flat};
 ghost use Rattle.table_sheet.specs.Ranked.{are_ranked};
 
-use crate::comparing::{nothing_key_cmp, nothing_row_cmp, row_key_cmp, rows_cmp};
+use crate::comparing::{nothing_row_cmp, rows_cmp};
 use crate::entry::Entry;
 use crate::indexing::{enter, leave};
 use block_list::{Blocks, Spot};
-use row_index::{clear_lists, make_hold};
+use row_index::{clear_lists, columns_cmp, make_hold, no_columns_cmp};
 use sharing::Shared;
 use std::alloc::{AllocError, Global};
 use std::cmp::Ordering;
@@ -67,9 +67,23 @@ impl Overlay {
         match self.entry(number) {
             Some(entry) => {
                 let bearer = entry.bearer.get();
-                row_key_cmp(table, bearer, key)
+                columns_cmp(bearer, &table.primary, key)
             }
-            None => nothing_key_cmp(key),
+            None => no_columns_cmp(key),
+        }
+    }
+
+    /// How the key of a number's entry stands to the primary key of a row.
+    pub(crate) fn row_cmp(&self, definition: &Shared<TableDef>, row: &Row, number: u32) -> Ordering
+        ensures { result ≡ by_key (entry_slot definition.now self.now.entries.items) (primary_key definition.now row.now) number }
+    {
+        let table = definition.get();
+        match self.entry(number) {
+            Some(entry) => {
+                let bearer = entry.bearer.get();
+                rows_cmp(table, bearer, row)
+            }
+            None => nothing_row_cmp(table, row),
         }
     }
 
@@ -93,16 +107,7 @@ impl Overlay {
     {
         let compare = |number: u32| -> Ordering
             ensures { result ≡ by_key (entry_slot definition.entry.now self.entry.now.entries.items) (primary_key definition.entry.now row.entry.now) number }
-        {
-            let table = definition.get();
-            match self.entry(number) {
-                Some(entry) => {
-                    let bearer = entry.bearer.get();
-                    rows_cmp(table, bearer, row)
-                }
-                None => nothing_row_cmp(table, row),
-            }
-        };
+        { self.row_cmp(definition, row, number) };
         self.ranks.find(&compare)
     }
 

@@ -1,7 +1,7 @@
 //! A table of two numbers a row, the first of them its primary key, beside the values that it has to show and to have committed of each
 //! key. Each call says whether the table answered as these say.
 
-use crate::found;
+use crate::{found, found_with};
 use sharing::Shared;
 use std::alloc::Global;
 use std::test::Fail;
@@ -365,6 +365,27 @@ impl Beside {
     pub(super) fn key_with(&self, alloc: Global, value: i64) -> Result<Option<i64>, Fail> {
         let row = row_of(alloc, Two { key: 0, value })?;
         Ok(number_of(self.sheet.row_on_key(row.get(), 1)))
+    }
+
+    /// The same where it is found by the value as that of the key of a number.
+    pub(super) fn key_by(
+        &self,
+        alloc: Global,
+        which: usize,
+        value: i64,
+    ) -> Result<Option<i64>, Fail> {
+        let values = key(alloc, value)?;
+        Ok(number_of(found_with(&self.sheet, which, &values)))
+    }
+
+    /// Whether no row is found by a NULL, by no value, or by two.
+    pub(super) fn finds_none(&self, alloc: Global) -> Result<bool, Fail> {
+        let mut values = List::new(alloc);
+        let by_none = found_with(&self.sheet, 1, &values).is_none();
+        values.push(Value::Null)?;
+        let by_null = found_with(&self.sheet, 1, &values).is_none();
+        values.push(Value::Int(20))?;
+        Ok(by_none && by_null && found_with(&self.sheet, 1, &values).is_none())
     }
 
     /// The key of the committed row with a value, found while what is shown is set aside.

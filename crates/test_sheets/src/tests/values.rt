@@ -74,3 +74,33 @@ fn rows_without_a_value(rt: HostRuntime) -> Result<(), Fail> {
     let mut beside = Beside::new(rt.alloc(), true, 5)?;
     have_none(&rt, &mut beside, rt.alloc())
 }
+
+/// Rows found by the values of a key of each number, of entries and of committed rows.
+fn find(rt: &impl Abort, beside: &mut Beside, alloc: Global) -> Result<(), Fail> {
+    assert!(rt; beside.insert(alloc, two(1, 10))? && beside.insert(alloc, two(2, 20))?);
+    beside.settle(alloc)?;
+    assert!(rt; beside.insert(alloc, two(3, 30))? && beside.insert_null(alloc, 4)?);
+    assert!(rt; beside.key_by(alloc, 0, 2)? == Some(2) && beside.key_by(alloc, 0, 20)? == None);
+    assert!(rt; beside.key_by(alloc, 1, 20)? == Some(2) && beside.key_by(alloc, 1, 30)? == Some(3));
+    assert!(rt; beside.key_by(alloc, 1, 40)? == None && beside.key_by(alloc, 2, 20)? == None);
+    assert!(rt; beside.finds_none(alloc)?);
+    Ok(())
+}
+
+/// A value that a row had is no longer found, in an entry, once it is settled, and once the row is gone.
+fn find_no_more(rt: &impl Abort, beside: &mut Beside, alloc: Global) -> Result<(), Fail> {
+    assert!(rt; beside.replace_same(alloc, two(2, 20), two(2, 25))?);
+    assert!(rt; beside.key_by(alloc, 1, 20)? == None && beside.key_by(alloc, 1, 25)? == Some(2));
+    assert!(rt; beside.take(alloc, two(1, 10), true)? && beside.key_by(alloc, 1, 10)? == None);
+    beside.sheet.settle(alloc);
+    assert!(rt; beside.key_by(alloc, 1, 20)? == None && beside.key_by(alloc, 1, 25)? == Some(2));
+    assert!(rt; beside.key_by(alloc, 1, 10)? == None && beside.key_by(alloc, 1, 30)? == Some(3));
+    Ok(())
+}
+
+#[test]
+fn rows_found_by_the_values_of_a_key(rt: HostRuntime) -> Result<(), Fail> {
+    let mut beside = Beside::new(rt.alloc(), true, 5)?;
+    find(&rt, &mut beside, rt.alloc())?;
+    find_no_more(&rt, &mut beside, rt.alloc())
+}
