@@ -29,7 +29,12 @@ mod lists;
 mod numbers;
 mod rows;
 
+// What is its own, and the crates below that it speaks of, passed on: who stands above names them through it.
+pub use block_list;
 pub use comparing::{columns_cmp, no_columns_cmp};
 pub use copying::{copied_lists, numbers_copied};
 pub use lists::{clear_lists, found_in, make_hold, put_row, search_in, take_row};
+pub use row_arena;
+pub use row_indexes;
+pub use row_sheets;
 pub use rows::RowsByNumber;

@@ -6,8 +6,8 @@ use Rattle.val_types.specs.declared.value.Value.{Value}
 use Rattle.val_types.specs.declared.definitions.TableDef.{TableDef}
 use Rattle.table_rules.specs.Tables.{Table}
 use Rattle.table_rules.specs.Stores.{Store, names_differ, AreNoLess}
-use Rattle.row_sheets.specs.Slots.{Slot, keys_in, rows_in, row_slots}
-use Rattle.row_sheets.specs.Over.{over}
+use Rattle.table_sheet.specs.row_sheets.Slots.{Slot, keys_in, rows_in, row_slots}
+use Rattle.table_sheet.specs.row_sheets.Over.{over}
 use Rattle.table_sheet.specs.declared.overlay.Overlay.{Overlay}
 use Rattle.table_sheet.specs.Pages.{Page, Holds, rows_on}
 use Rattle.table_sheet.specs.Indexed.{Fits}

@@ -7,7 +7,7 @@ use Rattle.table_rules.specs.Tables.{Table}
 use Rattle.table_rules.specs.Stored.{table_named}
 use Rattle.table_rules.specs.Stores.{Store, place_of}
 use Rattle.table_rules.proofs.Places.{none_named}
-use Rattle.row_sheets.specs.Slots.{Slot, rows_in}
+use Rattle.table_sheet.specs.row_sheets.Slots.{Slot, rows_in}
 use Rattle.val_types.specs.Keys.{primary_key}
 use Rattle.table_sheet.specs.Costs.{AreWithinBoth, AreWithinTwice}
 use Rattle.table_sheet.specs.Keyed.{row_with}

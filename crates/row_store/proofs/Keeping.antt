@@ -11,8 +11,8 @@ use Rattle.table_rules.specs.Tables.{rise, are_apart}
 use Rattle.table_rules.specs.Changes.{with_row, rows_after}
 use Rattle.table_rules.specs.Stored.{rows_beside}
 use Rattle.table_rules.proofs.Taking.{Kept, as_kept, is_kept, kept_with, rows_reversible}
-use Rattle.row_sheets.specs.Slots.{Slot, keys_in, keys_rise, rows_in, row_slots, has_own_key, rows_are_kept}
-use Rattle.row_sheets.specs.Over.{over}
+use Rattle.table_sheet.specs.row_sheets.Slots.{Slot, keys_in, keys_rise, rows_in, row_slots, has_own_key, rows_are_kept}
+use Rattle.table_sheet.specs.row_sheets.Over.{over}
 use Rattle.table_sheet.specs.declared.overlay.Overlay.{Overlay}
 use Rattle.table_sheet.specs.Pages.{Page, Stays, rows_on}
 use Rattle.table_sheet.specs.Indexed.{Fits}

@@ -23,7 +23,7 @@ use Rattle.table_rules.proofs.Places.{name_is, name_self, place, at_place}
 use Rattle.row_store.specs.declared.refusal.RowRefusal.{RowRefusal}
 use Rattle.row_store.specs.declared.refusal.RowRefusal.TheVariants.{Taken, Absent, NoMemory}
 use Rattle.row_store.specs.declared.shelf.Shelf.{Shelf}
-use Rattle.row_sheets.specs.Slots.{keys_in}
+use Rattle.table_sheet.specs.row_sheets.Slots.{keys_in}
 use Rattle.table_sheet.specs.Pages.{rows_on, has_entry, KeepsEntries}
 use Rattle.row_store.specs.Shelves.{table_on, tables_on, definitions_on, keys_on, store_of, is_named, has_entry_for, has_entries_for, Inserted, Replaced, Deleted}
 use Rattle.row_store.specs.Stores.{Stores}

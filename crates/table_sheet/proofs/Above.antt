@@ -11,18 +11,18 @@ use Rattle.val_types.specs.declared.definitions.TableDef.{TableDef}
 use Rattle.val_types.specs.Keys.{primary_key, same_values}
 use Rattle.val_types.specs.Order.{key_order}
 use Rattle.table_rules.proofs.Taking.{same_is, same_self}
-use Rattle.block_list.specs.Layouts.{Layout, flat, holds}
-use Rattle.block_list.specs.Spots.{place, IsAt, IsFound}
-use Rattle.block_list.specs.declared.spot.Spot.{Spot}
-use Rattle.row_sheets.specs.Slots.{Slot, held, fill, keys_in, keys_rise, rows_in}
-use Rattle.row_sheets.specs.Claims.{AreApart, row_under}
-use Rattle.row_sheets.specs.Over.{over}
-use Rattle.row_sheets.specs.Orders.{by_key, slots_of, NumbersRise}
-use Rattle.row_sheets.proofs.Held.{held-over, rises-over}
-use Rattle.row_sheets.proofs.Claims.{filled_self}
-use Rattle.row_indexes.specs.Indexes.{IsIndexOf}
-use Rattle.row_indexes.specs.IndexLaws.{DifferAt}
-use Rattle.row_indexes.proofs.Indexing.{nothing_indexed}
+use Rattle.row_index.specs.block_list.Layouts.{Layout, flat, holds}
+use Rattle.row_index.specs.block_list.Spots.{place, IsAt, IsFound}
+use Rattle.row_index.specs.block_list.declared.spot.Spot.{Spot}
+use Rattle.row_index.specs.row_sheets.Slots.{Slot, held, fill, keys_in, keys_rise, rows_in}
+use Rattle.row_index.specs.row_sheets.Claims.{AreApart, row_under}
+use Rattle.row_index.specs.row_sheets.Over.{over}
+use Rattle.row_index.specs.row_sheets.Orders.{by_key, slots_of, NumbersRise}
+use Rattle.row_index.proofs.of_row_sheets.Held.{held-over, rises-over}
+use Rattle.row_index.proofs.of_row_sheets.Claims.{filled_self}
+use Rattle.row_index.specs.row_indexes.Indexes.{IsIndexOf}
+use Rattle.row_index.specs.row_indexes.IndexLaws.{DifferAt}
+use Rattle.row_index.proofs.of_row_indexes.Indexing.{nothing_indexed}
 use Rattle.row_index.specs.Numbers.{number_slot, number_slots, CanPut}
 use Rattle.row_index.specs.Lists.{list_at, numbers_at, AllHold, AreIndexes, CanPutInAll, KeepsNumbers, OfEach}
 use Rattle.row_index.proofs.Members.{slot_held, mapped, IsOfRow, is_of_row, slots_same, index_is_few}

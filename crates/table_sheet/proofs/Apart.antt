@@ -5,14 +5,14 @@ use Rattle.std.specs.Option.{option_or}
 use Rattle.val_types.specs.declared.value.Value.{Value}
 use Rattle.val_types.specs.declared.definitions.TableDef.{TableDef}
 use Rattle.val_types.specs.Keys.{primary_key}
-use Rattle.block_list.specs.Layouts.{flat}
-use Rattle.block_list.specs.Spots.{IsFound}
-use Rattle.block_list.specs.declared.spot.Spot.{Spot}
-use Rattle.row_sheets.specs.Slots.{Slot, held, rows_in}
-use Rattle.row_sheets.specs.Orders.{by_key, slots_of}
-use Rattle.row_sheets.specs.Over.{over}
-use Rattle.row_sheets.proofs.Held.{held-over}
-use Rattle.row_sheets.proofs.Sheets.{sound_is_apart}
+use Rattle.row_index.specs.block_list.Layouts.{flat}
+use Rattle.row_index.specs.block_list.Spots.{IsFound}
+use Rattle.row_index.specs.block_list.declared.spot.Spot.{Spot}
+use Rattle.row_index.specs.row_sheets.Slots.{Slot, held, rows_in}
+use Rattle.row_index.specs.row_sheets.Orders.{by_key, slots_of}
+use Rattle.row_index.specs.row_sheets.Over.{over}
+use Rattle.row_index.proofs.of_row_sheets.Held.{held-over}
+use Rattle.row_index.proofs.of_row_sheets.Sheets.{sound_is_apart}
 use Rattle.row_index.proofs.Changing.{apart_among}
 use Rattle.table_sheet.specs.declared.committed.Committed.{Committed}
 use Rattle.table_sheet.specs.declared.overlay.Overlay.{Overlay}

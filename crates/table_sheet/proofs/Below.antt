@@ -12,16 +12,16 @@ use Rattle.val_types.specs.declared.definitions.KeyDef.{KeyDef}
 use Rattle.val_types.specs.declared.definitions.TableDef.{TableDef}
 use Rattle.val_types.specs.Keys.{primary_key, same_values}
 use Rattle.val_types.specs.Order.{key_order}
-use Rattle.block_list.specs.Layouts.{Layout, flat, holds, room}
-use Rattle.block_list.specs.Spots.{place, IsFound}
-use Rattle.block_list.specs.declared.spot.Spot.{Spot}
-use Rattle.row_arena.specs.Arenas.{Arena}
-use Rattle.row_sheets.specs.Slots.{Slot, all_above, held, keys_in, keys_rise, rows_in, has_own_key}
-use Rattle.row_sheets.specs.Claims.{AreApart, row_under}
-use Rattle.row_sheets.specs.Over.{over, settled_by}
-use Rattle.row_sheets.specs.Orders.{by_key, slots_of, NumbersRise}
-use Rattle.row_sheets.proofs.Orders.{missing_at}
-use Rattle.row_indexes.specs.Indexes.{IsIndexOf}
+use Rattle.row_index.specs.block_list.Layouts.{Layout, flat, holds, room}
+use Rattle.row_index.specs.block_list.Spots.{place, IsFound}
+use Rattle.row_index.specs.block_list.declared.spot.Spot.{Spot}
+use Rattle.row_index.specs.row_arena.Arenas.{Arena}
+use Rattle.row_index.specs.row_sheets.Slots.{Slot, all_above, held, keys_in, keys_rise, rows_in, has_own_key}
+use Rattle.row_index.specs.row_sheets.Claims.{AreApart, row_under}
+use Rattle.row_index.specs.row_sheets.Over.{over, settled_by}
+use Rattle.row_index.specs.row_sheets.Orders.{by_key, slots_of, NumbersRise}
+use Rattle.row_index.proofs.of_row_sheets.Orders.{missing_at}
+use Rattle.row_index.specs.row_indexes.Indexes.{IsIndexOf}
 use Rattle.row_index.specs.Numbers.{number_slot, number_slots, CanPut}
 use Rattle.row_index.specs.Lists.{list_at, numbers_at, CanPutInAll, IsPutInAll, IsTakenOfAll, OfEach}
 use Rattle.row_index.proofs.Members.{mapped, IsOfRow, is_of_row, slots_same as numbers_same}
@@ -33,7 +33,7 @@ use Rattle.table_sheet.specs.Numbered.{row_of, row_slot, are_numbered}
 use Rattle.table_sheet.specs.Parts.{committed_slots, entry_slots, room_of}
 use Rattle.table_sheet.specs.Settling.{hiding, taken_by, Settles}
 use Rattle.table_sheet.specs.Indexed.{AreAllApart, AreEntered, AreKept, AreLeft, IsBelow, IsEntered, IsLeft}
-use Rattle.row_sheets.proofs.Settling.{settled_rises}
+use Rattle.row_index.proofs.of_row_sheets.Settling.{settled_rises}
 use Rattle.table_sheet.proofs.Looking.{found_row}
 use Rattle.table_sheet.proofs.Steps.{length-settled, first_room, first_few}
 use Rattle.table_sheet.proofs.Slotted.{entry_slot_is}

@@ -12,15 +12,15 @@ use Rattle.val_types.specs.declared.definitions.TableDef.{TableDef}
 use Rattle.val_types.specs.Order.{key_order}
 use Rattle.val_types.specs.Keys.{primary_key, same_values, values_at}
 use Rattle.table_rules.proofs.Taking.{same_is, same_self}
-use Rattle.row_sheets.specs.Slots.{Slot, all_above, held, fill, with_slot, is_slot_of, keys_in, keys_rise, rows_in, has_own_key}
-use Rattle.row_sheets.specs.Claims.{has_values, AreApart, row_under}
-use Rattle.row_sheets.specs.Over.{over, settled_by}
-use Rattle.row_sheets.proofs.Over.{apart}
-use Rattle.row_sheets.proofs.Held.{held-over, rises-over, held_rest, none_above, dropped_self, slots_told}
-use Rattle.row_sheets.proofs.Claims.{new_self}
-use Rattle.row_sheets.proofs.Finding.{Shown, shown_of}
-use Rattle.row_sheets.proofs.Settling.{settled_rises}
-use Rattle.row_indexes.specs.IndexLaws.{DifferAt}
+use Rattle.row_index.specs.row_sheets.Slots.{Slot, all_above, held, fill, with_slot, is_slot_of, keys_in, keys_rise, rows_in, has_own_key}
+use Rattle.row_index.specs.row_sheets.Claims.{has_values, AreApart, row_under}
+use Rattle.row_index.specs.row_sheets.Over.{over, settled_by}
+use Rattle.row_index.proofs.of_row_sheets.Over.{apart}
+use Rattle.row_index.proofs.of_row_sheets.Held.{held-over, rises-over, held_rest, none_above, dropped_self, slots_told}
+use Rattle.row_index.proofs.of_row_sheets.Claims.{new_self}
+use Rattle.row_index.proofs.of_row_sheets.Finding.{Shown, shown_of}
+use Rattle.row_index.proofs.of_row_sheets.Settling.{settled_rises}
+use Rattle.row_index.specs.row_indexes.IndexLaws.{DifferAt}
 use Rattle.row_index.proofs.Changing.{apart_among, rows_few, rows_refilled}
 use Rattle.row_index.proofs.Members.{IsOfRow}
 use Rattle.table_sheet.specs.Settling.{hiding}

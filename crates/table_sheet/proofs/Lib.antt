@@ -20,3 +20,5 @@ pub mod Shown
 pub mod Slotted
 pub mod Steps
 pub mod Turning
+-- the crate below that this one speaks of, passed on
+pub use Rattle.row_index.proofs.of_row_sheets as of_row_sheets

@@ -3,11 +3,11 @@ use Rattle.std.proofs.Common.{◌≡◌, ℕ, List, [], Option, Some, None, refl
 use Rattle.std.specs.Option.{option_and_then}
 use Rattle.val_types.specs.declared.value.Value.{Value}
 use Rattle.val_types.specs.declared.definitions.KeyDef.{KeyDef}
-use Rattle.block_list.specs.Layouts.{Layout, flat, holds}
-use Rattle.row_sheets.specs.Slots.{Slot, held, rows_in}
-use Rattle.row_sheets.specs.Claims.{row_under}
-use Rattle.row_indexes.specs.Indexes.{IsIndexOf}
-use Rattle.row_indexes.specs.IndexLaws.{DifferAt}
+use Rattle.row_index.specs.block_list.Layouts.{Layout, flat, holds}
+use Rattle.row_index.specs.row_sheets.Slots.{Slot, held, rows_in}
+use Rattle.row_index.specs.row_sheets.Claims.{row_under}
+use Rattle.row_index.specs.row_indexes.Indexes.{IsIndexOf}
+use Rattle.row_index.specs.row_indexes.IndexLaws.{DifferAt}
 use Rattle.row_index.specs.Numbers.{number_slots}
 use Rattle.row_index.proofs.Changing.{values_free, row_put, row_taken, none_moved}
 use Rattle.table_sheet.specs.Indexed.{IsLeft, IsEntered}

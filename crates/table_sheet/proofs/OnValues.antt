@@ -8,12 +8,12 @@ use Rattle.val_types.specs.declared.definitions.KeyDef.{KeyDef}
 use Rattle.val_types.specs.declared.definitions.TableDef.{TableDef}
 use Rattle.val_types.specs.Keys.{primary_key}
 use Rattle.table_rules.specs.Stored.{row_of_values}
-use Rattle.block_list.specs.Layouts.{flat}
-use Rattle.row_sheets.specs.Slots.{Slot, held, rows_in}
-use Rattle.row_sheets.specs.Over.{over}
-use Rattle.row_indexes.specs.Indexes.{unless_entered, found_in}
-use Rattle.row_indexes.proofs.Indexing.{found_in_both}
-use Rattle.row_sheets.specs.Orders.{NumbersRise}
+use Rattle.row_index.specs.block_list.Layouts.{flat}
+use Rattle.row_index.specs.row_sheets.Slots.{Slot, held, rows_in}
+use Rattle.row_index.specs.row_sheets.Over.{over}
+use Rattle.row_index.specs.row_indexes.Indexes.{unless_entered, found_in}
+use Rattle.row_index.proofs.of_row_indexes.Indexing.{found_in_both}
+use Rattle.row_index.specs.row_sheets.Orders.{NumbersRise}
 use Rattle.row_index.specs.Numbers.{number_slot, number_slots}
 use Rattle.row_index.specs.Lists.{numbers_at}
 use Rattle.row_index.proofs.Members.{index_is_few}

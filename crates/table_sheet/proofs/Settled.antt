@@ -11,19 +11,19 @@ use Rattle.val_types.specs.declared.definitions.TableDef.{TableDef}
 use Rattle.val_types.specs.Order.{key_order}
 use Rattle.val_types.specs.Keys.{primary_key}
 use Rattle.table_rules.proofs.Taking.{same_is, same_self}
-use Rattle.block_list.specs.Layouts.{flat}
-use Rattle.block_list.specs.Spots.{place, IsAt, IsFound, IsSpot}
-use Rattle.block_list.specs.declared.spot.Spot.{Spot}
-use Rattle.block_list.proofs.Found.{place_is_within}
-use Rattle.row_arena.specs.Arenas.{IsFree, IsNotAmong, with_row_at}
-use Rattle.row_arena.proofs.Free.{get_same}
-use Rattle.row_sheets.specs.Slots.{Slot, all_above, fill, drop_slot, keys_in, keys_rise}
-use Rattle.row_sheets.specs.Over.{over}
-use Rattle.row_sheets.specs.Orders.{by_key, slots_of, NumbersRise}
+use Rattle.row_index.specs.block_list.Layouts.{flat}
+use Rattle.row_index.specs.block_list.Spots.{place, IsAt, IsFound, IsSpot}
+use Rattle.row_index.specs.block_list.declared.spot.Spot.{Spot}
+use Rattle.row_index.proofs.of_block_list.Found.{place_is_within}
+use Rattle.row_index.specs.row_arena.Arenas.{IsFree, IsNotAmong, with_row_at}
+use Rattle.row_index.proofs.of_row_arena.Free.{get_same}
+use Rattle.row_index.specs.row_sheets.Slots.{Slot, all_above, fill, drop_slot, keys_in, keys_rise}
+use Rattle.row_index.specs.row_sheets.Over.{over}
+use Rattle.row_index.specs.row_sheets.Orders.{by_key, slots_of, NumbersRise}
 use Rattle.std.proofs.lemmas.Bool.{true≢false}
 use Rattle.val_types.specs.Keys.{same_values}
-use Rattle.row_sheets.proofs.Over.{apart}
-use Rattle.row_sheets.proofs.Orders.{put_at, replaced_at, taken_at}
+use Rattle.row_index.proofs.of_row_sheets.Over.{apart}
+use Rattle.row_index.proofs.of_row_sheets.Orders.{put_at, replaced_at, taken_at}
 use Rattle.table_sheet.specs.declared.entry.Entry.{Entry}
 use Rattle.table_sheet.specs.declared.overlay.Overlay.{Overlay}
 use Rattle.table_sheet.specs.Numbered.{row_of, row_slot, are_numbered}

@@ -10,14 +10,14 @@ use Rattle.val_types.specs.declared.value.Value.{Value}
 use Rattle.val_types.specs.declared.definitions.TableDef.{TableDef}
 use Rattle.val_types.specs.Keys.{primary_key}
 use Rattle.val_types.specs.Order.{key_order}
-use Rattle.block_list.specs.Layouts.{flat}
-use Rattle.block_list.specs.Spots.{block_at, place, IsAt, IsFound, IsSpot}
-use Rattle.block_list.specs.declared.spot.Spot.{Spot}
-use Rattle.block_list.proofs.Found.{place_is_within}
-use Rattle.row_sheets.specs.Slots.{Slot, fill}
-use Rattle.row_sheets.specs.Over.{over}
-use Rattle.row_sheets.specs.Orders.{by_key, slots_of, NumbersRise}
-use Rattle.row_sheets.proofs.Orders.{replaced_at, put_at}
+use Rattle.row_index.specs.block_list.Layouts.{flat}
+use Rattle.row_index.specs.block_list.Spots.{block_at, place, IsAt, IsFound, IsSpot}
+use Rattle.row_index.specs.block_list.declared.spot.Spot.{Spot}
+use Rattle.row_index.proofs.of_block_list.Found.{place_is_within}
+use Rattle.row_index.specs.row_sheets.Slots.{Slot, fill}
+use Rattle.row_index.specs.row_sheets.Over.{over}
+use Rattle.row_index.specs.row_sheets.Orders.{by_key, slots_of, NumbersRise}
+use Rattle.row_index.proofs.of_row_sheets.Orders.{replaced_at, put_at}
 use Rattle.table_sheet.specs.declared.entry.Entry.{Entry}
 use Rattle.table_sheet.specs.Numbered.{row_of, slot_of_row, row_slot}
 use Rattle.table_sheet.specs.Ranked.{slot_of_entry, entry_slot, shown_by, are_ranked}

@@ -10,16 +10,16 @@ use Rattle.val_types.specs.declared.definitions.TableDef.{TableDef}
 use Rattle.val_types.specs.Order.{key_order}
 use Rattle.val_types.specs.Keys.{primary_key, same_values}
 use Rattle.table_rules.proofs.Taking.{Kept, same_is, same_self}
-use Rattle.block_list.specs.Layouts.{flat}
-use Rattle.block_list.specs.Spots.{place, IsFound}
-use Rattle.block_list.specs.declared.spot.Spot.{Spot}
-use Rattle.row_sheets.specs.Slots.{Slot, all_above, held, fill, with_slot, drop_slot, is_slot_of, is_not_before, keys_in, keys_rise, rows_in, row_slots, has_own_key, is_sound}
-use Rattle.row_sheets.specs.Over.{over, settled_by}
-use Rattle.row_sheets.specs.Orders.{by_key, slots_of, NumbersRise}
-use Rattle.row_sheets.proofs.Over.{apart}
-use Rattle.row_sheets.proofs.Orders.{found_at}
-use Rattle.row_sheets.proofs.Held.{held-over, held_first, dropped_other}
-use Rattle.row_sheets.proofs.Settling.{entry_stays, settled_rises}
+use Rattle.row_index.specs.block_list.Layouts.{flat}
+use Rattle.row_index.specs.block_list.Spots.{place, IsFound}
+use Rattle.row_index.specs.block_list.declared.spot.Spot.{Spot}
+use Rattle.row_index.specs.row_sheets.Slots.{Slot, all_above, held, fill, with_slot, drop_slot, is_slot_of, is_not_before, keys_in, keys_rise, rows_in, row_slots, has_own_key, is_sound}
+use Rattle.row_index.specs.row_sheets.Over.{over, settled_by}
+use Rattle.row_index.specs.row_sheets.Orders.{by_key, slots_of, NumbersRise}
+use Rattle.row_index.proofs.of_row_sheets.Over.{apart}
+use Rattle.row_index.proofs.of_row_sheets.Orders.{found_at}
+use Rattle.row_index.proofs.of_row_sheets.Held.{held-over, held_first, dropped_other}
+use Rattle.row_index.proofs.of_row_sheets.Settling.{entry_stays, settled_rises}
 use Rattle.table_sheet.specs.Numbered.{row_of, row_slot, are_numbered}
 use Rattle.table_sheet.specs.Pages.{Holds, news}
 use Rattle.table_sheet.specs.Settling.{taken_by, Settles}

@@ -3,10 +3,10 @@ use Rattle.std.specs.Prelude.{◌≡◌, ℕ, ◌≤◌, List, length, Option, S
 use Rattle.val_types.specs.declared.value.Value.{Value}
 use Rattle.val_types.specs.declared.definitions.KeyDef.{KeyDef}
 use Rattle.val_types.specs.declared.definitions.TableDef.{TableDef}
-use Rattle.block_list.specs.Layouts.{Layout, flat}
-use Rattle.row_sheets.specs.Slots.{Slot, rows_in}
-use Rattle.row_sheets.specs.Over.{over}
-use Rattle.row_sheets.specs.Claims.{AreApart}
+use Rattle.row_index.specs.block_list.Layouts.{Layout, flat}
+use Rattle.row_index.specs.row_sheets.Slots.{Slot, rows_in}
+use Rattle.row_index.specs.row_sheets.Over.{over}
+use Rattle.row_index.specs.row_sheets.Claims.{AreApart}
 use Rattle.row_index.specs.Numbers.{IsPut, IsTaken}
 use Rattle.row_index.specs.Lists.{list_at, AllHold, AreIndexes, OfEach}
 use Rattle.table_sheet.specs.declared.committed.Committed.{Committed}

@@ -1,9 +1,9 @@
 -- The two parts of a sheet as slots.
 use Rattle.std.specs.Prelude.{ℕ, ◌-◌, min, List, length}
 use Rattle.val_types.specs.declared.definitions.TableDef.{TableDef}
-use Rattle.block_list.specs.Layouts.{flat, room}
-use Rattle.row_sheets.specs.Slots.{Slot}
-use Rattle.row_sheets.specs.Orders.{slots_of}
+use Rattle.row_index.specs.block_list.Layouts.{flat, room}
+use Rattle.row_index.specs.row_sheets.Slots.{Slot}
+use Rattle.row_index.specs.row_sheets.Orders.{slots_of}
 use Rattle.table_sheet.specs.declared.committed.Committed.{Committed}
 use Rattle.table_sheet.specs.declared.overlay.Overlay.{Overlay}
 use Rattle.table_sheet.specs.Numbered.{row_slot}

@@ -3,10 +3,10 @@ use Rattle.std.specs.Prelude.{◌≡◌, ℕ, ◌+◌, ◌^◌, ◌<◌, ◌≤�
 use Rattle.std.specs.List.{list_all}
 use Rattle.val_types.specs.declared.value.Value.{Value}
 use Rattle.val_types.specs.declared.definitions.TableDef.{TableDef}
-use Rattle.block_list.specs.Layouts.{flat}
-use Rattle.row_sheets.specs.Slots.{Slot, held, keys_in, keys_rise, rows_in, has_own_key}
-use Rattle.row_sheets.specs.Over.{over}
-use Rattle.row_sheets.specs.Orders.{NumbersRise}
+use Rattle.row_index.specs.block_list.Layouts.{flat}
+use Rattle.row_index.specs.row_sheets.Slots.{Slot, held, keys_in, keys_rise, rows_in, has_own_key}
+use Rattle.row_index.specs.row_sheets.Over.{over}
+use Rattle.row_index.specs.row_sheets.Orders.{NumbersRise}
 use Rattle.table_sheet.specs.declared.committed.Committed.{Committed}
 use Rattle.table_sheet.specs.declared.overlay.Overlay.{Overlay}
 use Rattle.table_sheet.specs.Ranked.{entry_slot}

@@ -1,11 +1,11 @@
 //! The committed rows of a table.
 ghost use Rattle.std.specs.Prelude.{IsTrue};
-ghost use Rattle.block_list.specs.Layouts.{flat};
+ghost use Rattle.row_index.specs.block_list.Layouts.{flat};
 ghost use Rattle.table_sheet.specs.Numbered.{are_numbered};
 
 use crate::comparing::{nothing_row_cmp, rows_cmp};
-use block_list::{Blocks, Spot};
-use row_arena::RowArena;
+use row_index::block_list::{Blocks, Spot};
+use row_index::row_arena::RowArena;
 use row_index::{columns_cmp, make_hold, no_columns_cmp};
 use sharing::Shared;
 use std::alloc::{AllocError, Global};
@@ -27,10 +27,10 @@ impl Committed {
     ghost use Rattle.std.specs.Prelude.{◌≡◌, ◌+◌, ◌^◌, ◌<◌, ◌≤◌, [], true, List, length, option_copied, slice_get, Some, IsSome, MatchResult, OnOk};
     ghost use Rattle.std.specs.Option.{option_and_then, option_map};
     ghost use Rattle.val_types.specs.Keys.{primary_key};
-    ghost use Rattle.block_list.specs.Spots.{place, IsAt, IsFound, IsSpot};
-    ghost use Rattle.row_sheets.specs.Slots.{held, keys_in, keys_rise};
-    ghost use Rattle.row_sheets.specs.Orders.{by_key};
-    ghost use Rattle.row_sheets.specs.Over.{settled_by};
+    ghost use Rattle.row_index.specs.block_list.Spots.{place, IsAt, IsFound, IsSpot};
+    ghost use Rattle.row_index.specs.row_sheets.Slots.{held, keys_in, keys_rise};
+    ghost use Rattle.row_index.specs.row_sheets.Orders.{by_key};
+    ghost use Rattle.row_index.specs.row_sheets.Over.{settled_by};
     ghost use Rattle.val_types.specs.declared.value.Value.{Value};
     ghost use Rattle.val_types.specs.declared.definitions.TableDef.{TableDef as Definition};
     ghost use Rattle.table_sheet.specs.Numbered.{row_of, row_slot};

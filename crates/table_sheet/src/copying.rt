@@ -1,6 +1,6 @@
 //! A sheet once more, with rows that both hold.
 ghost use Rattle.std.specs.Prelude.{◌≡◌, ◌<◌, ◌≤◌, ℕ, length, IfOk};
-ghost use Rattle.block_list.specs.Layouts.{flat, holds};
+ghost use Rattle.row_index.specs.block_list.Layouts.{flat, holds};
 ghost use Rattle.row_index.specs.Lists.{list_at, numbers_at};
 
 use crate::committed::Committed;

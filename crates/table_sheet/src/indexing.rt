@@ -1,13 +1,13 @@
 //! The numbers of a transaction's entries by the values of the rows that they show.
 ghost use Rattle.std.specs.Prelude.{◌≡◌};
-ghost use Rattle.row_sheets.specs.Orders.{NumbersRise};
+ghost use Rattle.row_index.specs.row_sheets.Orders.{NumbersRise};
 ghost use Rattle.row_index.specs.Numbers.{number_slot};
 ghost use Rattle.row_index.specs.Lists.{numbers_at, CanPutInAll, OfEach};
 ghost use Rattle.table_sheet.specs.Ranked.{shown_by};
 ghost use Rattle.table_sheet.specs.Indexed.{AreEntered, AreLeft};
 
 use crate::entry::{Entry, Shown};
-use block_list::Blocks;
+use row_index::block_list::Blocks;
 use row_index::{RowsByNumber, put_row, take_row};
 use val_types::TableDef;
 

@@ -74,6 +74,8 @@ mod walking;
 mod whole;
 mod writing;
 
+// What is its own, and the crate below that it speaks of, passed on: who stands above names it through this one.
 pub use overlay::Overlay;
 pub use refusal::SheetRefusal;
+pub use row_index::block_list;
 pub use sheet::Sheet;

@@ -1,12 +1,12 @@
 //! What a transaction shows of a table.
 ghost use Rattle.std.specs.Prelude.{IsTrue};
-ghost use Rattle.block_list.specs.Layouts.{flat};
+ghost use Rattle.row_index.specs.block_list.Layouts.{flat};
 ghost use Rattle.table_sheet.specs.Ranked.{are_ranked};
 
 use crate::comparing::{nothing_row_cmp, rows_cmp};
 use crate::entry::Entry;
 use crate::indexing::{enter, leave};
-use block_list::{Blocks, Spot};
+use row_index::block_list::{Blocks, Spot};
 use row_index::{clear_lists, columns_cmp, make_hold, no_columns_cmp};
 use sharing::Shared;
 use std::alloc::{AllocError, Global};
@@ -30,10 +30,10 @@ impl Overlay {
     ghost use Rattle.val_types.specs.declared.value.Value.{Value};
     ghost use Rattle.val_types.specs.declared.definitions.TableDef.{TableDef as Definition};
     ghost use Rattle.val_types.specs.Keys.{primary_key, same_values};
-    ghost use Rattle.block_list.specs.Spots.{place, IsAt, IsFound, IsSpot};
-    ghost use Rattle.row_sheets.specs.Slots.{fill, keys_in, keys_rise};
-    ghost use Rattle.row_sheets.specs.Orders.{by_key};
-    ghost use Rattle.row_sheets.specs.Over.{over};
+    ghost use Rattle.row_index.specs.block_list.Spots.{place, IsAt, IsFound, IsSpot};
+    ghost use Rattle.row_index.specs.row_sheets.Slots.{fill, keys_in, keys_rise};
+    ghost use Rattle.row_index.specs.row_sheets.Orders.{by_key};
+    ghost use Rattle.row_index.specs.row_sheets.Over.{over};
     ghost use Rattle.table_sheet.specs.Ranked.{entry_slot, shown_by};
     ghost use Rattle.table_sheet.specs.Parts.{entry_slots};
     ghost use Rattle.table_sheet.specs.Indexed.{AreAllApart, IsAbove};

@@ -10,7 +10,7 @@ impl Sheet {
     ghost use Rattle.std.specs.Prelude.{◌≡◌, find, map, option_copied, slice_get, IfOk};
     ghost use Rattle.val_types.specs.Keys.{primary_key};
     ghost use Rattle.table_rules.specs.Stored.{has_key_in_way, key_in_way};
-    ghost use Rattle.row_sheets.specs.Slots.{rows_in};
+    ghost use Rattle.row_index.specs.row_sheets.Slots.{rows_in};
     ghost use Rattle.table_sheet.specs.Pages.{rows_on};
 
     /// The rows that are shown, in their order, each shared with the table, so that they stay what they are whatever is changed.

@@ -39,7 +39,7 @@ impl Sheet {
     ghost use Rattle.val_types.specs.Keys.{collide, primary_key};
     ghost use Rattle.table_rules.specs.Changes.{with_row};
     ghost use Rattle.table_rules.specs.Stored.{row_of_key, rows_beside};
-    ghost use Rattle.row_sheets.specs.Slots.{keys_in, rows_in};
+    ghost use Rattle.row_index.specs.row_sheets.Slots.{keys_in, rows_in};
     ghost use Rattle.table_sheet.specs.Pages.{has_entry, rows_on, IsPage, Stays};
     ghost use Rattle.table_sheet.specs.Indexed.{Fits};
     ghost use Rattle.table_sheet.specs.Parts.{entry_slots};

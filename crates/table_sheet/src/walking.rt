@@ -1,9 +1,9 @@
 //! Entries and committed rows walked side by side, in the order of keys.
 ghost use Rattle.std.specs.Prelude.{◌≡◌, [], map, option_copied, IfNone, IfSome, IfOk, List};
 ghost use Rattle.val_types.specs.Keys.{primary_key};
-ghost use Rattle.row_sheets.specs.Slots.{rows_in};
+ghost use Rattle.row_index.specs.row_sheets.Slots.{rows_in};
 ghost use Rattle.val_types.specs.declared.definitions.TableDef.{TableDef as Definition};
-ghost use Rattle.row_sheets.specs.Over.{over};
+ghost use Rattle.row_index.specs.row_sheets.Over.{over};
 ghost use Rattle.table_sheet.specs.Parts.{committed_slots, entry_slots};
 ghost use Rattle.table_sheet.specs.Walks.{left, AreNext, IsFirst, IsPlace};
 

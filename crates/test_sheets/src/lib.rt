@@ -21,7 +21,7 @@ ghost use Rattle.table_rules.specs.Stored.{row_of_key};
 ghost use Rattle.table_sheet.specs.Keyed.{row_with};
 ghost use Rattle.table_sheet.specs.Pages.{rows_on};
 
-use block_list::Steps;
+use table_sheet::block_list::Steps;
 use sharing::Shared;
 use std::marker::Brand;
 use std::sync::ledger::{Blank, Ledger};

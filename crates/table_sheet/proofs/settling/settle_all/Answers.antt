@@ -1,6 +1,6 @@
 use Rattle.std.proofs.Common.{◌≡◌, List, ap, subst}
-use Rattle.row_sheets.specs.Slots.{Slot, rows_in}
-use Rattle.row_sheets.specs.Over.{over}
+use Rattle.row_index.specs.row_sheets.Slots.{Slot, rows_in}
+use Rattle.row_index.specs.row_sheets.Over.{over}
 use Rattle.table_sheet.specs.Parts.{committed_slots, entry_slots}
 use Rattle.table_sheet.specs.Settling.{hiding}
 use Rattle.table_sheet.specs.Indexed.{IsBelow}

@@ -1,6 +1,6 @@
 use Rattle.std.proofs.Common.{◌≡◌, length}
-use Rattle.row_sheets.specs.Slots.{rows_in}
-use Rattle.row_sheets.specs.Over.{over}
+use Rattle.row_index.specs.row_sheets.Slots.{rows_in}
+use Rattle.row_index.specs.row_sheets.Over.{over}
 use Rattle.table_sheet.specs.Parts.{committed_slots, entry_slots}
 use Rattle.table_sheet.specs.Settling.{HidesEntries, SettlesParts}
 use Rattle.table_sheet.proofs.settling.settle_all.Given as goal

@@ -1,8 +1,8 @@
 use Rattle.table_sheet.specs.Parts.{committed_slots, entry_slots, room_of}
 use Rattle.std.proofs.Common.{ℕ, ap, subst, sym, ◌∙◌, List}
 use Rattle.val_types.specs.Keys.{primary_key}
-use Rattle.row_sheets.specs.Slots.{Slot, rows_in}
-use Rattle.row_sheets.specs.Over.{over}
+use Rattle.row_index.specs.row_sheets.Slots.{Slot, rows_in}
+use Rattle.row_index.specs.row_sheets.Over.{over}
 use Rattle.table_sheet.specs.Settling.{Settles}
 use Rattle.table_sheet.proofs.Settled.{entry_there, first_of}
 use Rattle.table_sheet.proofs.Steps.{first_own, first_room, first_few, next_settles, next_rows}

@@ -2,7 +2,7 @@ use Rattle.std.proofs.Common.{Some, None, refl, sym, ap, subst, ◌∙◌}
 use Rattle.std.specs.Prelude.{slice_get, IsSome}
 use Rattle.val_types.specs.declared.definitions.TableDef.{TableDef}
 use Rattle.val_types.specs.Keys.{primary_key}
-use Rattle.row_sheets.specs.Claims.{row_under}
+use Rattle.row_index.specs.row_sheets.Claims.{row_under}
 use Rattle.table_sheet.specs.Numbered.{row_of}
 use Rattle.table_sheet.specs.Parts.{committed_slots}
 use Rattle.table_sheet.proofs.Slotted.{never_none}

@@ -1,4 +1,4 @@
-use Rattle.block_list.specs.Layouts.{flat}
+use Rattle.row_index.specs.block_list.Layouts.{flat}
 use Rattle.table_sheet.proofs.Settled.{numbered_more, slots_more, put_others}
 use Rattle.table_sheet.proofs.committed.Committed.put_at.Goals as goal
 

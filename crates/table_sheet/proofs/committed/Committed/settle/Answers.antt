@@ -1,8 +1,8 @@
 use Rattle.std.proofs.Common.{arith}
 use Rattle.std.proofs.lemmas.List.{length-map}
 use Rattle.val_types.specs.Keys.{primary_key}
-use Rattle.block_list.specs.Layouts.{flat}
-use Rattle.row_sheets.proofs.Orders.{missing_at}
+use Rattle.row_index.specs.block_list.Layouts.{flat}
+use Rattle.row_index.proofs.of_row_sheets.Orders.{missing_at}
 use Rattle.table_sheet.specs.Numbered.{row_slot}
 use Rattle.table_sheet.specs.Parts.{committed_slots}
 use Rattle.table_sheet.proofs.Settled.{found_once, others_found}

@@ -1,7 +1,7 @@
 use Rattle.std.proofs.Common.{List, Option, None, ap, ◌∙◌}
 use Rattle.val_types.specs.declared.value.Value.{Value}
-use Rattle.block_list.specs.Layouts.{flat}
-use Rattle.row_sheets.specs.Orders.{slots_of}
+use Rattle.row_index.specs.block_list.Layouts.{flat}
+use Rattle.row_index.specs.row_sheets.Orders.{slots_of}
 use Rattle.table_sheet.specs.Numbered.{row_slot, are_numbered}
 use Rattle.table_sheet.proofs.Settled.{numbered_taken, slots_taken, set_others}
 use Rattle.table_sheet.proofs.committed.Committed.take_at.Goals as goal

@@ -1,8 +1,8 @@
 use Rattle.std.proofs.Common.{◌≡◌, length, ap, arith}
-use Rattle.block_list.specs.Layouts.{flat}
-use Rattle.block_list.specs.Spots.{place}
+use Rattle.row_index.specs.block_list.Layouts.{flat}
+use Rattle.row_index.specs.block_list.Spots.{place}
 use Rattle.val_types.specs.Keys.{primary_key}
-use Rattle.row_sheets.proofs.Orders.{missing_at}
+use Rattle.row_index.proofs.of_row_sheets.Orders.{missing_at}
 use Rattle.table_sheet.specs.Ranked.{entry_slot}
 use Rattle.table_sheet.proofs.Above.{added_can, added_above, length_put}
 use Rattle.table_sheet.proofs.Slotted.{ranked_after, slots_after}

@@ -1,8 +1,8 @@
 use Rattle.std.proofs.Common.{arith}
 use Rattle.table_sheet.specs.Ranked.{shown_by}
 use Rattle.table_sheet.specs.Parts.{entry_slots}
-use Rattle.row_sheets.specs.Slots.{rows_in}
-use Rattle.block_list.specs.Layouts.{flat}
+use Rattle.row_index.specs.row_sheets.Slots.{rows_in}
+use Rattle.row_index.specs.block_list.Layouts.{flat}
 use Rattle.std.proofs.Common.{length}
 use Rattle.table_sheet.proofs.Slotted.{never_none}
 use Rattle.table_sheet.proofs.Above.{all_rise_of, filled_can, filled_above}

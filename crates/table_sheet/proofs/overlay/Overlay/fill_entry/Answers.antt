@@ -1,7 +1,7 @@
 use Rattle.std.proofs.Common.{◌≡◌, ◌<◌, length, Some, sym, ap, ◌∙◌, arith}
 use Rattle.std.specs.Prelude.{slice_get, slice_set}
-use Rattle.block_list.specs.Layouts.{flat}
-use Rattle.block_list.specs.Spots.{place}
+use Rattle.row_index.specs.block_list.Layouts.{flat}
+use Rattle.row_index.specs.block_list.Spots.{place}
 use Rattle.table_sheet.specs.Ranked.{shown_by}
 use Rattle.table_sheet.proofs.Slotted.{ranked_here, entry_read, was_there, slots_set, never_none, number_at, shown_set, shown_beside}
 use Rattle.table_sheet.proofs.overlay.Overlay.fill_entry.Goals as goal

@@ -1,5 +1,5 @@
 use Rattle.std.proofs.Common.{ap}
-use Rattle.row_sheets.specs.Orders.{slots_of}
+use Rattle.row_index.specs.row_sheets.Orders.{slots_of}
 use Rattle.table_sheet.specs.Numbered.{row_slot}
 use Rattle.table_sheet.specs.Ranked.{entry_slot}
 use Rattle.table_sheet.specs.Parts.{committed_slots, entry_slots, room_of}

@@ -1,6 +1,6 @@
 use Rattle.std.proofs.Common.{length, ap, arith}
 use Rattle.std.proofs.lemmas.List.{length-map}
-use Rattle.block_list.specs.Layouts.{flat}
+use Rattle.row_index.specs.block_list.Layouts.{flat}
 use Rattle.table_sheet.specs.Numbered.{row_slot}
 use Rattle.table_sheet.specs.Pages.{Page, rows_on}
 use Rattle.table_sheet.specs.Parts.{committed_slots, entry_slots}

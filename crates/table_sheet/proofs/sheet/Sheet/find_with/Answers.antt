@@ -3,9 +3,9 @@ use Rattle.std.specs.Prelude.{option_copied, slice_index}
 use Rattle.std.specs.Option.{option_and_then}
 use Rattle.val_types.specs.declared.value.Value.{Value}
 use Rattle.val_types.specs.Keys.{primary_key}
-use Rattle.block_list.specs.Layouts.{flat}
-use Rattle.block_list.specs.Spots.{place}
-use Rattle.row_sheets.proofs.Orders.{found_at, missing_at}
+use Rattle.row_index.specs.block_list.Layouts.{flat}
+use Rattle.row_index.specs.block_list.Spots.{place}
+use Rattle.row_index.proofs.of_row_sheets.Orders.{found_at, missing_at}
 use Rattle.row_index.specs.Lists.{numbers_at}
 use Rattle.table_sheet.specs.declared.entry.Entry.{Entry}
 use Rattle.table_sheet.specs.Ranked.{entry_slot}

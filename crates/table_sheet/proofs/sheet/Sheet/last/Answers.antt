@@ -1,7 +1,7 @@
 use Rattle.std.proofs.Common.{◌-◌, List, length, ap, ◌∙◌}
 use Rattle.std.specs.Prelude.{slice_get, option_copied}
 use Rattle.val_types.specs.declared.value.Value.{Value}
-use Rattle.row_sheets.specs.Slots.{rows_in}
+use Rattle.row_index.specs.row_sheets.Slots.{rows_in}
 use Rattle.table_sheet.specs.Pages.{rows_on}
 use Rattle.table_sheet.specs.Parts.{committed_slots}
 use Rattle.table_sheet.specs.Walks.{passed}

@@ -1,8 +1,8 @@
 use Rattle.std.proofs.Common.{Some, Ok, Err, refl, sym, ap, ◌∙◌, arith}
 use Rattle.val_types.specs.Keys.{primary_key}
-use Rattle.block_list.specs.Layouts.{flat}
-use Rattle.row_sheets.specs.Slots.{rows_in}
-use Rattle.row_sheets.specs.Claims.{row_under}
+use Rattle.row_index.specs.block_list.Layouts.{flat}
+use Rattle.row_index.specs.row_sheets.Slots.{rows_in}
+use Rattle.row_index.specs.row_sheets.Claims.{row_under}
 use Rattle.table_sheet.specs.Pages.{Page, has_entry}
 use Rattle.table_sheet.specs.Parts.{committed_slots, entry_slots, room_of}
 use Rattle.table_sheet.proofs.Apart.{apart_above, above_changed, above_added, found_as, roomed}

@@ -1,5 +1,5 @@
 use Rattle.std.proofs.Common.{sym, ap, subst, ◌∙◌}
-use Rattle.row_sheets.specs.Orders.{slots_of}
+use Rattle.row_index.specs.row_sheets.Orders.{slots_of}
 use Rattle.table_sheet.specs.declared.overlay.Overlay.{Overlay}
 use Rattle.table_sheet.specs.Ranked.{entry_slot}
 use Rattle.table_sheet.specs.Parts.{committed_slots, entry_slots, room_of}

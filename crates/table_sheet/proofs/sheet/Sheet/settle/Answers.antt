@@ -1,8 +1,8 @@
 use Rattle.std.proofs.Common.{ℕ, List, sym, ap, subst, ◌∙◌}
-use Rattle.block_list.specs.Layouts.{flat}
-use Rattle.row_sheets.specs.Slots.{Slot, rows_in, row_slots}
-use Rattle.row_sheets.specs.Over.{over}
-use Rattle.row_sheets.specs.Orders.{slots_of}
+use Rattle.row_index.specs.block_list.Layouts.{flat}
+use Rattle.row_index.specs.row_sheets.Slots.{Slot, rows_in, row_slots}
+use Rattle.row_index.specs.row_sheets.Over.{over}
+use Rattle.row_index.specs.row_sheets.Orders.{slots_of}
 use Rattle.table_sheet.specs.Ranked.{entry_slot}
 use Rattle.table_sheet.specs.Pages.{Page, rows_on}
 use Rattle.table_sheet.specs.Parts.{committed_slots, entry_slots, room_of}

@@ -1,6 +1,6 @@
 use Rattle.std.proofs.Common.{None, refl, sym, ap, subst, ◌∙◌, arith}
 use Rattle.val_types.specs.Keys.{primary_key}
-use Rattle.row_sheets.specs.Slots.{keys_in}
+use Rattle.row_index.specs.row_sheets.Slots.{keys_in}
 use Rattle.table_sheet.specs.Pages.{Page, Stays, rows_on}
 use Rattle.table_sheet.specs.Parts.{committed_slots, entry_slots, room_of}
 use Rattle.table_sheet.proofs.Apart.{apart_above, above_changed}
