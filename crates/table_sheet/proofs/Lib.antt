@@ -2,6 +2,7 @@ pub mod Above
 pub mod Agreeing
 pub mod Apart
 pub mod Below
+pub mod Copies
 pub mod Costing
 pub mod Counted
 pub mod Entering
