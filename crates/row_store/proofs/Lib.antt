@@ -1,8 +1,8 @@
 pub mod Asides
 pub mod Beside
 pub mod Exchanging
-pub mod Finding
 pub mod Keeping
+pub mod Searching
 pub mod Setting
 pub mod Shelved
 pub mod Staying

@@ -1,7 +1,7 @@
 use Rattle.std.proofs.Common.{List, Some, sym, ap, ◌∙◌, ◌-◌, arith}
 use Rattle.std.specs.Prelude.{option_copied}
 use Rattle.val_types.specs.declared.value.Value.{Value}
-use Rattle.row_store.proofs.Finding.{both_by, none_with, twice_by}
+use Rattle.row_store.proofs.Searching.{both_by, none_with, twice_by}
 use Rattle.row_store.proofs.tables.Tables.find.Goals as goal
 
 pub returns-in_err-at-clause-row : goal.returns-in_err-at-clause-row

@@ -1,5 +1,5 @@
 use Rattle.std.proofs.Common.{◌-◌, ◌<◌, ◌≤◌, length, ◌∙◌, arith}
-use Rattle.row_store.proofs.Finding.{both_at, got_with, twice_at}
+use Rattle.row_store.proofs.Searching.{both_at, got_with, twice_at}
 use Rattle.row_store.proofs.Shelved.{none_past}
 use Rattle.row_store.proofs.tables.Tables.find_at.Goals as goal
 
