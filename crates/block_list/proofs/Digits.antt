@@ -7,17 +7,17 @@ use Rattle.block_list.specs.Spots.{block_at}
 
 -- ---- few blocks have many numbers
 
-abbrev pairs : List (List ℕ) → ℕ
+abbrev pub pairs : List (List ℕ) → ℕ
 pairs [] = 0
 pairs (b ∷ []) = 0
 pairs (b ∷ (c ∷ bs)) = suc (pairs bs)
 
-few : (bs : List (List ℕ)) → length bs ≤ 2 * pairs bs + 1
+pub few : (bs : List (List ℕ)) → length bs ≤ 2 * pairs bs + 1
 few [] = omega arith
 few (b ∷ []) = omega arith
 few (b ∷ (c ∷ bs)) = let rest : length bs ≤ 2 * pairs bs + 1 = few bs in omega arith
 
-many : (bs : List (List ℕ)) → AreShaped bs → 256 * pairs bs ≤ length (flat bs)
+pub many : (bs : List (List ℕ)) → AreShaped bs → 256 * pairs bs ≤ length (flat bs)
 many [] s = omega arith
 many (b ∷ []) s = omega arith
 many (b ∷ (c ∷ [])) s =

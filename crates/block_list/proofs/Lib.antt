@@ -2,6 +2,7 @@ pub mod Changed
 pub mod Digits
 pub mod Found
 pub mod Halving
+pub mod Holding
 pub mod Joined
 pub mod Meeting
 pub mod Splitting

@@ -28,6 +28,11 @@ excess (b ∷ (c ∷ bs)) = (length b - 128) + excess (c ∷ bs)
 unfoldable pub room : Layout → ℕ
 room l = max l.spares (128 * (l.spares + 1) - excess l.blocks)
 
+-- How many numbers all blocks, the spare ones too, hold while numbers are put and taken at whatever places: two neighbours have more
+-- than one of them holds.
+abbrev pub holds : Layout → ℕ
+holds l = 128 * (length l.blocks + l.spares - 1)
+
 -- so many comparisons are at most one more than a count has binary digits
 abbrev pub AreWithinDigits : ℕ → ℕ → Type 0
 AreWithinDigits count steps = (digits : ℕ) → count < 2 ^ digits → steps ≤ digits + 1

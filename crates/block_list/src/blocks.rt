@@ -1,6 +1,6 @@
 //! Numbers in an order of their own.
 ghost use Rattle.std.specs.Prelude.{◌≡◌, ◌+◌, ◌-◌, ◌*◌, ◌^◌, ◌<◌, ◌≤◌, ◌↔◌, ℕ, [], length, insert, remove, slice_get, IsTrue, OnOk, OnErr};
-ghost use Rattle.block_list.specs.Layouts.{flat, room, AreShaped};
+ghost use Rattle.block_list.specs.Layouts.{flat, holds, room, AreShaped};
 ghost use Rattle.block_list.specs.Spots.{block_at, place, IsAt, IsSpot};
 
 use crate::block::Block;
@@ -88,6 +88,7 @@ impl Blocks {
         requires few { length (flat self.old.blocks) < 2 ^ 32 }
         ensures numbers { flat self.new.blocks ≡ insert (flat self.old.blocks) (place self.old.blocks spot) number }
         ensures room { room self.old ≤ room self.new + 1 }
+        ensures holds { holds self.new ≡ holds self.old }
     {
         put_into(&mut self.blocks, &mut self.spares, spot, number);
         self.count += 1;
@@ -99,6 +100,7 @@ impl Blocks {
         ensures number { slice_get (flat self.old.blocks) (place self.old.blocks spot) ≡ Some result }
         ensures numbers { flat self.new.blocks ≡ remove (flat self.old.blocks) (place self.old.blocks spot) }
         ensures room { room self.old ≤ room self.new }
+        ensures holds { holds self.new ≡ holds self.old }
     {
         self.count -= 1;
         take_from(&mut self.blocks, &mut self.spares, spot)
@@ -110,6 +112,7 @@ impl Blocks {
         ensures made { OnOk result (more ≤ room self.new) }
         ensures numbers { self.new.blocks ≡ self.old.blocks }
         ensures room { room self.old ≤ room self.new }
+        ensures holds { holds self.old ≤ holds self.new }
     {
         // each spare block is room for one number at least, and for half of what it holds where there are so many
         let needed = usize::min(more, (self.count + 2 * more).div_ceil(256));
@@ -117,6 +120,29 @@ impl Blocks {
             self.add_spare(alloc)?;
         }
         Ok(())
+    }
+
+    /// Makes blocks that hold so many numbers, however often they are taken out and put at other places. Where there is no memory, there
+    /// may be more of them than before.
+    pub fn make_hold(&mut self, alloc: Global, count: usize) -> Result<(), AllocError>
+        requires { count ≤ 2 ^ 33 }
+        ensures made { OnOk result (count ≤ holds self.new) }
+        ensures numbers { self.new.blocks ≡ self.old.blocks }
+        ensures room { room self.old ≤ room self.new }
+        ensures holds { holds self.old ≤ holds self.new }
+    {
+        let needed = count.div_ceil(128) + usize::min(count, 1);
+        while self.blocks.len() + self.spares.len() < needed {
+            self.add_spare(alloc)?;
+        }
+        Ok(())
+    }
+
+    /// A law: where fewer numbers stand than all blocks hold, there is room for one more.
+    pub fn has_room(&self)
+        ensures { length (flat self.now.blocks) < holds self.now → 0 < room self.now }
+    {
+        let _ = &self.count;
     }
 
     /// Makes one more spare block.
@@ -135,6 +161,7 @@ impl Blocks {
     pub fn clear(&mut self)
         ensures numbers { flat self.new.blocks ≡ [] }
         ensures room { room self.old ≤ room self.new }
+        ensures holds { holds self.new ≡ holds self.old }
     {
         // there is room, so no memory is asked for
         let _ = self.spares.append(&mut self.blocks);

@@ -8,7 +8,8 @@
 //!
 //! A contract sees [`Blocks`] as a `Layout`: the list of the numbers of each block, and how many spare blocks
 //! there are. `flat` are the numbers in their order, `place` says what place among them a [`Spot`] is, and
-//! `room` how many can be put without memory.
+//! `room` how many can be put without memory. `holds` is how many numbers there may be without memory while
+//! some are taken out and others put, as often as one likes.
 //!
 //! - `block`: one block
 //! - `spot`: [`Spot`], a block and a place in it
@@ -25,6 +26,8 @@
 //!   with it; neither takes memory, `put` leaves at most one less room, `take` and [`Blocks::clear`] no less
 //! - [`Blocks::make_room`] makes room for so many more, or wants memory; the numbers stay where they are, and
 //!   the room is never less
+//! - [`Blocks::make_hold`] makes blocks that hold so many numbers, or wants memory; no call makes them hold less,
+//!   and where there are fewer numbers than they hold there is room for one more ([`Blocks::has_room`])
 //! - [`Blocks::len`] and [`Blocks::is_empty`] count the numbers; [`Blocks::first`] and [`Blocks::after`] are
 //!   spots one after the other, [`Blocks::end`] and [`Blocks::before`] the other way round; [`Blocks::get`] is
 //!   the number there, None behind the last, and [`Blocks::standing`] the spot of that number itself

@@ -6,11 +6,12 @@ use Rattle.val_types.specs.declared.value.Value.{Value}
 use Rattle.val_types.specs.declared.definitions.TableDef.{TableDef}
 use Rattle.table_rules.specs.Tables.{Table}
 use Rattle.table_rules.specs.Stores.{Store, names_differ, AreNoLess}
-use Rattle.row_sheets.specs.Slots.{Slot, keys_in, rows_in, row_slots}
-use Rattle.row_sheets.specs.Over.{over}
+use Rattle.table_sheet.specs.row_sheets.Slots.{Slot, keys_in, rows_in, row_slots}
+use Rattle.table_sheet.specs.row_sheets.Over.{over}
 use Rattle.table_sheet.specs.declared.overlay.Overlay.{Overlay}
 use Rattle.table_sheet.specs.Pages.{Page, Holds, rows_on}
-use Rattle.table_sheet.specs.Parts.{entry_slots, Fits}
+use Rattle.table_sheet.specs.Indexed.{Fits}
+use Rattle.table_sheet.specs.Parts.{entry_slots}
 use Rattle.row_store.specs.declared.shelf.Shelf.{Shelf}
 use Rattle.row_store.specs.declared.setting_aside.Aside.{Aside}
 use Rattle.row_store.specs.Shelves.{table_on, tables_on, definitions_on, keys_on, committed_on, room_on, store_of}
@@ -59,7 +60,10 @@ taken_step (p ∷ os) [] d o within e taken all = absurd all
 taken_step (p ∷ os) (s ∷ ss) d o within e taken all = (all.0, taken_step os ss d o (omega arith) e taken all.1)
 
 fits_under : (o : Overlay) (s : Shelf) → Fits o s.sheet → Fits o (page_under (committed_on s) (room_on s))
-fits_under o s fits = subst (λ (cs : List Slot). Holds s.sheet.definition cs (entry_slots s.sheet.definition o) s.sheet.room o.fresh) s.rows.own fits
+fits_under o s fits = record {
+  holds = subst (λ (cs : List Slot). Holds s.sheet.definition cs (entry_slots s.sheet.definition o) s.sheet.room o.fresh) s.rows.own fits.holds;
+  above = fits.above;
+}
 
 -- the table that is shown with entries over the rows that are there to stay
 over_is : (o : Overlay) (s : Shelf) → table_over (entry_slots s.sheet.definition o) (committed_on s) ≡ record { definition = s.sheet.definition; rows = rows_in (over (entry_slots s.sheet.definition o) s.sheet.committed) }
@@ -201,7 +205,7 @@ pub fit_first : (os : List Overlay) (ss : List Shelf) → AreFitting os (map com
 fit_first [] ss all = tt
 fit_first (o ∷ os) [] all = absurd all
 fit_first (o ∷ os) (s ∷ ss) all =
-    (subst (λ (cs : List Slot). Holds s.sheet.definition cs (entry_slots s.sheet.definition o) s.sheet.room o.fresh) (sym s.rows.own) all.0, fit_first os ss all.1)
+    (record { holds = subst (λ (cs : List Slot). Holds s.sheet.definition cs (entry_slots s.sheet.definition o) s.sheet.room o.fresh) (sym s.rows.own) all.0.holds; above = all.0.above }, fit_first os ss all.1)
 
 pub tables_first : (os : List Overlay) (ss : List Shelf) → AreFitting os (map committed_on ss) (map room_on ss) → seen_with table_with table_on os ss ≡ tables_over os (map committed_on ss)
 tables_first [] [] all = refl
@@ -279,7 +283,7 @@ fitting_more (o ∷ os) [] less more none all = absurd all
 fitting_more (o ∷ os) (t ∷ ts) [] more none all = absurd all
 fitting_more (o ∷ os) (t ∷ ts) (a ∷ less) [] none all = absurd none
 fitting_more (o ∷ os) (t ∷ ts) (a ∷ less) (b ∷ more) none all =
-    (holds_more t.definition (row_slots t.definition t.rows) (entry_slots t.definition o) a b o.fresh none.0 all.0, fitting_more os ts less more none.1 all.1)
+    (record { holds = holds_more t.definition (row_slots t.definition t.rows) (entry_slots t.definition o) a b o.fresh none.0 all.0.holds; above = all.0.above }, fitting_more os ts less more none.1 all.1)
 
 pub asides_return_so : AsidesReturn
 unfolding FitsIn with_aside

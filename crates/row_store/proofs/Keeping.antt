@@ -11,11 +11,12 @@ use Rattle.table_rules.specs.Tables.{rise, are_apart}
 use Rattle.table_rules.specs.Changes.{with_row, rows_after}
 use Rattle.table_rules.specs.Stored.{rows_beside}
 use Rattle.table_rules.proofs.Taking.{Kept, as_kept, is_kept, kept_with, rows_reversible}
-use Rattle.row_sheets.specs.Slots.{Slot, keys_in, keys_rise, rows_in, row_slots, has_own_key, rows_are_kept}
-use Rattle.row_sheets.specs.Over.{over}
+use Rattle.table_sheet.specs.row_sheets.Slots.{Slot, keys_in, keys_rise, rows_in, row_slots, has_own_key, rows_are_kept}
+use Rattle.table_sheet.specs.row_sheets.Over.{over}
 use Rattle.table_sheet.specs.declared.overlay.Overlay.{Overlay}
 use Rattle.table_sheet.specs.Pages.{Page, Stays, rows_on}
-use Rattle.table_sheet.specs.Parts.{entry_slots, Fits}
+use Rattle.table_sheet.specs.Indexed.{Fits}
+use Rattle.table_sheet.specs.Parts.{entry_slots}
 use Rattle.table_sheet.specs.Standing.{is_standing}
 use Rattle.row_store.specs.Rows.{HoldsRows}
 use Rattle.table_sheet.specs.declared.refusal.SheetRefusal.{SheetRefusal}
@@ -120,7 +121,7 @@ pub over_holds : (old new : Page) (o : Overlay) → HoldsRows old → Fits o old
 over_holds old new o h fits is =
     let es : List Slot = entry_slots old.definition o in
     let kept : rows_are_kept old.definition (rows_in (over es old.committed)) ≡ true =
-    (and_parts (keys_rise (keys_in (over es old.committed)) && list_all (has_own_key old.definition) (over es old.committed)) (rows_are_kept old.definition (rows_in (over es old.committed))) fits.sound).1 in
+    (and_parts (keys_rise (keys_in (over es old.committed)) && list_all (has_own_key old.definition) (over es old.committed)) (rows_are_kept old.definition (rows_in (over es old.committed))) fits.holds.sound).1 in
     shown_holds old new h (ap (λ (p : Page). p.definition) is) (ap (λ (p : Page). p.committed) is) (ap (λ (p : Page). rows_are_kept old.definition (rows_on p)) is ∙ kept)
 
 -- ---- one call after another

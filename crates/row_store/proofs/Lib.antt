@@ -2,6 +2,7 @@ pub mod Asides
 pub mod Beside
 pub mod Exchanging
 pub mod Keeping
+pub mod Searching
 pub mod Setting
 pub mod Shelved
 pub mod Staying

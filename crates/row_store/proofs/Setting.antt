@@ -4,7 +4,7 @@ use Rattle.std.specs.Prelude.{slice_set}
 use Rattle.val_types.specs.declared.definitions.TableDef.{TableDef}
 use Rattle.table_rules.specs.Stores.{Store, names_differ, AreNoLess, Still}
 use Rattle.table_rules.proofs.Leading.{no_less}
-use Rattle.row_sheets.specs.Slots.{Slot, rows_in}
+use Rattle.table_sheet.specs.row_sheets.Slots.{Slot, rows_in}
 use Rattle.table_sheet.specs.Pages.{Stays}
 use Rattle.row_store.specs.declared.shelf.Shelf.{Shelf}
 use Rattle.row_store.specs.Shelves.{definitions_on, committed_on, room_on, store_of}

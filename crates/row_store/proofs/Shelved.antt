@@ -23,7 +23,7 @@ use Rattle.table_rules.proofs.Places.{name_is, name_self, place, at_place}
 use Rattle.row_store.specs.declared.refusal.RowRefusal.{RowRefusal}
 use Rattle.row_store.specs.declared.refusal.RowRefusal.TheVariants.{Taken, Absent, NoMemory}
 use Rattle.row_store.specs.declared.shelf.Shelf.{Shelf}
-use Rattle.row_sheets.specs.Slots.{keys_in}
+use Rattle.table_sheet.specs.row_sheets.Slots.{keys_in}
 use Rattle.table_sheet.specs.Pages.{rows_on, has_entry, KeepsEntries}
 use Rattle.row_store.specs.Shelves.{table_on, tables_on, definitions_on, keys_on, store_of, is_named, has_entry_for, has_entries_for, Inserted, Replaced, Deleted}
 use Rattle.row_store.specs.Stores.{Stores}
@@ -118,7 +118,7 @@ shelf_at name ss at s e is = found (is_named name) ss at s (placed name ss at e)
 pub set_at : (name : List ℕ) (ss : List Shelf) (at : ℕ) (new : Shelf) → place_of name (store_of ss).tables ≡ Some at → slice_set ss at new ≡ swap name new ss
 set_at name ss at new e = replaced (is_named name) new ss at (placed name ss at e)
 
-get_past : (ss : List Shelf) (at : ℕ) → length ss ≤ at → slice_get ss at ≡ None
+pub get_past : (ss : List Shelf) (at : ℕ) → length ss ≤ at → slice_get ss at ≡ None
 get_past [] at h = refl
 get_past (s ∷ ss) zero h = absurd (omega arith)
 get_past (s ∷ ss) (suc at) h = get_past ss at (omega arith)
@@ -148,12 +148,12 @@ place_within name ss at e =
     let s = some_passes (is_named name) (find (is_named name) ss) both.1 in
     get_within ss at s.0 (both.0 ∙ s.1)
 
-get_is : (ss : List Shelf) (at : ℕ) (s : Shelf) → at < length ss → s ≡ get_or ss at s → slice_get ss at ≡ Some s
+pub get_is : (ss : List Shelf) (at : ℕ) (s : Shelf) → at < length ss → s ≡ get_or ss at s → slice_get ss at ≡ Some s
 get_is [] at s h is = absurd (omega arith)
 get_is (t ∷ ts) zero s h is = ap (λ (u : Shelf). Some u) (sym is)
 get_is (t ∷ ts) (suc at) s h is = get_is ts at s (omega arith) is
 
-get_mapped : {X Y : Type 0} (f : X → Y) (xs : List X) (i : ℕ) → slice_get (map f xs) i ≡ option_map f (slice_get xs i)
+pub get_mapped : {X Y : Type 0} (f : X → Y) (xs : List X) (i : ℕ) → slice_get (map f xs) i ≡ option_map f (slice_get xs i)
 get_mapped f [] i = refl
 get_mapped f (x ∷ xs) zero = refl
 get_mapped f (x ∷ xs) (suc i) = get_mapped f xs i

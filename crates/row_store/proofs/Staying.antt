@@ -10,7 +10,7 @@ use Rattle.val_types.proofs.Lookup.{removed, place_mapped, find_mapped, left_map
 use Rattle.table_rules.specs.Tables.{Table}
 use Rattle.table_rules.specs.Stored.{has_name, rows_of, tables_beside, tables_cleared}
 use Rattle.table_rules.specs.Stores.{Store, place_of, names_differ}
-use Rattle.row_sheets.specs.Slots.{Slot, rows_in}
+use Rattle.table_sheet.specs.row_sheets.Slots.{Slot, rows_in}
 use Rattle.table_sheet.specs.Pages.{rows_on}
 use Rattle.row_store.specs.declared.shelf.Shelf.{Shelf}
 use Rattle.row_store.specs.Shelves.{table_on, definitions_on, committed_on, is_named, store_of}

@@ -16,7 +16,7 @@ use Rattle.val_types.specs.Changes.{table_of}
 use Rattle.table_rules.specs.Stored.{has_name, table_named, tables_beside, tables_cleared}
 use Rattle.table_rules.proofs.Taking.{Kept, is_kept}
 use Rattle.table_rules.specs.Stores.{definitions_of, is_among}
-use Rattle.row_sheets.specs.Slots.{keys_in, rows_in}
+use Rattle.table_sheet.specs.row_sheets.Slots.{keys_in, rows_in}
 use Rattle.table_sheet.specs.Pages.{rows_on, has_entry, KeepsEntries}
 use Rattle.row_store.specs.declared.shelf.Shelf.{Shelf}
 use Rattle.row_store.specs.Shelves.{table_on, tables_on, committed_on, is_named, has_entry_for}

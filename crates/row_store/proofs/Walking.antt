@@ -10,8 +10,8 @@ use Rattle.table_rules.specs.Tables.{Table}
 use Rattle.table_rules.specs.Stored.{table_named, has_key_in_way, key_in_way, row_in_way, rows_of}
 use Rattle.table_rules.specs.Stores.{place_of, names_differ}
 use Rattle.table_rules.proofs.InWay.{row_in_way_has_key}
-use Rattle.row_sheets.specs.Slots.{Slot, rows_in, keys_in}
-use Rattle.row_sheets.specs.Over.{over}
+use Rattle.table_sheet.specs.row_sheets.Slots.{Slot, rows_in, keys_in}
+use Rattle.table_sheet.specs.row_sheets.Over.{over}
 use Rattle.table_sheet.specs.Pages.{rows_on}
 use Rattle.row_store.specs.declared.shelf.Shelf.{Shelf}
 use Rattle.row_store.specs.Shelves.{table_on, definitions_on, store_of}

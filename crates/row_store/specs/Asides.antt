@@ -3,11 +3,12 @@ use Rattle.std.specs.Prelude.{◌≡◌, ℕ, List, [], ◌∷◌, map}
 use Rattle.val_types.specs.declared.value.Value.{Value}
 use Rattle.table_rules.specs.Tables.{Table}
 use Rattle.table_rules.specs.Stores.{Store, Still}
-use Rattle.row_sheets.specs.Slots.{Slot, keys_in, rows_in, row_slots}
-use Rattle.row_sheets.specs.Over.{over}
+use Rattle.table_sheet.specs.row_sheets.Slots.{Slot, keys_in, rows_in, row_slots}
+use Rattle.table_sheet.specs.row_sheets.Over.{over}
 use Rattle.table_sheet.specs.declared.overlay.Overlay.{Overlay}
 use Rattle.table_sheet.specs.Pages.{Page}
-use Rattle.table_sheet.specs.Parts.{entry_slots, Fits}
+use Rattle.table_sheet.specs.Indexed.{Fits}
+use Rattle.table_sheet.specs.Parts.{entry_slots}
 use Rattle.row_store.specs.declared.setting_aside.Aside.{Aside}
 
 -- the page of a table of which nothing but the rows that are there to stay is shown

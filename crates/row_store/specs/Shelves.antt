@@ -10,7 +10,7 @@ use Rattle.table_rules.specs.Tables.{Table}
 use Rattle.table_rules.specs.Changes.{with_row}
 use Rattle.table_rules.specs.Stored.{row_of_key, rows_beside, key_in_way}
 use Rattle.table_rules.specs.Stores.{Store}
-use Rattle.row_sheets.specs.Slots.{keys_in, rows_in}
+use Rattle.table_sheet.specs.row_sheets.Slots.{keys_in, rows_in}
 use Rattle.table_sheet.specs.Pages.{Page, rows_on, has_entry}
 use Rattle.row_store.specs.declared.refusal.RowRefusal.{RowRefusal}
 use Rattle.row_store.specs.declared.refusal.RowRefusal.TheVariants.{Taken, Absent, NoMemory}

@@ -18,6 +18,7 @@
 //! - `by_name`: the same by names
 //! - `standing`: rows that stand just so
 //! - `reading`: rows read where they stand; `ends`: how many there are, the first and the last
+//! - `finding`: rows found by the values of a key
 //! - `copying`: tables once more
 //! - `setting_aside`: [`Aside`], what a transaction shows set aside and put back, or forgotten
 //! - `laws`: what holds of all that is stored
@@ -42,6 +43,8 @@
 //! - [`Tables::count`], [`Tables::first`] and [`Tables::last`] give how many rows a table has, and the two at its ends, without memory
 //! - [`Tables::key_in_way`], [`Tables::row_in_way`] and [`Tables::row_on_key`] give the number of the first
 //!   key in the way, the row that has it, and the row that has the key of a number, without memory
+//! - [`Tables::find`], [`Tables::find_at`] and [`Tables::held_with`] give exactly the row that has some values in the key of a number, the
+//!   first two in as few comparisons as the counts of rows have binary digits (`primary`, `cost`)
 //! - [`Tables::create`], [`Tables::drop_table`], [`Tables::clear`] and [`Tables::tidy`] their definitions;
 //!   only `create` wants memory, and then changes nothing; a name that was dropped is free (`gone`)
 //! - [`Tables::take_back`] makes the inverse of a change, without memory, where that change can be made
@@ -64,6 +67,7 @@
 mod by_name;
 mod copying;
 mod ends;
+mod finding;
 mod laws;
 mod named;
 mod reading;

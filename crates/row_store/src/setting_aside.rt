@@ -15,7 +15,8 @@ pub struct Aside {
 
 impl Shelf {
     ghost use Rattle.std.specs.Prelude.{◌≡◌, []};
-    ghost use Rattle.table_sheet.specs.Parts.{entry_slots, Fits};
+    ghost use Rattle.table_sheet.specs.Parts.{entry_slots};
+    ghost use Rattle.table_sheet.specs.Indexed.{Fits};
 
     /// Takes out what is shown, so that the rows that are there to stay are shown.
     fn set_aside(&mut self, alloc: Global) -> Overlay

@@ -26,7 +26,7 @@ impl Shelf {
     ghost use Rattle.val_types.specs.Fitting.{row_fits};
     ghost use Rattle.val_types.specs.Keys.{primary_key};
     ghost use Rattle.table_rules.specs.Changes.{rows_after};
-    ghost use Rattle.row_sheets.specs.Slots.{keys_in, rows_in};
+    ghost use Rattle.table_sheet.specs.row_sheets.Slots.{keys_in, rows_in};
     ghost use Rattle.table_sheet.specs.Pages.{has_entry, Stays};
     ghost use Rattle.row_store.specs.Shelves.{has_entries_for, Deleted, Inserted, Replaced};
 

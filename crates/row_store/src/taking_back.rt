@@ -2,7 +2,7 @@
 ghost use Rattle.std.specs.Prelude.{◌≡◌, true, Some, IsSome, IsTrue};
 ghost use Rattle.val_types.specs.Changes.{inverse};
 ghost use Rattle.table_rules.specs.Changes.{rows_after};
-ghost use Rattle.row_sheets.specs.Slots.{keys_in, rows_are_kept};
+ghost use Rattle.table_sheet.specs.row_sheets.Slots.{keys_in, rows_are_kept};
 ghost use Rattle.table_sheet.specs.Pages.{rows_on, Stays};
 ghost use Rattle.row_store.specs.Shelves.{has_entries_for};
 

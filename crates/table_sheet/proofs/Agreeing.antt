@@ -12,7 +12,6 @@ use Rattle.val_types.specs.Order.{value_order, key_order}
 use Rattle.val_types.specs.Fitting.{is_null}
 use Rattle.val_types.specs.Keys.{values_at, same_values, agree_on}
 use Rattle.table_rules.specs.Stored.{first_agreed}
-use Rattle.table_sheet.specs.Agreeing.{agree_in_all}
 
 equal_both : (o p : Ordering) → is_eq (ordering_then o p) ≡ (is_eq o && is_eq p)
 equal_both Less p = refl
@@ -22,37 +21,6 @@ equal_both Greater p = refl
 -- keys are the same where their first values and the rest are
 pub same_values_cons : (v w : Value) (vs ws : List Value) → same_values (v ∷ vs) (w ∷ ws) ≡ (is_eq (value_order v w) && same_values vs ws)
 same_values_cons v w vs ws = equal_both (value_order v w) (key_order vs ws)
-
--- a row's key of which another is a front stands behind that
-pub front_behind : (columns : List ℕ) (row key : List Value) (i : ℕ) → i < length columns → i ≡ length key → Greater ≡ key_order (values_at (drop i columns) row) (drop i key)
-front_behind [] row key i h e = absurd (omega arith)
-front_behind (column ∷ columns) row [] zero h e = refl
-front_behind (column ∷ columns) row (v ∷ key) zero h e = absurd (omega arith)
-front_behind (column ∷ columns) row [] (suc i) h e = absurd (omega arith)
-front_behind (column ∷ columns) row (v ∷ key) (suc i) h e = front_behind columns row key i (omega arith) (omega arith)
-
--- one that is a front of another stands before it
-pub before_longer : (columns : List ℕ) (row key : List Value) (i : ℕ) → length columns ≤ i → i ≤ length columns → length columns < length key
-    → Less ≡ key_order (values_at (drop i columns) row) (drop i key)
-before_longer [] row [] i h up more = absurd (omega arith)
-before_longer [] row (v ∷ key) zero h up more = refl
-before_longer [] row (v ∷ key) (suc i) h up more = absurd (omega arith)
-before_longer (column ∷ columns) row key zero h up more = absurd (omega arith)
-before_longer (column ∷ columns) row [] (suc i) h up more = absurd (omega arith)
-before_longer (column ∷ columns) row (v ∷ key) (suc i) h up more = before_longer columns row key i (omega arith) (omega arith) (omega arith)
-
-agree_shuffled : (n m e f : Bool) → (not (n || m) && (e && f)) ≡ ((not n && e) && (not m && f))
-agree_shuffled true m e f = refl
-agree_shuffled false true true f = refl
-agree_shuffled false true false f = refl
-agree_shuffled false false e f = refl
-
-agree_cons : (a b : List Value) (column : ℕ) (columns : List ℕ)
-    → agree_in_all a b (column ∷ columns)
-    ≡ ((not (is_null (slice_index_or a column Null)) && is_eq (value_order (slice_index_or a column Null) (slice_index_or b column Null))) && agree_in_all a b columns)
-agree_cons a b column columns =
-    ap (λ (s : Bool). not (is_null (slice_index_or a column Null) || list_any is_null (values_at columns a)) && s) (same_values_cons (slice_index_or a column Null) (slice_index_or b column Null) (values_at columns a) (values_at columns b))
-    ∙ agree_shuffled (is_null (slice_index_or a column Null)) (list_any is_null (values_at columns a)) (is_eq (value_order (slice_index_or a column Null) (slice_index_or b column Null))) (same_values (values_at columns a) (values_at columns b))
 
 -- ---- the first unique key on which a row agrees
 

@@ -9,13 +9,13 @@ use Rattle.val_types.specs.declared.value.Value.{Value}
 use Rattle.val_types.specs.declared.definitions.TableDef.{TableDef}
 use Rattle.val_types.specs.Order.{key_order}
 use Rattle.val_types.specs.Keys.{primary_key}
-use Rattle.block_list.specs.Layouts.{flat}
-use Rattle.row_sheets.specs.Slots.{Slot, all_above, held, with_slot, drop_slot, is_slot_of, keys_in, keys_rise, rows_in}
-use Rattle.row_sheets.specs.Over.{by_order, over_step, over, settled_by}
-use Rattle.row_sheets.specs.Orders.{slots_of}
-use Rattle.row_sheets.proofs.Over.{apart}
-use Rattle.row_sheets.proofs.Held.{held_first}
-use Rattle.row_sheets.proofs.Settling.{entry_stays, settled_rises}
+use Rattle.row_index.specs.block_list.Layouts.{flat}
+use Rattle.row_index.specs.row_sheets.Slots.{Slot, all_above, held, with_slot, drop_slot, is_slot_of, keys_in, keys_rise, rows_in}
+use Rattle.row_index.specs.row_sheets.Over.{by_order, over_step, over, settled_by}
+use Rattle.row_index.specs.row_sheets.Orders.{slots_of}
+use Rattle.row_index.proofs.of_row_sheets.Over.{apart}
+use Rattle.row_index.proofs.of_row_sheets.Held.{held_first}
+use Rattle.row_index.proofs.of_row_sheets.Settling.{entry_stays, settled_rises}
 use Rattle.table_sheet.specs.declared.committed.Committed.{Committed}
 use Rattle.table_sheet.specs.declared.entry.Entry.{Entry}
 use Rattle.table_sheet.specs.declared.overlay.Overlay.{Overlay}

@@ -6,11 +6,11 @@ use Rattle.val_types.specs.declared.value.Value.{Value}
 use Rattle.val_types.specs.Keys.{same_values}
 use Rattle.table_rules.specs.Stores.{is_among}
 use Rattle.table_rules.proofs.Taking.{same_is, same_self}
-use Rattle.row_sheets.specs.Slots.{Slot, held, fill, with_slot, keys_in, keys_rise, is_slot_of, is_not_before}
-use Rattle.row_sheets.specs.Over.{over}
-use Rattle.row_sheets.proofs.Over.{reset, new_slot, in_place}
-use Rattle.row_sheets.proofs.Held.{slots_told, held-over, rises-over}
-use Rattle.row_sheets.proofs.Claims.{filled_self, filled_other, new_self, new_other}
+use Rattle.row_index.specs.row_sheets.Slots.{Slot, held, fill, with_slot, keys_in, keys_rise, is_slot_of, is_not_before}
+use Rattle.row_index.specs.row_sheets.Over.{over}
+use Rattle.row_index.proofs.of_row_sheets.Over.{reset, new_slot, in_place}
+use Rattle.row_index.proofs.of_row_sheets.Held.{slots_told, held-over, rises-over}
+use Rattle.row_index.proofs.of_row_sheets.Claims.{filled_self, filled_other, new_self, new_other}
 use Rattle.table_sheet.specs.Pages.{news}
 use Rattle.table_sheet.proofs.Shown.{keys_filled, rise_with}
 

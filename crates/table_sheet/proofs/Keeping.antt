@@ -10,9 +10,9 @@ use Rattle.table_rules.specs.Changes.{with_row}
 use Rattle.table_rules.specs.Stored.{row_of_key, rows_beside}
 use Rattle.table_rules.specs.Stores.{is_among}
 use Rattle.table_rules.proofs.Taking.{same_self}
-use Rattle.row_sheets.specs.Slots.{Slot, held, fill, with_slot, keys_in, keys_rise, rows_in, has_own_key, is_sound}
-use Rattle.row_sheets.specs.Over.{over}
-use Rattle.row_sheets.proofs.Held.{held-over, rises-over}
+use Rattle.row_index.specs.row_sheets.Slots.{Slot, held, fill, with_slot, keys_in, keys_rise, rows_in, has_own_key, is_sound}
+use Rattle.row_index.specs.row_sheets.Over.{over}
+use Rattle.row_index.proofs.of_row_sheets.Held.{held-over, rises-over}
 use Rattle.table_sheet.specs.Pages.{Holds, news}
 use Rattle.table_sheet.proofs.Shown.{Sound, sound, is_sound_from, sound_with, sound_emptied, sound_put, rows_emptied, rows_filled, rows_with, keys_filled, among_with, own_with, own_filled, row_of_slot, row_is_under, none_of_its_key}
 use Rattle.table_sheet.proofs.Entering.{one, over_one, shown_set, shown_hidden, shown_new, news_set, news_hidden, news_new, is_there, not_there}

@@ -12,13 +12,13 @@ use Rattle.val_types.specs.Order.{key_order}
 use Rattle.val_types.specs.declared.definitions.TableDef.{TableDef}
 use Rattle.val_types.specs.Keys.{primary_key, same_values}
 use Rattle.table_rules.proofs.Taking.{same_is, same_self}
-use Rattle.block_list.specs.Layouts.{flat}
-use Rattle.block_list.specs.Spots.{place, IsAt}
-use Rattle.block_list.specs.declared.spot.Spot.{Spot}
-use Rattle.row_sheets.specs.Slots.{Slot, all_above, held, is_slot_of, keys_in, keys_rise, rows_in}
-use Rattle.row_sheets.specs.Over.{by_order, over_step, over}
-use Rattle.row_sheets.proofs.Over.{apart, chain, greater_below}
-use Rattle.row_sheets.proofs.Held.{held-over, held_rest, rises-over, slots_told}
+use Rattle.row_index.specs.block_list.Layouts.{flat}
+use Rattle.row_index.specs.block_list.Spots.{place, IsAt}
+use Rattle.row_index.specs.block_list.declared.spot.Spot.{Spot}
+use Rattle.row_index.specs.row_sheets.Slots.{Slot, all_above, held, is_slot_of, keys_in, keys_rise, rows_in}
+use Rattle.row_index.specs.row_sheets.Over.{by_order, over_step, over}
+use Rattle.row_index.proofs.of_row_sheets.Over.{apart, chain, greater_below}
+use Rattle.row_index.proofs.of_row_sheets.Held.{held-over, held_rest, rises-over, slots_told}
 use Rattle.table_sheet.specs.declared.committed.Committed.{Committed}
 use Rattle.table_sheet.specs.declared.entry.Entry.{Entry}
 use Rattle.table_sheet.specs.declared.overlay.Overlay.{Overlay}

@@ -7,15 +7,15 @@ use Rattle.val_types.specs.declared.value.Value.{Value}
 use Rattle.val_types.specs.declared.definitions.TableDef.{TableDef}
 use Rattle.val_types.specs.Keys.{primary_key}
 use Rattle.table_rules.specs.Stored.{row_of_key}
-use Rattle.block_list.specs.Layouts.{flat}
-use Rattle.block_list.specs.Spots.{place, IsFound}
-use Rattle.block_list.specs.declared.spot.Spot.{Spot}
-use Rattle.row_sheets.specs.Slots.{Slot, held, rows_in, is_slot_of}
-use Rattle.row_sheets.specs.Claims.{row_under}
-use Rattle.row_sheets.specs.Over.{over}
-use Rattle.row_sheets.specs.Orders.{by_key, slots_of, NumbersRise}
-use Rattle.row_sheets.proofs.Held.{held-over}
-use Rattle.row_sheets.proofs.Orders.{found_at, missing_at}
+use Rattle.row_index.specs.block_list.Layouts.{flat}
+use Rattle.row_index.specs.block_list.Spots.{place, IsFound}
+use Rattle.row_index.specs.block_list.declared.spot.Spot.{Spot}
+use Rattle.row_index.specs.row_sheets.Slots.{Slot, held, rows_in, is_slot_of}
+use Rattle.row_index.specs.row_sheets.Claims.{row_under}
+use Rattle.row_index.specs.row_sheets.Over.{over}
+use Rattle.row_index.specs.row_sheets.Orders.{by_key, slots_of, NumbersRise}
+use Rattle.row_index.proofs.of_row_sheets.Held.{held-over}
+use Rattle.row_index.proofs.of_row_sheets.Orders.{found_at, missing_at}
 use Rattle.table_sheet.specs.declared.committed.Committed.{Committed}
 use Rattle.table_sheet.specs.declared.entry.Entry.{Entry}
 use Rattle.table_sheet.specs.declared.overlay.Overlay.{Overlay}

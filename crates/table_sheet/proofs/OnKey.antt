@@ -1,11 +1,13 @@
 -- The keys of a row by their numbers.
-use Rattle.std.proofs.Common.{◌≡◌, ℕ, zero, suc, ◌<◌, ◌≤◌, List, [], ◌∷◌, map, length, get_or, Bool, false, None, refl, sym, ap, ◌∙◌, arith}
-use Rattle.std.specs.Prelude.{find, slice_index_or}
+use Rattle.std.proofs.Common.{◌≡◌, ℕ, zero, suc, ◌<◌, ◌≤◌, List, [], ◌∷◌, map, length, get_or, Bool, false, Option, Some, None, refl, sym, ap, ◌∙◌, arith}
+use Rattle.std.specs.Prelude.{find, slice_get, slice_index_or}
+use Rattle.std.specs.Option.{option_and_then}
 use Rattle.val_types.specs.declared.value.Value.{Value}
 use Rattle.val_types.specs.declared.definitions.KeyDef.{KeyDef}
 use Rattle.val_types.specs.declared.definitions.TableDef.{TableDef}
 use Rattle.val_types.specs.Keys.{agree_on}
-use Rattle.table_rules.specs.Stored.{has_key_in_way}
+use Rattle.table_rules.specs.Stored.{has_key_in_way, row_of_values}
+use Rattle.table_sheet.specs.Keyed.{row_with}
 
 abbrev Test : Type 0
 Test = List Value → Bool
@@ -39,3 +41,18 @@ past_by d row rows k h =
 pub on_none : (d : TableDef) (row : List Value) (rows : List (List Value)) (which : ℕ) → length d.uniques < which → None ≡ find (has_key_in_way d row which) rows
 on_none d row rows zero h = absurd (omega arith)
 on_none d row rows (suc k) h = past_by d row rows k (omega arith)
+
+-- ---- rows with some values
+
+pub with_unique : (d : TableDef) (values : List Value) (rows : List (List Value)) (which k : ℕ) (key : KeyDef) → which ≡ suc k → slice_get d.uniques k ≡ Some key → row_of_values key values rows ≡ row_with d which values rows
+with_unique d values rows which k key one there =
+    sym (ap (option_and_then (λ (key : KeyDef). row_of_values key values rows)) there) ∙ ap (λ (n : ℕ). row_with d n values rows) (sym one)
+
+get_past : (keys : List KeyDef) (k : ℕ) → length keys ≤ k → slice_get keys k ≡ None
+get_past [] k h = refl
+get_past (first ∷ keys) zero h = absurd (omega arith)
+get_past (first ∷ keys) (suc k) h = get_past keys k (omega arith)
+
+pub with_none : (d : TableDef) (values : List Value) (rows : List (List Value)) (which : ℕ) → length d.uniques < which → None ≡ row_with d which values rows
+with_none d values rows zero h = absurd (omega arith)
+with_none d values rows (suc k) h = sym (ap (option_and_then (λ (key : KeyDef). row_of_values key values rows)) (get_past d.uniques k (omega arith)))

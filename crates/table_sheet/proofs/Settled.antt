@@ -11,17 +11,19 @@ use Rattle.val_types.specs.declared.definitions.TableDef.{TableDef}
 use Rattle.val_types.specs.Order.{key_order}
 use Rattle.val_types.specs.Keys.{primary_key}
 use Rattle.table_rules.proofs.Taking.{same_is, same_self}
-use Rattle.block_list.specs.Layouts.{flat}
-use Rattle.block_list.specs.Spots.{place, IsAt, IsFound, IsSpot}
-use Rattle.block_list.specs.declared.spot.Spot.{Spot}
-use Rattle.block_list.proofs.Found.{place_is_within}
-use Rattle.row_arena.specs.Arenas.{IsFree, IsNotAmong, with_row_at}
-use Rattle.row_arena.proofs.Free.{get_same}
-use Rattle.row_sheets.specs.Slots.{Slot, all_above, fill, drop_slot, keys_in, keys_rise}
-use Rattle.row_sheets.specs.Over.{over}
-use Rattle.row_sheets.specs.Orders.{by_key, slots_of, NumbersRise}
-use Rattle.row_sheets.proofs.Over.{apart}
-use Rattle.row_sheets.proofs.Orders.{put_at, replaced_at, taken_at}
+use Rattle.row_index.specs.block_list.Layouts.{flat}
+use Rattle.row_index.specs.block_list.Spots.{place, IsAt, IsFound, IsSpot}
+use Rattle.row_index.specs.block_list.declared.spot.Spot.{Spot}
+use Rattle.row_index.proofs.of_block_list.Found.{place_is_within}
+use Rattle.row_index.specs.row_arena.Arenas.{IsFree, IsNotAmong, with_row_at}
+use Rattle.row_index.proofs.of_row_arena.Free.{get_same}
+use Rattle.row_index.specs.row_sheets.Slots.{Slot, all_above, fill, drop_slot, keys_in, keys_rise}
+use Rattle.row_index.specs.row_sheets.Over.{over}
+use Rattle.row_index.specs.row_sheets.Orders.{by_key, slots_of, NumbersRise}
+use Rattle.std.proofs.lemmas.Bool.{true≢false}
+use Rattle.val_types.specs.Keys.{same_values}
+use Rattle.row_index.proofs.of_row_sheets.Over.{apart}
+use Rattle.row_index.proofs.of_row_sheets.Orders.{put_at, replaced_at, taken_at}
 use Rattle.table_sheet.specs.declared.entry.Entry.{Entry}
 use Rattle.table_sheet.specs.declared.overlay.Overlay.{Overlay}
 use Rattle.table_sheet.specs.Numbered.{row_of, row_slot, are_numbered}
@@ -314,3 +316,30 @@ pub first_of : (d : TableDef) (old new : Overlay) (n : ℕ) (p : Option (List Va
 first_of d old new n p entry bearer first rises is own =
     first.slots d rises
     ∙ ap (λ (k : List Value). record { key = k; row = p } ∷ entry_slots d new) (sym (ap (λ (s : Slot). s.key) (entry_slot_is d new.entries.items n (Some entry) is)) ∙ ap (primary_key d) (sym own))
+
+-- ---- rows of other numbers
+
+pub set_others : (rows new : List (Option (List Value))) (blocks : List (List ℕ)) (spot : Spot) (n : ℕ) (x : Option (List Value)) → IsAt blocks spot → slice_get (flat blocks) (place blocks spot) ≡ Some n → new ≡ slice_set rows n x
+    → (m : ℕ) → m ≢ slice_index (flat blocks) (place blocks spot) → row_of new m ≡ row_of rows m
+set_others rows new blocks spot n x here at is m differs =
+    ap (λ (rs : List (Option (List Value))). row_of rs m) is ∙ beside_set rows n x m (λ e. differs (e ∙ sym (number_is blocks spot n here at)))
+
+free_has_none : (rows : List (Option (List Value))) (n : ℕ) (row : List Value) → IsFree rows n → row_of rows n ≡ Some row → ⊥
+free_has_none rows n row free has = free_other rows n (slice_get rows n) free refl (ap (λ (o : Option (List Value)). is_some o) has)
+
+pub put_others : (rows new : List (Option (List Value))) (n : ℕ) (row : List Value) → IsFree rows n → n ≤ length rows → new ≡ with_row_at rows n row → (m : ℕ) (other : List Value) → row_of rows m ≡ Some other → row_of new m ≡ Some other
+put_others rows new n row free within is m other has =
+    ap (λ (rs : List (Option (List Value))). row_of rs m) is
+    ∙ with_beside rows n row within m (λ e. free_has_none rows n other free (ap (row_of rows) (sym e) ∙ has)) ∙ has
+
+-- the number that was found has a row of the key
+pub others_found : (d : TableDef) (key : List Value) (rows new : List (Option (List Value))) (blocks : List (List ℕ)) (spot : Spot) → IsFound (by_key (row_slot d rows) key) blocks (Ok spot)
+    → ((m : ℕ) → m ≢ slice_index (flat blocks) (place blocks spot) → row_of new m ≡ row_of rows m) → (m : ℕ) (row : List Value) → row_of rows m ≡ Some row → same_values (primary_key d row) key ≡ false → row_of new m ≡ Some row
+others_found d key rows new blocks spot found others m row has differs = others m never ∙ has
+  where
+    never : m ≡ slice_index (flat blocks) (place blocks spot) → ⊥
+    never e =
+        let slot : row_slot d rows (slice_index (flat blocks) (place blocks spot)) ≡ record { key = primary_key d row; row = Some row } =
+        sym (row_slot_is d rows (slice_index (flat blocks) (place blocks spot)) (Some row) (sym has ∙ ap (row_of rows) e)) in
+        let same : same_values (primary_key d row) key ≡ true = ap (λ (s : Slot). same_values s.key key) (sym slot) ∙ ap is_eq found.1 in
+        true≢false (sym same ∙ differs)

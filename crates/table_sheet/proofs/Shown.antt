@@ -17,8 +17,8 @@ use Rattle.table_rules.specs.Stores.{is_among}
 use Rattle.val_types.proofs.Values.{key_order_total}
 use Rattle.table_rules.proofs.Taking.{Kept, as_kept, is_kept, same_is, same_self, kept_with, taken_out}
 use Rattle.table_rules.proofs.Storing.{without_is_beside, keys_in_way, key_is}
-use Rattle.row_sheets.specs.Slots.{Slot, rows_in, keys_in, is_slot_of, is_not_before, all_above, keys_rise, held, fill, with_slot, has_own_key, rows_are_kept, is_sound}
-use Rattle.row_sheets.specs.Claims.{row_under}
+use Rattle.row_index.specs.row_sheets.Slots.{Slot, rows_in, keys_in, is_slot_of, is_not_before, all_above, keys_rise, held, fill, with_slot, has_own_key, rows_are_kept, is_sound}
+use Rattle.row_index.specs.row_sheets.Claims.{row_under}
 
 -- ---- the order of keys
 

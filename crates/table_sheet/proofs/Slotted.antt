@@ -2,6 +2,7 @@
 use Rattle.std.proofs.Common.{◌≡◌, ◌≢◌, ℕ, zero, suc, ◌+◌, ◌<◌, ◌≤◌, List, [], ◌∷◌, ◌++◌, length, get_or, take, drop, length-append, Bool, true, Option, Some, None, Ok, Err, Ordering, refl, sym, ap, subst, ◌∙◌, arith}
 use Rattle.std.specs.Prelude.{slice_get, slice_set, slice_index, insert, nat_lt, map}
 use Rattle.std.specs.List.{list_all}
+use Rattle.std.specs.Option.{option_and_then}
 use Rattle.std.proofs.lemmas.Bool.{and_parts, and_from}
 use Rattle.std.proofs.lemmas.Bool.Decides.{nat_tests}
 use Rattle.std.proofs.lemmas.Option.{slice_get-get_or}
@@ -9,17 +10,17 @@ use Rattle.val_types.specs.declared.value.Value.{Value}
 use Rattle.val_types.specs.declared.definitions.TableDef.{TableDef}
 use Rattle.val_types.specs.Keys.{primary_key}
 use Rattle.val_types.specs.Order.{key_order}
-use Rattle.block_list.specs.Layouts.{flat}
-use Rattle.block_list.specs.Spots.{block_at, place, IsAt, IsFound, IsSpot}
-use Rattle.block_list.specs.declared.spot.Spot.{Spot}
-use Rattle.block_list.proofs.Found.{place_is_within}
-use Rattle.row_sheets.specs.Slots.{Slot, fill}
-use Rattle.row_sheets.specs.Over.{over}
-use Rattle.row_sheets.specs.Orders.{by_key, slots_of, NumbersRise}
-use Rattle.row_sheets.proofs.Orders.{replaced_at, put_at}
+use Rattle.row_index.specs.block_list.Layouts.{flat}
+use Rattle.row_index.specs.block_list.Spots.{block_at, place, IsAt, IsFound, IsSpot}
+use Rattle.row_index.specs.block_list.declared.spot.Spot.{Spot}
+use Rattle.row_index.proofs.of_block_list.Found.{place_is_within}
+use Rattle.row_index.specs.row_sheets.Slots.{Slot, fill}
+use Rattle.row_index.specs.row_sheets.Over.{over}
+use Rattle.row_index.specs.row_sheets.Orders.{by_key, slots_of, NumbersRise}
+use Rattle.row_index.proofs.of_row_sheets.Orders.{replaced_at, put_at}
 use Rattle.table_sheet.specs.declared.entry.Entry.{Entry}
 use Rattle.table_sheet.specs.Numbered.{row_of, slot_of_row, row_slot}
-use Rattle.table_sheet.specs.Ranked.{slot_of_entry, entry_slot, are_ranked}
+use Rattle.table_sheet.specs.Ranked.{slot_of_entry, entry_slot, shown_by, are_ranked}
 
 -- the slot of a number is that of its row
 pub row_slot_is : (d : TableDef) (rows : List (Option (List Value))) (n : ℕ) (o : Option (List Value)) → o ≡ row_of rows n → slot_of_row d o ≡ row_slot d rows n
@@ -226,3 +227,14 @@ entry_read entries n entry lt e = slice_get-get_or entries n entry lt ∙ ap (λ
 -- there is a number where one is found
 pub never_none : {G : Type 0} (blocks : List (List ℕ)) (spot : Spot) → IsAt blocks spot → None ≡ slice_get (flat blocks) (place blocks spot) → G
 never_none blocks spot at e = let never : None ≡ Some (slice_index (flat blocks) (place blocks spot)) = e ∙ number_here blocks spot at in cc
+
+-- the number at a spot
+pub number_at : (blocks : List (List ℕ)) (spot : Spot) (n : ℕ) → IsAt blocks spot → slice_get (flat blocks) (place blocks spot) ≡ Some n → slice_index (flat blocks) (place blocks spot) ≡ n
+number_at blocks spot n here at = let both : Some (slice_index (flat blocks) (place blocks spot)) ≡ Some n = sym (number_here blocks spot here) ∙ at in cc
+
+-- what entries show where one of them is set
+pub shown_set : (entries : List Entry) (n : ℕ) (old new : Entry) → slice_get entries n ≡ Some old → shown_by (slice_set entries n new) n ≡ new.present
+shown_set entries n old new there = ap (option_and_then (λ (entry : Entry). entry.present)) (set_there entries n new old there)
+
+pub shown_beside : (entries : List Entry) (n m : ℕ) (new : Entry) → m ≢ n → shown_by (slice_set entries n new) m ≡ shown_by entries m
+shown_beside entries n m new other = ap (option_and_then (λ (entry : Entry). entry.present)) (set_beside entries n m new other)

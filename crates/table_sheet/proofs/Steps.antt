@@ -10,16 +10,16 @@ use Rattle.val_types.specs.declared.definitions.TableDef.{TableDef}
 use Rattle.val_types.specs.Order.{key_order}
 use Rattle.val_types.specs.Keys.{primary_key, same_values}
 use Rattle.table_rules.proofs.Taking.{Kept, same_is, same_self}
-use Rattle.block_list.specs.Layouts.{flat}
-use Rattle.block_list.specs.Spots.{place, IsFound}
-use Rattle.block_list.specs.declared.spot.Spot.{Spot}
-use Rattle.row_sheets.specs.Slots.{Slot, all_above, held, fill, with_slot, drop_slot, is_slot_of, is_not_before, keys_in, keys_rise, rows_in, row_slots, has_own_key, is_sound}
-use Rattle.row_sheets.specs.Over.{over, settled_by}
-use Rattle.row_sheets.specs.Orders.{by_key, slots_of, NumbersRise}
-use Rattle.row_sheets.proofs.Over.{apart}
-use Rattle.row_sheets.proofs.Orders.{found_at}
-use Rattle.row_sheets.proofs.Held.{held-over, held_first, dropped_other}
-use Rattle.row_sheets.proofs.Settling.{entry_stays, settled_rises}
+use Rattle.row_index.specs.block_list.Layouts.{flat}
+use Rattle.row_index.specs.block_list.Spots.{place, IsFound}
+use Rattle.row_index.specs.block_list.declared.spot.Spot.{Spot}
+use Rattle.row_index.specs.row_sheets.Slots.{Slot, all_above, held, fill, with_slot, drop_slot, is_slot_of, is_not_before, keys_in, keys_rise, rows_in, row_slots, has_own_key, is_sound}
+use Rattle.row_index.specs.row_sheets.Over.{over, settled_by}
+use Rattle.row_index.specs.row_sheets.Orders.{by_key, slots_of, NumbersRise}
+use Rattle.row_index.proofs.of_row_sheets.Over.{apart}
+use Rattle.row_index.proofs.of_row_sheets.Orders.{found_at}
+use Rattle.row_index.proofs.of_row_sheets.Held.{held-over, held_first, dropped_other}
+use Rattle.row_index.proofs.of_row_sheets.Settling.{entry_stays, settled_rises}
 use Rattle.table_sheet.specs.Numbered.{row_of, row_slot, are_numbered}
 use Rattle.table_sheet.specs.Pages.{Holds, news}
 use Rattle.table_sheet.specs.Settling.{taken_by, Settles}
@@ -92,7 +92,7 @@ length-over : (key : List Value) (p : Option (List Value)) (cs : List Slot) (was
 length-over key p cs None rises none = omega (arith, ap length (over_one key p cs rises none), length-filled key p (with_slot key cs), length-with key cs)
 length-over key p cs (Some was) rises has = omega (arith, ap length (over_there key p was cs rises has), length-filled key p cs)
 
-length-settled : (key : List Value) (p : Option (List Value)) (cs : List Slot) → keys_rise (keys_in cs) ≡ true → length (settled_by key p cs) ≤ length cs + taken_by key cs
+pub length-settled : (key : List Value) (p : Option (List Value)) (cs : List Slot) → keys_rise (keys_in cs) ≡ true → length (settled_by key p cs) ≤ length cs + taken_by key cs
 length-settled key None cs rises = omega (arith, dropped_fewer key cs)
 length-settled key (Some row) cs rises = length-over key (Some row) cs (held key cs) rises refl
 

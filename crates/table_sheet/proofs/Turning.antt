@@ -13,13 +13,13 @@ use Rattle.table_rules.specs.Stored.{rows_beside}
 use Rattle.table_rules.specs.Stores.{is_among}
 use Rattle.table_rules.proofs.Taking.{same_self}
 use Rattle.table_rules.proofs.Storing.{key_is}
-use Rattle.block_list.specs.Layouts.{flat}
-use Rattle.block_list.specs.Spots.{place, IsFound}
-use Rattle.block_list.specs.declared.spot.Spot.{Spot}
-use Rattle.row_sheets.specs.Slots.{Slot, held, fill, with_slot, keys_in, rows_in, is_sound}
-use Rattle.row_sheets.specs.Over.{over}
-use Rattle.row_sheets.specs.Orders.{by_key, slots_of}
-use Rattle.row_sheets.proofs.Orders.{found_at, missing_at}
+use Rattle.row_index.specs.block_list.Layouts.{flat}
+use Rattle.row_index.specs.block_list.Spots.{place, IsFound}
+use Rattle.row_index.specs.block_list.declared.spot.Spot.{Spot}
+use Rattle.row_index.specs.row_sheets.Slots.{Slot, held, fill, with_slot, keys_in, rows_in, is_sound}
+use Rattle.row_index.specs.row_sheets.Over.{over}
+use Rattle.row_index.specs.row_sheets.Orders.{by_key, slots_of}
+use Rattle.row_index.proofs.of_row_sheets.Orders.{found_at, missing_at}
 use Rattle.table_sheet.specs.declared.committed.Committed.{Committed}
 use Rattle.table_sheet.specs.declared.overlay.Overlay.{Overlay}
 use Rattle.table_sheet.specs.Numbered.{row_slot}

@@ -1,6 +1,6 @@
 -- How many rows entries put where no committed row has their key, and how many committed rows they take out.
 use Rattle.std.specs.Prelude.{◌+◌, ◌&&◌, ℕ, Bool, true, false, List, [], ◌∷◌, is_some, is_none}
-use Rattle.row_sheets.specs.Slots.{Slot, held}
+use Rattle.row_index.specs.row_sheets.Slots.{Slot, held}
 
 -- one where something is so
 abbrev pub one_if : Bool → ℕ

@@ -1,6 +1,7 @@
-pub mod Agreeing
 pub mod Costs
 pub mod Counts
+pub mod Indexed
+pub mod Keyed
 pub mod Numbered
 pub mod Pages
 pub mod Parts
@@ -9,3 +10,6 @@ pub mod Refusals
 pub mod Settling
 pub mod Standing
 pub mod Walks
+-- the crates below that this one speaks of, passed on
+pub use Rattle.row_index.specs.block_list as block_list
+pub use Rattle.row_index.specs.row_sheets as row_sheets

@@ -5,7 +5,7 @@ use Rattle.std.specs.Option.{option_and_then}
 use Rattle.val_types.specs.declared.value.Value.{Value}
 use Rattle.val_types.specs.declared.definitions.TableDef.{TableDef}
 use Rattle.val_types.specs.Keys.{primary_key}
-use Rattle.row_sheets.specs.Slots.{Slot}
+use Rattle.row_index.specs.row_sheets.Slots.{Slot}
 
 -- the row of a number
 abbrev pub row_of : List (Option (List Value)) → ℕ → Option (List Value)

@@ -4,8 +4,8 @@ use Rattle.std.specs.List.{list_all}
 use Rattle.val_types.specs.declared.value.Value.{Value}
 use Rattle.val_types.specs.declared.definitions.TableDef.{TableDef}
 use Rattle.table_rules.specs.Stores.{is_among}
-use Rattle.row_sheets.specs.Slots.{Slot, held, keys_in, keys_rise, rows_in, has_own_key, is_sound}
-use Rattle.row_sheets.specs.Over.{over}
+use Rattle.row_index.specs.row_sheets.Slots.{Slot, held, keys_in, keys_rise, rows_in, has_own_key, is_sound}
+use Rattle.row_index.specs.row_sheets.Over.{over}
 
 -- a table's definition; its committed rows, and what a transaction has of each key that it changed, both as slots in the order of
 -- keys; and for how many new rows settling has room

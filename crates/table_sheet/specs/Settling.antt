@@ -1,16 +1,18 @@
 -- Entries settled, the first one first: what holds in between, and what one step makes of the slots.
-use Rattle.std.specs.Prelude.{◌≡◌, ℕ, ◌+◌, ◌^◌, ◌<◌, ◌≤◌, true, List, ◌∷◌, length, Option, is_none, if◌then◌else◌}
+use Rattle.std.specs.Prelude.{◌≡◌, ℕ, ◌+◌, ◌^◌, ◌<◌, ◌≤◌, true, List, ◌∷◌, map, length, Option, None, is_none, if◌then◌else◌}
 use Rattle.std.specs.List.{list_all}
 use Rattle.val_types.specs.declared.value.Value.{Value}
 use Rattle.val_types.specs.declared.definitions.TableDef.{TableDef}
-use Rattle.block_list.specs.Layouts.{flat}
-use Rattle.row_sheets.specs.Slots.{Slot, held, keys_in, keys_rise, has_own_key}
-use Rattle.row_sheets.specs.Orders.{NumbersRise}
+use Rattle.row_index.specs.block_list.Layouts.{flat}
+use Rattle.row_index.specs.row_sheets.Slots.{Slot, held, keys_in, keys_rise, rows_in, has_own_key}
+use Rattle.row_index.specs.row_sheets.Over.{over}
+use Rattle.row_index.specs.row_sheets.Orders.{NumbersRise}
 use Rattle.table_sheet.specs.declared.committed.Committed.{Committed}
 use Rattle.table_sheet.specs.declared.overlay.Overlay.{Overlay}
 use Rattle.table_sheet.specs.Ranked.{entry_slot}
 use Rattle.table_sheet.specs.Pages.{news}
 use Rattle.table_sheet.specs.Parts.{committed_slots, entry_slots, room_of}
+use Rattle.table_sheet.specs.Indexed.{AreAllApart, IsBelow}
 
 -- how many numbers an entry of a key may take: one where no committed row has the key
 abbrev pub taken_by : List Value → List Slot → ℕ
@@ -29,6 +31,16 @@ pub record Settles (definition : TableDef) (committed entries : List Slot) (spac
 -- the same of the two parts of a sheet
 abbrev pub SettlesParts : TableDef → Committed → Overlay → Type 0
 SettlesParts definition committed overlay = Settles definition (committed_slots definition committed) (entry_slots definition overlay) (room_of committed)
+
+-- slots of the same keys without rows
+abbrev pub hiding : List Slot → List Slot
+hiding slots = map (λ slot. record { key = slot.key; row = None }) slots
+
+-- What holds of the indexes of committed rows while entries are settled: they have the rows of which there is no entry. What is shown
+-- has no two rows that agree on a unique key.
+pub record HidesEntries (definition : TableDef) (committed : Committed) (overlay : Overlay) : Type 0 where
+  pub below : IsBelow definition committed (rows_in (over (hiding (entry_slots definition overlay)) (committed_slots definition committed)))
+  pub apart : AreAllApart definition.uniques (over (entry_slots definition overlay) (committed_slots definition committed))
 
 -- an entry taken out before all others, with its row: it is there still by its number, and its slot stood first
 pub record IsTakenFirst (old new : Overlay) (number : ℕ) (row : Option (List Value)) : Type 0 where

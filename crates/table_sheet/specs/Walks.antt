@@ -2,9 +2,9 @@
 use Rattle.std.specs.Prelude.{◌≡◌, ◌+◌, ◌<◌, ℕ, List, ◌∷◌, ◌++◌, length, take, drop, Option, option_to_list}
 use Rattle.val_types.specs.declared.value.Value.{Value}
 use Rattle.val_types.specs.declared.definitions.TableDef.{TableDef}
-use Rattle.block_list.specs.Spots.{place, IsSpot}
-use Rattle.row_sheets.specs.Slots.{Slot, rows_in}
-use Rattle.row_sheets.specs.Over.{over}
+use Rattle.row_index.specs.block_list.Spots.{place, IsSpot}
+use Rattle.row_index.specs.row_sheets.Slots.{Slot, rows_in}
+use Rattle.row_index.specs.row_sheets.Over.{over}
 use Rattle.table_sheet.specs.declared.committed.Committed.{Committed}
 use Rattle.table_sheet.specs.declared.overlay.Overlay.{Overlay}
 use Rattle.table_sheet.specs.declared.place.Place.{Place}

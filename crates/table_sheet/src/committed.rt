@@ -1,42 +1,52 @@
 //! The committed rows of a table.
 ghost use Rattle.std.specs.Prelude.{IsTrue};
-ghost use Rattle.block_list.specs.Layouts.{flat};
+ghost use Rattle.row_index.specs.block_list.Layouts.{flat};
 ghost use Rattle.table_sheet.specs.Numbered.{are_numbered};
 
-use crate::comparing::{nothing_key_cmp, nothing_row_cmp, row_key_cmp, rows_cmp};
-use block_list::{Blocks, Spot};
-use row_arena::RowArena;
+use crate::comparing::{nothing_row_cmp, rows_cmp};
+use row_index::block_list::{Blocks, Spot};
+use row_index::row_arena::RowArena;
+use row_index::{columns_cmp, make_hold, no_columns_cmp};
 use sharing::Shared;
 use std::alloc::{AllocError, Global};
 use std::cmp::Ordering;
 use val_types::{NoMemory, Row, TableDef};
 
-/// Rows by their numbers, and the numbers in the order of the rows' primary keys.
+/// Rows by their numbers, the numbers in the order of the rows' primary keys, those by the rows' values in each unique key, and how many
+/// numbers each of the latter lists was made to hold.
 #[derive(Drop)]
 pub struct Committed {
     pub rows: RowArena,
     pub order: Blocks,
+    pub indexes: Vec<Blocks>,
+    pub hold: usize,
     pub ghost numbered: { IsTrue (are_numbered rows.rows (flat order.blocks)) },
 }
 
 impl Committed {
-    ghost use Rattle.std.specs.Prelude.{◌≡◌, ◌+◌, ◌^◌, ◌<◌, ◌≤◌, [], true, length, option_copied, slice_get, Some, IsSome, MatchResult, OnOk};
+    ghost use Rattle.std.specs.Prelude.{◌≡◌, ◌+◌, ◌^◌, ◌<◌, ◌≤◌, [], true, List, length, option_copied, slice_get, Some, IsSome, MatchResult, OnOk};
     ghost use Rattle.std.specs.Option.{option_and_then, option_map};
     ghost use Rattle.val_types.specs.Keys.{primary_key};
-    ghost use Rattle.block_list.specs.Spots.{place, IsAt, IsFound, IsSpot};
-    ghost use Rattle.row_sheets.specs.Slots.{held, keys_in, keys_rise};
-    ghost use Rattle.row_sheets.specs.Orders.{by_key};
-    ghost use Rattle.row_sheets.specs.Over.{settled_by};
+    ghost use Rattle.row_index.specs.block_list.Spots.{place, IsAt, IsFound, IsSpot};
+    ghost use Rattle.row_index.specs.row_sheets.Slots.{held, keys_in, keys_rise};
+    ghost use Rattle.row_index.specs.row_sheets.Orders.{by_key};
+    ghost use Rattle.row_index.specs.row_sheets.Over.{settled_by};
+    ghost use Rattle.val_types.specs.declared.value.Value.{Value};
+    ghost use Rattle.val_types.specs.declared.definitions.TableDef.{TableDef as Definition};
     ghost use Rattle.table_sheet.specs.Numbered.{row_of, row_slot};
     ghost use Rattle.table_sheet.specs.Parts.{committed_slots, room_of};
+    ghost use Rattle.table_sheet.specs.Indexed.{AreKept, IsBelow};
 
     /// No rows.
     pub(crate) fn new(alloc: Global) -> Committed
-        ensures { flat result.order.blocks ≡ [] }
+        ensures order { flat result.order.blocks ≡ [] }
+        ensures below { (definition : Definition) → IsBelow definition result [] }
     {
         Committed {
             rows: RowArena::new(alloc),
             order: Blocks::new(alloc),
+            indexes: Vec::new(alloc),
+            hold: 0,
         }
     }
 
@@ -46,8 +56,8 @@ impl Committed {
     {
         let table = definition.get();
         match self.rows.get(number) {
-            Some(row) => row_key_cmp(table, row, key),
-            None => nothing_key_cmp(key),
+            Some(row) => columns_cmp(row, &table.primary, key),
+            None => no_columns_cmp(key),
         }
     }
 
@@ -111,18 +121,33 @@ impl Committed {
         }
     }
 
-    /// Makes room for so many more rows.
-    pub(crate) fn make_room(&mut self, alloc: Global, more: usize) -> Result<(), NoMemory>
+    /// Makes room for so many more rows, in the indexes of so many unique keys, too.
+    pub(crate) fn make_room(
+        &mut self,
+        alloc: Global,
+        keys: usize,
+        more: usize,
+    ) -> Result<(), NoMemory>
         requires { more ≤ 2 ^ 33 }
         ensures made { OnOk result (more ≤ room_of self.new) }
         ensures few { OnOk result (length (flat self.old.order.blocks) + more ≤ 2 ^ 32) }
         ensures rows { self.new.rows.rows ≡ self.old.rows.rows }
         ensures order { self.new.order.blocks ≡ self.old.order.blocks }
         ensures room { room_of self.old ≤ room_of self.new }
+        ensures kept { (definition : Definition) (rows : List (List Value)) → length definition.uniques ≤ keys
+            → AreKept definition.uniques (row_of self.old.rows.rows) self.old.indexes.items rows self.old.hold
+            → AreKept definition.uniques (row_of self.new.rows.rows) self.new.indexes.items rows self.new.hold }
+        ensures no_less { self.old.hold ≤ self.new.hold }
+        ensures fits { OnOk result (length (flat self.new.order.blocks) ≤ self.new.hold) }
     {
         const MOST: usize = 1 << 32;
-        if self.rows.len() + more > MOST || self.order.len() + more > MOST {
+        let count = self.order.len();
+        if self.rows.len() + more > MOST || count + more > MOST {
             return Err(AllocError);
+        }
+        if self.hold < count + more {
+            make_hold(&mut self.indexes, alloc, keys, count + more)?;
+            self.hold = count + more;
         }
         self.order.make_room(alloc, more)?;
         self.rows.make_room(more)

@@ -1,34 +1,11 @@
 //! Keys of rows, compared where they stand.
-ghost use Rattle.std.specs.Prelude.{◌≡◌, ◌&&◌, [], not, slice_index_or};
-ghost use Rattle.std.specs.Ordering.{is_eq};
-ghost use Rattle.val_types.specs.declared.value.Value.TheVariants.{Null};
-ghost use Rattle.val_types.specs.Fitting.{is_null};
-ghost use Rattle.val_types.specs.Keys.{agree_on, primary_key, same_values, values_at};
-ghost use Rattle.val_types.specs.Order.{key_order, value_order};
+ghost use Rattle.std.specs.Prelude.{◌≡◌, []};
+ghost use Rattle.val_types.specs.Keys.{primary_key, same_values, values_at};
+ghost use Rattle.val_types.specs.Order.{key_order};
 ghost use Rattle.table_sheet.specs.Standing.{have_same_keys};
 
 use std::cmp::Ordering;
 use val_types::{KeyDef, Row, TableDef, Value, value_at};
-
-/// How the primary key of a row stands to a key.
-pub(crate) fn row_key_cmp(definition: &TableDef, row: &Row, key: &Row) -> Ordering
-    ensures { result ≡ key_order (primary_key definition.now row.now) key.now }
-{
-    for (i, column) in definition.primary.as_slice().iter().enumerate() {
-        if i == key.len() {
-            return Ordering::Greater;
-        }
-        let order = value_at(row, *column, &Value::Null).cmp(&key[i]);
-        if !order.is_eq() {
-            return order;
-        }
-    }
-    if definition.primary.len() < key.len() {
-        Ordering::Less
-    } else {
-        Ordering::Equal
-    }
-}
 
 /// How the primary key of a row stands to that of another.
 pub(crate) fn rows_cmp(definition: &TableDef, row: &Row, other: &Row) -> Ordering
@@ -47,17 +24,6 @@ pub(crate) fn rows_cmp(definition: &TableDef, row: &Row, other: &Row) -> Orderin
     Ordering::Equal
 }
 
-/// How no values at all stand to a key.
-pub(crate) fn nothing_key_cmp(key: &Row) -> Ordering
-    ensures { result ≡ key_order [] key.now }
-{
-    if key.is_empty() {
-        Ordering::Equal
-    } else {
-        Ordering::Less
-    }
-}
-
 /// How no values at all stand to the primary key of a row.
 pub(crate) fn nothing_row_cmp(definition: &TableDef, row: &Row) -> Ordering
     ensures { result ≡ key_order [] (primary_key definition.now row.now) }
@@ -67,27 +33,6 @@ pub(crate) fn nothing_row_cmp(definition: &TableDef, row: &Row) -> Ordering
     } else {
         Ordering::Less
     }
-}
-
-/// Whether two rows have the same value in a column, other than NULL.
-fn agree_in(a: &Row, b: &Row, column: u16) -> bool
-    ensures { result ≡ (not (is_null (slice_index_or a.now column Null))
-        && is_eq (value_order (slice_index_or a.now column Null) (slice_index_or b.now column Null))) }
-{
-    let a = value_at(a, column, &Value::Null);
-    !a.is_null() && a.cmp(value_at(b, column, &Value::Null)).is_eq()
-}
-
-/// Whether two rows agree on a unique key; with a NULL part they do not.
-pub(crate) fn agree_on(a: &Row, b: &Row, key: &KeyDef) -> bool
-    ensures { result ≡ agree_on a.now b.now key.now }
-{
-    for column in key.columns.as_slice() {
-        if !agree_in(a, b, *column) {
-            return false;
-        }
-    }
-    true
 }
 
 /// Whether two rows have the same values in the columns of a unique key.

@@ -1,6 +1,6 @@
 //! How many rows are shown, without a walk over all of them.
 ghost use Rattle.std.specs.Prelude.{◌≡◌, ◌^◌, ◌≤◌, ◌&&◌, true, length, option_copied, is_some, is_none};
-ghost use Rattle.row_sheets.specs.Slots.{keys_in, keys_rise};
+ghost use Rattle.row_index.specs.row_sheets.Slots.{keys_in, keys_rise};
 ghost use Rattle.table_sheet.specs.Counts.{one_if, puts, takes};
 ghost use Rattle.table_sheet.specs.Pages.{rows_on};
 ghost use Rattle.table_sheet.specs.Parts.{committed_slots, entry_slots};

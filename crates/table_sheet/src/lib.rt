@@ -4,18 +4,20 @@
 //! slots of `row_sheets` in the order of keys, and for how many new rows there is room. What it shows are the rows in the entries'
 //! slots over the committed ones (`rows_on`). The committed rows stand in an arena by numbers, their order and that of the entries
 //! are blocks of numbers, so that a call by primary key costs as the count's digits, wherever the row stands. An entry is made by the
-//! first change of its key and set again by later ones, so that a change is taken back without memory. Unique keys are looked for
-//! by a walk over the rows.
-//!
-//! What is still to come: indexes of unique keys.
+//! first change of its key and set again by later ones, so that a change is taken back without memory. Beside the committed rows and
+//! beside the entries stand their numbers by the rows' values in each unique key (`row_index`), so that a row in the way of another is
+//! found as fast. A row that is taken out of its entry leaves the entries' indexes, and comes back without memory: they hold a number
+//! for each entry.
 //!
 //! - `refusal`: [`SheetRefusal`]
 //! - `comparing`: keys of rows without copies of them
 //! - `committed`: rows by numbers, and the numbers in order
 //! - `entry`, `overlay`: what a transaction has of each key that it changed, and [`Overlay`], all of it
+//! - `indexing`: the numbers of entries by the values of their rows
 //! - `sheet`: [`Sheet`], its calls by key, and the overlay set aside, put back and forgotten
-//! - `finding`: rows found by key in counted comparisons
+//! - `finding`: rows found by the values of a key in counted comparisons
 //! - `place`, `walking`: entries and committed rows walked side by side
+//! - `matching`: rows found by their values in a unique key
 //! - `reading`: all rows, and the keys in the way of one
 //! - `counting`: how many rows are shown
 //! - `ending`: the last row
@@ -27,7 +29,8 @@
 //! # Proved
 //! - [`Sheet::get`] and [`Sheet::get_same`] give exactly the row that is shown of a key, or of a row's key
 //! - [`Sheet::find`] does so in at most two comparisons more than the counts of entries and of committed rows have binary digits
-//!   together
+//!   together; [`Sheet::find_on_key`] gives exactly the row that is shown with some values of the key of a number, by a unique key in at
+//!   most three comparisons more than the count of entries has binary digits twice, and that of committed rows once
 //! - [`Sheet::insert`], [`Sheet::replace`] and [`Sheet::delete`] make exactly the change of the rows that the definitions say, or refuse
 //!   with exactly the first key in the way or that the row is not there; then, and where memory is wanted, what is shown is as
 //!   before (`stored`). Whatever they answer, definition and committed rows stay, each entry is there still, and there is no less room
@@ -58,6 +61,8 @@ mod counting;
 mod ending;
 mod entry;
 mod finding;
+mod indexing;
+mod matching;
 mod overlay;
 mod place;
 mod reading;
@@ -69,6 +74,8 @@ mod walking;
 mod whole;
 mod writing;
 
+// What is its own, and the crate below that it speaks of, passed on: who stands above names it through this one.
 pub use overlay::Overlay;
 pub use refusal::SheetRefusal;
+pub use row_index::block_list;
 pub use sheet::Sheet;

@@ -1,6 +1,6 @@
 //! Where a walk stands.
 
-use block_list::Spot;
+use row_index::block_list::Spot;
 
 /// Before an entry, and before a committed row.
 #[derive(Clone, Copy)]

@@ -1,7 +1,7 @@
 //! Rows read where they stand: all that are shown, all that are committed, and those that have a key of another.
 
 use crate::sheet::Sheet;
-use crate::walking::{agreeing_from, first_agreed, keys_from, next, rows_from, start, start_below};
+use crate::walking::{keys_from, next, rows_from, start, start_below};
 use sharing::Shared;
 use std::alloc::Global;
 use val_types::{List, NoMemory, Row};
@@ -10,7 +10,7 @@ impl Sheet {
     ghost use Rattle.std.specs.Prelude.{◌≡◌, find, map, option_copied, slice_get, IfOk};
     ghost use Rattle.val_types.specs.Keys.{primary_key};
     ghost use Rattle.table_rules.specs.Stored.{has_key_in_way, key_in_way};
-    ghost use Rattle.row_sheets.specs.Slots.{rows_in};
+    ghost use Rattle.row_index.specs.row_sheets.Slots.{rows_in};
     ghost use Rattle.table_sheet.specs.Pages.{rows_on};
 
     /// The rows that are shown, in their order, each shared with the table, so that they stay what they are whatever is changed.
@@ -64,15 +64,14 @@ impl Sheet {
     }
 
     /// The number of the first key of a row that is in its way: 0 is the primary key, then come the unique keys in order of
-    /// definition. Unique keys are looked for by a walk over the rows.
+    /// definition.
     pub fn key_in_way(&self, row: &Row) -> Option<usize>
         ensures { result ≡ key_in_way self.now.definition row.now (rows_on self.now) }
     {
         if let Some(_) = self.get_same(row) {
             return Some(0);
         }
-        let from = start(&self.committed, &self.overlay);
-        first_agreed(&self.definition, &self.committed, &self.overlay, from, row)
+        self.first_agreed(row)
     }
 
     /// The first row that is shown that has the key of a number in common with a row.
@@ -86,14 +85,6 @@ impl Sheet {
         if which > uniques.len() {
             return None;
         }
-        let from = start(&self.committed, &self.overlay);
-        agreeing_from(
-            &self.definition,
-            &self.committed,
-            &self.overlay,
-            from,
-            &uniques[which - 1],
-            row,
-        )
+        self.agreeing(which - 1, &uniques[which - 1], row)
     }
 }

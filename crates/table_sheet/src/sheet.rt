@@ -21,11 +21,15 @@ impl Model for Sheet {
     ghost Value = { Page };
 
     ghost use Rattle.table_sheet.specs.Pages.{Holds};
+    ghost use Rattle.table_sheet.specs.Indexed.{IsIndexed};
     ghost use Rattle.table_sheet.specs.Parts.{committed_slots, entry_slots, page_of, room_of};
 
     ghost view = { λ s. page_of s.definition s.committed s.overlay };
 
-    ghost invariant = { λ s. Holds s.definition (committed_slots s.definition s.committed) (entry_slots s.definition s.overlay) (room_of s.committed) s.overlay.fresh };
+    ghost invariant = { λ s. record {
+      holds : Holds s.definition (committed_slots s.definition s.committed) (entry_slots s.definition s.overlay) (room_of s.committed) s.overlay.fresh;
+      indexed : IsIndexed s.definition s.committed s.overlay;
+    } };
 }
 
 impl Sheet {
@@ -35,9 +39,10 @@ impl Sheet {
     ghost use Rattle.val_types.specs.Keys.{collide, primary_key};
     ghost use Rattle.table_rules.specs.Changes.{with_row};
     ghost use Rattle.table_rules.specs.Stored.{row_of_key, rows_beside};
-    ghost use Rattle.row_sheets.specs.Slots.{keys_in, rows_in};
+    ghost use Rattle.row_index.specs.row_sheets.Slots.{keys_in, rows_in};
     ghost use Rattle.table_sheet.specs.Pages.{has_entry, rows_on, IsPage, Stays};
-    ghost use Rattle.table_sheet.specs.Parts.{entry_slots, Fits};
+    ghost use Rattle.table_sheet.specs.Indexed.{Fits};
+    ghost use Rattle.table_sheet.specs.Parts.{entry_slots};
 
     /// A table without rows, which takes no memory until there is to be one.
     pub fn new(alloc: Global, definition: Shared<TableDef>) -> Sheet
@@ -102,7 +107,7 @@ impl Sheet {
         ensures stays { Stays self.old self.new }
     {
         match self.overlay.find(&self.definition, key) {
-            Ok(spot) => Ok(self.overlay.fill(spot, None)),
+            Ok(spot) => Ok(self.overlay.fill(&self.definition, spot, None)),
             Err(spot) => {
                 let row = match self.committed.get(&self.definition, key) {
                     Some(row) => row,
@@ -110,7 +115,8 @@ impl Sheet {
                 };
                 let before = row.share()?;
                 let bearer = row.share()?;
-                self.overlay.add(alloc, spot, bearer, None, 0)?;
+                self.overlay
+                    .add(alloc, &self.definition, spot, bearer, None, 0)?;
                 Ok(Some(before))
             }
         }
@@ -127,13 +133,16 @@ impl Sheet {
     {
         match self.overlay.find_row(&self.definition, row.get()) {
             Ok(spot) => {
-                let _ = self.overlay.fill(spot, Some(row));
+                let _ = self.overlay.fill(&self.definition, spot, Some(row));
                 Ok(())
             }
             Err(spot) => {
                 let bearer = row.share()?;
-                self.committed.make_room(alloc, self.overlay.fresh + 1)?;
-                self.overlay.add(alloc, spot, bearer, Some(row), 1)?;
+                let keys = self.definition.get().uniques.len();
+                self.committed
+                    .make_room(alloc, keys, self.overlay.fresh + 1)?;
+                self.overlay
+                    .add(alloc, &self.definition, spot, bearer, Some(row), 1)?;
                 Ok(())
             }
         }
@@ -150,7 +159,7 @@ impl Sheet {
     {
         match self.overlay.find_row(&self.definition, row.get()) {
             Ok(spot) => {
-                let _ = self.overlay.fill(spot, Some(row));
+                let _ = self.overlay.fill(&self.definition, spot, Some(row));
             }
             Err(_) => {}
         }
@@ -166,7 +175,7 @@ impl Sheet {
     {
         match self.overlay.find_row(&self.definition, row) {
             Ok(spot) => {
-                let _ = self.overlay.fill(spot, None);
+                let _ = self.overlay.fill(&self.definition, spot, None);
             }
             Err(_) => {}
         }

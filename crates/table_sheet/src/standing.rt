@@ -50,7 +50,7 @@ impl Sheet {
                 if !self.overlay.shows(spot, old) {
                     return Ok(false);
                 }
-                let _ = self.overlay.fill(spot, present);
+                let _ = self.overlay.fill(&self.definition, spot, present);
                 Ok(true)
             }
             Err(spot) => {
@@ -62,7 +62,8 @@ impl Sheet {
                     return Ok(false);
                 }
                 let bearer = row.share()?;
-                self.overlay.add(alloc, spot, bearer, present, 0)?;
+                self.overlay
+                    .add(alloc, &self.definition, spot, bearer, present, 0)?;
                 Ok(true)
             }
         }

@@ -1,22 +1,20 @@
 //! Entries and committed rows walked side by side, in the order of keys.
-ghost use Rattle.std.specs.Prelude.{◌≡◌, [], suc, find, map, option_copied, IfNone, IfSome, IfOk, List};
-ghost use Rattle.std.specs.Option.{option_map};
-ghost use Rattle.val_types.specs.Keys.{agree_on, primary_key};
-ghost use Rattle.table_rules.specs.Stored.{first_agreed};
-ghost use Rattle.row_sheets.specs.Slots.{rows_in};
+ghost use Rattle.std.specs.Prelude.{◌≡◌, [], map, option_copied, IfNone, IfSome, IfOk, List};
+ghost use Rattle.val_types.specs.Keys.{primary_key};
+ghost use Rattle.row_index.specs.row_sheets.Slots.{rows_in};
 ghost use Rattle.val_types.specs.declared.definitions.TableDef.{TableDef as Definition};
-ghost use Rattle.row_sheets.specs.Over.{over};
+ghost use Rattle.row_index.specs.row_sheets.Over.{over};
 ghost use Rattle.table_sheet.specs.Parts.{committed_slots, entry_slots};
 ghost use Rattle.table_sheet.specs.Walks.{left, AreNext, IsFirst, IsPlace};
 
 use crate::committed::Committed;
-use crate::comparing::{agree_on, rows_cmp};
+use crate::comparing::rows_cmp;
 use crate::overlay::Overlay;
 use crate::place::Place;
 use sharing::Shared;
 use std::alloc::Global;
 use std::cmp::Ordering;
-use val_types::{KeyDef, List, NoMemory, Row, TableDef, key_of};
+use val_types::{List, NoMemory, Row, TableDef, key_of};
 
 /// Before all that is shown.
 pub(crate) fn start(committed: &Committed, overlay: &Overlay) -> Place
@@ -136,44 +134,4 @@ pub(crate) fn keys_from(
         keys.push(key_of(alloc, definition.get(), row.get())?)?;
     }
     Ok(keys)
-}
-
-/// The first row that is shown from a place on with which a row agrees on a unique key.
-pub(crate) fn agreeing_from<'a>(
-    definition: &Shared<TableDef>,
-    committed: &'a Committed,
-    overlay: &'a Overlay,
-    from: Place,
-    key: &KeyDef,
-    row: &Row,
-) -> Option<&'a Shared<Row>>
-    requires { IsPlace committed.now overlay.now from }
-    ensures { option_copied result ≡ find (λ other. agree_on row.now other key.now) (rows_in (left definition.now committed.now overlay.now from)) }
-{
-    let mut at = from;
-    while let Some(other) = next(definition, committed, overlay, &mut at) {
-        if agree_on(row, other.get(), key) {
-            return Some(other);
-        }
-    }
-    None
-}
-
-/// The number of the first unique key on which a row agrees with one that is shown, counted from 1.
-pub(crate) fn first_agreed(
-    definition: &Shared<TableDef>,
-    committed: &Committed,
-    overlay: &Overlay,
-    from: Place,
-    row: &Row,
-) -> Option<usize>
-    requires { IsPlace committed.now overlay.now from }
-    ensures { result ≡ option_map suc (first_agreed definition.now.uniques row.now (rows_in (left definition.now committed.now overlay.now from))) }
-{
-    for (i, key) in definition.get().uniques.as_slice().iter().enumerate() {
-        if let Some(_) = agreeing_from(definition, committed, overlay, from, key, row) {
-            return Some(i + 1);
-        }
-    }
-    None
 }

@@ -1,4 +1,4 @@
-//! Conditions that name the key of a row, and conditions that may seem to.
+//! Conditions that name a key of a row, and conditions that may seem to.
 
 use crate::playing::{Frame, expect_all, held};
 
@@ -108,5 +108,59 @@ fn keys_named(rt: HostRuntime) {
         "conditions that may name a key",
         held(alloc, &KEYS, &SCRIPTS),
         SCRIPTS.len(),
+    );
+}
+
+/// Behind a table `q` of three rows, with a unique key of `k` and one of `n`, which may be NULL, a table `x` of three rows with a unique key of
+/// `a` and `b`, and a function that notes its calls in a table `l`.
+static UNIQUES: Frame = Frame {
+    before: "s1: CREATE TABLE q (id INT, k INT NOT NULL, n INT, v INT, PRIMARY KEY (id), UNIQUE KEY uk (k), UNIQUE KEY un (n)) //\ns1: CREATE TABLE x (id INT, a INT NOT NULL, b VARCHAR(5) NOT NULL, PRIMARY KEY (id), UNIQUE KEY ab (a, b)) //\ns1: CREATE TABLE l (n INT, PRIMARY KEY (n)) //\ns1: CREATE FUNCTION c(n INT) RETURNS INT BEGIN INSERT INTO l VALUES (n); RETURN n; END //\ns1: INSERT INTO q VALUES (1, 10, 100, 0), (2, 20, NULL, 0), (3, 30, 300, 0) //\ns1: INSERT INTO x VALUES (1, 1, 'a'), (2, 1, 'b'), (3, 2, 'a') //\n",
+    behind: "",
+    first: "1 ok 0\n2 ok 0\n3 ok 0\n4 ok 0\n5 ok 3\n6 ok 3\n",
+    last: "",
+};
+
+/// Scripts behind them, and the lines behind theirs.
+static VALUES: [(&str, &str); 6] = [
+    // a value of a unique key, either way round, with more behind it
+    (
+        "s1: SELECT id FROM q WHERE k = 20 //\ns1: SELECT id FROM q WHERE 30 <=> k //\ns1: UPDATE q SET v = 1 WHERE q.k = 10 AND v = 0 //\ns1: DELETE FROM q WHERE k = 20 AND v = 5 //\ns1: DELETE FROM q WHERE k = 20 //\ns1: SELECT id FROM q WHERE k = 20 //\ns1: SELECT id, v FROM q //\n",
+        "7 row 2\n7 rows 1\n8 row 3\n8 rows 1\n9 ok 1\n10 ok 0\n11 ok 1\n12 rows 0\n13 row 1, 1\n13 row 3, 0\n13 rows 2\n",
+    ),
+    // values that rows have in a transaction, beside it, and behind it
+    (
+        "s1: BEGIN //\ns1: UPDATE q SET k = 25 WHERE k = 20 //\ns1: INSERT INTO q VALUES (4, 40, NULL, 0) //\ns1: SELECT id FROM q WHERE k = 20 //\ns1: SELECT id FROM q WHERE k = 25 //\ns2: SELECT id FROM q WHERE k = 20 //\ns2: SELECT id FROM q WHERE k = 25 //\ns2: SELECT id FROM q WHERE k = 40 //\ns1: UPDATE q SET k = 20 WHERE k = 40 //\ns1: SELECT id FROM q WHERE k = 20 //\ns1: ROLLBACK //\ns1: SELECT id FROM q WHERE k = 20 //\ns1: SELECT id FROM q WHERE k = 25 //\n",
+        "7 ok 0\n8 ok 1\n9 ok 1\n10 rows 0\n11 row 2\n11 rows 1\n12 row 2\n12 rows 1\n13 rows 0\n14 rows 0\n15 ok 1\n16 row 4\n16 rows 1\n17 ok 0\n18 row 2\n18 rows 1\n19 rows 0\n",
+    ),
+    // values of two columns, in either order; one alone names none
+    (
+        "s1: SELECT id FROM x WHERE a = 1 AND b = 'b' //\ns1: SELECT id FROM x WHERE b = 'a' AND a = 2 //\ns1: SELECT id FROM x WHERE a = 1 //\ns1: SELECT id FROM x WHERE a = 1 AND b = 'a' AND a = 2 //\ns1: UPDATE x SET b = 'c' WHERE a = 1 AND b = 'b' //\ns1: SELECT id FROM x WHERE a = 1 AND b = 'b' //\ns1: SELECT id FROM x WHERE a = 1 AND b = 'c' //\n",
+        "7 row 2\n7 rows 1\n8 row 3\n8 rows 1\n9 row 1\n9 row 2\n9 rows 2\n10 rows 0\n11 ok 1\n12 rows 0\n13 row 2\n13 rows 1\n",
+    ),
+    // a column that may be NULL names no value: what stands behind it is evaluated where it is NULL
+    (
+        "s1: SELECT id FROM q WHERE n = 300 AND c(id) = 3 //\ns1: SELECT n FROM l //\ns1: SELECT id FROM q WHERE n <=> NULL //\ns1: SELECT id FROM q WHERE k = NULL //\ns1: UPDATE q SET n = 100 WHERE n = 300 //\ns1: UPDATE q SET n = NULL WHERE n = 300 //\ns1: SELECT id FROM q WHERE n <=> NULL //\n",
+        "7 row 3\n7 rows 1\n8 row 2\n8 row 3\n8 rows 2\n9 row 2\n9 rows 1\n10 rows 0\n11 error 1062\n12 ok 1\n13 row 2\n13 row 3\n13 rows 2\n",
+    ),
+    // a value of the other kind, errors, and a function behind the value, for its row alone
+    (
+        "s1: SELECT id FROM q WHERE k = 'a' //\ns1: SELECT id FROM q WHERE k = 50 AND v = 'a' //\ns1: SELECT id FROM q WHERE k = 20 AND v = 'a' //\ns1: SELECT id FROM q WHERE k = 30 AND 1 DIV v = 1 //\ns1: SELECT id FROM q WHERE k = 50 AND 1 DIV v = 1 //\ns1: SELECT id FROM q WHERE k = 30 AND c(id) = 3 //\ns1: SELECT n FROM l //\ns1: SELECT id FROM q WHERE c(id + 10) = 13 AND k = 30 //\ns1: SELECT n FROM l //\n",
+        "7 error 30002\n8 rows 0\n9 error 30002\n10 error 1365\n11 rows 0\n12 row 3\n12 rows 1\n13 row 3\n13 rows 1\n14 row 3\n14 rows 1\n15 row 3\n15 row 11\n15 row 12\n15 row 13\n15 rows 4\n",
+    ),
+    // a value beside a primary key, beside another in OR, and one that another row has
+    (
+        "s1: SELECT v FROM q WHERE k = 20 AND id = 3 //\ns1: SELECT v FROM q WHERE id = 3 AND k = 30 //\ns1: UPDATE q SET k = 20 WHERE k = 30 //\ns1: SELECT id FROM q WHERE k = 30 //\ns1: SELECT id FROM q WHERE k = 10 OR k = 30 //\ns1: SELECT id FROM q WHERE NOT (k = 10) //\n",
+        "7 rows 0\n8 row 0\n8 rows 1\n9 error 1062\n10 row 3\n10 rows 1\n11 row 1\n11 row 3\n11 rows 2\n12 row 2\n12 row 3\n12 rows 2\n",
+    ),
+];
+
+#[test]
+fn values_named(rt: HostRuntime) {
+    let alloc = rt.alloc();
+    expect_all(
+        &rt,
+        "conditions that may name the values of a unique key",
+        held(alloc, &UNIQUES, &VALUES),
+        VALUES.len(),
     );
 }

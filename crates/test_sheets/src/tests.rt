@@ -4,3 +4,4 @@ mod beside;
 mod cases;
 mod lots;
 mod many;
+mod values;

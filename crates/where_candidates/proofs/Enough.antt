@@ -1,11 +1,12 @@
 -- Rows that are all that a WHERE has to look at.
-use Rattle.std.proofs.Common.{◌≡◌, ℕ, zero, suc, List, [], ◌∷◌, Option, Some, None, map, refl, sym, ap, ◌∙◌}
-use Rattle.std.specs.Prelude.{slice_get, option_to_list}
+use Rattle.std.proofs.Common.{◌≡◌, ℕ, zero, suc, List, [], ◌∷◌, Option, Some, None, map, refl, sym, ap, ◌∙◌, arith}
+use Rattle.std.specs.Prelude.{slice_get, option_to_list, Result, Ok, Err, IfOk}
 use Rattle.std.specs.Option.{option_map, option_and_then, option_map_or}
 use Rattle.val_types.specs.declared.value.Value.{Value}
 use Rattle.val_types.specs.declared.definitions.TableDef.{TableDef}
 use Rattle.table_rules.specs.Tables.{Table, IsKept}
-use Rattle.table_rules.specs.Stored.{table_named, row_at, rows_of, row_of_key}
+use Rattle.table_rules.specs.Stored.{table_named, row_at, rows_of, row_of_key, row_of_values}
+use Rattle.row_store.specs.Found.{found_with}
 use Rattle.table_rules.specs.Stores.{place_of, definitions_of, Store, IsWhole}
 use Rattle.table_rules.proofs.Places.{place_is_of_name, none_named}
 use Rattle.table_rules.proofs.Storing.{named_kept}
@@ -15,7 +16,10 @@ use Rattle.where_keys.specs.where_laws.Laws.{kept_where}
 use Rattle.where_keys.specs.declared.outside.Outside.{Outside}
 use Rattle.where_keys.specs.Keys.{key_in}
 use Rattle.where_keys.proofs.Named.{named_keys_are_enough}
-use Rattle.where_candidates.specs.Candidates.{AreCandidates, key_of_part}
+use Rattle.where_keys.proofs.Uniques.{named_unique_keys_are_enough}
+use Rattle.where_candidates.specs.declared.seeing.Named.{Named}
+use Rattle.where_candidates.specs.Candidates.{AreCandidates, first_named, key_of_part, unique_of_part}
+use Rattle.where_candidates.proofs.Uniques.{IsNamed, is_named, row_is}
 
 -- ---- the table of a name, at its place
 
@@ -58,22 +62,23 @@ row_there key d (Some t) here = let same : t.definition ≡ d = cc in ap (λ (e 
 -- ---- candidates
 
 -- all rows are enough
-all_so : (o : Outside) (name : List ℕ) (d : TableDef) (p : Part) (tables : List Table) (at : ℕ) (rows : List (List Value)) → key_of_part o d p ≡ None → place_of name tables ≡ Some at
+all_so : (o : Outside) (name : List ℕ) (d : TableDef) (p : Part) (tables : List Table) (at : ℕ) (rows : List (List Value)) → key_of_part o d p ≡ None → unique_of_part o d p ≡ None → place_of name tables ≡ Some at
     → slice_get (definitions_of tables) at ≡ Some d → rows ≡ rows_of name tables → AreCandidates o name d p tables rows
-all_so o name d p tables at rows none place there is = record {
+all_so o name d p tables at rows none nothing place there is = record {
   all = rows_of name tables;
   there = table_is d (table_named name tables) (sym (definition_there name tables at place) ∙ there);
   enough = λ world frame round scene. ap (λ (left : List (List Value)). kept_by (kept_where world frame d p) left scene) (sym is);
   alone = λ key named. cc;
+  lone = λ named first so. cc;
 }
 
 pub without_so : (o : Outside) (name : List ℕ) (d : TableDef) (tables : List Table) (at : ℕ) (rows : List (List Value)) → place_of name tables ≡ Some at
     → slice_get (definitions_of tables) at ≡ Some d → rows ≡ rows_of name tables → AreCandidates o name d no_part tables rows
-without_so o name d tables at rows place there is = all_so o name d no_part tables at rows refl place there is
+without_so o name d tables at rows place there is = all_so o name d no_part tables at rows refl refl place there is
 
-pub unkeyed_so : (o : Outside) (name : List ℕ) (d : TableDef) (t : Tree) (tables : List Table) (at : ℕ) (rows : List (List Value)) → key_in o d t d.primary ≡ None
+pub unkeyed_so : (o : Outside) (name : List ℕ) (d : TableDef) (t : Tree) (tables : List Table) (at : ℕ) (rows : List (List Value)) → key_in o d t d.primary ≡ None → first_named o d t 1 d.uniques ≡ None
     → place_of name tables ≡ Some at → slice_get (definitions_of tables) at ≡ Some d → rows ≡ rows_of name tables → AreCandidates o name d (part t) tables rows
-unkeyed_so o name d t tables at rows none place there is = all_so o name d (part t) tables at rows none place there is
+unkeyed_so o name d t tables at rows none nothing place there is = all_so o name d (part t) tables at rows none nothing place there is
 
 some_is : (a b : List Value) → Some a ≡ Some b → a ≡ b
 some_is a b e = cc
@@ -94,8 +99,37 @@ keyed_so o name d t store at key rows whole place there named is =
           (named_keys_are_enough o d t key named).gives world frame round (rows_of name store.tables) kept scene
           ∙ ap (λ (left : List (List Value)). kept_by (kept_where world frame d (part t)) left scene) (sym same);
       alone = λ other again. is ∙ ap (λ (k : List Value). option_to_list (row_at name k store.tables)) (some_is key other (sym named ∙ again));
+      lone = λ other none so. cc;
     }
 
-pub ruleset seeing = (without_so, unkeyed_so, keyed_so)
+same_named : (a b : Named) → Some a ≡ Some b → a ≡ b
+same_named a b e = cc
+
+-- and that of the values of a unique key, where it names no primary one
+pub unique_so : (o : Outside) (name : List ℕ) (d : TableDef) (t : Tree) (store : Store) (at : ℕ) (named : Named) (rows : List (List Value)) → IsWhole store
+    → key_in o d t d.primary ≡ None → first_named o d t 1 d.uniques ≡ Some named → place_of name store.tables ≡ Some at → slice_get (definitions_of store.tables) at ≡ Some d
+    → rows ≡ option_to_list (found_with name named.which named.values store.tables) → AreCandidates o name d (part t) store.tables rows
+unique_so o name d t store at named rows whole none first place there is =
+    let here = sym (definition_there name store.tables at place) ∙ there in
+    let kept = kept_there d (table_named name store.tables) here (λ t e. named_kept name store.tables t whole.rows e) in
+    let key : IsNamed o d t 1 d.uniques named = is_named o d t 1 d.uniques named first in
+    let number : named.which ≡ suc key.place = omega (arith, key.number) in
+    let same : rows ≡ option_to_list (row_of_values key.key named.values (rows_of name store.tables)) =
+    is ∙ ap (λ (r : Option (List Value)). option_to_list r) (row_is d named.which key.place key.key named.values name store.tables (rows_of name store.tables) number key.there (table_is d (table_named name store.tables) here)) in
+    record {
+      all = rows_of name store.tables;
+      there = table_is d (table_named name store.tables) here;
+      enough = λ world frame round scene.
+          (named_unique_keys_are_enough o d t key.place key.key named.values key.there key.said).gives world frame round (rows_of name store.tables) kept scene
+          ∙ ap (λ (left : List (List Value)). kept_by (kept_where world frame d (part t)) left scene) (sym same);
+      alone = λ other so. cc;
+      lone = λ other nothing again. is ∙ ap (λ (m : Named). option_to_list (found_with name m.which m.values store.tables)) (same_named named other (sym first ∙ again));
+    }
+
+pub if_ok : {A E : Type 0} (r : Result A E) (P Q : A → Type 0) → ((a : A) → P a → Q a) → IfOk r P → IfOk r Q
+if_ok (Ok a) P Q f p = f a p
+if_ok (Err e) P Q f p = p
+
+pub ruleset seeing = (without_so, keyed_so)
 
 pub ruleset missing = (not_at, not_placed)

@@ -1,13 +1,16 @@
 -- What the rows are that a WHERE has to look at.
-use Rattle.std.specs.Prelude.{◌≡◌, ℕ, List, Option, Some, None, option_to_list, Result, Ok, Err}
+use Rattle.std.specs.Prelude.{◌≡◌, ℕ, suc, List, [], ◌∷◌, Option, Some, None, option_to_list, Result, Ok, Err}
+use Rattle.std.specs.Option.{option_map, option_or}
 use Rattle.std.specs.Borrow.{Bor}
 use Rattle.val_types.specs.declared.value.Value.{Value}
 use Rattle.val_types.specs.declared.refusal.SqlRefusal.{SqlRefusal}
 use Rattle.val_types.specs.declared.refusal.SqlRefusal.TheVariants.{Sql, NoMemory}
+use Rattle.val_types.specs.declared.definitions.KeyDef.{KeyDef}
 use Rattle.val_types.specs.declared.definitions.TableDef.{TableDef}
 use Rattle.table_rules.specs.Tables.{Table}
 use Rattle.table_rules.specs.Stored.{row_at, table_named}
-use Rattle.sql_tree.specs.Tree.{Part, no_part, part}
+use Rattle.row_store.specs.Found.{found_with}
+use Rattle.sql_tree.specs.Tree.{Tree, Part, no_part, part}
 use Rattle.sql_tree.specs.View.{view_tree}
 use Rattle.sql_tree.specs.declared.expressions.Expr.{Expr}
 use Rattle.where_keys.specs.sql_meaning.Scenes.{Scene, kept_by}
@@ -16,6 +19,7 @@ use Rattle.where_keys.specs.where_laws.Laws.{kept_where}
 use Rattle.where_keys.specs.declared.outside.Outside.{Outside}
 use Rattle.where_keys.specs.Sides.{IsRound}
 use Rattle.where_keys.specs.Keys.{key_in}
+use Rattle.where_candidates.specs.declared.seeing.Named.{Named}
 use Rattle.where_candidates.specs.declared.seeing.SeenTable.{SeenTable}
 
 -- a condition that may be none
@@ -28,8 +32,19 @@ abbrev pub key_of_part : Outside → TableDef → Part → Option (List Value)
 key_of_part outside d no_part = None
 key_of_part outside d (part t) = key_in outside d t d.primary
 
+-- the first of some unique keys of which a condition names each value, by its number, with the values
+abbrev pub first_named : Outside → TableDef → Tree → ℕ → List KeyDef → Option Named
+first_named outside d t which [] = None
+first_named outside d t which (key ∷ keys) = option_or (option_map (λ (values : List Value). record { which = which; values = values }) (key_in outside d t key.columns)) (first_named outside d t (suc which) keys)
+
+-- the first unique key that a WHERE names, counted from 1, with its values
+abbrev pub unique_of_part : Outside → TableDef → Part → Option Named
+unique_of_part outside d no_part = None
+unique_of_part outside d (part t) = first_named outside d t 1 d.uniques
+
 -- Rows that are all that a WHERE over the table of a name has to look at: of them it keeps the same ones as of all rows, with the same
--- scene or error behind it, in whatever scene, and whatever else is round it. Where it names a primary key, they are the row of that key alone.
+-- scene or error behind it, in whatever scene, and whatever else is round it. Where it names a primary key, they are the row of that key
+-- alone; else where it names each value of a unique key, they are the row that has these.
 pub record AreCandidates (outside : Outside) (name : List ℕ) (d : TableDef) (p : Part) (tables : List Table) (rows : List (List Value)) : Type 0 where
   pub all : List (List Value)
   pub there : table_named name tables ≡ Some (record { definition = d; rows = all })
@@ -37,6 +52,9 @@ pub record AreCandidates (outside : Outside) (name : List ℕ) (d : TableDef) (p
       (world : World) (frame : Frame) → IsRound outside world frame → (scene : Scene)
       → kept_by (kept_where world frame d p) all scene ≡ kept_by (kept_where world frame d p) rows scene
   pub alone : (key : List Value) → key_of_part outside d p ≡ Some key → rows ≡ option_to_list (row_at name key tables)
+  pub lone :
+      (named : Named) → key_of_part outside d p ≡ None → unique_of_part outside d p ≡ Some named
+      → rows ≡ option_to_list (found_with name named.which named.values tables)
 
 -- a table with its candidates, or 1146 where there is none of the name; or memory is short
 abbrev pub Sees : Outside → List ℕ → Part → List Table → Result SeenTable SqlRefusal → Type 0

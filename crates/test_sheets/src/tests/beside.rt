@@ -1,7 +1,7 @@
 //! A table of two numbers a row, the first of them its primary key, beside the values that it has to show and to have committed of each
 //! key. Each call says whether the table answered as these say.
 
-use crate::found;
+use crate::{found, found_with};
 use sharing::Shared;
 use std::alloc::Global;
 use std::test::Fail;
@@ -73,6 +73,22 @@ fn row_of(alloc: Global, two: Two) -> Result<Shared<Row>, Fail> {
     row.push(Value::Int(two.key))?;
     row.push(Value::Int(two.value))?;
     Ok(Shared::new(alloc, row)?)
+}
+
+/// A row of a number and a NULL.
+fn row_without(alloc: Global, of: i64) -> Result<Shared<Row>, Fail> {
+    let mut row = List::new(alloc);
+    row.push(Value::Int(of))?;
+    row.push(Value::Null)?;
+    Ok(Shared::new(alloc, row)?)
+}
+
+/// The number that a row begins with.
+fn number_of(row: Option<&Shared<Row>>) -> Option<i64> {
+    match row?.get().get(0) {
+        Some(Value::Int(number)) => Some(*number),
+        _ => None,
+    }
 }
 
 /// A key of one number.
@@ -343,6 +359,56 @@ impl Beside {
             }
         }
         Ok(true)
+    }
+
+    /// The key of the row that is shown with a value.
+    pub(super) fn key_with(&self, alloc: Global, value: i64) -> Result<Option<i64>, Fail> {
+        let row = row_of(alloc, Two { key: 0, value })?;
+        Ok(number_of(self.sheet.row_on_key(row.get(), 1)))
+    }
+
+    /// The same where it is found by the value as that of the key of a number.
+    pub(super) fn key_by(
+        &self,
+        alloc: Global,
+        which: usize,
+        value: i64,
+    ) -> Result<Option<i64>, Fail> {
+        let values = key(alloc, value)?;
+        Ok(number_of(found_with(&self.sheet, which, &values)))
+    }
+
+    /// Whether no row is found by a NULL, by no value, or by two.
+    pub(super) fn finds_none(&self, alloc: Global) -> Result<bool, Fail> {
+        let mut values = List::new(alloc);
+        let by_none = found_with(&self.sheet, 1, &values).is_none();
+        values.push(Value::Null)?;
+        let by_null = found_with(&self.sheet, 1, &values).is_none();
+        values.push(Value::Int(20))?;
+        Ok(by_none && by_null && found_with(&self.sheet, 1, &values).is_none())
+    }
+
+    /// The key of the committed row with a value, found while what is shown is set aside.
+    pub(super) fn key_aside(&mut self, alloc: Global, value: i64) -> Result<Option<i64>, Fail> {
+        let overlay = self.sheet.set_aside(alloc);
+        let key = self.key_with(alloc, value);
+        self.sheet.put_back(overlay);
+        key
+    }
+
+    /// Whether a row without a value is inserted.
+    pub(super) fn insert_null(&mut self, alloc: Global, of: i64) -> Result<bool, Fail> {
+        let row = row_without(alloc, of)?;
+        if !self.sheet.fits(row.get()) {
+            return Ok(false);
+        }
+        Ok(self.sheet.insert(alloc, row).is_ok())
+    }
+
+    /// Whether a row is found by a NULL.
+    pub(super) fn is_null_found(&self, alloc: Global) -> Result<bool, Fail> {
+        let row = row_without(alloc, 0)?;
+        Ok(self.sheet.row_on_key(row.get(), 1).is_some())
     }
 
     /// Whether a reader sees the committed rows while what is shown is set aside, and the same as before is shown once it is put back.

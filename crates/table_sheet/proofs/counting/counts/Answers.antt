@@ -1,8 +1,8 @@
 use Rattle.std.proofs.Common.{ℕ, suc, ◌+◌, drop, sym, ap, ◌∙◌, arith}
 use Rattle.std.specs.Prelude.{slice_get, option_copied}
 use Rattle.std.proofs.lemmas.List.{length-map}
-use Rattle.block_list.specs.Layouts.{flat}
-use Rattle.block_list.specs.Spots.{place}
+use Rattle.row_index.specs.block_list.Layouts.{flat}
+use Rattle.row_index.specs.block_list.Spots.{place}
 use Rattle.table_sheet.specs.Counts.{puts, takes}
 use Rattle.table_sheet.specs.Parts.{committed_slots, entry_slots}
 use Rattle.table_sheet.specs.Ranked.{entry_slot}

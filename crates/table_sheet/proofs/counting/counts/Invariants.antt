@@ -1,6 +1,6 @@
 use Rattle.std.proofs.Common.{◌≡◌, ◌+◌, ◌-◌, drop, length}
-use Rattle.block_list.specs.Layouts.{flat}
-use Rattle.block_list.specs.Spots.{place, IsSpot}
+use Rattle.row_index.specs.block_list.Layouts.{flat}
+use Rattle.row_index.specs.block_list.Spots.{place, IsSpot}
 use Rattle.table_sheet.specs.Counts.{puts, takes}
 use Rattle.table_sheet.specs.Parts.{committed_slots, entry_slots}
 use Rattle.table_sheet.proofs.counting.counts.Given as goal

@@ -1,5 +1,5 @@
 use Rattle.std.proofs.Common.{◌≡◌}
-use Rattle.row_sheets.specs.Slots.{rows_in}
+use Rattle.row_index.specs.row_sheets.Slots.{rows_in}
 use Rattle.table_sheet.specs.Walks.{depth, passed, IsPlace}
 use Rattle.table_sheet.proofs.ending.previous.Given as goal
 

@@ -1,7 +1,7 @@
 use Rattle.std.proofs.Common.{◌≡◌, ◌++◌, List, [], Option, Less, Equal, Greater, sym, subst}
 use Rattle.std.specs.Prelude.{option_to_list}
 use Rattle.val_types.specs.declared.value.Value.{Value}
-use Rattle.row_sheets.specs.Slots.{rows_in}
+use Rattle.row_index.specs.row_sheets.Slots.{rows_in}
 use Rattle.table_sheet.specs.Walks.{passed}
 use Rattle.table_sheet.proofs.Passing.{if_none, compared}
 use Rattle.table_sheet.proofs.Lasting.{passed_nothing, passed_row_alone, passed_entry_alone, passed_row, passed_entry, passed_both}

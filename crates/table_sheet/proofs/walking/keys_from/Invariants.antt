@@ -1,6 +1,6 @@
 use Rattle.std.proofs.Common.{◌≡◌, ◌++◌, map, length}
 use Rattle.val_types.specs.Keys.{primary_key}
-use Rattle.row_sheets.specs.Slots.{rows_in}
+use Rattle.row_index.specs.row_sheets.Slots.{rows_in}
 use Rattle.table_sheet.specs.Walks.{left, IsPlace}
 use Rattle.table_sheet.proofs.walking.keys_from.Given as goal
 

@@ -1,5 +1,5 @@
 use Rattle.std.proofs.Common.{◌≡◌, ◌≤◌, length}
-use Rattle.row_sheets.specs.Slots.{rows_in}
+use Rattle.row_index.specs.row_sheets.Slots.{rows_in}
 use Rattle.table_sheet.specs.Walks.{left, IsPlace}
 use Rattle.table_sheet.proofs.walking.next.Given as goal
 

@@ -1,9 +1,9 @@
 use Rattle.std.proofs.Common.{◌≡◌, List, [], Option, Less, Equal, Greater, sym, subst}
 use Rattle.std.specs.Prelude.{slice_get}
 use Rattle.val_types.specs.declared.value.Value.{Value}
-use Rattle.block_list.specs.Layouts.{flat}
-use Rattle.block_list.specs.Spots.{place}
-use Rattle.row_sheets.specs.Slots.{rows_in}
+use Rattle.row_index.specs.block_list.Layouts.{flat}
+use Rattle.row_index.specs.block_list.Spots.{place}
+use Rattle.row_index.specs.row_sheets.Slots.{rows_in}
 use Rattle.table_sheet.specs.Numbered.{row_of}
 use Rattle.table_sheet.specs.Walks.{left, AreNext}
 use Rattle.table_sheet.proofs.Passing.{within_by, if_none, compared, at_end, at_row, at_entry, at_less, at_both, at_greater}

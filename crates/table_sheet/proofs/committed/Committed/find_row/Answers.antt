@@ -1,7 +1,7 @@
-use Rattle.block_list.specs.Layouts.{flat}
+use Rattle.row_index.specs.block_list.Layouts.{flat}
 use Rattle.val_types.specs.Keys.{primary_key}
-use Rattle.row_sheets.specs.Orders.{by_key}
-use Rattle.row_sheets.proofs.Orders.{in_order}
+use Rattle.row_index.specs.row_sheets.Orders.{by_key}
+use Rattle.row_index.proofs.of_row_sheets.Orders.{in_order}
 use Rattle.table_sheet.specs.Numbered.{row_slot}
 use Rattle.table_sheet.proofs.committed.Committed.find_row.Goals as goal
 

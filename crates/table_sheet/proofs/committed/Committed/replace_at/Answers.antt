@@ -1,10 +1,10 @@
-use Rattle.std.proofs.Common.{List, Option, sym, ap, ◌∙◌}
+use Rattle.std.proofs.Common.{List, Option, Some, sym, ap, ◌∙◌}
 use Rattle.val_types.specs.declared.value.Value.{Value}
-use Rattle.block_list.specs.Layouts.{flat}
-use Rattle.row_sheets.specs.Orders.{slots_of}
+use Rattle.row_index.specs.block_list.Layouts.{flat}
+use Rattle.row_index.specs.row_sheets.Orders.{slots_of}
 use Rattle.table_sheet.specs.Numbered.{row_slot, are_numbered}
 use Rattle.table_sheet.proofs.Slotted.{never_none}
-use Rattle.table_sheet.proofs.Settled.{has_row, numbered_set, slots_replaced}
+use Rattle.table_sheet.proofs.Settled.{has_row, numbered_set, slots_replaced, set_others}
 use Rattle.table_sheet.proofs.committed.Committed.replace_at.Goals as goal
 
 pub replace-requires : goal.replace-requires
@@ -24,3 +24,10 @@ returns-in-Some-clause-slots c = λ d rises found.
 
 pub returns-in-None-clause-slots : goal.returns-in-None-clause-slots
 returns-in-None-clause-slots c = λ d rises found. never_none c.args.self.now.order.blocks c.args.spot c.requires c.in-None.ensures
+
+pub returns-in-Some-clause-others : goal.returns-in-Some-clause-others
+returns-in-Some-clause-others c =
+    set_others c.args.self.now.rows.rows c.replace.new.self.rows c.args.self.now.order.blocks c.args.spot c.in-Some.number (Some c.args.row) c.requires (sym c.in-Some.ensures) c.replace.ensures.rows
+
+pub returns-in-None-clause-others : goal.returns-in-None-clause-others
+returns-in-None-clause-others c = λ m differs. never_none c.args.self.now.order.blocks c.args.spot c.requires c.in-None.ensures

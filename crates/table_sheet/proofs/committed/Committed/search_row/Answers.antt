@@ -1,5 +1,5 @@
 use Rattle.std.specs.Prelude.{option_copied}
-use Rattle.row_sheets.proofs.Orders.{missing_at}
+use Rattle.row_index.proofs.of_row_sheets.Orders.{missing_at}
 use Rattle.table_sheet.specs.Numbered.{row_slot}
 use Rattle.table_sheet.proofs.Looking.{found_row}
 use Rattle.table_sheet.proofs.committed.Committed.search_row.Goals as goal

@@ -1,6 +1,6 @@
-use Rattle.block_list.specs.Layouts.{flat}
-use Rattle.row_sheets.specs.Orders.{by_key}
-use Rattle.row_sheets.proofs.Orders.{in_order}
+use Rattle.row_index.specs.block_list.Layouts.{flat}
+use Rattle.row_index.specs.row_sheets.Orders.{by_key}
+use Rattle.row_index.proofs.of_row_sheets.Orders.{in_order}
 use Rattle.table_sheet.specs.Ranked.{entry_slot}
 use Rattle.table_sheet.proofs.overlay.Overlay.find.Goals as goal
 

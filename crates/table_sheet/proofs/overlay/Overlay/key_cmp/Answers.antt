@@ -3,8 +3,8 @@ use Rattle.table_sheet.proofs.overlay.Overlay.key_cmp.Goals as goal
 
 pub returns-in-Some : goal.returns-in-Some
 returns-in-Some c =
-    entry_compared c.get-table.result.now c.args.definition.now c.args.self.now.entries.items c.args.number (λ d. c.args.key.now) c.in-Some.entry.now c.get-bearer.result.now c.row_key_cmp.result c.get-table.ensures c.get-bearer.ensures c.in-Some.ensures c.row_key_cmp.ensures
+    entry_compared c.get-table.result.now c.args.definition.now c.args.self.now.entries.items c.args.number (λ d. c.args.key.now) c.in-Some.entry.now c.get-bearer.result.now c.columns_cmp.result c.get-table.ensures c.get-bearer.ensures c.in-Some.ensures c.columns_cmp.ensures
 
 pub returns-in-None : goal.returns-in-None
 returns-in-None c =
-    no_entry_compared c.get-table.result.now c.args.definition.now c.args.self.now.entries.items c.args.number (λ d. c.args.key.now) c.nothing_key_cmp.result c.get-table.ensures c.in-None.ensures c.nothing_key_cmp.ensures
+    no_entry_compared c.get-table.result.now c.args.definition.now c.args.self.now.entries.items c.args.number (λ d. c.args.key.now) c.no_columns_cmp.result c.get-table.ensures c.in-None.ensures c.no_columns_cmp.ensures

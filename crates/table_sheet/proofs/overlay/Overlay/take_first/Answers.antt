@@ -1,8 +1,8 @@
 use Rattle.std.proofs.Common.{◌≡◌, ◌<◌, length, Some, ◌∙◌, arith}
 use Rattle.std.specs.Prelude.{slice_get}
 use Rattle.std.proofs.lemmas.List.{length-set}
-use Rattle.block_list.specs.Layouts.{flat}
-use Rattle.block_list.specs.Spots.{place}
+use Rattle.row_index.specs.block_list.Layouts.{flat}
+use Rattle.row_index.specs.block_list.Spots.{place}
 use Rattle.table_sheet.proofs.Slotted.{ranked_here, entry_read}
 use Rattle.table_sheet.proofs.Settled.{first_slots}
 use Rattle.table_sheet.proofs.overlay.Overlay.take_first.Goals as goal

@@ -4,7 +4,7 @@ use Rattle.val_types.specs.declared.value.Value.{Value}
 use Rattle.val_types.specs.Keys.{primary_key}
 use Rattle.table_rules.specs.Changes.{with_row}
 use Rattle.table_rules.specs.Stored.{rows_beside}
-use Rattle.row_sheets.specs.Over.{over}
+use Rattle.row_index.specs.row_sheets.Over.{over}
 use Rattle.table_sheet.specs.Pages.{has_entry, rows_on}
 use Rattle.table_sheet.proofs.Shown.{sound}
 use Rattle.table_sheet.proofs.Exchanged.{row_standing, same_primary, none_in_way}

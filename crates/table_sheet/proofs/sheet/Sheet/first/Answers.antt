@@ -1,6 +1,6 @@
 use Rattle.std.proofs.Common.{List, ap, ◌∙◌}
 use Rattle.std.specs.Prelude.{slice_get, option_copied}
-use Rattle.row_sheets.specs.Slots.{Slot, rows_in}
+use Rattle.row_index.specs.row_sheets.Slots.{Slot, rows_in}
 use Rattle.table_sheet.specs.Pages.{Page, rows_on}
 use Rattle.table_sheet.specs.Walks.{left}
 use Rattle.table_sheet.proofs.Passing.{first_row}

@@ -6,11 +6,11 @@ use Rattle.table_sheet.proofs.sheet.Sheet.get_same.Goals as goal
 pub returns-in-Some : goal.returns-in-Some
 returns-in-Some c =
     c.shown.ensures
-    ∙ page_entry_same c.self.inside.definition c.args.row.now c.self.inside.committed c.self.inside.overlay c.args.self.now c.in-Ok.spot (Some c.in-Some.entry.now) c.self.invariant c.self.view_is c.in-Ok.ensures.found c.in-Some.ensures
+    ∙ page_entry_same c.self.inside.definition c.args.row.now c.self.inside.committed c.self.inside.overlay c.args.self.now c.in-Ok.spot (Some c.in-Some.entry.now) c.self.invariant.holds c.self.view_is c.in-Ok.ensures.found c.in-Some.ensures
 
 pub returns-in-None : goal.returns-in-None
-returns-in-None c = page_entry_same c.self.inside.definition c.args.row.now c.self.inside.committed c.self.inside.overlay c.args.self.now c.in-Ok.spot None c.self.invariant c.self.view_is c.in-Ok.ensures.found c.in-None.ensures
+returns-in-None c = page_entry_same c.self.inside.definition c.args.row.now c.self.inside.committed c.self.inside.overlay c.args.self.now c.in-Ok.spot None c.self.invariant.holds c.self.view_is c.in-Ok.ensures.found c.in-None.ensures
 
 pub returns-in-Err : goal.returns-in-Err
 returns-in-Err c =
-    page_row_same c.self.inside.definition c.args.row.now c.self.inside.committed c.self.inside.overlay c.args.self.now c.in-Err.field-0 (option_copied c.get_same.result) c.self.invariant c.self.view_is c.in-Err.ensures.found c.get_same.ensures
+    page_row_same c.self.inside.definition c.args.row.now c.self.inside.committed c.self.inside.overlay c.args.self.now c.in-Err.field-0 (option_copied c.get_same.result) c.self.invariant.holds c.self.view_is c.in-Err.ensures.found c.get_same.ensures

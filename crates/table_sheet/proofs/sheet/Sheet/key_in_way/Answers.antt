@@ -1,10 +1,7 @@
 use Rattle.std.proofs.Common.{List, Option, sym, ap, ◌∙◌}
-use Rattle.std.specs.Prelude.{is_some, suc}
-use Rattle.std.specs.Option.{option_map}
+use Rattle.std.specs.Prelude.{is_some}
 use Rattle.val_types.specs.declared.value.Value.{Value}
-use Rattle.table_rules.specs.Stored.{first_agreed}
-use Rattle.row_sheets.specs.Slots.{Slot, rows_in}
-use Rattle.table_sheet.specs.Pages.{Page, rows_on}
+use Rattle.table_sheet.specs.Pages.{rows_on}
 use Rattle.table_sheet.proofs.Shown.{primary_in_way, unique_in_way}
 use Rattle.table_sheet.proofs.sheet.Sheet.key_in_way.Goals as goal
 
@@ -12,8 +9,4 @@ pub returns-in-Some : goal.returns-in-Some
 returns-in-Some c = primary_in_way c.args.self.now.definition c.args.row.now (rows_on c.args.self.now) (ap (λ (p : Option (List Value)). is_some p) (sym c.in-Some.ensures))
 
 pub returns : goal.returns
-returns c =
-    c.first_agreed.ensures
-    ∙ ap (λ (ss : List Slot). option_map suc (first_agreed c.self.inside.definition.uniques c.args.row.now (rows_in ss))) (c.start-from.ensures.all c.self.inside.definition)
-    ∙ ap (λ (p : Page). option_map suc (first_agreed p.definition.uniques c.args.row.now (rows_on p))) c.self.view_is
-    ∙ unique_in_way c.args.self.now.definition c.args.row.now (rows_on c.args.self.now) (ap (λ (p : Option (List Value)). is_some p) (sym c.in_default.ensures))
+returns c = c.first_agreed.ensures ∙ unique_in_way c.args.self.now.definition c.args.row.now (rows_on c.args.self.now) (ap (λ (p : Option (List Value)). is_some p) (sym c.in_default.ensures))

@@ -1,7 +1,7 @@
 use Rattle.std.proofs.Common.{◌-◌, List, length, ap, ◌∙◌}
 use Rattle.std.specs.Prelude.{slice_get, option_copied}
 use Rattle.val_types.specs.declared.value.Value.{Value}
-use Rattle.row_sheets.specs.Slots.{rows_in}
+use Rattle.row_index.specs.row_sheets.Slots.{rows_in}
 use Rattle.table_sheet.specs.Pages.{rows_on}
 use Rattle.table_sheet.specs.Parts.{committed_slots}
 use Rattle.table_sheet.specs.Walks.{passed}
@@ -10,7 +10,7 @@ use Rattle.table_sheet.proofs.Lasting.{last_row}
 use Rattle.table_sheet.proofs.sheet.Sheet.last.Goals as goal
 
 pub previous-requires-clause-below : goal.previous-requires-clause-below
-previous-requires-clause-below c = (sound c.self.inside.definition (committed_slots c.self.inside.definition c.self.inside.committed) c.self.invariant.whole).rising
+previous-requires-clause-below c = (sound c.self.inside.definition (committed_slots c.self.inside.definition c.self.inside.committed) c.self.invariant.holds.whole).rising
 
 pub returns : goal.returns
 returns c =

@@ -7,7 +7,7 @@ use Rattle.val_types.specs.Fitting.{row_fits}
 use Rattle.val_types.specs.Keys.{primary_key, collide}
 use Rattle.table_rules.specs.Changes.{with_row}
 use Rattle.table_rules.specs.Stored.{row_of_key, rows_beside}
-use Rattle.row_sheets.specs.Over.{over}
+use Rattle.row_index.specs.row_sheets.Over.{over}
 use Rattle.table_sheet.specs.Pages.{has_entry, rows_on}
 use Rattle.table_sheet.specs.Refusals.{Inserted}
 use Rattle.table_sheet.proofs.Shown.{TakenRow, taken_row, all_stay, sound}
