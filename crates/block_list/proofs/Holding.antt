@@ -2,7 +2,7 @@
 use Rattle.std.proofs.Common.{◌≡◌, ℕ, zero, suc, ◌+◌, ◌-◌, ◌*◌, ◌/◌, ◌%◌, ◌<◌, ◌≤◌, min, List, length, ap, arith}
 use Rattle.std.proofs.lemmas.Grind.{div_ceil_times}
 use Rattle.block_list.specs.Layouts.{Layout, flat, holds, room, AreShaped}
-use Rattle.block_list.proofs.Digits.{pairs, few, many}
+use Rattle.block_list.proofs.Digits.{few, many}
 
 -- where all blocks are in use, they have as many numbers as they hold
 full : (bs : List (List ℕ)) → AreShaped bs → 128 * (length bs - 1) ≤ length (flat bs)

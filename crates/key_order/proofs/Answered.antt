@@ -1,13 +1,12 @@
 -- A SELECT of aggregates over a whole table, from the ends of this.
-use Rattle.std.proofs.Common.{◌≡◌, ℕ, suc, List, [], ◌∷◌, Bool, true, false, cond, Option, Some, None, Result, Ok, Err, IsTrue, ◌↔◌, length, map, drop, refl, sym, ap, subst, ◌∙◌}
+use Rattle.std.proofs.Common.{◌≡◌, ℕ, suc, List, [], ◌∷◌, Bool, true, Option, Some, None, Result, Ok, Err, length, map, drop, refl, sym, ap, ◌∙◌}
 use Rattle.std.specs.Prelude.{pos, slice_get, IfOk}
 use Rattle.std.specs.Option.{option_map, option_and_then, option_map_or}
 use Rattle.std.specs.List.{list_all}
 use Rattle.std.specs.Ordering.{is_lt}
 use Rattle.std.proofs.lemmas.Bool.{and_parts}
 use Rattle.val_types.specs.declared.value.Value.{Value}
-use Rattle.val_types.specs.declared.value.Value.TheVariants.{Null, Int}
-use Rattle.val_types.specs.declared.definitions.ColumnDef.{ColumnDef}
+use Rattle.val_types.specs.declared.value.Value.TheVariants.{Int}
 use Rattle.val_types.specs.declared.definitions.TableDef.{TableDef}
 use Rattle.val_types.specs.declared.ops.Agg.{Agg}
 use Rattle.val_types.specs.declared.ops.Agg.TheVariants.{Count}
@@ -18,19 +17,19 @@ use Rattle.table_rules.specs.Stored.{table_named, rows_of}
 use Rattle.table_rules.specs.Stores.{Store, IsWhole, place_of, definitions_of}
 use Rattle.table_rules.proofs.Places.{place_is_of_name}
 use Rattle.table_rules.proofs.Storing.{named_kept}
-use Rattle.sql_tree.specs.Tree.{Tree, Query, query, Selected, aggregates, Aggregates, Origin, from_table, no_part, no_order, part}
+use Rattle.sql_tree.specs.Tree.{Tree, query, Selected, aggregates, Aggregates, from_table, no_part, no_order}
 use Rattle.sql_tree.specs.View.{aggregates_of, view_aggregate, view_aggregates}
 use Rattle.sql_tree.specs.declared.expressions.Aggregate.{Aggregate}
-use Rattle.where_candidates.specs.session_ctx.sql_meaning.Scenes.{Scene, Ending, Action, done, failed, then_do, pure, answered, needed, each, kept_by, table_now, ◌>>=◌}
+use Rattle.where_candidates.specs.session_ctx.sql_meaning.Scenes.{Scene, Ending, done, then_do, pure, each, kept_by, ◌>>=◌}
 use Rattle.where_candidates.specs.session_ctx.sql_meaning.Frames.{World, Frame, sees}
-use Rattle.where_candidates.specs.session_ctx.sql_meaning.Values.{value, argument_values, formed, functions_of, shown_rows, rows_of_query, sorted}
+use Rattle.where_candidates.specs.session_ctx.sql_meaning.Values.{argument_values, formed, functions_of, shown_rows, rows_of_query, sorted}
 use Rattle.where_candidates.specs.where_keys.where_laws.Sides.{of_column}
 use Rattle.where_candidates.proofs.of_where_keys.of_where_laws.Sides.{sides_are_so}
 use Rattle.where_candidates.specs.where_keys.declared.outside.Outside.{Outside}
 use Rattle.where_candidates.specs.where_keys.Sides.{IsRound}
-use Rattle.key_order.specs.Columns.{count_in, end_in, ends_in}
+use Rattle.key_order.specs.Columns.{end_in, ends_in}
 use Rattle.key_order.specs.Given.{IsWholeAnswer}
-use Rattle.key_order.proofs.AtEnds.{at, counted_is, IsEnd, over_so}
+use Rattle.key_order.proofs.AtEnds.{at, counted_is, over_so}
 
 abbrev One : Type 0
 One = Option (Agg × Tree)

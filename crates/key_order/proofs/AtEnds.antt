@@ -1,7 +1,7 @@
 -- COUNT, MIN and MAX of the rows of a table, read at its ends.
-use Rattle.std.proofs.Common.{◌≡◌, ℕ, zero, suc, List, [], ◌∷◌, Bool, true, false, not, ◌&&◌, ◌||◌, cond, Option, Some, None, Result, Ok, Err, Ordering, length, map, drop, refl, sym, ap, subst, ◌∙◌, arith}
+use Rattle.std.proofs.Common.{◌≡◌, ℕ, zero, suc, List, [], ◌∷◌, Bool, true, false, not, ◌&&◌, ◌||◌, cond, Option, Some, None, Ok, Err, Ordering, length, map, refl, sym, ap, subst, ◌∙◌, arith}
 use Rattle.std.specs.Prelude.{◌-◌, ◌^◌, nat_le, pos, filter, slice_get, slice_index_or}
-use Rattle.std.specs.Option.{option_map, option_and_then}
+use Rattle.std.specs.Option.{option_and_then}
 use Rattle.std.specs.Result.{is_ok}
 use Rattle.std.specs.List.{list_all, list_any}
 use Rattle.std.specs.Ordering.{is_lt, ordering_then}
@@ -15,7 +15,7 @@ use Rattle.val_types.specs.declared.definitions.TableDef.{TableDef}
 use Rattle.val_types.specs.declared.ops.Agg.{Agg}
 use Rattle.val_types.specs.declared.ops.Agg.TheVariants.{Count, Sum, Min, Max}
 use Rattle.val_types.specs.Fitting.{row_fits, may_hold, fitting, is_null}
-use Rattle.val_types.specs.Keys.{primary_key, values_at}
+use Rattle.val_types.specs.Keys.{values_at}
 use Rattle.val_types.specs.Order.{value_order, key_order}
 use Rattle.value_rules.specs.Selecting.{is_number, is_text, known_count, extreme, comes_first, aggregate_value}
 use Rattle.table_rules.specs.Tables.{is_below, rise}

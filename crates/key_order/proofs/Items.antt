@@ -1,5 +1,5 @@
 -- The items of ORDER BY.
-use Rattle.std.proofs.Common.{◌≡◌, ℕ, List, [], ◌∷◌, Bool, true, false, ◌&&◌, map, refl, ap, ◌∙◌}
+use Rattle.std.proofs.Common.{◌≡◌, Bool}
 use Rattle.sql_tree.specs.Tree.{Tree, Query, Selected, Origin}
 use Rattle.val_types.specs.declared.ops.Agg.{Agg}
 use Rattle.std.specs.Prelude.{Option}

@@ -1,6 +1,6 @@
 -- The only row that ORDER BY and LIMIT 1 leave of a whole table.
-use Rattle.std.proofs.Common.{◌≡◌, ℕ, zero, suc, List, [], ◌∷◌, ◌++◌, Bool, true, false, cond, Option, Some, None, Result, Ok, Err, length, map, reverse, take, IsTrue, ◌↔◌, refl, sym, ap, subst, ◌∙◌}
-use Rattle.std.specs.Prelude.{◌-◌, slice_get, option_to_list, IfOk}
+use Rattle.std.proofs.Common.{◌≡◌, ℕ, List, [], ◌∷◌, ◌++◌, Bool, true, false, cond, Option, Some, None, Result, Ok, length, reverse, take, IsTrue, ◌↔◌, refl, sym, ap, subst, ◌∙◌}
+use Rattle.std.specs.Prelude.{◌-◌, slice_get, option_to_list}
 use Rattle.std.proofs.lemmas.List.{reverse-append}
 use Rattle.val_types.specs.declared.value.Value.{Value}
 use Rattle.val_types.specs.declared.definitions.TableDef.{TableDef}
@@ -8,7 +8,7 @@ use Rattle.table_rules.specs.Tables.{Table, IsKept}
 use Rattle.table_rules.specs.Stored.{table_named, rows_of}
 use Rattle.table_rules.specs.Stores.{Store, IsWhole, place_of, definitions_of}
 use Rattle.table_rules.proofs.Storing.{named_kept}
-use Rattle.sql_tree.specs.Tree.{Query, query, Selected, Origin, from_table, no_part, Orders}
+use Rattle.sql_tree.specs.Tree.{query, Selected, Origin, from_table, no_part, Orders}
 use Rattle.sql_tree.specs.View.{view_from, view_orders, view_part}
 use Rattle.sql_tree.specs.declared.expressions.Expr.{Expr}
 use Rattle.sql_tree.specs.declared.expressions.Limit.{Limit}

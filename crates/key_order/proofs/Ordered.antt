@@ -1,15 +1,13 @@
 -- ORDER BY just the columns of the primary key.
-use Rattle.std.proofs.Common.{◌≡◌, ℕ, zero, suc, List, [], ◌∷◌, Bool, true, false, not, ◌&&◌, cond, Option, Some, None, Result, Ok, Err, map, reverse, refl, sym, ap, subst, ◌∙◌, arith}
+use Rattle.std.proofs.Common.{◌≡◌, ℕ, zero, suc, List, [], ◌∷◌, Bool, true, false, not, ◌&&◌, cond, Option, Some, None, Ok, map, reverse, refl, sym, ap, ◌∙◌, arith}
 use Rattle.std.specs.Prelude.{◌==◌, slice_get}
-use Rattle.std.specs.Option.{option_map, option_and_then}
+use Rattle.std.specs.Option.{option_map}
 use Rattle.std.specs.Bool.{beq}
-use Rattle.std.specs.List.{list_all}
-use Rattle.std.proofs.lemmas.Bool.{and_parts}
 use Rattle.std.proofs.lemmas.Bool.Decides.{nat_tests}
 use Rattle.val_types.specs.declared.value.Value.{Value}
 use Rattle.val_types.specs.declared.definitions.ColumnDef.{ColumnDef}
 use Rattle.val_types.specs.declared.definitions.TableDef.{TableDef}
-use Rattle.sql_tree.specs.Tree.{Tree, literal, name, column, new_column, old_column, user_variable, system_variable, unary, binary, is_in, choice, subquery, exists, call, built_in, values_of, name_const, floor_rand, Orders}
+use Rattle.sql_tree.specs.Tree.{Tree, literal, name, column, new_column, old_column, user_variable, system_variable, unary, binary, is_in, choice, subquery, exists, call, built_in, values_of, name_const, floor_rand}
 use Rattle.sql_tree.specs.View.{view_order, view_orders, orders_of}
 use Rattle.sql_tree.specs.declared.expressions.OrderItem.{OrderItem}
 use Rattle.sql_locals.specs.declared.locals.Local.{Local}
@@ -19,11 +17,11 @@ use Rattle.where_candidates.specs.session_ctx.sql_meaning.catalog_rules.Objects.
 use Rattle.where_candidates.specs.session_ctx.sql_meaning.Scenes.{done}
 use Rattle.where_candidates.specs.session_ctx.sql_meaning.Frames.{World, Frame}
 use Rattle.where_candidates.specs.session_ctx.sql_meaning.Values.{directions}
-use Rattle.where_candidates.specs.where_keys.where_laws.Sides.{Side, of_column, standing, side_of, column_side}
+use Rattle.where_candidates.specs.where_keys.where_laws.Sides.{Side, of_column, side_of, column_side}
 use Rattle.where_candidates.specs.where_keys.declared.outside.Outside.{Outside}
 use Rattle.where_candidates.specs.where_keys.Sides.{IsRound, side_in, local_or_column}
 use Rattle.where_candidates.proofs.of_where_keys.Known.{side_so}
-use Rattle.key_order.specs.Keys.{IsColumn, AreColumns, are_rising, are_falling}
+use Rattle.key_order.specs.Keys.{AreColumns, are_rising, are_falling}
 use Rattle.key_order.proofs.Keys.{keys_order_rows, keys_turn_rows}
 use Rattle.key_order.specs.Columns.{is_place, is_named, is_column, are_columns}
 use Rattle.key_order.specs.Given.{OrderedByKey}

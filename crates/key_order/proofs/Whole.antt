@@ -1,9 +1,9 @@
 -- A table that is looked at as it stands.
-use Rattle.std.proofs.Common.{rules, ◌≡◌, ℕ, List, [], ◌∷◌, Bool, true, false, Option, Some, None, Result, Ok, Err, IsTrue, ◌↔◌, refl, sym, ap, subst, ◌∙◌}
+use Rattle.std.proofs.Common.{rules, ◌≡◌, ℕ, List, [], Bool, true, Option, Some, None, Result, IsTrue, ◌↔◌, refl, sym, subst, ◌∙◌}
 use Rattle.val_types.specs.declared.value.Value.{Value}
 use Rattle.val_types.specs.declared.ops.Agg.{Agg}
 use Rattle.table_rules.specs.Tables.{Table}
-use Rattle.sql_tree.specs.Tree.{Tree, Query, Selected, aggregates, Origin, from_table, no_part, no_order, part}
+use Rattle.sql_tree.specs.Tree.{Tree, Query, Selected, aggregates, Origin, from_table, no_part, no_order}
 use Rattle.sql_tree.specs.View.{view_aggregate, view_aggregates, view_tree, view_selected, view_arm, view_from, view_order, view_orders, view_part, view_query, aggregate_step, tree_step, selected_step, arm_step, origin_step, order_step, query_step}
 use Rattle.sql_tree.specs.declared.expressions.Aggregate.{Aggregate}
 use Rattle.sql_tree.specs.declared.expressions.Expr.{Expr}

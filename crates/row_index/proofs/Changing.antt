@@ -1,5 +1,5 @@
 -- Indexes as the slots of their rows change at one key.
-use Rattle.std.proofs.Common.{◌≡◌, ℕ, suc, ◌<◌, ◌≤◌, List, [], ◌∷◌, ◌++◌, length, length-append, Bool, true, false, cond, not, Option, Some, None, refl, sym, ap, subst, ◌∙◌, arith}
+use Rattle.std.proofs.Common.{◌≡◌, ℕ, suc, ◌<◌, ◌≤◌, List, [], ◌∷◌, ◌++◌, length, Bool, true, false, cond, not, Option, Some, None, refl, sym, ap, ◌∙◌, arith}
 use Rattle.std.specs.Prelude.{slice_get, option_to_list}
 use Rattle.std.specs.List.{list_any}
 use Rattle.std.specs.Option.{option_map}
@@ -8,12 +8,11 @@ use Rattle.val_types.specs.declared.value.Value.{Value}
 use Rattle.val_types.specs.declared.definitions.KeyDef.{KeyDef}
 use Rattle.val_types.specs.Fitting.{is_null}
 use Rattle.val_types.specs.Keys.{values_at, same_values}
-use Rattle.table_rules.specs.Stored.{row_of_values}
 use Rattle.table_rules.proofs.Taking.{same_is, same_self}
 use Rattle.row_sheets.specs.Slots.{Slot, held, fill, keys_in, keys_rise, rows_in, is_slot_of, drop_slot}
 use Rattle.row_sheets.specs.Over.{over}
 use Rattle.row_sheets.specs.Claims.{has_values, has_under, AreApart}
-use Rattle.row_sheets.proofs.Claims.{under_of, under_is, under_same, values_are, filled_self, filled_other}
+use Rattle.row_sheets.proofs.Claims.{under_of, under_is, under_same, filled_self, filled_other}
 use Rattle.row_sheets.proofs.Finding.{Shown, shown_of}
 use Rattle.row_indexes.specs.Indexes.{IsIndexOf}
 use Rattle.row_indexes.specs.IndexLaws.{DifferAt, by_values}

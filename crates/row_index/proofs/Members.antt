@@ -12,7 +12,7 @@ use Rattle.val_types.specs.Keys.{values_at, same_values}
 use Rattle.val_types.specs.Order.{key_order}
 use Rattle.table_rules.specs.Stored.{row_of_values}
 use Rattle.table_rules.proofs.Taking.{same_is, same_self}
-use Rattle.row_sheets.specs.Slots.{Slot, held, keys_in, keys_rise, all_above, is_slot_of}
+use Rattle.row_sheets.specs.Slots.{Slot, held, keys_in, keys_rise, all_above}
 use Rattle.row_sheets.specs.Claims.{has_values}
 use Rattle.row_sheets.proofs.Over.{apart}
 use Rattle.row_sheets.proofs.Held.{held_first, held_rest}

@@ -15,10 +15,9 @@ use Rattle.block_list.specs.declared.spot.Spot.{Spot}
 use Rattle.block_list.proofs.Found.{place_is_within}
 use Rattle.row_sheets.specs.Slots.{Slot, held, drop_slot, is_slot_of}
 use Rattle.row_sheets.specs.Over.{over}
-use Rattle.row_sheets.specs.Orders.{by_key, slots_of, NumbersRise}
+use Rattle.row_sheets.specs.Orders.{by_key, NumbersRise}
 use Rattle.row_sheets.proofs.Orders.{found_at, missing_at, put_at, taken_at}
 use Rattle.row_indexes.specs.Indexes.{slot_by_values}
-use Rattle.row_indexes.specs.Wholes.{index_with, index_without}
 use Rattle.row_index.specs.Numbers.{number_slot, number_slots, IsPut, IsTaken}
 
 -- the slot of a number is that of its row

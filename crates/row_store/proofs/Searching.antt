@@ -1,10 +1,9 @@
 -- Rows found by the values of a key on a shelf, and how many comparisons that are.
-use Rattle.std.proofs.Common.{◌≡◌, ℕ, ◌<◌, List, length, get_or, map, Option, Some, None, sym, ap, subst, ◌∙◌}
+use Rattle.std.proofs.Common.{◌≡◌, ℕ, ◌<◌, List, length, get_or, Option, Some, None, sym, ap, subst, ◌∙◌}
 use Rattle.std.specs.Option.{option_map, option_and_then, option_map_or}
 use Rattle.std.proofs.lemmas.List.{length-map}
 use Rattle.val_types.specs.declared.value.Value.{Value}
 use Rattle.table_rules.specs.Tables.{Table}
-use Rattle.table_rules.specs.Stored.{table_named}
 use Rattle.table_rules.specs.Stores.{Store, place_of}
 use Rattle.table_rules.proofs.Places.{none_named}
 use Rattle.table_sheet.specs.row_sheets.Slots.{Slot, rows_in}

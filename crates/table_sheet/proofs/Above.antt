@@ -1,5 +1,5 @@
 -- The indexes beside entries, where an entry is given another row or none, and where one is made.
-use Rattle.std.proofs.Common.{◌≡◌, ◌≢◌, ℕ, zero, suc, ◌+◌, ◌<◌, ◌≤◌, ◌^◌, List, [], ◌∷◌, ◌++◌, length, Bool, true, false, Option, Some, None, Ok, Err, Ordering, Less, Equal, Greater, refl, sym, ap, subst, ◌∙◌, arith}
+use Rattle.std.proofs.Common.{◌≡◌, ◌≢◌, ℕ, zero, suc, ◌+◌, ◌<◌, ◌≤◌, ◌^◌, List, [], ◌∷◌, ◌++◌, length, Bool, true, false, Option, Some, None, Ok, Ordering, Less, Equal, Greater, refl, sym, ap, subst, ◌∙◌, arith}
 use Rattle.std.specs.Prelude.{slice_get, slice_index, insert}
 use Rattle.std.specs.Option.{option_and_then, option_or}
 use Rattle.std.specs.Ordering.{is_eq}
@@ -8,14 +8,14 @@ use Rattle.std.proofs.lemmas.Option.{slice_get_within}
 use Rattle.val_types.specs.declared.value.Value.{Value}
 use Rattle.val_types.specs.declared.definitions.KeyDef.{KeyDef}
 use Rattle.val_types.specs.declared.definitions.TableDef.{TableDef}
-use Rattle.val_types.specs.Keys.{primary_key, same_values}
+use Rattle.val_types.specs.Keys.{same_values}
 use Rattle.val_types.specs.Order.{key_order}
 use Rattle.table_rules.proofs.Taking.{same_is, same_self}
 use Rattle.row_index.specs.block_list.Layouts.{Layout, flat, holds}
 use Rattle.row_index.specs.block_list.Spots.{place, IsAt, IsFound}
 use Rattle.row_index.specs.block_list.declared.spot.Spot.{Spot}
 use Rattle.row_index.specs.row_sheets.Slots.{Slot, held, fill, keys_in, keys_rise, rows_in}
-use Rattle.row_index.specs.row_sheets.Claims.{AreApart, row_under}
+use Rattle.row_index.specs.row_sheets.Claims.{AreApart}
 use Rattle.row_index.specs.row_sheets.Over.{over}
 use Rattle.row_index.specs.row_sheets.Orders.{by_key, slots_of, NumbersRise}
 use Rattle.row_index.proofs.of_row_sheets.Held.{held-over, rises-over}

@@ -1,16 +1,13 @@
 -- Keys compared value by value, and keys on which rows agree.
-use Rattle.std.proofs.Common.{◌≡◌, ℕ, zero, suc, ◌+◌, ◌<◌, ◌≤◌, List, [], ◌∷◌, length, get_or, drop, Bool, true, false, not, ◌&&◌, ◌||◌, cond, Option, Some, None, Ordering, Less, Equal, Greater, refl, sym, ap, ◌∙◌, arith}
+use Rattle.std.proofs.Common.{◌≡◌, ℕ, suc, ◌+◌, ◌<◌, List, ◌∷◌, length, get_or, drop, Bool, true, false, ◌&&◌, cond, Option, Some, None, Ordering, Less, Equal, Greater, refl, sym, ap, ◌∙◌, arith}
 use Rattle.std.proofs.Math.Seq.{drop-cons}
-use Rattle.std.specs.Prelude.{slice_index_or}
 use Rattle.std.specs.List.{list_any}
 use Rattle.std.specs.Option.{option_map}
 use Rattle.std.specs.Ordering.{is_eq, ordering_then}
 use Rattle.val_types.specs.declared.value.Value.{Value}
-use Rattle.val_types.specs.declared.value.Value.TheVariants.{Null}
 use Rattle.val_types.specs.declared.definitions.KeyDef.{KeyDef}
 use Rattle.val_types.specs.Order.{value_order, key_order}
-use Rattle.val_types.specs.Fitting.{is_null}
-use Rattle.val_types.specs.Keys.{values_at, same_values, agree_on}
+use Rattle.val_types.specs.Keys.{same_values, agree_on}
 use Rattle.table_rules.specs.Stored.{first_agreed}
 
 equal_both : (o p : Ordering) → is_eq (ordering_then o p) ≡ (is_eq o && is_eq p)

@@ -1,5 +1,5 @@
 -- Rows that are apart on each unique key, as what holds of a sheet says, and its indexes behind a change.
-use Rattle.std.proofs.Common.{◌≡◌, ℕ, ◌≤◌, List, [], length, Option, Some, Ok, Err, refl, sym, ap, subst, ◌∙◌, arith}
+use Rattle.std.proofs.Common.{◌≡◌, ℕ, ◌≤◌, List, [], length, Option, Ok, Err, refl, sym, ap, subst, ◌∙◌, arith}
 use Rattle.std.specs.Prelude.{Result, OnOk, OnErr}
 use Rattle.std.specs.Option.{option_or}
 use Rattle.val_types.specs.declared.value.Value.{Value}

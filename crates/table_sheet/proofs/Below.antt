@@ -1,23 +1,22 @@
 -- The indexes beside committed rows, as entries are hidden and settled.
-use Rattle.std.proofs.Common.{◌≡◌, ◌≢◌, ℕ, zero, suc, ◌+◌, ◌-◌, ◌<◌, ◌≤◌, ◌^◌, List, [], ◌∷◌, ◌++◌, length, take, drop, min, Bool, true, false, Option, Some, None, Ok, Err, refl, sym, ap, subst, ◌∙◌, arith}
-use Rattle.std.specs.Prelude.{slice_get, slice_index, is_some, IsSome, map}
+use Rattle.std.proofs.Common.{◌≡◌, ℕ, zero, suc, ◌+◌, ◌-◌, ◌≤◌, ◌^◌, List, [], ◌∷◌, ◌++◌, length, take, drop, min, true, false, Option, Some, None, Ok, Err, refl, sym, ap, subst, ◌∙◌, arith}
+use Rattle.std.specs.Prelude.{slice_get, IsSome}
 use Rattle.std.specs.List.{list_all}
 use Rattle.std.specs.Option.{option_map, option_and_then}
 use Rattle.std.specs.Ordering.{is_lt}
 use Rattle.std.proofs.lemmas.Bool.{and_parts, and_from}
 use Rattle.std.proofs.lemmas.List.{length-map}
-use Rattle.std.proofs.lemmas.Option.{slice_get_within}
 use Rattle.val_types.specs.declared.value.Value.{Value}
 use Rattle.val_types.specs.declared.definitions.KeyDef.{KeyDef}
 use Rattle.val_types.specs.declared.definitions.TableDef.{TableDef}
 use Rattle.val_types.specs.Keys.{primary_key, same_values}
 use Rattle.val_types.specs.Order.{key_order}
-use Rattle.row_index.specs.block_list.Layouts.{Layout, flat, holds, room}
+use Rattle.row_index.specs.block_list.Layouts.{Layout, flat, room}
 use Rattle.row_index.specs.block_list.Spots.{place, IsFound}
 use Rattle.row_index.specs.block_list.declared.spot.Spot.{Spot}
 use Rattle.row_index.specs.row_arena.Arenas.{Arena}
-use Rattle.row_index.specs.row_sheets.Slots.{Slot, all_above, held, keys_in, keys_rise, rows_in, has_own_key}
-use Rattle.row_index.specs.row_sheets.Claims.{AreApart, row_under}
+use Rattle.row_index.specs.row_sheets.Slots.{Slot, all_above, keys_in, keys_rise, rows_in, has_own_key}
+use Rattle.row_index.specs.row_sheets.Claims.{row_under}
 use Rattle.row_index.specs.row_sheets.Over.{over, settled_by}
 use Rattle.row_index.specs.row_sheets.Orders.{by_key, slots_of, NumbersRise}
 use Rattle.row_index.proofs.of_row_sheets.Orders.{missing_at}

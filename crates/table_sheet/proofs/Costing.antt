@@ -1,5 +1,5 @@
 -- How many comparisons a search makes, of entries and of committed rows.
-use Rattle.std.proofs.Common.{◌≡◌, ℕ, ◌+◌, ◌*◌, ◌^◌, ◌<◌, ◌≤◌, length, sym, subst, arith}
+use Rattle.std.proofs.Common.{◌≡◌, ℕ, ◌+◌, ◌^◌, ◌<◌, ◌≤◌, length, sym, subst, arith}
 use Rattle.std.proofs.lemmas.List.{length-map}
 use Rattle.val_types.specs.declared.definitions.TableDef.{TableDef}
 use Rattle.row_index.specs.block_list.Layouts.{flat, AreWithinDigits}

@@ -8,10 +8,8 @@ use Rattle.val_types.specs.declared.definitions.KeyDef.{KeyDef}
 use Rattle.val_types.specs.declared.definitions.TableDef.{TableDef}
 use Rattle.val_types.specs.Keys.{primary_key}
 use Rattle.table_rules.specs.Stored.{row_of_values}
-use Rattle.row_index.specs.block_list.Layouts.{flat}
 use Rattle.row_index.specs.row_sheets.Slots.{Slot, held, rows_in}
-use Rattle.row_index.specs.row_sheets.Over.{over}
-use Rattle.row_index.specs.row_indexes.Indexes.{unless_entered, found_in}
+use Rattle.row_index.specs.row_indexes.Indexes.{unless_entered}
 use Rattle.row_index.proofs.of_row_indexes.Indexing.{found_in_both}
 use Rattle.row_index.specs.row_sheets.Orders.{NumbersRise}
 use Rattle.row_index.specs.Numbers.{number_slot, number_slots}

@@ -5,7 +5,6 @@ use Rattle.val_types.specs.declared.definitions.KeyDef.{KeyDef}
 use Rattle.val_types.specs.declared.definitions.TableDef.{TableDef}
 use Rattle.row_index.specs.block_list.Layouts.{Layout, flat}
 use Rattle.row_index.specs.row_sheets.Slots.{Slot, rows_in}
-use Rattle.row_index.specs.row_sheets.Over.{over}
 use Rattle.row_index.specs.row_sheets.Claims.{AreApart}
 use Rattle.row_index.specs.Numbers.{IsPut, IsTaken}
 use Rattle.row_index.specs.Lists.{list_at, AllHold, AreIndexes, OfEach}

@@ -1,6 +1,6 @@
 -- The first unique key of which a condition names each value.
 use Rattle.std.proofs.Common.{◌≡◌, ℕ, zero, suc, ◌+◌, ◌<◌, ◌≤◌, List, [], ◌∷◌, length, get_or, drop, Option, Some, None, refl, sym, ap, ◌∙◌, arith}
-use Rattle.std.specs.Prelude.{slice_get, option_to_list}
+use Rattle.std.specs.Prelude.{slice_get}
 use Rattle.std.specs.Option.{option_map, option_or, option_and_then}
 use Rattle.val_types.specs.declared.value.Value.{Value}
 use Rattle.val_types.specs.declared.definitions.KeyDef.{KeyDef}
@@ -53,13 +53,13 @@ module _ (o : Outside) (d : TableDef) (t : Tree) where
 
   pub is_named : (n : ℕ) (keys : List KeyDef) (named : Named) → first_named o d t n keys ≡ Some named → IsNamed n keys named
   is_named n [] named e = cc
-  is_named n (key ∷ keys) named e = by (key_in o d t key.columns) refl
+  is_named n (key ∷ keys) named e = by (λ (after : first_named o d t (suc n) keys ≡ Some named). is_named (suc n) keys named after) (key_in o d t key.columns) refl
     where
-      by : (said : Option (List Value)) → key_in o d t key.columns ≡ said → IsNamed n (key ∷ keys) named
-      by None none =
-          let later : IsNamed (suc n) keys named = is_named (suc n) keys named (sym (step_named n key keys None none) ∙ e) in
+      by : (first_named o d t (suc n) keys ≡ Some named → IsNamed (suc n) keys named) → (said : Option (List Value)) → key_in o d t key.columns ≡ said → IsNamed n (key ∷ keys) named
+      by of_keys None none =
+          let later : IsNamed (suc n) keys named = of_keys (sym (step_named n key keys None none) ∙ e) in
           record { place = suc later.place; key = later.key; number = omega (arith, later.number); there = later.there; said = later.said }
-      by (Some values) some =
+      by of_keys (Some values) some =
           let both : Some (record { which = n; values = values }) ≡ Some named = sym (step_named n key keys (Some values) some) ∙ e in
           let same : record { which = n; values = values } ≡ named = cc in
           let number : n ≡ named.which = ap (λ (m : Named). m.which) same in

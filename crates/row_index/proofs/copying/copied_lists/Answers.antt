@@ -1,4 +1,4 @@
-use Rattle.std.proofs.Common.{List, length, map, ap, ◌∙◌, arith}
+use Rattle.std.proofs.Common.{List, map, ap, ◌∙◌, arith}
 use Rattle.block_list.specs.Layouts.{Layout, flat}
 use Rattle.row_index.proofs.Listing.{same_numbers, taken_whole}
 use Rattle.row_index.proofs.copying.copied_lists.Goals as goal

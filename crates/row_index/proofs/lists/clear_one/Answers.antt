@@ -1,4 +1,4 @@
-use Rattle.std.proofs.Common.{◌<◌, length, ap, ◌∙◌, arith}
+use Rattle.std.proofs.Common.{ap, ◌∙◌, arith}
 use Rattle.block_list.specs.Layouts.{Layout, flat}
 use Rattle.row_index.proofs.Listing.{list_set, list_beside, holds_set}
 use Rattle.row_index.proofs.lists.clear_one.Goals as goal

@@ -1,4 +1,4 @@
-use Rattle.std.proofs.Common.{◌≤◌, length, sym, ap, subst, arith}
+use Rattle.std.proofs.Common.{◌≤◌, sym, ap, subst, arith}
 use Rattle.std.specs.Prelude.{OnOk}
 use Rattle.block_list.specs.Layouts.{Layout, flat, holds}
 use Rattle.row_index.proofs.Listing.{list_set, keeps_set}

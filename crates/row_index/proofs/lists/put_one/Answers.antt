@@ -1,5 +1,5 @@
 use Rattle.std.proofs.Common.{length, sym, subst, arith}
-use Rattle.block_list.specs.Layouts.{Layout, flat}
+use Rattle.block_list.specs.Layouts.{Layout}
 use Rattle.row_index.specs.Numbers.{CanPut, IsPut}
 use Rattle.row_index.specs.Lists.{list_at, numbers_at}
 use Rattle.row_index.proofs.Listing.{is_there, list_read, list_set, list_beside}

@@ -1,9 +1,6 @@
-use Rattle.std.proofs.Common.{◌≡◌, ◌<◌, List, length, Some, sym, ap, subst, ◌∙◌, arith}
-use Rattle.std.specs.Prelude.{slice_get}
+use Rattle.std.proofs.Common.{length, sym, ap, subst, arith}
 use Rattle.std.proofs.lemmas.Option.{slice_get_within}
-use Rattle.val_types.specs.declared.definitions.KeyDef.{KeyDef}
-use Rattle.block_list.specs.Layouts.{Layout, flat}
-use Rattle.row_sheets.specs.Orders.{NumbersRise}
+use Rattle.block_list.specs.Layouts.{Layout}
 use Rattle.row_index.specs.Numbers.{CanPut, IsPut}
 use Rattle.row_index.specs.Lists.{list_at}
 use Rattle.row_index.proofs.Listing.{key_here, one_more, others_left}

@@ -1,8 +1,8 @@
-use Rattle.std.proofs.Common.{◌<◌, length, refl, sym, subst, arith}
+use Rattle.std.proofs.Common.{◌<◌, length, sym, subst, arith}
 use Rattle.block_list.specs.Layouts.{Layout, flat}
 use Rattle.row_sheets.specs.Orders.{NumbersRise}
 use Rattle.row_index.specs.Numbers.{number_slot, IsTaken}
-use Rattle.row_index.specs.Lists.{list_at, nothing}
+use Rattle.row_index.specs.Lists.{list_at}
 use Rattle.row_index.proofs.Listing.{list_read, list_set, list_beside, list_missing}
 use Rattle.row_index.proofs.Numbered.{taken_nothing}
 use Rattle.row_index.proofs.lists.take_one.Goals as goal

@@ -1,7 +1,5 @@
-use Rattle.std.proofs.Common.{◌≡◌, ◌<◌, List, length, Some, sym, ap, subst, ◌∙◌, arith}
-use Rattle.std.specs.Prelude.{slice_get}
+use Rattle.std.proofs.Common.{length, sym, ap, subst, arith}
 use Rattle.std.proofs.lemmas.Option.{slice_get_within}
-use Rattle.val_types.specs.declared.definitions.KeyDef.{KeyDef}
 use Rattle.block_list.specs.Layouts.{Layout, flat}
 use Rattle.row_sheets.specs.Orders.{NumbersRise}
 use Rattle.row_index.specs.Numbers.{number_slot, IsTaken}

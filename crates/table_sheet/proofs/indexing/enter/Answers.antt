@@ -1,4 +1,4 @@
-use Rattle.std.proofs.Common.{List, Option, sym, subst}
+use Rattle.std.proofs.Common.{List, Option, subst}
 use Rattle.val_types.specs.declared.value.Value.{Value}
 use Rattle.row_index.specs.Lists.{list_at}
 use Rattle.table_sheet.specs.Ranked.{shown_by}

@@ -1,13 +1,11 @@
-use Rattle.std.proofs.Common.{◌≡◌, List, take, refl, sym, ap, subst, ◌∙◌, arith}
+use Rattle.std.proofs.Common.{take, refl, ◌∙◌, arith}
 use Rattle.std.specs.Prelude.{slice_get}
 use Rattle.row_index.specs.block_list.Layouts.{flat}
 use Rattle.row_index.specs.block_list.Spots.{place}
-use Rattle.row_index.specs.row_sheets.Slots.{Slot, rows_in}
+use Rattle.row_index.specs.row_sheets.Slots.{rows_in}
 use Rattle.row_index.specs.row_sheets.Over.{over}
-use Rattle.table_sheet.specs.Numbered.{row_of}
 use Rattle.table_sheet.specs.Parts.{committed_slots, entry_slots}
 use Rattle.table_sheet.specs.Settling.{hiding}
-use Rattle.table_sheet.specs.Indexed.{AreKept, IsBelow}
 use Rattle.table_sheet.proofs.Passing.{within_by, entries_over}
 use Rattle.table_sheet.proofs.Below.{hide_rise, hide_up, hide_kept, hidden_from, hidden_to}
 use Rattle.table_sheet.proofs.settling.hide_all.Goals as goal

@@ -1,7 +1,7 @@
-use Rattle.std.proofs.Common.{◌≡◌, List, ap, subst}
+use Rattle.std.proofs.Common.{List, subst}
 use Rattle.row_index.specs.row_sheets.Slots.{Slot, rows_in}
 use Rattle.row_index.specs.row_sheets.Over.{over}
-use Rattle.table_sheet.specs.Parts.{committed_slots, entry_slots}
+use Rattle.table_sheet.specs.Parts.{committed_slots}
 use Rattle.table_sheet.specs.Settling.{hiding}
 use Rattle.table_sheet.specs.Indexed.{IsBelow}
 use Rattle.table_sheet.proofs.settling.settle_all.Goals as goal

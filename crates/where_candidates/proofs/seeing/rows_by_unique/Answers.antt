@@ -1,4 +1,4 @@
-use Rattle.std.proofs.Common.{◌≡◌, List, sym, ◌∙◌}
+use Rattle.std.proofs.Common.{◌≡◌, List, sym}
 use Rattle.std.specs.Prelude.{option_to_list}
 use Rattle.val_types.specs.declared.value.Value.{Value}
 use Rattle.table_rules.specs.Stored.{rows_of}

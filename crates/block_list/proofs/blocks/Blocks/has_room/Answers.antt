@@ -1,4 +1,4 @@
-use Rattle.std.proofs.Common.{◌<◌, length, vec_len, sym, subst}
+use Rattle.std.proofs.Common.{◌<◌, length, vec_len, subst}
 use Rattle.block_list.specs.Layouts.{Layout, flat, holds, room}
 use Rattle.block_list.proofs.Holding.{room_left}
 use Rattle.block_list.proofs.blocks.Blocks.has_room.Goals as goal

@@ -1,7 +1,5 @@
-use Rattle.std.proofs.Common.{◌≡◌, ◌+◌, ◌≤◌, length, sym, ap, ◌∙◌, arith}
-use Rattle.block_list.specs.Layouts.{Layout}
+use Rattle.std.proofs.Common.{◌∙◌, arith}
 use Rattle.block_list.proofs.Weights.{room_of_more}
-use Rattle.block_list.proofs.Holding.{hold_made, holds_more}
 use Rattle.block_list.proofs.blocks.Blocks.make_hold.Goals as goal
 
 pub returns-in_err-add_spare-clause-room : goal.returns-in_err-add_spare-clause-room

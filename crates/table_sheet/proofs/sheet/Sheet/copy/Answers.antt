@@ -1,5 +1,4 @@
 use Rattle.std.proofs.Common.{◌≤◌, length, sym, ap, subst, ◌∙◌, arith}
-use Rattle.row_index.specs.block_list.Layouts.{flat}
 use Rattle.row_index.specs.row_sheets.Slots.{rows_in}
 use Rattle.val_types.specs.declared.definitions.TableDef.{TableDef}
 use Rattle.table_sheet.specs.Pages.{Holds}
