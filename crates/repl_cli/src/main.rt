@@ -2,7 +2,7 @@
 //! the command line.
 //!
 //! `main` hands both nodes, at the system's edges, to [`start`]: the source's disk is the folder `source` where the program is called, the
-//! replica's the folder `replica`, each made by the first write.
+//! replica's the folder `replica`, each made by the first write. A standard stream that is closed fails at its first use.
 //!
 //! # Proved
 //! Nothing of its own: who the nodes are, and what is done with them, are clauses of `repl_run`.
@@ -15,6 +15,7 @@ use answer_text::Status;
 use disk_model::HostDisk;
 use port_traits::HostEnv;
 use repl_run::{Known, exit_of, replica_identity, source_identity, start, tell};
+use std::fs::File;
 use std::process::ExitCode;
 use val_types::NoMemory;
 
@@ -23,6 +24,9 @@ const SOURCE_FOLDER: &str = "source";
 
 /// The folder of the replica's disk.
 const REPLICA_FOLDER: &str = "replica";
+
+/// What is opened where a standard stream is closed: a folder, of which no stream can be read or written.
+const NO_STREAM: &str = "/";
 
 /// The disk over a folder.
 fn disk_over<'a>(rt: &'a HostRuntime, folder: &str) -> Result<HostDisk<&'a HostRuntime>, NoMemory> {
@@ -47,6 +51,11 @@ fn run(rt: &HostRuntime) -> Result<ExitCode, NoMemory> {
 }
 
 fn main(rt: HostRuntime) -> ExitCode {
+    // The system gives a file the least descriptor that is free: where who called closed a standard stream, a file of a
+    // node would take its place, and answers would be written into it. These three hold 0, 1 and 2 to the end.
+    let _in = File::open(&rt, NO_STREAM);
+    let _out = File::open(&rt, NO_STREAM);
+    let _err = File::open(&rt, NO_STREAM);
     match run(&rt) {
         Ok(exit) => exit,
         Err(_) => {
