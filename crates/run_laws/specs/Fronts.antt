@@ -50,7 +50,8 @@ abbrev pub cut_at : (pos : ℕ) → (tail : List ℕ) → Ending
 cut_at pos [] = ended
 cut_at pos (b ∷ bs) = damaged pos
 
--- From the replica's place on they are the groups of the first of what it owes, behind which the bytes end or are damaged.
+-- From the replica's place on they are the groups of the first of what it owes, behind which the bytes end or are damaged; of a whole log they are
+-- those of all of it, and there it ends.
 pub record FrontIsRead (from : Starts) (bytes : List ℕ) : Type 0 where
   pub front : List (Entry Whole)
   pub left : List (Entry Whole)
@@ -59,6 +60,7 @@ pub record FrontIsRead (from : Starts) (bytes : List ℕ) : Type 0 where
   pub tail : List ℕ
   pub size : length bytes ≡ ends_at from.read front + length tail
   pub ending : (grouped_from from.replica.place.pos bytes).ending ≡ cut_at (ends_at from.read front) tail
+  pub whole : bytes ≡ log_at from → (left ≡ []) × (tail ≡ [])
 
 -- so it is wherever the log is cut
 abbrev pub FrontsAreRead : Type 0
@@ -91,3 +93,16 @@ abbrev pub NoReplayStops : Type 0
 NoReplayStops =
     (identity : Identity) (draw : Draw) (from : Starts) (bytes : List ℕ) → Begins from → IsFrontOf from bytes → EntriesFollow from.owed
     → (replayed_from identity draw from.replica bytes).stop ≡ None
+
+-- What a replay has come to that has carried out all that was owed: no item stopped it, its place is where a reader stands behind all of it, and
+-- its base is the source's: the same objects in the same order, with equal rows.
+pub record HasReplayedAll (from : Starts) (s : Replay) : Type 0 where
+  pub through : s.stop ≡ None
+  pub place : s.place ≡ end_from (reader_from from.read) (map kept_entry from.owed) (number_before from.read) (place_before from.read)
+  pub base : s.base ≡ from.base
+
+-- so it has where the whole log was given, and all that is owed does the same at every replica
+abbrev pub WholeIsReplayed : Type 0
+WholeIsReplayed =
+    (identity : Identity) (draw : Draw) (from : Starts) (bytes : List ℕ) → Begins from → IsFrontOf from bytes → bytes ≡ log_at from → EntriesFollow from.owed
+    → HasReplayedAll from (replayed_from identity draw from.replica bytes)

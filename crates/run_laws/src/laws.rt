@@ -1,5 +1,5 @@
 //! The replica follows its source.
-ghost use Rattle.run_laws.specs.Fronts.{FrontsAreRead, NoReplayStops, ReplaysHaveCarried};
+ghost use Rattle.run_laws.specs.Fronts.{FrontsAreRead, NoReplayStops, ReplaysHaveCarried, WholeIsReplayed};
 ghost use Rattle.run_laws.specs.Laws.{AllCarriedIsEqual, FollowsBegins, FollowsGoOn, FollowsOnTheWay, FollowsOpened, NoApplyStops, NothingIsDamaged, NothingIsOwed, OthersFollow, WarnedAsShown};
 ghost use Rattle.run_laws.specs.Openings.{BeginWithNothing, BothOpen, RunsEndWell};
 ghost use Rattle.run_laws.specs.Replays.{LogIsItsEntries, ReplayIsEqual};
@@ -107,7 +107,7 @@ pub fn replay_is_equal()
 }
 
 /// A law: a source's log, cut anywhere behind the place of a replica that is behind the source, is read from there on as the groups of the
-/// first entries that it owes; where a part of one follows, that is damaged.
+/// first entries that it owes; where a part of one follows, that is damaged. Where nothing is cut off they are the groups of all.
 pub fn fronts_are_read()
     ensures { FrontsAreRead }
 {
@@ -118,16 +118,19 @@ pub fn fronts_are_read()
     groups_have_bounds();
     start_relay_is_read();
     relay_is_read();
+    start_is_read();
+    entry_is_read();
     entries_can_log_on();
     group_is_first();
     front_is_passed();
 }
 
 /// A law: of such a log the replica carries out the groups of the first entries that it owes, and where all that it owes does the same at every
-/// replica, no item stops it.
+/// replica, no item stops it, so that of a whole log it carries out all and has the source's base.
 pub fn replays_carry()
     ensures carried { ReplaysHaveCarried }
     ensures stops { NoReplayStops }
+    ensures whole { WholeIsReplayed }
 {
     entries_have_length();
     groups_have_bounds();

@@ -31,8 +31,9 @@
 //!   Where each item does the same at every replica, who has nothing and carries out the whole log goes through to its end and has the
 //!   source's committed base (`replay_is_equal`).
 //! - A source's log, cut anywhere behind the place of a replica that is behind the source, is read from there on as the groups of the first
-//!   entries that it owes, and then ends, or is damaged where a part of a group begins (`fronts_are_read`). Behind each of these groups the replica has carried out a prefix of what it
-//!   owes, and where all of it does the same at every replica, no item stops it (`replays_carry`).
+//!   entries that it owes, and then ends, or is damaged where a part of a group begins; of a whole log as the groups of all, and there it
+//!   ends (`fronts_are_read`). Behind each of these groups the replica has carried out a prefix of what it owes, and where all of it does the
+//!   same at every replica, no item stops it, and of a whole log it comes to the source's base (`replays_carry`).
 //! - An item does the same at every replica where it is logged by its rows, or where it is not warned, or by RAND() alone
 //!   (`apply_laws::session_replays::unwarned_items_follow`). So in a run each does in which no session is under STATEMENT as it says something
 //!   (`others_follow`), and what is warned is what the answers show as warned (`warned_as_shown`).

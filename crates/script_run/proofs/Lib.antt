@@ -5,6 +5,7 @@ pub mod Drawing
 pub mod Logged
 pub mod Marks
 pub mod Opened
+pub mod Recovering
 pub mod Running
 pub mod Scripts
 pub mod Serving

@@ -13,14 +13,15 @@ use Rattle.disk_model.specs.Story.{Story, seen}
 use Rattle.run_stores.specs.durable_runs.Laws.{SourcesLast}
 use Rattle.run_stores.specs.durable_runs.Replicas.{IsCarried}
 use Rattle.run_stores.specs.durable_runs.Sources.{Stored}
-use Rattle.run_stores.specs.Carried.{AllSound, StatesHaveCarried}
+use Rattle.run_stores.specs.durable_runs.Runs.{CallsFit}
+use Rattle.run_stores.specs.Carried.{AllSound, CarriedOnTheWay, FollowersAreServed, ImagesHaveCarried, StatesHaveCarried}
 use Rattle.run_stores.specs.Standing.{StandAt}
 use Rattle.run_laws.specs.session_replays.Followed.{EntriesFollow}
 use Rattle.store_model.specs.Held.{Held}
 use Rattle.durable_replica.specs.replica_node.Kept.{held_of}
 use Rattle.durable_replica.specs.replica_node.replica_model.Replica.{Replica}
 use Rattle.run_laws.specs.run_model.Asked.{Asked, say, select, take_bytes, take_groups, restart_source, restart_replica}
-use Rattle.run_laws.specs.run_model.Run.{Names, Both, Starts, both_from, next, end_of, told_lines, lines_shown, draws_of, kept_if, draws_source, draws_replica, carried_in, mark_at, last_mark, number_before, place_before}
+use Rattle.run_laws.specs.run_model.Run.{Names, Both, Starts, both_from, next, end_of, told_lines, lines_shown, draws_of, kept_if, draws_source, draws_replica, carried_in, mark_at, last_mark, number_before, place_before, source_from}
 use Rattle.run_laws.specs.run_model.Following.{Follows}
 use Rattle.run_laws.specs.Laws.{GoesThrough, IsLoggedAsSet, IsSound, OfEach}
 use Rattle.run_laws.specs.Openings.{Begins}
@@ -35,12 +36,13 @@ use Rattle.script_run.specs.Disks.{BothGoOn, Disks, Faults, NoFewer, Stores, sto
 use Rattle.script_run.specs.Faults.{RefusesNodes, RefusesOpening, StopsCommands, StopsRunning, status_by}
 use Rattle.script_run.specs.declared.stops.Refusal.{Refusal}
 use Rattle.script_run.specs.declared.stops.Refusal.TheVariants as refusals
-use Rattle.script_run.specs.Marks.{AreMarks, CalledNow, Numbers, Pushed, command_marks, marks_of, numbers_behind, numbers_of, uncounted}
+use Rattle.script_run.specs.Marks.{AreMarks, CalledNow, Numbers, Pushed, command_marks, committed_of, marks_of, numbers_behind, numbers_of, uncounted}
 use Rattle.script_run.specs.Together.{Before, Began, Together, Drew, GaveUp, Grew, CarriedOut, Marked, Told, ToldFront, Stopped, Opened}
 use Rattle.script_run.specs.Ran.{Reports, Ran, Broke, Ceased, NotBegun}
 use Rattle.script_run.specs.Running.{Going, Ends, EndsRunning}
-use Rattle.script_run.specs.Survives.{CarriedSince, CarriesOn, HasCarriedPrefix, CarriesSome, IsHeldOf, Lasted, LastsOn, ReplicaSurvives, Survives}
-use Rattle.script_run.proofs.Surviving.{carried_next, carried_some, rep_survives_by, rep_survives_since, survives_by}
+use Rattle.script_run.specs.Survives.{CarriedSince, CarriesOn, HasCarriedPrefix, CarriesSome, IsHeldOf, Lasted, LastsOn, NamesAll, NamesOn, ReplicaRecovers, ReplicaSurvives, ServedSince, Survives}
+use Rattle.script_run.proofs.Recovering.{recovers_by, served_begins, served_more}
+use Rattle.script_run.proofs.Surviving.{carried_next, carried_some, fits_before, on_some, rep_survives_by, rep_survives_since, survives_by}
 use Rattle.script_run.proofs.Beginning.{each_from}
 use Rattle.script_run.proofs.Disks.{both_trans, if_told, where_told}
 use Rattle.script_run.proofs.Marks.{called_last, called_within, marks_begin, marks_last, marks_on, no_marks, numbers_are}
@@ -49,6 +51,9 @@ use Rattle.script_run.proofs.Marks.{called_last, called_within, marks_begin, mar
 pub record Lasting : Type 0 where
   pub sources : SourcesLast
   pub states : StatesHaveCarried
+  pub way : CarriedOnTheWay
+  pub served : FollowersAreServed
+  pub images : ImagesHaveCarried
 
 -- ---- no draw yet
 
@@ -203,8 +208,8 @@ since_none : (t u : Option Story) (names : Names) (b : Both) (cs : List Asked) (
 since_none t u names b [] marks since = since
 since_none t u names b (c ∷ cs) marks since = since
 
-pub starts : (from : Starts) (t u : Disks) (cs : List Asked) (report : Report) (before : Option (List ℕ)) (nodes : Nodes) → Opened from t u nodes report → Going from t u cs 0 report before before nodes
-starts from t u cs report before nodes opened =
+pub starts : Lasting → (from : Starts) (t u : Disks) (cs : List Asked) (report : Report) (before : Option (List ℕ)) (nodes : Nodes) → Opened from t u nodes report → Going from t u cs 0 report before before nodes
+starts law from t u cs report before nodes opened =
     let b : Both = both_from opened.names opened.src from in
     record {
       names = opened.names;
@@ -236,6 +241,8 @@ starts from t u cs report before nodes opened =
       lasts = subst (λ (e : Both). Lasted t.source u.source (stores_in t opened.held (held_of from.replica)).source e.machine.history report.marks) (sym (end_none opened.names b cs)) opened.lasts;
       carries = subst (λ (e : Both). CarriedSince t.replica u.replica opened.names b cs [] e.replica report.marks) (sym (end_none opened.names b cs))
           (since_none t.replica u.replica opened.names b cs report.marks opened.carries);
+      serves = λ begins fits. subst (λ (e : Both). ServedSince t.replica u.replica (source_from from).committed (committed_of e) report.marks) (sym (end_none opened.names b cs))
+          (served_begins law.served opened.names opened.src from t.replica u.replica report.marks (opened.together.follows begins) begins opened.together.holds opened.carries fits);
       together = subst (λ (e : Both). Together opened.names u (stores_in t opened.held (held_of from.replica)) nodes e) (sym (end_none opened.names b cs)) opened.together;
     }
 
@@ -243,10 +250,10 @@ starts from t u cs report before nodes opened =
 pub from_there : (names : Names) (src : Draw) (from : Starts) (cs : List Asked) (ds : List Draw) → Begins from → Begins (end_of names (both_from names src from) cs ds).from
 from_there names src from cs ds begins = subst Begins (sym (end_from names (both_from names src from) cs ds)) begins
 
-pub goes_on : (from : Starts) (t u v : Disks) (cs : List Asked) (i k : ℕ) (c : Asked) (old new : Report) (before now after : Option (List ℕ)) (nodes nodes' : Nodes) → slice_get cs i ≡ Some c → k ≡ i + 1
+pub goes_on : Lasting → (from : Starts) (t u v : Disks) (cs : List Asked) (i k : ℕ) (c : Asked) (old new : Report) (before now after : Option (List ℕ)) (nodes nodes' : Nodes) → slice_get cs i ≡ Some c → k ≡ i + 1
     → Going from t u cs i old before now nodes → ((names : Names) (start : Stores) (b : Both) → Together names u start nodes b → Told names b k c u v start old new nodes' now after)
     → Going from t v cs (i + 1) new before after nodes'
-goes_on from t u v cs i k c old new before now after nodes nodes' is k_is going step =
+goes_on law from t u v cs i k c old new before now after nodes nodes' is k_is going step =
     let names = going.names in
     let ds = going.draws in
     let first : Both = both_from names going.src from in
@@ -278,6 +285,16 @@ goes_on from t u v cs i k c old new before now after nodes nodes' is k_is going 
       lasts = subst (λ (e : Both). Lasted t.source v.source start.source e.machine.history new.marks) (sym (end_last names first cs ds told.draw c here)) (told.lasts t.source going.lasts);
       carries = subst (λ (e : Both). CarriedSince t.replica v.replica names first cs (ds ++ told.draw ∷ []) e.replica new.marks) (sym (end_last names first cs ds told.draw c here))
           (carried_next names first cs ds told.draw c here t.replica u.replica v.replica old.marks new.marks told.on.replica going.carries told.carries);
+      serves = λ begins fits.
+          let there : Begins b.from = from_there names going.src from cs ds begins in
+          let so_far : ServedSince t.replica u.replica (source_from from).committed (committed_of b) old.marks = going.serves begins (fits_before u.replica v.replica told.on.replica fits) in
+          record {
+            served = served_more law.way names b c told.draw t.replica u.replica v.replica (source_from from).committed old.marks new.marks told.marked.pushed.more start.source (held_of from.replica) going.on.replica told.on.replica
+                told.marked.pushed.marks (going.together.follows there) (going.together.sound there) there going.together.began (going.serves begins)
+                (on_some u.replica v.replica names b c told.draw old.marks new.marks told.carries) fits;
+            named_all = subst (λ (e : Both). NamesAll v.replica (source_from from).committed (committed_of e) new.marks) (sym (end_last names first cs ds told.draw c here))
+                (told.all_named (source_from from).committed fits so_far.named_all);
+          };
       together = subst (λ (e : Both). Together names v start nodes' e) (sym (end_last names first cs ds told.draw c here)) told.together;
     }
 
@@ -311,6 +328,24 @@ carried_more law from t u cs count report before now nodes going d c here begins
     has_carried law.states going.names going.src from cs (going.draws ++ d ∷ []) (stores_in t going.held (held_of from.replica)).source (going.followed begins)
     (each_last SoundBefore going.names (both_from going.names going.src from) cs going.draws d c here (going.sounds begins) (going.together.sound (from_there going.names going.src from cs going.draws begins))) begins
     (stood_at from t u cs count report before now nodes going)
+
+-- and each image of the replica's disk, through one command more
+recovered_more : Lasting → (from : Starts) (t u v : Disks) (cs : List Asked) (count : ℕ) (old new : Report) (before now : Option (List ℕ)) (nodes : Nodes) (going : Going from t u cs count old before now nodes) (d : Draw) (c : Asked)
+    → slice_get cs (length going.draws) ≡ Some c → GoesOn u.replica v.replica → (more : List Mark) → new.marks ≡ old.marks ++ more
+    → CarriesSome u.replica v.replica going.names (end_of going.names (both_from going.names going.src from) cs going.draws) c d old.marks new.marks
+    → Begins from → ReplicaRecovers going.names going.src from cs (going.draws ++ d ∷ []) t.replica v.replica new.marks
+recovered_more law from t u v cs count old new before now nodes going d c here on more is carries begins =
+    let names = going.names in
+    let ds = going.draws in
+    let first : Both = both_from names going.src from in
+    let b : Both = end_of names first cs ds in
+    let source : Stored = (stores_in t going.held (held_of from.replica)).source in
+    let there : Begins b.from = from_there names going.src from cs ds begins in
+    recovers_by law.images names going.src from cs (ds ++ d ∷ []) source t.replica v.replica new.marks (end_from names first cs (ds ++ d ∷ [])) (going.followed begins)
+    (each_last SoundBefore names first cs ds d c here (going.sounds begins) (going.together.sound there)) begins (stood_at from t u cs count old before now nodes going)
+    (carried_some names first cs ds d c here t.replica u.replica v.replica old.marks new.marks on going.carries carries)
+    (λ fits. served_more law.way names b c d t.replica u.replica v.replica (source_from from).committed old.marks new.marks more source (held_of from.replica) going.on.replica on is
+    (going.together.follows there) (going.together.sound there) there going.together.began (going.serves begins) carries fits)
 
 -- ---- a run stops
 
@@ -355,6 +390,7 @@ ceased law from t u v cs i k c old new before now after nodes is k_is same grew 
       rep_survives = rep_survives_by (IsHeldOf names first cs (ds ++ left.at ∷ [])) t.replica v.replica (held_of from.replica) new.marks going.rep_holds
           (carried_some names first cs ds left.at c here t.replica u.replica v.replica old.marks new.marks left.on.replica going.carries left.carries);
       carried = carried_more law from t u cs i old before now nodes going left.at c here;
+      recovers = recovered_more law from t u v cs i old new before now nodes going left.at c here left.on.replica left.pushed.more left.pushed.marks left.carries;
     }
 
 broke : Lasting → (from : Starts) (t u v : Disks) (cs : List Asked) (i k : ℕ) (c : Asked) (old new : Report) (before now after : Option (List ℕ)) (nodes : Nodes) → slice_get cs i ≡ Some c → k ≡ i + 1
@@ -388,6 +424,8 @@ broke law from t u v cs i k c old new before now after nodes is k_is going told 
       rep_survives = rep_survives_since t.replica v.replica names first cs (ds ++ told.draw ∷ []) b'.replica new.marks going.rep_holds
           (carried_next names first cs ds told.draw c here t.replica u.replica v.replica old.marks new.marks told.on.replica going.carries told.carries);
       carried = carried_more law from t u cs i old before now nodes going told.draw c here;
+      recovers = recovered_more law from t u v cs i old new before now nodes going told.draw c here told.on.replica told.marked.pushed.more told.marked.pushed.marks
+          (on_some u.replica v.replica names b c told.draw old.marks new.marks told.carries);
     }
 
 stops_by : Lasting → (status : Status) (from : Starts) (t u v : Disks) (cs : List Asked) (i k : ℕ) (c : Asked) (old new : Report) (before now after : Option (List ℕ)) (nodes : Nodes) → slice_get cs i ≡ Some c → k ≡ i + 1 → Grew old new
@@ -436,6 +474,8 @@ ends law from t u cs report before after nodes going =
       survives = survives_by law.sources t.source u.source going.held b.machine.history report.marks going.holds going.together.stands.first going.lasts;
       rep_survives = rep_survives_since t.replica u.replica names first cs going.draws b.replica report.marks going.rep_holds going.carries;
       carried = carried_now law from t u cs (length cs) report before after nodes going;
+      recovers = λ begins. recovers_by law.images names going.src from cs going.draws (stores_in t going.held (held_of from.replica)).source t.replica u.replica report.marks begun (going.followed begins) (going.sounds begins) begins
+          (stood_at from t u cs (length cs) report before after nodes going) (λ fits. (going.carries fits).carries) (λ fits. (going.serves begins fits).served);
       follows = λ begins. going.together.follows (from_there names going.src from cs going.draws begins);
     }
 
@@ -625,6 +665,7 @@ lined_if (Ok lines) names b k c t u start old mid new now nodes is out = record 
   };
   lasts = subst (λ (ms : List Mark). LastsOn t.source u.source start.source b.machine.history (next names b c out.draw).both.machine.history ms new.marks) (ap (λ (r : Report). r.marks) is) out.lasts;
   carries = subst (λ (ms : List Mark). CarriesOn t.replica u.replica names b c out.draw ms new.marks) (ap (λ (r : Report). r.marks) is) out.carries;
+  all_named = subst (λ (ms : List Mark). NamesOn t.replica u.replica (committed_of b) (committed_of (next names b c out.draw).both) ms new.marks) (ap (λ (r : Report). r.marks) is) out.all_named;
   shows = out.shows;
 }
 
@@ -658,6 +699,7 @@ told_all names b k c t u start old new nodes before after lines lined wrote = re
   on = lined.shows.on;
   lasts = lined.lasts;
   carries = lined.carries;
+  all_named = lined.all_named;
   together = lined.shows.together;
 }
 

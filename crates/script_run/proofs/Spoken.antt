@@ -67,8 +67,9 @@ use Rattle.run_laws.specs.Restarts.{RestartsKeepMarks, RestartsStaySound}
 use Rattle.script_run.specs.declared.nodes.Nodes.{Nodes}
 use Rattle.script_run.specs.Marks.{CalledNow, Pushed, command_marks, committed_of, uncounted}
 use Rattle.run_stores.specs.durable_runs.Marks.{NameNow, last_named, replica_mark, source_mark}
-use Rattle.script_run.specs.Survives.{CarriesOn, CarriesSome, IsHeldOnTheWay, Lasted, LastsOn}
+use Rattle.script_run.specs.Survives.{CarriesOn, CarriesSome, IsHeldOnTheWay, Lasted, LastsOn, NamesOn}
 use Rattle.script_run.proofs.Disks.{both_refl, both_told, if_told, told_on, where_told}
+use Rattle.script_run.proofs.Recovering.{names_none, names_said, names_still}
 use Rattle.script_run.proofs.Surviving.{carries_rest, carries_still, held_here, lasts_on, lasts_rest, lasts_still, on_some}
 use Rattle.script_run.specs.Together.{AreOnDisks, Before, Began, CarriedOut, Drew, GaveUp, Grew, IsOneLog, Marked, Shows, SourceIsOn, Together}
 use Rattle.script_run.proofs.Marks.{applied_are, applied_last, commits_name, groups_name, none_more, pushed_by, pushed_length, pushed_none}
@@ -265,9 +266,10 @@ line_on from identity m n text draw line =
 
 carried : (names : Names) (b : Both) (k : ℕ) (c : Asked) (draw : Draw) (t u : Disks) (start : Stores) (old new : Report) (nodes : Nodes) (lines : List ℕ) → Drew c draw old new → Began k b t new
     → Marked k b (next names b c draw).both old new → LastsOn t.source u.source start.source b.machine.history (next names b c draw).both.machine.history old.marks new.marks
-    → CarriesOn t.replica u.replica names b c draw old.marks new.marks → Shows names b k c draw t u start nodes lines → CarriedOut names b k c t u start old new nodes lines
-carried names b k c draw t u start old new nodes lines drew began marked lasts carries shows =
-    record { draw = draw; drew = drew; began = began; marked = marked; lasts = lasts; carries = carries; shows = shows }
+    → CarriesOn t.replica u.replica names b c draw old.marks new.marks → NamesOn t.replica u.replica (committed_of b) (committed_of (next names b c draw).both) old.marks new.marks
+    → Shows names b k c draw t u start nodes lines → CarriedOut names b k c t u start old new nodes lines
+carried names b k c draw t u start old new nodes lines drew began marked lasts carries all_named shows =
+    record { draw = draw; drew = drew; began = began; marked = marked; lasts = lasts; carries = carries; all_named = all_named; shows = shows }
 
 -- what the laws say of a session's text
 pub record Says : Type 0 where
@@ -321,6 +323,15 @@ marked_by known names k b b' t u start nodes nodes' old new now r r' fits replic
       applied = ap (λ (x : Replica). x.number) replica ∙ applied_none b.replica.number fits;
     }
 
+-- its marks name all that it has committed
+all_said : Known → (names : Names) (k : ℕ) (b b' : Both) (t u : Disks) (start : Stores) (nodes nodes' : Nodes) (old new : Report) → Before names t start nodes k b old → Together names u start nodes' b'
+    → ArePushed old.now nodes.source.store.number nodes'.source.store.number old.marks new.marks → NamesOn t.replica t.replica (committed_of b) (committed_of b') old.marks new.marks
+all_said known names k b b' t u start nodes nodes' old new before r' pushed =
+    let first : ℕ = nodes.source.store.number in
+    subst (λ (n : ℕ). NamesOn t.replica t.replica n (committed_of b') old.marks new.marks) (number_is known names t start nodes b before.together)
+    (subst (λ (n : ℕ). NamesOn t.replica t.replica first n old.marks new.marks) (number_is known names u start nodes' b' r')
+    (names_said t.replica old.now first nodes'.source.store.number old.marks new.marks pushed.more before.together.told.replica before.began.rep_calls pushed.named pushed.number pushed.marks))
+
 -- a session's text
 pub said : Says → (nodes nodes' : Nodes) (t u rep : Option Story) (start : Stores) (k n : ℕ) (text : List ℕ) (draw : Draw) (old new : Report) (answer : Answer) (lines : List ℕ) → n < 100 → length text ≤ 1048576 → IsBytes text
     → nodes'.replica ≡ nodes.replica → nodes'.source.node.identity ≡ nodes.source.node.identity → GoesOn t u
@@ -344,7 +355,8 @@ said says nodes nodes' t u rep start k n text draw old new answer lines within s
     carried names b k (say n text) draw (disks t rep) (disks u rep) start old new nodes' lines drew (began_on k b (disks t rep) old new stays before.began)
     (marked_by says.known names k b (next names b (say n text) draw).both (disks t rep) (disks u rep) start nodes nodes' old new old.now r r' before.began.few refl refl before.began.now pushed)
     (lasts_on says.lasts t u start.source r.stands.now b.machine.history (step whole names.source b.machine.state n text draw).committed old.marks new.marks on r.stands.reached (rw r.source_name at (runs start.source b.machine r.stands here)))
-    (rep_rest names (disks t rep) start nodes k b (say n text) draw old new nodes.source.store.number nodes'.source.store.number before pushed) (record {
+    (rep_rest names (disks t rep) start nodes k b (say n text) draw old new nodes.source.store.number nodes'.source.store.number before pushed)
+    (all_said says.known names k b (next names b (say n text) draw).both (disks t rep) (disks u rep) start nodes nodes' old new before r' pushed) (record {
       lines_are = lines_are ∙ ap (shown k) given.0;
       through = λ begins. tt;
       logged = says.formats (source_from b.from) b.machine names.source n text draw r.holds there;
@@ -444,7 +456,8 @@ reopened_on says nodes nodes' t u rep start k draw old new answer lines replica 
     (marked_none k b b' old new before.began.few same (ap (λ (m : Mark). m.committed) (says.marks.source names b k draw)) refl refl)
     (subst (λ (ms : List Mark). LastsOn t u start.source b.machine.history b'.machine.history old.marks ms) (sym same)
     (lasts_on says.lasts t u start.source r.stands.now b.machine.history (opening_entries names.source draw b.machine.state.shared.place) old.marks old.marks ran.on r.stands.reached (λ fits. ran)))
-    (rep_still names (disks t rep) start nodes b restart_source draw old.marks new.marks r same) (record {
+    (rep_still names (disks t rep) start nodes b restart_source draw old.marks new.marks r same)
+    (names_none rep rep (committed_of b) (committed_of b') old.marks new.marks (on_refl rep) (ap (λ (m : Mark). m.committed) (says.marks.source names b k draw)) same) (record {
       lines_are = lines_are ∙ ap (shown k) is;
       through = λ begins. tt;
       logged = tt;
@@ -489,7 +502,8 @@ pub selected : (nodes nodes' : Nodes) (t : Disks) (start : Stores) (k : ℕ) (te
 selected nodes nodes' t start k text draw old new answer lines same given lines_are drew stays marks names b before =
     let r : Together names t start nodes b = before.together in
     carried names b k (select text) draw t t start old new nodes' lines drew (began_on k b t old new stays before.began) (marked_none k b b old new before.began.few marks refl refl refl)
-    (lasts_none t.source start.source b.machine.history old.marks new.marks marks) (rep_still names t start nodes b (select text) draw old.marks new.marks r marks) (record {
+    (lasts_none t.source start.source b.machine.history old.marks new.marks marks) (rep_still names t start nodes b (select text) draw old.marks new.marks r marks)
+    (names_none t.replica t.replica (committed_of b) (committed_of b) old.marks new.marks (on_refl t.replica) refl marks) (record {
       lines_are = lines_are ∙ ap (shown k) (given ∙ ap (λ (i : Identity). select_answer i draw (replica_of nodes.replica.node).counters (replica_of nodes.replica.node).base text) r.replica_name
           ∙ ap (λ (x : Replica). select_answer names.replica draw x.counters x.base text) r.replica);
       through = λ begins. tt;
@@ -643,7 +657,8 @@ applied law known nodes nodes' src t u start k n draw old new told lines follows
       carried = carried_append b.steps (replicate a.count (carried_at draw)) ∙ ap (λ (i : ℕ). carried_in b.steps + i) (carried_times a.count draw ∙ sym groups);
       applied = ap (λ (x : Replica). x.number) (sym behind) ∙ sym number ∙ number_of nodes src t u start k n draw old new names b before nodes'.replica.store.number pushed;
     }) (groups_last law known names (disks src t) start nodes k b old new (replica_of nodes.replica.node).number nodes'.replica.store.number before pushed)
-    (reaches_of nodes src t u start k n draw old new names b before (replica_of nodes'.replica.node) reaches behind) (record {
+    (reaches_of nodes src t u start k n draw old new names b before (replica_of nodes'.replica.node) reaches behind)
+    (names_still t u (committed_of b) (committed_of b) old.marks new.marks pushed.more goes refl pushed.marks) (record {
       lines_are = lines_are ∙ ap (λ (c : ℕ). applied_line k c (record { log = told.log; pos = told.pos }) (option_map stop_of told.stop)) is'.count
           ∙ ap (λ (p : LogPlace). applied_line k a.count p (option_map stop_of told.stop)) is'.place ∙ ap (applied_line k a.count a.replica.place) is'.stop;
       through = λ begins. (stops names draw n b (r.follows begins) (r.sound begins), damaged names draw n b (r.follows begins) (r.sound begins));
@@ -687,7 +702,8 @@ replica_reopened nodes nodes' src t u start k draw old new answer lines follows 
     carried names b k restart_replica draw (disks src t) (disks src u) start old new nodes' lines drew (began_on k b (disks src t) old new stays before.began)
     (marked_none k b b' old new before.began.few same refl (carried_append b.steps (opened_again ∷ []) ∙ sym (none_more (carried_in b.steps))) refl)
     (lasts_none src start.source b.machine.history old.marks new.marks same)
-    (rep_looked names b restart_replica draw t u old.marks new.marks same (runs_here nodes b t u r.replica runs)) (record {
+    (rep_looked names b restart_replica draw t u old.marks new.marks same (runs_here nodes b t u r.replica runs))
+    (names_none t u (committed_of b) (committed_of b) old.marks new.marks goes refl same) (record {
       lines_are = lines_are ∙ ap (shown k) is;
       through = λ begins. tt;
       logged = tt;
@@ -774,7 +790,8 @@ pub fetched_out : {E : Type 0} (r : Result (List ℕ) E) (t u : Disks) (start : 
 fetched_out (Err e) t u start nodes nodes' k n report names b before lasts carries shows = tt
 fetched_out (Ok lines) t u start nodes nodes' k n report names b before lasts carries shows =
     carried names b k (take_bytes n) some_draw t u start report report nodes' lines (fetched_drew report n) before.began
-    (marked_none k b (next names b (take_bytes n) some_draw).both report report before.began.few refl refl refl refl) (lasts report.marks before.together) (carries some_draw report.marks before.together) (shows some_draw before.together)
+    (marked_none k b (next names b (take_bytes n) some_draw).both report report before.began.few refl refl refl refl) (lasts report.marks before.together) (carries some_draw report.marks before.together)
+    (names_none t.replica u.replica (committed_of b) (committed_of b) report.marks report.marks (shows some_draw before.together).on.replica refl refl) (shows some_draw before.together)
 
 -- want of memory alone
 pub short_refuses : {A : Type 0} (r : Result A Refusal) (t : Disks) (disk later : Faults) → IfErr r (λ refusal. refusal ≡ refusals.NoMemory) → IfErr r (λ refusal. RefusesNodes refusal t disk later)

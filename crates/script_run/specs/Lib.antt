@@ -10,4 +10,5 @@ pub mod Running
 pub mod Survives
 pub mod Together
 -- the crates below that this one speaks of, passed on
+pub use Rattle.run_stores.specs as run_stores
 pub use Rattle.run_streams.specs as run_streams

@@ -1,5 +1,5 @@
 -- What a crash leaves of both disks at any moment of a run.
-use Rattle.std.specs.Prelude.{◌≡◌, ◌⊎◌, List, [], ◌++◌, Option, IfSome, Ok}
+use Rattle.std.specs.Prelude.{◌≡◌, ◌⊎◌, ◌≤◌, ℕ, List, [], ◌++◌, map, Option, IfSome, Ok}
 use Rattle.port_traits.specs.declared.identity.Draw.{Draw}
 use Rattle.port_traits.specs.declared.identity.Identity.{Identity}
 use Rattle.answer_text.specs.declared.report.Mark.{Mark}
@@ -9,16 +9,17 @@ use Rattle.store_model.specs.declared.record.Kind.TheVariants.{Source, Replica}
 use Rattle.store_model.specs.Entries.{writer_at}
 use Rattle.store_model.specs.Held.{Held}
 use Rattle.store_model.specs.Stores.{held_by}
+use Rattle.run_stores.specs.durable_runs.Marks.{named, served_mark}
 use Rattle.run_stores.specs.durable_runs.Runs.{CallsFit}
 use Rattle.run_stores.specs.durable_runs.Sources.{SourceImage, SourceLasts, Stored, stored_in}
-use Rattle.run_stores.specs.durable_runs.Replicas.{Carries, CarriesTo, IsCarried, StateImage}
+use Rattle.run_stores.specs.durable_runs.Replicas.{Carries, CarriesTo, IsCarried, ReplicaImage, Served, StateImage}
 use Rattle.run_laws.specs.log_entries.declared.entries.Entry.{Entry}
 use Rattle.run_laws.specs.session_model.Machine.{Whole}
 use Rattle.run_laws.specs.session_model.Openings.{opening_entries}
 use Rattle.run_laws.specs.session_replays.Followed.{EntriesFollow}
 use Rattle.run_laws.specs.run_model.replica_model.Replica.{Replica as ReplicaNow}
 use Rattle.run_laws.specs.run_model.Asked.{Asked}
-use Rattle.run_laws.specs.run_model.Run.{Names, Both, Starts, both_from, end_of, next, number_before, place_before}
+use Rattle.run_laws.specs.run_model.Run.{Names, Both, Starts, both_from, end_of, next, number_before, place_before, source_from}
 use Rattle.run_laws.specs.run_model.States.{IsOnTheWay, IsStateOf}
 use Rattle.durable_replica.specs.replica_node.Kept.{held_of}
 
@@ -81,6 +82,28 @@ HasCarriedPrefix names src from cs draws =
     (held : Held) → IsHeldOf names (both_from names src from) cs draws held
     → IsCarried EntriesFollow (held_of from.replica) (from.owed ++ (end_of names (both_from names src from) cs draws).machine.history) (number_before from.read)
     (place_before from.read) held
+
+-- So each image of each moment of its disk since the run began, inside a write too, has carried out a prefix of these: it holds the place behind them
+-- and, where they do the same at every replica, the base that they make. Its number is no less than any that the marks until then name as carried
+-- out, and no more than one that they name as committed, or than what the source had as the run began.
+abbrev pub ReplicaRecovers : Names → (src : Draw) → Starts → List Asked → List Draw → (t u : Option Story) → List Mark → Type 0
+ReplicaRecovers names src from cs draws t u marks =
+    CallsFit u → Since (count t) u (ReplicaImage EntriesFollow (held_of from.replica) (from.owed ++ (end_of names (both_from names src from) cs draws).machine.history)
+    (number_before from.read) (place_before from.read) (source_from from).committed marks)
+
+-- so many transactions are named as committed by marks that were pushed before any later call of the replica's disk
+abbrev pub NamesAll : Option Story → (start committed : ℕ) → List Mark → Type 0
+NamesAll t start committed marks = committed ≤ named start (map served_mark marks) (count t)
+
+-- a command leaves it so of all that its source has committed then
+abbrev pub NamesOn : (t u : Option Story) → (before after : ℕ) → (old new : List Mark) → Type 0
+NamesOn t u before after old new = (start : ℕ) → CallsFit u → NamesAll t start before old → NamesAll u start after new
+
+-- No image of the replica's disk since the run began holds more transactions than the source had committed by then, and the marks name all that
+-- it has committed by now.
+pub record ServedSince (t u : Option Story) (start committed : ℕ) (marks : List Mark) : Type 0 where
+  pub served : Served start (count t) u marks
+  pub named_all : NamesAll u start committed marks
 
 -- a command that was carried out leads the disk from what the replica was to what it is, through nothing but what it is on the way
 abbrev pub CarriesOn : (t u : Option Story) → Names → Both → Asked → Draw → (old new : List Mark) → Type 0

@@ -28,7 +28,7 @@ use Rattle.run_streams.specs.Wrote.{Wrote, WroteFront}
 use Rattle.script_run.specs.declared.nodes.Nodes.{Nodes}
 use Rattle.script_run.specs.Disks.{AreTold, BothGoOn, Disks, Stores, stores_in}
 use Rattle.script_run.specs.Marks.{CalledNow, Pushed, committed_of, uncounted}
-use Rattle.script_run.specs.Survives.{CarriedSince, CarriesOn, CarriesSome, Lasted, LastsOn, MayPut}
+use Rattle.script_run.specs.Survives.{CarriedSince, CarriesOn, CarriesSome, Lasted, LastsOn, MayPut, NamesOn}
 
 -- A source is on its disk, whatever that has and whether it tells it or not: it stands for some run.
 abbrev pub SourceIsOn : Option Story → DurableSource → Type 0
@@ -125,6 +125,7 @@ pub record CarriedOut (names : Names) (b : Both) (k : ℕ) (c : Asked) (t u : Di
   pub marked : Marked k b (next names b c draw).both old new
   pub lasts : LastsOn t.source u.source start.source b.machine.history (next names b c draw).both.machine.history old.marks new.marks
   pub carries : CarriesOn t.replica u.replica names b c draw old.marks new.marks
+  pub all_named : NamesOn t.replica u.replica (committed_of b) (committed_of (next names b c draw).both) old.marks new.marks
   pub shows : Shows names b k c draw t u start nodes lines
 
 -- A command that was not carried out: a mark was pushed for each transaction and each group that was kept, and the report says where it began.
@@ -154,6 +155,7 @@ pub record Told (names : Names) (b : Both) (k : ℕ) (c : Asked) (t u : Disks) (
   pub on : BothGoOn t u
   pub lasts : LastsOn t.source u.source start.source b.machine.history (next names b c draw).both.machine.history old.marks new.marks
   pub carries : CarriesOn t.replica u.replica names b c draw old.marks new.marks
+  pub all_named : NamesOn t.replica u.replica (committed_of b) (committed_of (next names b c draw).both) old.marks new.marks
   pub together : Together names u start nodes (next names b c draw).both
 
 -- a front of them was written

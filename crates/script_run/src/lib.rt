@@ -57,8 +57,9 @@
 //! - What may stand on the replica's (`ReplicaSurvives`), at the same statuses: each image of each moment since the run began, inside a
 //!   write too, holds what the replica of the definition is behind some steps of some APPLY, or behind some commands (`IsStateOf`): base,
 //!   number and place together, and of a group all or nothing. Its number is no less than the marks until then name. Where the run began as
-//!   one may, each such image has carried out a prefix of the entries that were owed and committed (`HasCarriedPrefix`): its place is
-//!   behind them, and where each item of them does the same at every replica, its base is what they make of the one that the replica had.
+//!   one may, each such image has carried out a prefix of the entries that were owed and committed (`ReplicaRecovers`): its place is
+//!   behind them, and where each item of them does the same at every replica, its base is what they make of the one that the replica had; and
+//!   its number is no more than the source had committed when the replica's disk had had so many calls.
 //! - Settled disks with such images are where the next run stands (`RunStands`), and an opening keeps what each has, whatever it answers and
 //!   whether the other opens or not (`SourceOpens`, `ReplicaOpens`), so that a second stop inside it loses nothing.
 //! - At BadScript and ReadFault all but the input is as before, and no disk was called (`idle`). At BadScript the input was read to its end
@@ -88,5 +89,6 @@ mod stops;
 // What is its own, and the crates below that it speaks of, passed on: who stands above names them through it.
 pub use laws::{empty_disks_begin, stores_stand};
 pub use logging::write_log;
+pub use run_stores;
 pub use run_streams;
 pub use script::run_script;

@@ -14,5 +14,11 @@ returns c =
       is_read = c.relay_is_read.ensures;
       can_on = c.entries_can_log_on.ensures;
     } in
-    let walks : Walks = record { below = below; first = c.group_is_first.ensures; front = c.front_is_passed.ensures } in
+    let walks : Walks = record {
+      below = below;
+      first = c.group_is_first.ensures;
+      front = c.front_is_passed.ensures;
+      start_is = c.start_is_read.ensures;
+      entry_is = c.entry_is_read.ensures;
+    } in
     fronts_are_read walks

@@ -1,5 +1,5 @@
 use Rattle.run_laws.proofs.Carrying.{Appliers}
-use Rattle.run_laws.proofs.Cut.{no_replay_stops, replays_have_carried}
+use Rattle.run_laws.proofs.Cut.{no_replay_stops, replays_have_carried, whole_is_replayed}
 use Rattle.run_laws.proofs.laws.replays_carry.Goals as goal
 
 pub returns : goal.returns
@@ -15,4 +15,5 @@ returns c =
     record {
       carried = replays_have_carried appliers have bounds fronts;
       stops = no_replay_stops appliers have bounds fronts;
+      whole = whole_is_replayed appliers have bounds fronts;
     }

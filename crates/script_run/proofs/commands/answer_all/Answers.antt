@@ -8,13 +8,13 @@ use Rattle.script_run.proofs.Running.{starts, goes_on, stops, stops_since, grew_
 use Rattle.script_run.proofs.commands.answer_all.Goals as goal
 
 pub loop-i-init : goal.loop-i-init
-loop-i-init g c = ((λ from t opened. starts from t _ _ _ _ _ opened), omega arith, (λ s d. d), (λ s d. d), grew_none _, (λ e. e), fewer_refl _, both_refl _, c.requires.on)
+loop-i-init g c = ((λ from t opened. starts (record { sources = c.sources_last.ensures; states = c.replica_has_carried.ensures.states; way = c.replica_has_carried.ensures.on_the_way; served = c.replica_has_carried.ensures.served; images = c.replica_has_carried.ensures.images }) from t _ _ _ _ _ opened), omega arith, (λ s d. d), (λ s d. d), grew_none _, (λ e. e), fewer_refl _, both_refl _, c.requires.on)
 
 pub returns-in_err-answer_command-clause-ends : goal.returns-in_err-answer_command-clause-ends
 returns-in_err-answer_command-clause-ends g c from t opened =
     let p = err_from_is_err_and c.from_residual.result c.from_residual.ensures.1 in
     rw (p.1, p.2)
-    (stops (record { sources = c.sources_last.ensures; states = c.replica_has_carried.ensures.states }) (Err c.in_err-answer_command.field-0.0) from t _ _ (map asked_seen c.args.asked.now) c.loop-i.i (c.loop-i.i + 1) _ c.loop-i.report c.answer_command.new.report (g.K.Sink.written c.args.out.now) (g.K.Sink.written c.loop-i.out)
+    (stops (record { sources = c.sources_last.ensures; states = c.replica_has_carried.ensures.states; way = c.replica_has_carried.ensures.on_the_way; served = c.replica_has_carried.ensures.served; images = c.replica_has_carried.ensures.images }) (Err c.in_err-answer_command.field-0.0) from t _ _ (map asked_seen c.args.asked.now) c.loop-i.i (c.loop-i.i + 1) _ c.loop-i.report c.answer_command.new.report (g.K.Sink.written c.args.out.now) (g.K.Sink.written c.loop-i.out)
     (g.K.Sink.written c.answer_command.new.out) c.loop-i.nodes
     (item_seen asked_seen c.args.asked.now c.as_slice-command-items.result.now c.loop-i.i _ c.as_slice-command-items.ensures c.loop-i-test.true)
     refl c.in_err-answer_command.ensures.grew (c.loop-i.invariant.0 from t opened) c.in_err-answer_command.ensures.stopped)
@@ -30,7 +30,7 @@ returns-in_err-answer_command-clause-goes g c = both_trans _ _ _ c.loop-i.invari
 
 pub loop-i-preserved : goal.loop-i-preserved
 loop-i-preserved g c = (
-  (λ from t opened. goes_on from t _ _ (map asked_seen c.args.asked.now) c.loop-i.i (c.loop-i.i + 1) _ c.loop-i.report c.answer_command.new.report (g.K.Sink.written c.args.out.now) (g.K.Sink.written c.loop-i.out)
+  (λ from t opened. goes_on (record { sources = c.sources_last.ensures; states = c.replica_has_carried.ensures.states; way = c.replica_has_carried.ensures.on_the_way; served = c.replica_has_carried.ensures.served; images = c.replica_has_carried.ensures.images }) from t _ _ (map asked_seen c.args.asked.now) c.loop-i.i (c.loop-i.i + 1) _ c.loop-i.report c.answer_command.new.report (g.K.Sink.written c.args.out.now) (g.K.Sink.written c.loop-i.out)
       (g.K.Sink.written c.answer_command.new.out) c.loop-i.nodes c.answer_command.new.nodes
       (item_seen asked_seen c.args.asked.now c.as_slice-command-items.result.now c.loop-i.i _ c.as_slice-command-items.ensures c.loop-i-test.true)
       refl (c.loop-i.invariant.0 from t opened) c.in_ok-answer_command.ensures.told),

@@ -7,7 +7,7 @@ use Rattle.script_run.proofs.commands.run_commands.Goals as goal
 
 pub returns-in-Ok-clause-ran : goal.returns-in-Ok-clause-ran
 returns-in-Ok-clause-ran g c =
-    all_ran (record { sources = c.sources_last.ensures; states = c.replica_has_carried.ensures.states }) c.answer_all.result asked_seen c.args.asked.now _ _ _ _ c.answer_all.new.report (g.K.Sink.written c.args.out.now) (g.K.Sink.written c.answer_all.new.out) _ c.answer_all.new.nodes
+    all_ran (record { sources = c.sources_last.ensures; states = c.replica_has_carried.ensures.states; way = c.replica_has_carried.ensures.on_the_way; served = c.replica_has_carried.ensures.served; images = c.replica_has_carried.ensures.images }) c.answer_all.result asked_seen c.args.asked.now _ _ _ _ c.answer_all.new.report (g.K.Sink.written c.args.out.now) (g.K.Sink.written c.answer_all.new.out) _ c.answer_all.new.nodes
     c.in-Ok.ensures.opened c.answer_all.ensures.going
 
 pub returns-in-Ok-clause-ends : goal.returns-in-Ok-clause-ends
