@@ -1,1 +1,3 @@
+pub mod Following
 pub mod Unread
+pub mod Whole

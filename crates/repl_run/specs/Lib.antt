@@ -1,2 +1,4 @@
+pub mod Headline
 pub mod Pages
+pub mod Whole
 pub mod Words

@@ -9,6 +9,7 @@
 //! - [`write_log`] of `script_run`: a script carried out as `run` has it, and the source's log behind it
 //! - `starting`: [`start`], one call of a program over two environments
 //! - `command_line`: [`words`], those of the command line; which a program has ([`Known`]), and [`asks_log`]
+//! - `laws`: [`replays_follow`], what the headline says of a log that is replayed (specs/Headline)
 //! - `pages`: [`Page`], `--help` and `--version`, and which of them some words ask for
 //! - `ending`: [`exit_of`] and [`tell`], how a status ends the process
 //! - `nodes`: who the nodes of a program over the system are ([`source_identity`], [`replica_identity`]), with the number that
@@ -39,6 +40,13 @@
 //!   one draw; at Differs the first that is not carried out stops so, and those before it were. The disk has what they make, and each
 //!   image of each moment what the first of them make, no less than the marks name. The report tells who the replica is, the draw, and a
 //!   mark for each group. Just the line of what was carried out was written; at WriteFault a front of it, and else nothing.
+//! - Where the replica is behind the log's source, and the log is a front of that source's, cut anywhere (`replay_follows`): each image of
+//!   each moment of its disk has carried out the first of what it owed, no fewer than the marks name; its place is behind them, and where they
+//!   do the same at every replica, its base is what they make. Where all that it owed does, the replay stops at nothing but the log's end,
+//!   the group in which it was cut, a fault or want of memory; and of a whole log it comes to the source's base.
+//! - Where no count of faults rose, and the disks that are called stand for something, `run` of a script that can be split, `print` of whole
+//!   groups, `replay` of the whole log of a source that its replica is behind, `dump` and `gen` are done, or memory was short (`whole_run`,
+//!   `whole_print`, `whole_replay`, `whole_source`, `whole_replica`, `whole_made`).
 //! - What `gen n` comes to (`made`). At Done just the made script with n changes was written, at WriteFault and NoMemory a front of it.
 //!   No other status comes; the input, the environments and the report are as before (`made_alone`).
 //! - At BadScript the input was read to its end or to one byte past the limit (`refused`), and in a run never further (`limit`). At
@@ -70,6 +78,7 @@
 
 mod command_line;
 mod ending;
+mod laws;
 mod nodes;
 mod pages;
 mod program;
@@ -78,6 +87,7 @@ mod starting;
 // What is its own, and the crates below that it speaks of, passed on: who stands above names them through it.
 pub use command_line::{Known, asks_log, words};
 pub use ending::{exit_of, tell};
+pub use laws::replays_follow;
 pub use nodes::{number_of, replica_identity, source_identity};
 pub use pages::{Page, page_asked};
 pub use program::top;

@@ -15,7 +15,10 @@ ghost use Rattle.script_run.specs.Ran.{EndsBy};
 ghost use Rattle.print_log.specs.Ends.{PrintEnds};
 ghost use Rattle.replay_log.specs.Ends.{ReplayEnds};
 ghost use Rattle.gen_script.specs.Ends.{GenEnds};
+ghost use Rattle.repl_run.specs.Headline.{FollowsReplay};
+ghost use Rattle.repl_run.specs.Whole.{IsAsked, IsWholeLog, IsWhollyOwed};
 
+use crate::laws::replays_follow;
 use answer_text::{Report, Status};
 use disk_model::Disk;
 use dump_store::dump;
@@ -84,6 +87,11 @@ pub fn top<S: Source, K: Sink, E: Env, F: Env, D: Disk, R: Disk>(
     ensures replay { word_asked (map string_bytes words.now) ≡ Some Replay → ReplayEnds result (S.left input.old) (S.left input.new)
         (R.told rep.old) (R.told rep.new) report.new (K.written out.old) (K.written out.new) }
 
+    // Where the replica is behind the log's source, and the log is a front of that source's: each image of each moment of its disk has carried
+    // out the first of what it owed, no fewer than the marks name; where all of that does the same at every replica, the replay stops at
+    // nothing but the log's end, the place where it was cut, a fault or want of memory, and of a whole log it comes to the source's base.
+    ensures replay_follows { word_asked (map string_bytes words.now) ≡ Some Replay → FollowsReplay result (S.left input.old) (R.told rep.old) (R.told rep.new) report.new }
+
     // What `dump` comes to: the lines of what the store of that disk holds were written, or a front of them; nothing where it is damaged.
     ensures dump_source { word_asked (map string_bytes words.now) ≡ Some DumpSource → DumpEnds result OfSource (D.told src.old)
         (K.written out.old) (K.written out.new) }
@@ -97,6 +105,18 @@ pub fn top<S: Source, K: Sink, E: Env, F: Env, D: Disk, R: Disk>(
         → IsFaultless (D.faults src.old) (D.faults src.new) → IsFaultless (K.faults out.old) (K.faults out.new) → IsDoneOrShort result }
     ensures whole_replica { word_asked (map string_bytes words.now) ≡ Some DumpReplica → IsHeld OfReplica (R.told rep.old)
         → IsFaultless (R.faults rep.old) (R.faults rep.new) → IsFaultless (K.faults out.old) (K.faults out.new) → IsDoneOrShort result }
+
+    // Where no count of faults rose, and the disks that are called stand for something: a script that can be split is carried out, a log of
+    // whole groups shown, the whole log of a source that the replica is behind carried out, and a made script written, or memory was short.
+    ensures whole_run { word_asked (map string_bytes words.now) ≡ Some Run → IsAsked (S.left input.old) → IsHeld OfSource (D.told src.old) → IsHeld OfReplica (R.told rep.old)
+        → IsFaultless (S.faults input.old) (S.faults input.new) → IsFaultless (K.faults out.old) (K.faults out.new)
+        → IsFaultless (D.faults src.old) (D.faults src.new) → IsFaultless (R.faults rep.old) (R.faults rep.new) → IsDoneOrShort result }
+    ensures whole_print { word_asked (map string_bytes words.now) ≡ Some Print → IsWholeLog (S.left input.old)
+        → IsFaultless (S.faults input.old) (S.faults input.new) → IsFaultless (K.faults out.old) (K.faults out.new) → IsDoneOrShort result }
+    ensures whole_replay { word_asked (map string_bytes words.now) ≡ Some Replay → IsWhollyOwed (R.told rep.old) (S.left input.old)
+        → IsFaultless (S.faults input.old) (S.faults input.new) → IsFaultless (K.faults out.old) (K.faults out.new)
+        → IsFaultless (R.faults rep.old) (R.faults rep.new) → IsDoneOrShort result }
+    ensures whole_made { IfGen (word_asked (map string_bytes words.now)) (λ n. IsFaultless (K.faults out.old) (K.faults out.new) → IsDoneOrShort result) }
 
     // What `gen` comes to: the made script was written, or a front of it.
     ensures made { IfGen (word_asked (map string_bytes words.now)) (λ n. GenEnds result n (K.written out.old) (K.written out.new)) }
@@ -146,6 +166,7 @@ pub fn top<S: Source, K: Sink, E: Env, F: Env, D: Disk, R: Disk>(
         report.new.rep_identity report.new.rep_draws }
 {
     sources_last();
+    replays_follow();
     match asked_word(alloc, words) {
         Err(_) => Status::NoMemory,
         Ok(None) => Status::BadWords,

@@ -1,5 +1,5 @@
 -- What each image of the replica's disk has carried out, and no more than was served, command by command.
-use Rattle.std.proofs.Common.{◌≡◌, ◌≤◌, ◌<◌, ℕ, ◌+◌, ◌-◌, suc, max, min, Bool, true, false, ◌==◌, nat_le, List, [], ◌∷◌, ◌++◌, length, map, Option, Some, None, is_some, IfSome, refl, sym, ap, ◌∙◌, subst, arith, append-nil}
+use Rattle.std.proofs.Common.{◌≡◌, ◌≤◌, ◌<◌, ℕ, ◌+◌, ◌-◌, suc, min, Bool, true, false, ◌==◌, nat_le, List, [], ◌∷◌, ◌++◌, length, map, Option, Some, None, is_some, refl, sym, ap, ◌∙◌, subst, arith, append-nil}
 use Rattle.std.specs.Prelude.{◌^◌, if◌then◌else◌}
 use Rattle.std.proofs.lemmas.Bool.{le-leb}
 use Rattle.std.proofs.lemmas.List.{map-append}
@@ -17,7 +17,7 @@ use Rattle.durable_replica.proofs.of_store_replica.of_durable_runs.States.{carri
 use Rattle.durable_replica.specs.replica_node.Kept.{held_of}
 use Rattle.durable_replica.specs.replica_node.replica_model.Replica.{Replica}
 use Rattle.run_stores.specs.durable_runs.Marks.{Named, named, served_mark}
-use Rattle.run_stores.specs.durable_runs.Replicas.{Carries, ReplicaImage, Served, StateImage}
+use Rattle.run_stores.specs.durable_runs.Replicas.{Carries, ReplicaImage, Served}
 use Rattle.run_stores.specs.durable_runs.Runs.{CallsFit}
 use Rattle.run_stores.specs.durable_runs.Sources.{Stored}
 use Rattle.run_stores.specs.Carried.{AllSound, CarriedOnTheWay, FollowersAreServed, ImagesHaveCarried}
@@ -30,12 +30,11 @@ use Rattle.run_laws.specs.session_model.Openings.{opened_from}
 use Rattle.run_laws.specs.session_replays.Followed.{EntriesFollow}
 use Rattle.run_laws.specs.run_model.Asked.{Asked}
 use Rattle.run_laws.specs.run_model.Following.{Follows}
-use Rattle.run_laws.specs.run_model.Run.{Names, Both, Starts, both_from, end_of, next, number_before, place_before, source_from}
+use Rattle.run_laws.specs.run_model.Run.{Names, Both, Starts, both_from, end_of, number_before, place_before, source_from}
 use Rattle.run_laws.specs.Laws.{IsSound}
 use Rattle.run_laws.specs.Openings.{Begins}
 use Rattle.script_run.specs.Marks.{CalledNow, committed_of}
 use Rattle.script_run.specs.Survives.{CarriedSince, CarriesSome, IsHeldOf, IsHeldOnTheWay, NamesAll, NamesOn, ReplicaRecovers, ServedSince}
-use Rattle.script_run.proofs.Disks.{if_told, where_told}
 use Rattle.script_run.proofs.Surviving.{fits_before}
 
 -- ---- what marks name

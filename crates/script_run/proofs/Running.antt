@@ -13,7 +13,6 @@ use Rattle.disk_model.specs.Story.{Story, seen}
 use Rattle.run_stores.specs.durable_runs.Laws.{SourcesLast}
 use Rattle.run_stores.specs.durable_runs.Replicas.{IsCarried}
 use Rattle.run_stores.specs.durable_runs.Sources.{Stored}
-use Rattle.run_stores.specs.durable_runs.Runs.{CallsFit}
 use Rattle.run_stores.specs.Carried.{AllSound, CarriedOnTheWay, FollowersAreServed, ImagesHaveCarried, StatesHaveCarried}
 use Rattle.run_stores.specs.Standing.{StandAt}
 use Rattle.run_laws.specs.session_replays.Followed.{EntriesFollow}
