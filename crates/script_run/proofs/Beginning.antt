@@ -1,7 +1,7 @@
 -- Where a run begins.
-use Rattle.std.proofs.Common.{◌≡◌, ◌≤◌, ℕ, ◌+◌, zero, suc, if◌then◌else◌, List, [], ◌∷◌, ◌++◌, length, Option, Some, None, Result, Ok, Err, refl, sym, ap, ◌∙◌, arith, append-nil}
+use Rattle.std.proofs.Common.{◌≡◌, ◌≤◌, ℕ, zero, suc, if◌then◌else◌, List, [], ◌∷◌, length, None, Ok, refl, sym, ap, ◌∙◌, arith, append-nil}
 use Rattle.std.proofs.lemmas.List.{length-take}
-use Rattle.disk_model.specs.Story.{Image, Story, seen}
+use Rattle.disk_model.specs.Story.{Image, seen}
 use Rattle.disk_model.specs.Moments.{IsSettled}
 use Rattle.store_model.specs.declared.record.Kind.{Kind}
 use Rattle.store_model.specs.declared.record.Kind.TheVariants.{Source, Replica}
@@ -16,7 +16,7 @@ use Rattle.run_stores.specs.Standing.{StandAt}
 use Rattle.run_laws.specs.apply_laws.catalog_rules.Bases.{Base}
 use Rattle.run_laws.specs.log_model.Log.{LogPlace}
 use Rattle.run_laws.specs.run_model.replica_model.Replica.{replica_from}
-use Rattle.run_laws.specs.run_model.Run.{bytes_to, Starts, from_nothing, source_from}
+use Rattle.run_laws.specs.run_model.Run.{bytes_to, Starts, source_from}
 use Rattle.run_laws.specs.Openings.{BeginWithNothing}
 use Rattle.script_run.specs.Beginning.{EmptyBegins, FromEach, RunStands, StoresStand}
 use Rattle.script_run.specs.Disks.{Disks}

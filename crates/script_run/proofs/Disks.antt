@@ -1,5 +1,5 @@
 -- Both disks at once.
-use Rattle.std.proofs.Common.{◌≡◌, ◌≤◌, ℕ, Option, Some, None, is_some, true, refl, arith, IfSome}
+use Rattle.std.proofs.Common.{◌≡◌, Option, Some, None, is_some, true, refl, arith, IfSome}
 use Rattle.disk_model.specs.Story.{Story}
 use Rattle.disk_model.specs.Moments.{GoesOn}
 use Rattle.disk_model.proofs.Moments.{on_refl, on_trans}

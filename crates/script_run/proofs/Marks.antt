@@ -12,7 +12,7 @@ use Rattle.run_stores.specs.durable_runs.Marks.{NameNow, Named, RiseByOne, last_
 use Rattle.run_stores.specs.durable_runs.Runs.{CallsFit}
 use Rattle.store_model.specs.Held.{next_applied}
 use Rattle.durable_source.specs.store_source.Pushed.{ArePushed, NameInTurn}
-use Rattle.durable_replica.specs.store_replica.Pushed.{ArePushed as AppliedPushed, NameInTurn as AppliedInTurn}
+use Rattle.durable_replica.specs.store_replica.Pushed.{NameInTurn as AppliedInTurn}
 use Rattle.run_laws.specs.run_model.Asked.{Asked}
 use Rattle.run_laws.specs.run_model.Run.{Names, Both, carried_in, next, end_of, mark_at}
 use Rattle.script_run.specs.Marks.{AreMarks, Called, CalledNow, CalledWithin, Numbers, Pushed, Rise, applied_up, command_marks, committed_of, marks_of, marks_up, next_applied_mark, next_mark, numbers_behind, numbers_of, uncounted}

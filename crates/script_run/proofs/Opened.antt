@@ -1,10 +1,9 @@
 -- Both nodes opened.
-use Rattle.std.proofs.Common.{◌≡◌, inl, inr, ℕ, ◌<◌, ◌==◌, Bool, true, false, if◌then◌else◌, List, [], ◌∷◌, ◌++◌, length, map, Option, Some, None, is_some, Result, Ok, Err, IfSome, refl, sym, ap, ◌∙◌, subst, append-nil}
-use Rattle.std.specs.Prelude.{◌^◌}
+use Rattle.std.proofs.Common.{◌≡◌, inl, inr, ℕ, ◌==◌, Bool, true, false, if◌then◌else◌, List, [], ◌∷◌, ◌++◌, length, map, Option, Some, None, is_some, Ok, Err, IfSome, refl, sym, ap, ◌∙◌, subst, append-nil}
 use Rattle.port_traits.specs.declared.identity.Identity.{Identity}
 use Rattle.port_traits.specs.declared.identity.Draw.{Draw}
 use Rattle.answer_text.specs.declared.report.Report.{Report}
-use Rattle.disk_model.specs.Story.{Story, count, seen}
+use Rattle.disk_model.specs.Story.{Story, seen}
 use Rattle.disk_model.specs.Moments.{GoesOn, IsSettled}
 use Rattle.run_laws.specs.log_model.Log.{LogPlace, written_to}
 use Rattle.run_laws.specs.session_model.Machine.{Whole, first_place, kept_entry}
@@ -17,17 +16,16 @@ use Rattle.store_model.specs.Held.{Held, LogEnd}
 use Rattle.store_model.specs.Stores.{held_by}
 use Rattle.run_stores.specs.durable_runs.Laws.{HasFirstLog, RunsLast, SourcesLast}
 use Rattle.durable_source.specs.Standing.{OpensOn, Stands, beginning_of}
-use Rattle.durable_replica.specs.replica_node.replica_model.Replica.{Replica as ReplicaNow, replica_from}
+use Rattle.durable_replica.specs.replica_node.replica_model.Replica.{replica_from}
 use Rattle.durable_replica.specs.replica_node.Kept.{held_of, replica_of}
-use Rattle.durable_replica.proofs.of_store_replica.of_durable_runs.States.{carries_begins, carries_join, carries_none}
+use Rattle.durable_replica.proofs.of_store_replica.of_durable_runs.States.{carries_begins, carries_none}
 use Rattle.durable_replica.proofs.of_store_replica.Ends.{no_ends}
 use Rattle.run_stores.specs.durable_runs.Replicas.{CarriesTo, ReplicaRuns}
-use Rattle.run_stores.specs.durable_runs.Runs.{CallsFit}
-use Rattle.run_stores.specs.durable_runs.Sources.{SourceLasts, SourceRuns, SourceStands, Stored, source_side, stored_in}
+use Rattle.run_stores.specs.durable_runs.Sources.{SourceRuns, Stored, source_side, stored_in}
 use Rattle.run_laws.specs.log_entries.declared.entries.Entry.{Entry}
 use Rattle.run_laws.specs.log_entries.declared.entries.Entry.TheVariants.{Transaction, Definition, LogStart}
 use Rattle.run_stores.specs.Standing.{StandAt}
-use Rattle.run_laws.specs.run_model.Run.{Names, Both, Read, nothing, bytes_to, number_before, place_before, Starts, source_from, both_from}
+use Rattle.run_laws.specs.run_model.Run.{Names, Read, nothing, bytes_to, number_before, place_before, Starts, source_from, both_from}
 use Rattle.run_laws.specs.run_model.Following.{AreCommitted, head_entries}
 use Rattle.run_laws.specs.Openings.{AreOwed, BothOpen}
 use Rattle.run_streams.specs.Reports.{first_mark}
@@ -35,19 +33,18 @@ use Rattle.script_run.specs.declared.nodes.Nodes.{Nodes}
 use Rattle.run_stores.specs.durable_runs.Behind.{nothing_stored}
 use Rattle.durable_source.specs.declared.source.DurableSource.{DurableSource}
 use Rattle.durable_replica.specs.declared.replica.DurableReplica.{DurableReplica}
-use Rattle.disk_model.specs.Answers.{HasOpenCause}
 use Rattle.disk_model.specs.declared.refusals.OpenRefusal.{OpenRefusal}
 use Rattle.disk_model.specs.declared.refusals.OpenRefusal.TheVariants as opening
 use Rattle.fault_counts.specs.Causes.{Rose}
-use Rattle.script_run.specs.Beginning.{FromEach, ReplicaStoodFor, ReplicaWasDamaged, RunStands, SourceStoodFor, SourceWasDamaged}
+use Rattle.script_run.specs.Beginning.{FromEach, ReplicaStoodFor, RunStands, SourceStoodFor}
 use Rattle.script_run.specs.Disks.{AreTold, BothGoOn, Disks, Stores, disks, faults, stores_in}
 use Rattle.script_run.specs.Faults.{RefusesOpening, by_replica, by_source}
 use Rattle.script_run.specs.Opening.{ReplicaOpened, SourceOpened}
 use Rattle.script_run.specs.Ran.{NotBegun}
-use Rattle.script_run.specs.Survives.{CarriedSince, IsHeldOf, Lasted, ReplicaOpens, SourceOpens, SurvivesOpening}
+use Rattle.script_run.specs.Survives.{IsHeldOf, Lasted, ReplicaOpens, SourceOpens}
 use Rattle.script_run.proofs.Disks.{both_told, if_told, where_told}
 use Rattle.script_run.proofs.Surviving.{rep_survives_by, survives_by}
-use Rattle.script_run.specs.Together.{IsOneLog, Opened, Together}
+use Rattle.script_run.specs.Together.{IsOneLog, Opened}
 use Rattle.script_run.proofs.Beginning.{beginning_is}
 use Rattle.script_run.proofs.Serving.{stays_at}
 use Rattle.script_run.proofs.Spoken.{failed_by}

@@ -2,7 +2,7 @@
 use Rattle.std.proofs.Common.{◌≡◌, inl, inr, ◌<◌, ◌≤◌, ℕ, ◌+◌, zero, suc, Bool, true, false, List, [], ◌∷◌, ◌++◌, length, map, Option, Some, None, Result, Ok, Err, IfOk, IfSome, OnOk, OnErr, IfErr, refl, sym, ap, ◌∙◌, subst, append_assoc, append-nil, arith, length-append, get_or}
 use Rattle.std.proofs.lemmas.List.{length-map}
 use Rattle.std.proofs.lemmas.Option.{slice_get-get_or}
-use Rattle.std.specs.Prelude.{◌⊎◌, ◌^◌, slice_get}
+use Rattle.std.specs.Prelude.{◌^◌, slice_get}
 use Rattle.port_traits.specs.declared.identity.Draw.{Draw}
 use Rattle.answer_text.specs.declared.report.Mark.{Mark}
 use Rattle.answer_text.specs.declared.report.Report.{Report}
@@ -20,7 +20,7 @@ use Rattle.store_model.specs.Held.{Held}
 use Rattle.durable_replica.specs.replica_node.Kept.{held_of}
 use Rattle.durable_replica.specs.replica_node.replica_model.Replica.{Replica}
 use Rattle.run_laws.specs.run_model.Asked.{Asked, say, select, take_bytes, take_groups, restart_source, restart_replica}
-use Rattle.run_laws.specs.run_model.Run.{Names, Both, Starts, both_from, next, end_of, told_lines, lines_shown, draws_of, kept_if, draws_source, draws_replica, carried_in, mark_at, last_mark, number_before, place_before, source_from}
+use Rattle.run_laws.specs.run_model.Run.{Names, Both, Starts, both_from, next, end_of, told_lines, lines_shown, draws_of, kept_if, draws_source, draws_replica, mark_at, last_mark, number_before, place_before, source_from}
 use Rattle.run_laws.specs.run_model.Following.{Follows}
 use Rattle.run_laws.specs.Laws.{GoesThrough, IsLoggedAsSet, IsSound, OfEach}
 use Rattle.run_laws.specs.Openings.{Begins}
@@ -39,7 +39,7 @@ use Rattle.script_run.specs.Marks.{AreMarks, CalledNow, Numbers, Pushed, command
 use Rattle.script_run.specs.Together.{Before, Began, Together, Drew, GaveUp, Grew, CarriedOut, Marked, Told, ToldFront, Stopped, Opened}
 use Rattle.script_run.specs.Ran.{Reports, Ran, Broke, Ceased, NotBegun}
 use Rattle.script_run.specs.Running.{Going, Ends, EndsRunning}
-use Rattle.script_run.specs.Survives.{CarriedSince, CarriesOn, HasCarriedPrefix, CarriesSome, IsHeldOf, Lasted, LastsOn, NamesAll, NamesOn, ReplicaRecovers, ReplicaSurvives, ServedSince, Survives}
+use Rattle.script_run.specs.Survives.{CarriedSince, CarriesOn, HasCarriedPrefix, CarriesSome, IsHeldOf, Lasted, LastsOn, NamesAll, NamesOn, ReplicaRecovers, ServedSince, Survives}
 use Rattle.script_run.proofs.Recovering.{recovers_by, served_begins, served_more}
 use Rattle.script_run.proofs.Surviving.{carried_next, carried_some, fits_before, on_some, rep_survives_by, rep_survives_since, survives_by}
 use Rattle.script_run.proofs.Beginning.{each_from}

@@ -6,7 +6,7 @@ use Rattle.run_laws.specs.log_model.Log.{LogGoesOn, LogPlace, behind, counted_al
 use Rattle.run_laws.specs.session_model.Machine.{Whole, first_place, kept_entry, log_bytes, nowhere}
 use Rattle.run_laws.specs.session_model.Holding.{Beginning, Holds}
 use Rattle.store_model.specs.Entries.{writer_at}
-use Rattle.durable_source.specs.Standing.{Stands, beginning_of}
+use Rattle.durable_source.specs.Standing.{beginning_of}
 use Rattle.waiting_entries.specs.Added.{added_to, rotation_at}
 use Rattle.run_stores.specs.durable_runs.Laws.{OneLog, StoredBehind, StoresGoOn}
 use Rattle.run_stores.specs.durable_runs.Sources.{Stored, end_of, log_in}

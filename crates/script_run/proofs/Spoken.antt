@@ -1,6 +1,6 @@
 -- One command over both nodes.
 use Rattle.std.proofs.Common.{◌≡◌, inl, inr, ℕ, ◌+◌, ◌-◌, min, ◌<◌, ◌≤◌, zero, suc, List, [], ◌∷◌, ◌++◌, length, map, Option, Some, None, Result, Ok, Err, IfOk, IfErr, IfSome, OnErr, OnOk, refl, sym, ap, ◌∙◌, subst, arith, append-nil, append_assoc}
-use Rattle.std.proofs.lemmas.List.{length-set, map-append}
+use Rattle.std.proofs.lemmas.List.{map-append}
 use Rattle.std.specs.Prelude.{◌^◌, replicate}
 use Rattle.std.specs.Option.{option_map}
 use Rattle.hex.specs.Hex.{IsBytes}
@@ -8,15 +8,13 @@ use Rattle.port_traits.specs.declared.identity.Identity.{Identity}
 use Rattle.port_traits.specs.declared.identity.Draw.{Draw}
 use Rattle.fault_counts.specs.Causes.{Rose}
 use Rattle.disk_model.specs.Story.{Story, count}
-use Rattle.disk_model.specs.Answers.{HasNodeCause}
-use Rattle.disk_model.specs.declared.refusals.DiskRefusal.{DiskRefusal}
 use Rattle.disk_model.specs.declared.refusals.NodeFault.{NodeFault}
 use Rattle.disk_model.specs.declared.refusals.NodeFault.TheVariants as fault
 use Rattle.disk_model.specs.declared.refusals.OpenRefusal.{OpenRefusal}
 use Rattle.disk_model.specs.declared.refusals.OpenRefusal.TheVariants as opening
 use Rattle.script_run.specs.declared.stops.Refusal.{Refusal}
 use Rattle.script_run.specs.declared.stops.Refusal.TheVariants as refusals
-use Rattle.script_run.specs.Disks.{AreTold, BothGoOn, Disks, Faults, Stores, disks, faults}
+use Rattle.script_run.specs.Disks.{BothGoOn, Disks, Faults, Stores, disks, faults}
 use Rattle.script_run.specs.Faults.{RefusesNodes, RefusesOpening, by_open_replica, by_open_source, by_replica, by_source}
 use Rattle.disk_model.specs.Moments.{Each, GoesOn}
 use Rattle.disk_model.proofs.Moments.{on_refl}
@@ -30,7 +28,7 @@ use Rattle.run_laws.specs.log_entry_laws.Laws.{EntriesCanLogOn}
 use Rattle.run_laws.specs.session_model.Answers.{ok}
 use Rattle.run_laws.specs.session_model.Holding.{Beginning, FormatsDecide, Holds, RunsGoOn}
 use Rattle.run_laws.specs.session_model.Machine.{Whole, whole, kept_entry, step, Step, Machine, machine_after, log_bytes}
-use Rattle.run_laws.specs.session_model.Openings.{RestartsHold, committed_in, opening_entries, restarted}
+use Rattle.run_laws.specs.session_model.Openings.{RestartsHold, opening_entries, restarted}
 use Rattle.run_laws.specs.session_replays.Replaying.{ReplaysGoOn}
 use Rattle.durable_source.specs.store_source.Pushed.{ArePushed}
 use Rattle.durable_source.proofs.of_store_source.Images.{each_stands as source_each}
@@ -54,12 +52,12 @@ use Rattle.store_model.specs.Held.{Held}
 use Rattle.run_stores.specs.durable_runs.Laws.{HasFirstLog, RunsLast}
 use Rattle.run_stores.specs.durable_runs.Runs.{CallsFit}
 use Rattle.run_stores.specs.durable_runs.Replicas.{Carries, CarriesTo, ReplicaRuns, ReplicaStands}
-use Rattle.run_stores.specs.durable_runs.Sources.{SourceRuns, SourceStands, Stored, end_of, source_side}
+use Rattle.run_stores.specs.durable_runs.Sources.{SourceRuns, Stored, end_of, source_side}
 use Rattle.run_laws.specs.log_entries.declared.entries.Item.{Item}
 use Rattle.run_laws.specs.log_entries.declared.entries.Entry.{Entry}
 use Rattle.run_laws.specs.log_entries.declared.entries.Entry.TheVariants.{Transaction, Definition, LogStart}
 use Rattle.run_laws.specs.run_model.Asked.{Asked, say, select, take_bytes, take_groups, restart_source, restart_replica}
-use Rattle.run_laws.specs.run_model.Run.{Names, Both, ReplicaStep, carried_at, carried_in, opened_again, Starts, number_before, place_before, source_from, log_with, mark_at, next, draws_source, draws_replica, kept_if}
+use Rattle.run_laws.specs.run_model.Run.{Names, Both, ReplicaStep, carried_at, carried_in, opened_again, Starts, number_before, place_before, source_from, log_with, mark_at, next}
 use Rattle.run_laws.specs.run_model.Following.{AreCommitted, Follows, head_entries}
 use Rattle.run_laws.specs.Laws.{IsSound, FollowsGoOn, NoApplyStops, NothingIsDamaged}
 use Rattle.run_laws.specs.Openings.{Begins}
@@ -68,9 +66,9 @@ use Rattle.script_run.specs.declared.nodes.Nodes.{Nodes}
 use Rattle.script_run.specs.Marks.{CalledNow, Pushed, command_marks, committed_of, uncounted}
 use Rattle.run_stores.specs.durable_runs.Marks.{NameNow, last_named, replica_mark, source_mark}
 use Rattle.script_run.specs.Survives.{CarriesOn, CarriesSome, IsHeldOnTheWay, Lasted, LastsOn, NamesOn}
-use Rattle.script_run.proofs.Disks.{both_refl, both_told, if_told, told_on, where_told}
+use Rattle.script_run.proofs.Disks.{both_refl, both_told, where_told}
 use Rattle.script_run.proofs.Recovering.{names_none, names_said, names_still}
-use Rattle.script_run.proofs.Surviving.{carries_rest, carries_still, held_here, lasts_on, lasts_rest, lasts_still, on_some}
+use Rattle.script_run.proofs.Surviving.{carries_rest, carries_still, held_here, lasts_on, lasts_rest, lasts_still}
 use Rattle.script_run.specs.Together.{AreOnDisks, Before, Began, CarriedOut, Drew, GaveUp, Grew, IsOneLog, Marked, Shows, SourceIsOn, Together}
 use Rattle.script_run.proofs.Marks.{applied_are, applied_last, commits_name, groups_name, none_more, pushed_by, pushed_length, pushed_none}
 use Rattle.script_run.proofs.Serving.{Known, holds_here, log_piece, log_short, logs_are, no_others, number_is, served_at, served_whole}

@@ -1,11 +1,11 @@
 -- What a crash leaves of both disks at any moment goes on, command by command.
-use Rattle.std.proofs.Common.{◌≡◌, inl, inr, ◌≤◌, ◌<◌, ℕ, List, [], ◌∷◌, ◌++◌, length, map, Option, Some, None, Ok, IfSome, refl, sym, ap, ◌∙◌, subst, arith, append-nil}
-use Rattle.std.specs.Prelude.{◌^◌, ◌⊎◌, slice_get}
+use Rattle.std.proofs.Common.{◌≡◌, inl, inr, ◌≤◌, ◌<◌, ℕ, List, [], ◌∷◌, ◌++◌, length, map, Option, Some, None, Ok, IfSome, refl, sym, ◌∙◌, subst, arith, append-nil}
+use Rattle.std.specs.Prelude.{◌^◌, slice_get}
 use Rattle.std.proofs.lemmas.List.{map-append}
 use Rattle.port_traits.specs.declared.identity.Draw.{Draw}
 use Rattle.answer_text.specs.declared.report.Mark.{Mark}
 use Rattle.disk_model.specs.Story.{Story, count, seen}
-use Rattle.disk_model.specs.Moments.{Each, GoesOn, Since}
+use Rattle.disk_model.specs.Moments.{Each, GoesOn}
 use Rattle.disk_model.proofs.Moments.{on_count}
 use Rattle.store_model.specs.declared.record.Kind.TheVariants.{Source, Replica}
 use Rattle.store_model.specs.Held.{Held}
@@ -14,7 +14,7 @@ use Rattle.run_stores.specs.durable_runs.Laws.{HasFirstLog, RunsLast, SourcesLas
 use Rattle.run_stores.specs.durable_runs.Marks.{NameNow, Named, replica_mark, source_mark}
 use Rattle.run_stores.specs.durable_runs.Replicas.{Carries, CarriesTo, ReplicaStands}
 use Rattle.run_stores.specs.durable_runs.Runs.{CallsFit, Lasts, behind_steps}
-use Rattle.run_stores.specs.durable_runs.Sources.{SourceImage, SourceLasts, SourceRuns, SourceStands, Stored, source_side, stored_in}
+use Rattle.run_stores.specs.durable_runs.Sources.{SourceLasts, SourceRuns, SourceStands, Stored, source_side, stored_in}
 use Rattle.durable_replica.proofs.of_store_replica.of_durable_runs.States.{carries_behind, carries_idle, carries_images, carries_join, carries_to_widen, carries_widen}
 use Rattle.durable_replica.specs.replica_node.Kept.{held_of}
 use Rattle.run_laws.specs.log_entries.declared.entries.Entry.{Entry}

@@ -1,5 +1,5 @@
 -- Why a run stopped, and the cause of a fault at which it did.
-use Rattle.std.specs.Prelude.{ℕ, Option, IfSome, Result, Ok, Err}
+use Rattle.std.specs.Prelude.{ℕ, IfSome, Result, Ok, Err}
 use Rattle.fault_counts.specs.Causes.{Rose}
 use Rattle.answer_text.specs.declared.status.Status.{Status}
 use Rattle.answer_text.specs.declared.status.Status.TheVariants.{Done, BadScript, ReadFault, WriteFault, SourceDisk, ReplicaDisk, SourceDamaged, ReplicaDamaged, NoMemory}

@@ -4,7 +4,7 @@ use Rattle.script_run.specs.Disks.{disks}
 use Rattle.script_run.proofs.Disks.{both_refl, both_trans, fewer_refl, fewer_trans}
 use Rattle.script_run.specs.Asking.{asked_seen}
 use Rattle.script_run.specs.Running.{Going}
-use Rattle.script_run.proofs.Running.{starts, goes_on, stops, stops_since, grew_none, grew_more, item_seen, mapped_length}
+use Rattle.script_run.proofs.Running.{starts, goes_on, stops, stops_since, grew_none, grew_more, item_seen}
 use Rattle.script_run.proofs.commands.answer_all.Goals as goal
 
 pub loop-i-init : goal.loop-i-init

@@ -1,4 +1,4 @@
-use Rattle.std.proofs.Common.{refl, arith, ap, ◌∙◌}
+use Rattle.std.proofs.Common.{refl, arith, ap}
 use Rattle.answer_text.specs.declared.report.Report.{Report}
 use Rattle.disk_model.proofs.Moments.{on_refl}
 use Rattle.script_run.proofs.Drawing.{drew_on}
