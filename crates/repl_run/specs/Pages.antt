@@ -1,7 +1,8 @@
 -- The pages that a program shows in place of doing its work.
-use Rattle.std.specs.Prelude.{ℕ, if◌then◌else◌, List, [], ◌∷◌, codes, Option, None}
+use Rattle.std.specs.Prelude.{ℕ, if◌then◌else◌, List, [], ◌∷◌, codes, Option, Some, None}
 use Rattle.std.specs.Str.{bytes_eq}
 use Rattle.repl_run.specs.declared.pages.Page.{Page}
+use Rattle.repl_run.specs.declared.pages.Page.TheVariants.{Help, Version}
 
 -- the page that a word asks for
 abbrev pub page_of : List ℕ → Option Page
