@@ -12,8 +12,8 @@ use Rattle.disk_model.proofs.Moments.{since_map}
 use Rattle.store_model.specs.declared.record.Kind.TheVariants.{Replica as OfReplica}
 use Rattle.store_model.specs.Held.{Held}
 use Rattle.store_model.specs.Stores.{Spot, held_by}
-use Rattle.durable_runs.specs.Replicas.{IsCarried, StateImage}
-use Rattle.durable_runs.specs.Runs.{CallsFit}
+use Rattle.script_run.specs.run_stores.durable_runs.Replicas.{IsCarried, StateImage}
+use Rattle.script_run.specs.run_stores.durable_runs.Runs.{CallsFit}
 use Rattle.script_run.specs.run_stores.run_laws.session_replays.Followed.{EntriesFollow}
 use Rattle.script_run.specs.run_stores.run_laws.run_model.replica_model.Replica.{Replica, replica_from}
 use Rattle.script_run.specs.run_stores.run_laws.run_model.replica_model.Replaying.{Replay, replayed_from}

@@ -8,8 +8,8 @@ use Rattle.run_streams.specs.Read.{TakesUpToLimit}
 use Rattle.run_streams.specs.Reports.{IsEmpty}
 use Rattle.run_streams.specs.Wrote.{WroteFront}
 use Rattle.run_streams.proofs.Writing.{wrote_nothing}
-use Rattle.durable_runs.specs.Laws.{SourcesLast}
-use Rattle.durable_runs.proofs.States.{carries_begins, carries_images}
+use Rattle.script_run.specs.run_stores.durable_runs.Laws.{SourcesLast}
+use Rattle.script_run.proofs.of_run_stores.of_durable_runs.States.{carries_begins, carries_images}
 use Rattle.script_run.specs.Disks.{disks}
 use Rattle.script_run.specs.Ran.{EndsBy}
 use Rattle.script_run.proofs.Opened.{idle_survives, none_begun, replica_idle}

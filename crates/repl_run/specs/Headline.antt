@@ -15,9 +15,9 @@ use Rattle.disk_model.specs.Moments.{Since}
 use Rattle.store_model.specs.declared.record.Kind.TheVariants.{Replica as OfReplica}
 use Rattle.store_model.specs.Held.{Held}
 use Rattle.store_model.specs.Stores.{held_by}
-use Rattle.durable_runs.specs.Marks.{named, replica_mark}
-use Rattle.durable_runs.specs.Replicas.{IsCarried}
-use Rattle.durable_runs.specs.Runs.{CallsFit}
+use Rattle.script_run.specs.run_stores.durable_runs.Marks.{named, replica_mark}
+use Rattle.script_run.specs.run_stores.durable_runs.Replicas.{IsCarried}
+use Rattle.script_run.specs.run_stores.durable_runs.Runs.{CallsFit}
 use Rattle.script_run.specs.run_stores.run_laws.log_entries.declared.entries.Entry.{Entry}
 use Rattle.script_run.specs.run_stores.run_laws.session_model.Machine.{Whole}
 use Rattle.script_run.specs.run_stores.run_laws.session_replays.Followed.{EntriesFollow}

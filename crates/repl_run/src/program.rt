@@ -22,13 +22,13 @@ use crate::laws::replays_follow;
 use answer_text::{Report, Status};
 use disk_model::Disk;
 use dump_store::dump;
-use durable_runs::sources_last;
 use gen_script::write_script;
 use port_traits::{Env, Sink, Source};
 use print_log::print;
 use program_words::{Word, asked_word};
 use replay_log::replay;
 use script_run::run_script;
+use script_run::run_stores::durable_runs::sources_last;
 use std::alloc::Global;
 use store_model::Kind;
 

@@ -11,3 +11,5 @@ pub mod Scripts
 pub mod Serving
 pub mod Spoken
 pub mod Surviving
+-- the crate below that it speaks of, passed on
+pub use Rattle.run_stores.proofs as of_run_stores
