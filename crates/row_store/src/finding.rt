@@ -5,10 +5,10 @@ ghost use Rattle.table_sheet.specs.Costs.{AreWithinBoth, AreWithinTwice};
 ghost use Rattle.row_store.specs.Found.{found_with, keys_at, rows_at};
 
 use crate::tables::Tables;
-use table_sheet::block_list::Steps;
 use sharing::Shared;
 use std::marker::Brand;
 use std::sync::ledger::{Blank, Ledger};
+use table_sheet::block_list::Steps;
 use val_types::{Bytes, Row};
 
 impl Tables {

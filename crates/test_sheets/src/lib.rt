@@ -21,11 +21,11 @@ ghost use Rattle.table_rules.specs.Stored.{row_of_key};
 ghost use Rattle.table_sheet.specs.Keyed.{row_with};
 ghost use Rattle.table_sheet.specs.Pages.{rows_on};
 
-use table_sheet::block_list::Steps;
 use sharing::Shared;
 use std::marker::Brand;
 use std::sync::ledger::{Blank, Ledger};
 use table_sheet::Sheet;
+use table_sheet::block_list::Steps;
 use val_types::Row;
 
 /// The row of a key in a table of at most 1,000 rows of which no transaction has changed one.

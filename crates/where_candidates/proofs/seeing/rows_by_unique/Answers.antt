@@ -1,4 +1,4 @@
-use Rattle.std.proofs.Common.{◌≡◌, List, sym}
+use Rattle.std.proofs.Common.{◌≡◌, List, sym, ◌∙◌}
 use Rattle.std.specs.Prelude.{option_to_list}
 use Rattle.val_types.specs.declared.value.Value.{Value}
 use Rattle.table_rules.specs.Stored.{rows_of}
@@ -13,10 +13,10 @@ pub returns-in-Some : goal.returns-in-Some
 returns-in-Some c = λ name place there none.
     if_ok c.row_with.result (λ (rows : List (List Value)). rows ≡ option_to_list (found_with name c.in-Some.named.which c.in-Some.named.values c.args.tables.now.tables))
     (λ (rows : List (List Value)). AreCandidates c.args.outside.now name c.args.definition.now (part (view_tree c.args.condition.now)) c.args.tables.now.tables rows)
-    (λ rows is. unique_so c.args.outside.now name c.args.definition.now (view_tree c.args.condition.now) c.args.tables.now c.args.at c.in-Some.named rows c.tables_are_kept.ensures none (sym c.in-Some.ensures) place there is) (c.row_with.ensures name place)
+    (λ rows is. unique_so c.args.outside.now name c.args.definition.now (view_tree c.args.condition.now) c.args.tables.now c.args.at c.in-Some.named rows c.tables_are_kept.ensures none (sym c.in_ok-named.ensures ∙ c.in-Some.is) place there is) (c.row_with.ensures name place)
 
 pub returns-in-None : goal.returns-in-None
 returns-in-None c = λ name place there none.
     if_ok c.rows.result (λ (rows : List (List Value)). rows ≡ rows_of name c.args.tables.now.tables)
     (λ (rows : List (List Value)). AreCandidates c.args.outside.now name c.args.definition.now (part (view_tree c.args.condition.now)) c.args.tables.now.tables rows)
-    (λ rows is. unkeyed_so c.args.outside.now name c.args.definition.now (view_tree c.args.condition.now) c.args.tables.now.tables c.args.at rows none (sym c.in-None.ensures) place there is) (c.rows.ensures name place)
+    (λ rows is. unkeyed_so c.args.outside.now name c.args.definition.now (view_tree c.args.condition.now) c.args.tables.now.tables c.args.at rows none (sym c.in_ok-named.ensures ∙ c.in-None.is) place there is) (c.rows.ensures name place)
