@@ -18,11 +18,13 @@
 //!   snapshot of the next generation counts ([`newest_generation_counts`]).
 //! - At each moment of a checkpoint, inside a write too, an image stands for what is held, and behind it each does so at the next
 //!   generation, whose journal has no record ([`checkpoints_keep_what_is_held`]).
-//! - The bytes of checkpoints by hand ([`checkpoints_by_hand`]).
+//! - The bytes of checkpoints by hand ([`new_checkpoints_by_hand`], [`rows_by_hand`], [`pieces_by_hand`]).
 #![tactic(auto)]
 
 mod laws;
+mod worked;
 
 pub use laws::{
     checkpoints_keep_what_is_held, newest_generation_counts, other_generation_does_not_count,
 };
+pub use worked::{new_checkpoints_by_hand, pieces_by_hand, rows_by_hand};
