@@ -179,6 +179,14 @@ pub replica_stood : (t : Option Story) (replica : DurableReplica) → IfSome t (
 replica_stood None replica holds = tt
 replica_stood (Some s) replica holds = (held_of (replica_of replica.node), holds)
 
+-- it is what its store holds
+pub replica_is : (t : Option Story) (replica : DurableReplica)
+    → ((held : Held) → IfSome t (λ _. held_by Replica (seen t) ≡ Ok held)
+    → IfSome t (λ _. (replica_of replica.node ≡ replica_from held.base held.number held.place) × (held_of (replica_of replica.node) ≡ held)))
+    → (held : Held) → IfSome t (λ _. held_by Replica (seen t) ≡ Ok held) → IfSome t (λ _. replica_of replica.node ≡ replica_from held.base held.number held.place)
+replica_is None replica opens held stands = tt
+replica_is (Some s) replica opens held stands = (opens held stands).0
+
 -- ---- both nodes
 
 -- what a replica's store held is what the run's replica has

@@ -1,7 +1,7 @@
 use Rattle.std.proofs.Common.{List, [], ◌∷◌, ◌++◌, ap, ◌∙◌}
 use Rattle.port_traits.specs.declared.identity.Draw.{Draw}
 use Rattle.disk_model.proofs.Moments.{on_refl}
-use Rattle.script_run.proofs.Opened.{replica_idle, replica_refused, replica_stood, replica_survives}
+use Rattle.script_run.proofs.Opened.{replica_idle, replica_is, replica_refused, replica_stood, replica_survives}
 use Rattle.script_run.proofs.commands.open_replica.Goals as goal
 
 pub returns-in-Ok-clause-opened : goal.returns-in-Ok-clause-opened
@@ -11,7 +11,7 @@ returns-in-Ok-clause-opened g c = record {
   named = c.in-Ok.ensures.identity;
   told = c.in_ok-name.ensures.told.0;
   drawn = c.in_ok-name.ensures.told.1 ∙ ap (λ (ds : List Draw). ds ++ c.in_ok-name.draw ∷ []) c.requires.draws;
-  is = c.in-Ok.ensures.opens;
+  is = replica_is _ c.in-Ok.replica c.in-Ok.ensures.opens;
   holds = c.in-Ok.ensures.held;
   runs = c.open-2.ensures.runs;
   on = c.in-Ok.ensures.on;
