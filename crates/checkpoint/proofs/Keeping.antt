@@ -26,23 +26,24 @@ module _ (t : Option Story) (store : Store) (tables : Rows) (objects : List Obje
   held_is : held_kept store tables objects ≡ held
   held_is =
       let shows = can.keeps.holds.shows in
-      ap (λ base. record (held_kept store tables objects) { base = base }) (sym can.base)
-      ∙ ap (λ n. record (held_kept store tables objects) { base = held.base; number = n }) shows.number
-      ∙ ap (λ ends. record { base = held.base; number = held.number; ends = ends; place = record { log = store.log; pos = store.pos } }) (ap ends_at shows.ends ∙ ends_same held.ends)
-      ∙ ap (λ log. record { base = held.base; number = held.number; ends = held.ends; place = record { log = log; pos = store.pos } }) shows.log
-      ∙ ap (λ pos. record { base = held.base; number = held.number; ends = held.ends; place = record { log = held.place.log; pos = pos } }) shows.pos
+      let kept = held_kept store tables objects in
+      ap (λ base. record kept { base = base }) (sym can.base)
+      ∙ ap (λ n. record kept { base = held.base; number = n }) shows.number
+      ∙ ap (λ ends. record kept { base = held.base; number = held.number; ends = ends }) (ap ends_at shows.ends ∙ ends_same held.ends)
+      ∙ ap (λ log. record kept { base = held.base; number = held.number; ends = held.ends; place = record { log = log; pos = store.pos } }) shows.log
+      ∙ ap (λ pos. record kept { base = held.base; number = held.number; ends = held.ends; place = record { log = held.place.log; pos = pos } }) shows.pos
 
   pub state : State store.node store.generation held t
   state = record { durable = can.keeps.holds.durable; stands = can.keeps.holds.stands }
 
   pub to_work : (generation : ℕ) (framed : List ℕ) → generation ≡ store.generation + 1 → framed ≡ snapshot_framed (snapshot_body store.node generation (held_kept store tables objects))
       → HasSizes store.node generation (held_kept store tables objects) → IsToWork t store.node store.generation framed held
-  to_work generation framed next is has = let sizes = subst (HasSizes store.node (store.generation + 1)) held_is
+  to_work generation framed next same has = let sizes = subst (HasSizes store.node (store.generation + 1)) held_is
       (subst (λ g. HasSizes store.node g (held_kept store tables objects)) next has) in record {
     durable = can.keeps.holds.durable;
     own = can.keeps.holds.own;
     stands = can.keeps.holds.stands;
-    is = is ∙ ap (λ g. snapshot_framed (snapshot_body store.node g (held_kept store tables objects))) next
+    is = same ∙ ap (λ g. snapshot_framed (snapshot_body store.node g (held_kept store tables objects))) next
         ∙ ap (λ h. snapshot_framed (snapshot_body store.node (store.generation + 1) h)) held_is;
     fits = sizes.body;
     again = if_both t (HasSizes store.node (store.generation + 1) held → IsReadAgain store.node (store.generation + 1) held)

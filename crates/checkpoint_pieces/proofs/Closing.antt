@@ -38,5 +38,6 @@ module _ (t u : Option Story) (f : ℕ) (quiet : Quietly t u) (only : Only t f (
     gate_put_shut reads = if_back t u (seen v f ≡ overwritten 0 (0 ∷ []) (seen u f)) (IsShut (seen v f)) quiet.on reads (λ is. subst IsShut (sym is) (shut_put (seen u f)))
 
 -- what a call said of a file that was only made durable before it
-pub said_before : (t u : Option Story) (f : ℕ) (b : Bool) → Quietly t u → IfSome u (λ _. b ≡ not (is_to_close (seen u f))) → IfSome t (λ _. b ≡ not (is_to_close (seen t f)))
-said_before t u f b quiet is = if_back t u (b ≡ not (is_to_close (seen u f))) (b ≡ not (is_to_close (seen t f))) quiet.on is (λ e. e ∙ ap (λ l. not (is_to_close l)) (quiet.reads f))
+pub said_before : (t u : Option Story) (f : ℕ) (b v : Bool) → b ≡ v → Quietly t u → IfSome u (λ _. b ≡ not (is_to_close (seen u f))) → IfSome t (λ _. v ≡ not (is_to_close (seen t f)))
+said_before t u f b v same quiet is =
+    if_back t u (b ≡ not (is_to_close (seen u f))) (v ≡ not (is_to_close (seen t f))) quiet.on is (λ e. sym same ∙ e ∙ ap (λ l. not (is_to_close l)) (quiet.reads f))

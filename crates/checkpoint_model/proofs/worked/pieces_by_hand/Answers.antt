@@ -1,9 +1,6 @@
 use Rattle.std.proofs.Common.{refl}
-use Rattle.byte_fields.specs.Field.{number_at, number_bytes}
-use Rattle.store_model.specs.Bodies.{record_of, row_bytes}
-use Rattle.store_model.specs.Held.{applied}
-use Rattle.store_model.specs.Snapshots.{snapshot_of, snapshot_body}
-use Rattle.store_model.specs.Stores.{begun_from, journal_applied, held_by}
+use Rattle.byte_fields.specs.Field.{number_bytes}
+use Rattle.store_model.specs.Snapshots.{snapshot_body}
 use Rattle.checkpoint_model.proofs.worked.pieces_by_hand.Goals as goal
 
 pub returns-clause-new : goal.returns-clause-new

@@ -1,9 +1,7 @@
 use Rattle.std.proofs.Common.{refl}
-use Rattle.byte_fields.specs.Field.{number_at, number_bytes}
-use Rattle.store_model.specs.Bodies.{record_of, row_bytes}
-use Rattle.store_model.specs.Held.{applied}
-use Rattle.store_model.specs.Snapshots.{snapshot_of, snapshot_body}
-use Rattle.store_model.specs.Stores.{begun_from, journal_applied, held_by}
+use Rattle.byte_fields.specs.Field.{number_bytes}
+use Rattle.store_model.specs.Bodies.{row_bytes}
+use Rattle.store_model.specs.Snapshots.{snapshot_body}
 use Rattle.checkpoint_model.proofs.worked.rows_by_hand.Goals as goal
 
 pub returns-clause-source : goal.returns-clause-source

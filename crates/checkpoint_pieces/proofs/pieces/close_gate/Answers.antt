@@ -14,7 +14,7 @@ returns-then-shut-clause-durable g c = only_quiet _ _ c.args.file c.is_shut.ensu
 
 pub returns-then-shut-clause-shut : goal.returns-then-shut-clause-shut
 returns-then-shut-clause-shut g c = stood_shut _ _ c.args.file (quiet_trans _ _ _ c.settle.ensures.quiet c.is_shut.ensures.quiet) c.requires.durable
-    (said_before _ _ c.args.file _ c.settle.ensures.quiet c.in_ok-shut.ensures.is)
+    (said_before _ _ c.args.file _ _ c.if-shut.true c.settle.ensures.quiet c.in_ok-shut.ensures.is)
 
 pub returns-then-shut-clause-steps : goal.returns-then-shut-clause-steps
 returns-then-shut-clause-steps g c = nothing_closed _ _ c.args.file (quiet_trans _ _ _ c.settle.ensures.quiet c.is_shut.ensures.quiet) c.requires.durable
@@ -28,4 +28,4 @@ returns-clause-shut g c = ok_one c.put.result c.put.ensures.reads (λ reads.
 
 pub returns-clause-steps : goal.returns-clause-steps
 returns-clause-steps g c = gate_put_closed _ _ c.args.file (quiet_trans _ _ _ c.settle.ensures.quiet c.is_shut.ensures.quiet) c.requires.durable _ c.put.ensures.puts
-    (said_before _ _ c.args.file _ c.settle.ensures.quiet c.in_ok-shut.ensures.is)
+    (said_before _ _ c.args.file _ _ c.if-shut.false c.settle.ensures.quiet c.in_ok-shut.ensures.is)
