@@ -1,5 +1,5 @@
-//! A law of snapshots, as the contract of a function that does nothing.
-ghost use Rattle.snapshot_laws.specs.Laws.{HeldIsReadAgain};
+//! Laws of snapshots: each function proves one, and does nothing.
+ghost use Rattle.snapshot_laws.specs.Laws.{HeldIsReadAgain, SourcesHavePlaces};
 
 use catalog_laws::catalog_show_create::statement_is_that_of_making;
 use catalog_laws::{creations_are_read, tables_have_names};
@@ -14,3 +14,8 @@ pub fn held_is_read_again()
     statement_is_that_of_making();
     bodies_are_read();
 }
+
+/// What a source's store holds has numbers and ends within the bounds of a snapshot, where a log has begun.
+pub fn sources_have_places()
+    ensures { SourcesHavePlaces }
+{}

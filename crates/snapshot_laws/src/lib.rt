@@ -6,8 +6,9 @@
 //!
 //! # Proved
 //! - A snapshot's body is read as what is held ([`held_is_read_again`])
+//! - What a source's store holds is within the bounds of a snapshot ([`sources_have_places`])
 #![tactic(auto)]
 
 mod laws;
 
-pub use laws::held_is_read_again;
+pub use laws::{held_is_read_again, sources_have_places};

@@ -45,10 +45,10 @@ module _ (t : Option Story) (store : Store) (tables : Rows) (objects : List Obje
         (will_be_read Source store.node store s.held can.on.node);
   }
 
-  abbrev f : ℕ
+  abbrev pub f : ℕ
   f = snapshot_file (store.generation + 1)
 
-  abbrev j : ℕ
+  abbrev pub j : ℕ
   j = journal_of (store.generation + 1)
 
   not_f : (n : ℕ) → 7 + n ≢ f
