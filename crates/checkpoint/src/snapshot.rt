@@ -1,0 +1,61 @@
+//! A snapshot, made in memory.
+ghost use Rattle.std.specs.Prelude.{◌≡◌, ◌≤◌, ◌<◌, ◌^◌, ◌++◌, drop, length, IfOk, OnOk};
+ghost use Rattle.store_model.specs.Snapshots.{snapshot_body};
+ghost use Rattle.checkpoint_model.specs.Pieces.{snapshot_framed};
+ghost use Rattle.checkpoint.specs.Checkpoints.{HasSizes, held_kept};
+
+use byte_fields::bytes_u64;
+use commit_store::Store;
+use row_store::Tables;
+use snapshot_bodies::catalog_show_create::catalog_objects::Objects;
+use snapshot_bodies::{put_base, put_head, put_places};
+use std::alloc::Global;
+use val_types::{Bytes, List, NoMemory};
+
+/// How many bytes say how long a body is.
+const SIZE: usize = 8;
+
+/// Puts the body of a snapshot at the end of some bytes.
+#[tactic(auto, unfolding(store_model::specs::Snapshots::snapshot_body))]
+fn put_body(
+    alloc: Global,
+    s: &Store,
+    generation: u64,
+    tables: &Tables,
+    objects: &Objects,
+    out: &mut Bytes,
+) -> Result<(), NoMemory>
+    ensures body { OnOk result (out.new ≡ out.old ++ snapshot_body s.now.node generation (held_kept s.now tables.now objects.now)) }
+    ensures few { OnOk result (length objects.now < 2 ^ 32) }
+{
+    put_head(s.node(), generation, s.number(), out)?;
+    put_places(s.node(), s.ends(), s.log(), s.pos(), out)?;
+    put_base(alloc, tables, objects, out)
+}
+
+/// Some bytes with others over their front.
+fn with_front(bytes: Bytes, front: &[u8; 8]) -> Bytes
+    requires { SIZE ≤ length bytes }
+    ensures { result ≡ front.now ++ drop SIZE bytes }
+{
+    let mut items = bytes.into_vec();
+    items[..SIZE].copy_from_slice(front);
+    List::from_vec(items)
+}
+
+/// A snapshot of what a store holds as its file has it behind the gate: the length of its body, and the body.
+pub(crate) fn framed_snapshot(
+    alloc: Global,
+    s: &Store,
+    generation: u64,
+    tables: &Tables,
+    objects: &Objects,
+) -> Result<Bytes, NoMemory>
+    ensures bytes { IfOk result (λ framed. framed ≡ snapshot_framed (snapshot_body s.now.node generation (held_kept s.now tables.now objects.now))) }
+    ensures sizes { IfOk result (λ framed. HasSizes s.now.node generation (held_kept s.now tables.now objects.now)) }
+{
+    let mut bytes = List::from_slice(alloc, &[0; 8])?;
+    put_body(alloc, s, generation, tables, objects, &mut bytes)?;
+    let size = (bytes.len() - SIZE) as u64;
+    Ok(with_front(bytes, &bytes_u64(size)))
+}
