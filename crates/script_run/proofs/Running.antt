@@ -19,7 +19,7 @@ use Rattle.run_laws.specs.session_replays.Followed.{EntriesFollow}
 use Rattle.store_model.specs.Held.{Held}
 use Rattle.durable_replica.specs.replica_node.Kept.{held_of}
 use Rattle.durable_replica.specs.replica_node.replica_model.Replica.{Replica}
-use Rattle.run_laws.specs.run_model.Asked.{Asked, say, select, take_bytes, take_groups, restart_source, restart_replica}
+use Rattle.run_laws.specs.run_model.Asked.{Asked, say, select, take_bytes, take_groups, checkpoint_source, checkpoint_replica, restart_source, restart_replica}
 use Rattle.run_laws.specs.run_model.Run.{Names, Both, Starts, both_from, next, end_of, told_lines, lines_shown, draws_of, kept_if, draws_source, draws_replica, mark_at, last_mark, number_before, place_before, source_from}
 use Rattle.run_laws.specs.run_model.Following.{Follows}
 use Rattle.run_laws.specs.Laws.{GoesThrough, IsLoggedAsSet, IsSound, OfEach}
@@ -135,6 +135,8 @@ next_from names b (say n text) d = refl
 next_from names b (select text) d = refl
 next_from names b (take_bytes n) d = refl
 next_from names b (take_groups n) d = refl
+next_from names b checkpoint_source d = refl
+next_from names b checkpoint_replica d = refl
 next_from names b restart_source d = refl
 next_from names b restart_replica d = refl
 

@@ -131,7 +131,7 @@ applied_none : (n : ℕ) → n < 2 ^ 64 → n ≡ min (n + 0) (2 ^ 64 - 1)
 applied_none n fits = omega (arith, fits)
 
 -- nothing was pushed, nothing committed, and nothing carried out
-marked_none : (k : ℕ) (b b' : Both) (old new : Report) → b.replica.number < 2 ^ 64 → new.marks ≡ old.marks → committed_of b' ≡ committed_of b → carried_in b'.steps ≡ carried_in b.steps
+pub marked_none : (k : ℕ) (b b' : Both) (old new : Report) → b.replica.number < 2 ^ 64 → new.marks ≡ old.marks → committed_of b' ≡ committed_of b → carried_in b'.steps ≡ carried_in b.steps
     → b'.replica.number ≡ b.replica.number → Marked k b b' old new
 marked_none k b b' old new fits same number steps applied = record {
   commits = 0;
@@ -143,7 +143,7 @@ marked_none k b b' old new fits same number steps applied = record {
 }
 
 -- a disk that was not called
-lasts_none : (t : Option Story) (start : Stored) (es : List (Entry Whole)) (old new : List Mark) → new ≡ old → LastsOn t t start es es old new
+pub lasts_none : (t : Option Story) (start : Stored) (es : List (Entry Whole)) (old new : List Mark) → new ≡ old → LastsOn t t start es es old new
 lasts_none t start es old new same first lasted = subst (λ (ms : List Mark). Lasted first t start es ms) (sym same) lasted
 
 -- each image of the replica's disk stands for what the replica has
@@ -152,7 +152,7 @@ replica_stands names t start nodes b r =
     subst (λ (x : Replica). Each t.replica (ReplicaStands (held_of x))) r.replica (replica_each t.replica nodes.replica.store (held_of (replica_of nodes.replica.node)) r.replica_on.on)
 
 -- it was not called, and no mark was pushed
-rep_still : (names : Names) (t : Disks) (start : Stores) (nodes : Nodes) (b : Both) (c : Asked) (draw : Draw) (old new : List Mark) → Together names t start nodes b → new ≡ old
+pub rep_still : (names : Names) (t : Disks) (start : Stores) (nodes : Nodes) (b : Both) (c : Asked) (draw : Draw) (old new : List Mark) → Together names t start nodes b → new ≡ old
     → CallsFit t.replica → CarriesTo (IsHeldOnTheWay names b c draw) t.replica t.replica (held_of b.replica) (held_of b.replica) old new
 rep_still names t start nodes b c draw old new r same fits =
     carries_still (IsHeldOnTheWay names b c draw) t.replica (held_of b.replica) old new same (held_here names b c draw) (replica_stands names t start nodes b r)
@@ -167,13 +167,13 @@ rep_rest names t start nodes k b c draw old new before after at pushed fits =
     (commits_name t.replica old.now before pushed.more at.began.rep_calls fits pushed.named)) fits
 
 -- a run of the replica that keeps what it has
-rep_looked : (names : Names) (b : Both) (c : Asked) (draw : Draw) (t u : Option Story) (old new : List Mark) → new ≡ old → ((marks : List Mark) → ReplicaRuns t u (held_of b.replica) [] marks marks)
+pub rep_looked : (names : Names) (b : Both) (c : Asked) (draw : Draw) (t u : Option Story) (old new : List Mark) → new ≡ old → ((marks : List Mark) → ReplicaRuns t u (held_of b.replica) [] marks marks)
     → CallsFit u → CarriesTo (IsHeldOnTheWay names b c draw) t u (held_of b.replica) (held_of b.replica) old new
 rep_looked names b c draw t u old new same runs fits =
     carries_none (IsHeldOnTheWay names b c draw) t u (held_of b.replica) old new (held_here names b c draw) (subst (λ (ms : List Mark). ReplicaRuns t u (held_of b.replica) [] old ms) (sym same) (runs old))
 
 -- a node that was given a disk has kept it
-runs_here : (nodes : Nodes) (b : Both) (t u : Option Story) → replica_of nodes.replica.node ≡ b.replica → ((marks : List Mark) → ReplicaRuns t u (held_of (replica_of nodes.replica.node)) [] marks marks)
+pub runs_here : (nodes : Nodes) (b : Both) (t u : Option Story) → replica_of nodes.replica.node ≡ b.replica → ((marks : List Mark) → ReplicaRuns t u (held_of (replica_of nodes.replica.node)) [] marks marks)
     → (marks : List Mark) → ReplicaRuns t u (held_of b.replica) [] marks marks
 runs_here nodes b t u is runs marks = subst (λ (x : Replica). ReplicaRuns t u (held_of x) [] marks marks) is (runs marks)
 
@@ -262,7 +262,7 @@ line_on from identity m n text draw line =
 
 -- ---- one command
 
-carried : (names : Names) (b : Both) (k : ℕ) (c : Asked) (draw : Draw) (t u : Disks) (start : Stores) (old new : Report) (nodes : Nodes) (lines : List ℕ) → Drew c draw old new → Began k b t new
+pub carried : (names : Names) (b : Both) (k : ℕ) (c : Asked) (draw : Draw) (t u : Disks) (start : Stores) (old new : Report) (nodes : Nodes) (lines : List ℕ) → Drew c draw old new → Began k b t new
     → Marked k b (next names b c draw).both old new → LastsOn t.source u.source start.source b.machine.history (next names b c draw).both.machine.history old.marks new.marks
     → CarriesOn t.replica u.replica names b c draw old.marks new.marks → NamesOn t.replica u.replica (committed_of b) (committed_of (next names b c draw).both) old.marks new.marks
     → Shows names b k c draw t u start nodes lines → CarriedOut names b k c t u start old new nodes lines
@@ -511,7 +511,7 @@ selected nodes nodes' t start k text draw old new answer lines same given lines_
     })
 
 -- nodes of which the replica was changed, and the source's disk looked at
-replica_changed : (names : Names) (t u : Disks) (start : Stores) (nodes nodes' : Nodes) (b : Both) (x : Replica) (steps : List ReplicaStep) → nodes'.replica.node.identity ≡ nodes.replica.node.identity
+pub replica_changed : (names : Names) (t u : Disks) (start : Stores) (nodes nodes' : Nodes) (b : Both) (x : Replica) (steps : List ReplicaStep) → nodes'.replica.node.identity ≡ nodes.replica.node.identity
     → replica_of nodes'.replica.node ≡ x → IsOnDisk u.replica nodes'.replica → BothGoOn t u → Stands u.source nodes'.source start.source b.machine → nodes'.source.node.identity ≡ nodes.source.node.identity
     → (Begins b.from → Follows names (record b { replica = x; steps = steps }))
     → Together names t start nodes b → Together names u start nodes' (record b { replica = x; steps = steps })
