@@ -194,6 +194,34 @@ draws_source c = is_source (drawn_by c)
 abbrev pub draws_replica : Asked → Bool
 draws_replica c = is_replica (drawn_by c)
 
+-- the node that a command has write a snapshot
+abbrev pub checkpointed_by : Asked → Option Node
+checkpointed_by (say n text) = None
+checkpointed_by (select text) = None
+checkpointed_by (take_bytes n) = None
+checkpointed_by (take_groups n) = None
+checkpointed_by checkpoint_source = Some the_source
+checkpointed_by checkpoint_replica = Some the_replica
+checkpointed_by restart_source = None
+checkpointed_by restart_replica = None
+
+-- whether a command is a checkpoint of the source, or of the replica
+abbrev pub checkpoints_source : Asked → Bool
+checkpoints_source c = is_source (checkpointed_by c)
+
+abbrev pub checkpoints_replica : Asked → Bool
+checkpoints_replica c = is_replica (checkpointed_by c)
+
+abbrev pub one_if : Bool → ℕ
+one_if true = 1
+one_if false = 0
+
+-- how many commands pass a test, of those that have a draw
+abbrev pub count_of : (Asked → Bool) → List Asked → List Draw → ℕ
+count_of p [] ds = 0
+count_of p (c ∷ cs) [] = 0
+count_of p (c ∷ cs) (d ∷ ds) = one_if (p c) + count_of p cs ds
+
 abbrev pub kept_if : Bool → Draw → List Draw → List Draw
 kept_if true d ds = d ∷ ds
 kept_if false d ds = ds
