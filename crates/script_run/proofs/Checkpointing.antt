@@ -11,6 +11,7 @@ use Rattle.disk_model.proofs.Moments.{on_refl}
 use Rattle.durable_replica.specs.Standing.{IsOnDisk}
 use Rattle.durable_replica.specs.declared.replica.DurableReplica.{DurableReplica}
 use Rattle.durable_replica.specs.replica_node.Kept.{held_of, replica_of}
+use Rattle.durable_source.specs.declared.source.DurableSource.{DurableSource}
 use Rattle.durable_source.specs.Standing.{Stands, beginning_of}
 use Rattle.run_laws.specs.session_model.Answers.{ok}
 use Rattle.run_laws.specs.session_model.Holding.{Holds}
@@ -22,6 +23,7 @@ use Rattle.run_stores.specs.durable_runs.Replicas.{ReplicaRuns}
 use Rattle.run_stores.specs.durable_runs.Sources.{SourceRuns, Stored, source_side}
 use Rattle.script_run.specs.declared.nodes.Nodes.{Nodes}
 use Rattle.script_run.specs.Disks.{BothGoOn, Stores, disks}
+use Rattle.script_run.specs.Generations.{generation_behind}
 use Rattle.script_run.specs.Marks.{committed_of}
 use Rattle.script_run.specs.Survives.{LastsOn}
 use Rattle.script_run.specs.Together.{Before, CarriedOut, Drew, GaveUp, Together}
@@ -66,11 +68,13 @@ module _ (law : RunsLast source_side) (known : Known) (nodes : Nodes) (t u rep :
 
   -- one that was
   pub source_kept : (nodes' : Nodes) (answer : Answer) (lines : List ℕ) → nodes'.replica ≡ nodes.replica → nodes'.source.node.identity ≡ nodes.source.node.identity
+      → nodes'.source.store.generation ≡ generation_behind nodes.source.store.generation 1
       → ((from : Stored) (m : Machine) → Stands t nodes.source from m → Holds (beginning_of from) m → Stands u nodes'.source from m) → answer ≡ ok 0 → lines ≡ shown k answer
       → CarriedOut names b k checkpoint_source (disks t rep) (disks u rep) start report report nodes' lines
-  source_kept nodes' answer lines replica identity stands is lines_are =
+  source_kept nodes' answer lines replica identity generation stands is lines_are =
       let r : Together names (disks t rep) start nodes b = before.together in
-      carried names b k checkpoint_source some_draw (disks t rep) (disks u rep) start report report nodes' lines (source_drew report) before.began
+      carried names b k checkpoint_source some_draw (disks t rep) (disks u rep) start report report nodes nodes' lines r (record { source = generation; replica = ap (λ (x : DurableReplica). x.store.generation) replica })
+      (source_drew report) before.began
       (marked_none k b b report report before.began.few refl refl refl refl) kept_lasts
       (rep_still names (disks t rep) start nodes b checkpoint_source some_draw report.marks report.marks r refl)
       (names_none rep rep (committed_of b) (committed_of b) report.marks report.marks (on_refl rep) refl refl) (record {
@@ -111,11 +115,13 @@ module _ (nodes : Nodes) (src t u : Option Story) (start : Stores) (k : ℕ) (re
       (lasts_none src start.source b.machine.history report.marks report.marks refl)
       (λ fits. (rep_looked names b checkpoint_replica some_draw t u report.marks report.marks refl (runs_here nodes b t u before.together.replica runs) fits).carries)
 
-  pub replica_kept : (nodes' : Nodes) (answer : Answer) (lines : List ℕ) → nodes'.source ≡ nodes.source → nodes'.replica.node ≡ nodes.replica.node → IsOnDisk u nodes'.replica → answer ≡ ok 0 → lines ≡ shown k answer
+  pub replica_kept : (nodes' : Nodes) (answer : Answer) (lines : List ℕ) → nodes'.source ≡ nodes.source → nodes'.replica.node ≡ nodes.replica.node
+      → nodes'.replica.store.generation ≡ generation_behind nodes.replica.store.generation 1 → IsOnDisk u nodes'.replica → answer ≡ ok 0 → lines ≡ shown k answer
       → CarriedOut names b k checkpoint_replica (disks src t) (disks src u) start report report nodes' lines
-  replica_kept nodes' answer lines source same on_disk is lines_are =
+  replica_kept nodes' answer lines source same generation on_disk is lines_are =
       let r : Together names (disks src t) start nodes b = before.together in
-      carried names b k checkpoint_replica some_draw (disks src t) (disks src u) start report report nodes' lines (replica_drew report) before.began
+      carried names b k checkpoint_replica some_draw (disks src t) (disks src u) start report report nodes nodes' lines r (record { source = ap (λ (x : DurableSource). x.store.generation) source; replica = generation })
+      (replica_drew report) before.began
       (marked_none k b b report report before.began.few refl refl refl refl) (lasts_none src start.source b.machine.history report.marks report.marks refl)
       (rep_looked names b checkpoint_replica some_draw t u report.marks report.marks refl (runs_here nodes b t u r.replica runs))
       (names_none t u (committed_of b) (committed_of b) report.marks report.marks goes refl refl) (record {

@@ -294,6 +294,8 @@ impl Nodes {
             → IfOk result (λ lines.
             Shows names b number (take_bytes count) draw (disks (D.told src.old) (R.told rep.old)) (disks (D.told src.new) (R.told rep.new)) start self.new lines) }
         ensures on { OnOk result (AreOnDisks (disks (D.told src.new) (R.told rep.new)) self.new) }
+        ensures source { self.new.source ≡ self.old.source }
+        ensures generation { OnOk result (self.new.replica.store.generation ≡ self.old.replica.store.generation) }
         ensures lasts { (names : Names) (start : Stores) (b : Both) (marks : Items AnyMark) → Together names (disks (D.told src.old) (R.told rep.old)) start self.old b
             → LastsOn (D.told src.old) (D.told src.new) start.source b.machine.history b.machine.history marks marks }
         ensures carries { (names : Names) (start : Stores) (b : Both) (draw : AnyDraw) (marks : Items AnyMark)

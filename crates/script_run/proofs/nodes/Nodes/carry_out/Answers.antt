@@ -4,7 +4,7 @@ use Rattle.run_laws.specs.run_model.Asked.{take_bytes}
 use Rattle.script_run.proofs.Disks.{both_refl, fewer_refl}
 use Rattle.script_run.proofs.Drawing.{drew_none}
 use Rattle.script_run.proofs.Running.{grew_none}
-use Rattle.script_run.proofs.Spoken.{any_err, fetched_out, gave_up, on_replica, on_same, on_source, replica_alone, short_refuses, some_draw, source_alone}
+use Rattle.script_run.proofs.Spoken.{any_err, fetched_go, fetched_out, gave_up, on_replica, on_same, on_source, replica_alone, short_refuses, some_draw, source_alone}
 use Rattle.script_run.proofs.nodes.Nodes.carry_out.Goals as goal
 
 pub returns-in-Say-clause-rep_drawn : goal.returns-in-Say-clause-rep_drawn
@@ -169,7 +169,8 @@ returns-in-Fetch-clause-left g c names start b before =
 pub returns-in-Fetch-clause-carried : goal.returns-in-Fetch-clause-carried
 returns-in-Fetch-clause-carried g c names start b before =
     rw c.in-Fetch.is
-    (fetched_out c.fetch.result _ _ start c.args.self.now _ c.args.number c.in-Fetch.count c.args.report.now names b before (λ marks together. c.fetch.ensures.lasts names start b marks together)
+    (fetched_out c.fetch.result _ _ start c.args.self.now _ c.args.number c.in-Fetch.count c.args.report.now names b before
+    (fetched_go c.fetch.result c.in-Fetch.count c.args.self.now _ c.fetch.ensures.source c.fetch.ensures.generation) (λ marks together. c.fetch.ensures.lasts names start b marks together)
     (λ draw marks together. c.fetch.ensures.carries names start b draw marks together) (λ draw together. c.fetch.ensures.shows names start b draw together))
 
 pub returns-in-Say-clause-on : goal.returns-in-Say-clause-on

@@ -17,4 +17,4 @@ returns-in_err-shown-in-Ok-clause-left g c names src start b report before =
 pub returns-in_ok-shown-in-Ok-clause-carried : goal.returns-in_ok-shown-in-Ok-clause-carried
 returns-in_ok-shown-in-Ok-clause-carried g c names src start b report before =
     replica_kept c.args.self.now src _ _ start c.args.number report c.checkpoint.ensures.goes c.checkpoint.ensures.runs names b before
-    _ _ c.in_ok-shown-in-Ok.field-0 refl c.checkpoint.ensures.node c.in-Ok.ensures.on c.ok-answer.ensures c.in_ok-shown-in-Ok.ensures
+    _ _ c.in_ok-shown-in-Ok.field-0 refl c.checkpoint.ensures.node c.in-Ok.ensures.generation c.in-Ok.ensures.on c.ok-answer.ensures c.in_ok-shown-in-Ok.ensures

@@ -17,4 +17,4 @@ returns-in_err-shown-in-Ok-clause-left g c names rep start b report before =
 pub returns-in_ok-shown-in-Ok-clause-carried : goal.returns-in_ok-shown-in-Ok-clause-carried
 returns-in_ok-shown-in-Ok-clause-carried g c names rep start b report before =
     source_kept c.runs_last.ensures.source (record { goes_on = c.log_goes_on.ensures; one = c.logs_go_on.ensures.one; stores = c.stores_go_on.ensures }) c.args.self.now _ _ rep start c.args.number report c.checkpoint.ensures.goes c.checkpoint.ensures.runs names b before
-    _ _ c.in_ok-shown-in-Ok.field-0 refl (ap (λ x. x.identity) c.checkpoint.ensures.node) c.in-Ok.ensures.stands c.ok-answer.ensures c.in_ok-shown-in-Ok.ensures
+    _ _ c.in_ok-shown-in-Ok.field-0 refl (ap (λ x. x.identity) c.checkpoint.ensures.node) c.in-Ok.ensures.generation c.in-Ok.ensures.stands c.ok-answer.ensures c.in_ok-shown-in-Ok.ensures
