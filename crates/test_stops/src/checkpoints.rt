@@ -1,7 +1,10 @@
 //! CHECKPOINT of a source and of a replica: what their files hold behind it, a stop inside and behind each of its calls of the disk and of
 //! the openings that follow, open transactions, and many checkpoints in a row.
+ghost use Rattle.std.specs.Prelude.{Some};
+ghost use Rattle.disk_model.specs.Files.{story_of};
+ghost use Rattle.disk_model.specs.Moments.{IsSettled};
 
-use crate::left::{FILES, again, dumped, dumped_replica, named, named_applied};
+use crate::left::{FILES, again, dumped, dumped_replica, files_of, named, named_applied};
 use crate::playing::{Ended, asked, comes_to, over};
 use crash_images::{CRASHES, disk_left, files_left, no_files};
 use disk_model::{Disk, FuseDisk, MemDisk};
@@ -277,16 +280,16 @@ fn the_commits_end_well(rt: HostRuntime) {
 // ---- open transactions
 
 /// A checkpoint between the statements of a transaction, which goes on; the relay too.
-static OPEN: &str = "s1: CREATE TABLE t (id INT, PRIMARY KEY (id)) //
-s1: INSERT INTO t VALUES (1) //
+static OPEN: &str = "s1: CREATE TABLE t (id INT, v INT, PRIMARY KEY (id)) //
+s1: INSERT INTO t VALUES (1, 10) //
 replica: FETCH 100000 //
 s1: BEGIN //
-s1: INSERT INTO t VALUES (2) //
+s1: INSERT INTO t VALUES (2, 20) //
 source: CHECKPOINT //
 replica: CHECKPOINT //
 s2: SELECT * FROM t //
 s1: SELECT * FROM t //
-s2: INSERT INTO t VALUES (9) //
+s2: INSERT INTO t VALUES (9, 90) //
 replica: APPLY 9 //
 s1: COMMIT //
 s2: SELECT * FROM t //
@@ -296,25 +299,25 @@ s2: SELECT * FROM t //
 
 static OPEN_LINES: &str = "1 ok 0
 2 ok 1
-3 fetched 336
+3 fetched 332
 4 ok 0
 5 ok 1
 6 ok 0
 7 ok 0
-8 row 1
+8 row 1, 10
 8 rows 1
-9 row 1
-9 row 2
+9 row 1, 10
+9 row 2, 20
 9 rows 2
-10 error 1205
+10 error 1205 by s1
 11 applied 2 1:336
 12 ok 0
-13 row 1
-13 row 2
+13 row 1, 10
+13 row 2, 20
 13 rows 2
 14 ok 0
-15 row 1
-15 row 2
+15 row 1, 10
+15 row 2, 20
 15 rows 2
 ";
 
@@ -343,13 +346,13 @@ fn open_rows_are_not_kept(rt: HostRuntime) {
         &mut MemDisk::new(alloc),
     );
     assert!(&rt; comes_to(&ended, "1 ok 0\n2 ok 1\n3 ok 0\n4 ok 1\n5 ok 1\n6 ok 0\n", ""));
-    let dumped = dumped(alloc, crate::left::files_of(alloc, &disk).as_slice());
+    let dumped = dumped(alloc, files_of(alloc, &disk).as_slice());
     assert!(&rt; dumped.is_some_and(|text| text.as_slice() == dump_at(alloc, 2).as_slice()));
 }
 
 // ---- many in a row
 
-/// A script with a table, a row, so many checkpoints, and what the table shows.
+/// A script that makes a table with a row, and then so many checkpoints.
 fn many(alloc: Global, count: u64) -> Bytes {
     let mut script: Bytes = List::new(alloc);
     let _ = script.extend_from_slice(
@@ -377,6 +380,6 @@ fn a_hundred_in_a_row(rt: HostRuntime) {
     assert!(&rt; disk.contents(0)[10..18] == [100, 0, 0, 0, 0, 0, 0, 0]);
     assert!(&rt; disk.contents(1)[10..18] == [99, 0, 0, 0, 0, 0, 0, 0]);
     assert!(&rt; disk.contents(2).first() == Some(&0));
-    let dumped = dumped(alloc, crate::left::files_of(alloc, &disk).as_slice());
+    let dumped = dumped(alloc, files_of(alloc, &disk).as_slice());
     assert!(&rt; dumped.is_some_and(|text| text.as_slice() == dump_at(alloc, 2).as_slice()));
 }
