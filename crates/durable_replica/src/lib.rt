@@ -5,7 +5,7 @@
 //! is pushed (`store_replica`). The record has the group's changes and the place behind it, so that base and place move together. Opening
 //! reads the store (`store_open`) and starts its journal where that has no gate yet. RESTART drops all memory and opens again.
 //!
-//! This crate stands on `replica_node` and on `store_replica`; who carries out a script over two disks will stand on it.
+//! This crate stands on `replica_node` and on `store_replica`; who carries out a script over two disks stands on it.
 //!
 //! - `replica`: [`DurableReplica`], with [`DurableReplica::open`], [`DurableReplica::fetch`], [`DurableReplica::select`] and
 //!   [`DurableReplica::restart`]

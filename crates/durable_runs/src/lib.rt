@@ -7,7 +7,7 @@
 //! the other are a run. Calls that fail are calls like others.
 //!
 //! It stands on `disk_model` (images at each moment), `store_model` (what an image of a store holds), `session_model` (what entries make
-//! of a source) and on the marks of `answer_text`; nodes with stores will stand on it.
+//! of a source) and on the marks of `answer_text`; what writes a store, and the laws of runs over stores, stand on it.
 //!
 //! - `specs/Marks`: marks as a side reads them, and what they name
 //! - `specs/Runs`: the claim on an image, runs, and whole runs, for either side

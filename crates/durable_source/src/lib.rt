@@ -4,7 +4,7 @@
 //! entry, each with a mark (`store_source`). Opening reads the store (`store_open`), starts its journal where that has no gate yet, and
 //! begins the first log where there is none. RESTART drops all memory and opens again. Logs are served from their files.
 //!
-//! This crate stands on `source_node` and on `store_source`; who carries out a script over two disks will stand on it.
+//! This crate stands on `source_node` and on `store_source`; who carries out a script over two disks stands on it.
 //!
 //! - `source`: [`DurableSource`], with [`DurableSource::open`], [`DurableSource::exec`], [`DurableSource::log_bytes`] and
 //!   [`DurableSource::restart`]

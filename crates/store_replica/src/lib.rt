@@ -5,8 +5,7 @@
 //! Room for the mark is taken before the first call of the disk; nothing else takes memory. What a replica fetches is put into a file of
 //! its own and never synced, so that nothing is claimed of it after a crash: an opening empties it.
 //!
-//! This crate stands on the store of `commit_store`, on `store_open`, and on the runs of `durable_runs`; a replica with a disk will stand on
-//! it.
+//! This crate stands on the store of `commit_store`, on `store_open`, and on the runs of `durable_runs`; the replica on its disk stands on it.
 //!
 //! - `keeping`: [`keep`]
 //! - `relay`: [`put_in_relay`], and the relay emptied

@@ -6,7 +6,7 @@
 //! ends of logs that begin, is taken before the first call of the disk; nothing else takes memory. A log is served from its file, up to
 //! where its records say that it ends, and no further.
 //!
-//! This crate stands on the store of `commit_store` and on the runs of `durable_runs`; a source with a disk will stand on it.
+//! This crate stands on the store of `commit_store` and on the runs of `durable_runs`; the source on its disk stands on it.
 //!
 //! - `queue`: [`write_out`], over `entry`, which writes one
 //! - `beginning`: [`begin_log`], the start of the first log

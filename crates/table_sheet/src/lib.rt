@@ -51,7 +51,7 @@
 //!   (`page` of [`Sheet::definition`])
 //!
 //! # Only tested
-//! Nothing yet.
+//! That calls succeed with ample memory, in `test_sheets`.
 #![tactic(auto)]
 
 mod committed;
