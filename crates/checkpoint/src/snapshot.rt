@@ -16,7 +16,6 @@ use val_types::{Bytes, List, NoMemory};
 const SIZE: usize = 8;
 
 /// Puts the body of a snapshot at the end of some bytes.
-#[tactic(auto, unfolding(store_model::specs::Snapshots::snapshot_body))]
 fn put_body(
     alloc: Global,
     s: &Store,
@@ -28,18 +27,19 @@ fn put_body(
     ensures body { OnOk result (out.new ≡ out.old ++ snapshot_body s.now.node generation (held_kept s.now tables.now objects.now)) }
     ensures few { OnOk result (length objects.now < 2 ^ 32) }
 {
-    put_head(s.node(), generation, s.number(), out)?;
-    put_places(s.node(), s.ends(), s.log(), s.pos(), out)?;
+    let kind = s.node();
+    put_head(kind, generation, s.number(), out)?;
+    put_places(kind, s.ends(), s.log(), s.pos(), out)?;
     put_base(alloc, tables, objects, out)
 }
 
 /// Some bytes with others over their front.
-fn with_front(bytes: Bytes, front: &[u8; 8]) -> Bytes
-    requires { SIZE ≤ length bytes }
-    ensures { result ≡ front.now ++ drop SIZE bytes }
+fn with_front(bytes: Bytes, front: &[u8]) -> Bytes
+    requires { length front.now ≤ length bytes }
+    ensures { result ≡ front.now ++ drop (length front.now) bytes }
 {
     let mut items = bytes.into_vec();
-    items[..SIZE].copy_from_slice(front);
+    items[..front.len()].copy_from_slice(front);
     List::from_vec(items)
 }
 
