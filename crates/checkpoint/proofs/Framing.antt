@@ -1,8 +1,8 @@
 -- A snapshot, made part by part.
-use Rattle.std.proofs.Common.{◌≡◌, ℕ, ◌-◌, ◌+◌, ◌<◌, ◌^◌, List, ◌++◌, length, drop, sym, ap, subst, ◌∙◌, append_assoc, arith}
-use Rattle.std.proofs.lemmas.List.{drop_at, length-append, length-map}
+use Rattle.std.proofs.Common.{◌≡◌, ℕ, ◌<◌, ◌^◌, List, [], ◌++◌, length, Result, Ok, Err, sym, ap, subst, ◌∙◌, append_assoc, arith}
+use Rattle.std.specs.Prelude.{IfOk, OnOk}
+use Rattle.std.proofs.lemmas.List.{length-append, length-map}
 use Rattle.byte_fields.specs.Field.{number_bytes}
-use Rattle.byte_fields.proofs.FieldLaws.{field_width}
 use Rattle.table_rules.specs.Stores.{Store as Rows}
 use Rattle.snapshot_bodies.specs.catalog_show_create.catalog_objects.declared.object.Object.{Object}
 use Rattle.snapshot_bodies.specs.catalog_show_create.catalog_objects.Keys.{seen}
@@ -36,23 +36,18 @@ place_at log pos = record { log = log; pos = pos }
 pub same_place : (log log' pos pos' : ℕ) → log' ≡ log → pos' ≡ pos → place_at log pos ≡ place_at log' pos'
 same_place log log' pos pos' logs positions = ap (λ l. place_at l pos) (sym logs) ∙ ap (place_at log') (sym positions)
 
--- a body behind eight bytes, which are its length then
-pub framed_is : (zeros bytes body front made : List ℕ) (size : ℕ) → length zeros ≡ 8 → bytes ≡ zeros ++ body → size ≡ length bytes - 8 → front ≡ number_bytes 8 size
-    → made ≡ front ++ drop (length front) bytes → made ≡ snapshot_framed body
-framed_is zeros bytes body front made size eight is counted front_is made_is =
-    let long : size ≡ length body = omega (arith, counted, ap length is, length-append zeros body, eight) in
-    let front_now : front ≡ number_bytes 8 (length body) = front_is ∙ ap (number_bytes 8) long in
-    made_is
-    ∙ ap (λ f. f ++ drop (length f) bytes) front_now
-    ∙ ap (λ n. number_bytes 8 (length body) ++ drop n bytes) (field_width 8 (length body))
-    ∙ ap (λ l. number_bytes 8 (length body) ++ l) (ap (drop 8) is ∙ drop_at zeros body 8 eight)
+-- what was made of some bytes that had a body behind none
+pub framed_ok : {E : Type 0} (r : Result (List ℕ) E) (given bytes none body : List ℕ) → IfOk r (λ f. f ≡ snapshot_framed given) → given ≡ bytes → bytes ≡ none ++ body → none ≡ []
+    → IfOk r (λ f. f ≡ snapshot_framed body)
+framed_ok r given bytes none body framed given_is is empty =
+    subst (λ (g : List ℕ). IfOk r (λ f. f ≡ snapshot_framed g)) (given_is ∙ is ∙ ap (λ (l : List ℕ). l ++ body) empty) framed
 
--- what was made in memory has sizes that its fields can say
-pub sizes_fit : (kind : Kind) (generation : ℕ) (store : Store) (tables : Rows) (objects : List Object) (zeros bytes : List ℕ)
-    → bytes ≡ zeros ++ snapshot_body kind generation (held_kept store tables objects) → length bytes < 2 ^ 64 → length objects < 2 ^ 32
-    → HasSizes kind generation (held_kept store tables objects)
-sizes_fit kind generation store tables objects zeros bytes is fits few =
+-- ... and it has sizes that its fields can say
+pub sizes_ok : {E : Type 0} (r : Result (List ℕ) E) (kind : Kind) (generation : ℕ) (store : Store) (tables : Rows) (objects : List Object) (given bytes none : List ℕ) → OnOk r (length given < 2 ^ 64) → given ≡ bytes
+    → bytes ≡ none ++ snapshot_body kind generation (held_kept store tables objects) → length objects < 2 ^ 32 → IfOk r (λ f. HasSizes kind generation (held_kept store tables objects))
+sizes_ok (Ok f) kind generation store tables objects given bytes none fits given_is is few =
     let body : List ℕ = snapshot_body kind generation (held_kept store tables objects) in record {
-      body = omega (arith, fits, ap length is, length-append zeros body);
+      body = omega (arith, fits, ap length given_is, ap length is, length-append none body);
       objects = subst (λ n. n < 2 ^ 32) (sym (length-map objects seen)) few;
     }
+sizes_ok (Err e) kind generation store tables objects given bytes none fits given_is is few = tt

@@ -1,5 +1,5 @@
 -- What is held, by what a node keeps of it.
-use Rattle.std.proofs.Common.{◌≡◌, ℕ, ◌+◌, ◌<◌, ◌^◌, List, [], ◌∷◌, length, Option, refl, sym, ◌∙◌, ap, subst, arith}
+use Rattle.std.proofs.Common.{◌≡◌, ℕ, ◌+◌, List, [], ◌∷◌, Option, refl, sym, ◌∙◌, ap, subst, arith}
 use Rattle.std.specs.Prelude.{IfSome}
 use Rattle.disk_model.specs.Story.{Story, seen}
 use Rattle.disk_model.specs.Moments.{Only}
@@ -16,7 +16,6 @@ use Rattle.commit_store.specs.Keeping.{AreDurable, MovesTo, positions}
 use Rattle.commit_store.proofs.Standing.{kept_low}
 use Rattle.checkpoint_model.specs.Pieces.{snapshot_file, snapshot_framed}
 use Rattle.checkpoint_model.specs.Moments.{StandsEither}
-use Rattle.snapshot_bodies.specs.Kept.{base_kept}
 use Rattle.snapshot_bodies.specs.store_bodies.Ends.{ends_at}
 use Rattle.checkpoint_pieces.specs.Newest.{IsNewest, IsReadAgain, IsToWork}
 use Rattle.checkpoint.specs.Checkpoints.{CanCheckpoint, HasSizes, held_kept}
@@ -45,16 +44,16 @@ module _ (t : Option Story) (store : Store) (tables : Rows) (objects : List Obje
       → HasSizes store.node generation (held_kept store tables objects) → IsToWork t store.node store.generation framed held
   to_work generation framed next same has = let sizes = subst (HasSizes store.node (store.generation + 1)) held_is
       (subst (λ g. HasSizes store.node g (held_kept store tables objects)) next has) in record {
-    durable = can.keeps.holds.durable;
-    own = can.keeps.holds.own;
-    stands = can.keeps.holds.stands;
-    is = same ∙ ap (λ g. snapshot_framed (snapshot_body store.node g (held_kept store tables objects))) next
-        ∙ ap (λ h. snapshot_framed (snapshot_body store.node (store.generation + 1) h)) held_is;
-    fits = sizes.body;
-    again = if_both t (HasSizes store.node (store.generation + 1) held → IsReadAgain store.node (store.generation + 1) held)
-        (HasSizes store.node (store.generation + 1) held → IsReadAgain store.node (store.generation + 1) held)
-        (IsReadAgain store.node (store.generation + 1) held) can.again can.again (λ again again'. again sizes);
-  }
+        durable = can.keeps.holds.durable;
+        own = can.keeps.holds.own;
+        stands = can.keeps.holds.stands;
+        is = same ∙ ap (λ g. snapshot_framed (snapshot_body store.node g (held_kept store tables objects))) next
+            ∙ ap (λ h. snapshot_framed (snapshot_body store.node (store.generation + 1) h)) held_is;
+        fits = sizes.body;
+        again = if_both t (HasSizes store.node (store.generation + 1) held → IsReadAgain store.node (store.generation + 1) held)
+            (HasSizes store.node (store.generation + 1) held → IsReadAgain store.node (store.generation + 1) held)
+            (IsReadAgain store.node (store.generation + 1) held) can.again can.again (λ again again'. again sizes);
+      }
 
   pub moves : (u : Option Story) → IsNewest u store.node (store.generation + 1) held → MovesTo u store (store.generation + 1) held
   moves u newest = record {

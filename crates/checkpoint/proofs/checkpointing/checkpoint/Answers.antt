@@ -1,4 +1,4 @@
-use Rattle.std.proofs.Common.{◌≡◌, ◌+◌, ap, refl, sym, subst, ◌∙◌}
+use Rattle.std.proofs.Common.{◌+◌, ap, refl, ◌∙◌}
 use Rattle.checkpoint.proofs.Keeping.{at_next, closes, goes_on, journal_durable, snapshot_durable, to_work, untouched}
 use Rattle.checkpoint.proofs.checkpointing.checkpoint.Goals as goal
 
