@@ -39,7 +39,13 @@ fn once<D: Disk>(alloc: Global, d: &mut D, node: Kind) -> Result<(), OpenRefusal
 {
     let opened = started(alloc, d, node)?;
     let Opened { work, mut store } = opened;
-    as_opening(checkpoint(alloc, &mut store, d, work.tables(), work.catalog().objects()))
+    as_opening(checkpoint(
+        alloc,
+        &mut store,
+        d,
+        work.tables(),
+        work.catalog().objects(),
+    ))
 }
 
 /// Does so this many times, each time opening the store again.
