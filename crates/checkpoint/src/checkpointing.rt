@@ -35,7 +35,7 @@ pub fn checkpoint<D: Disk>(
     // been left before.
     ensures images { (held : Held) → CanCheckpoint (D.told d.old) s.old tables.now objects.now held
         → WorksOnBoth (D.told d.old) (D.told d.new) (snapshot_file (s.old.generation + 1)) (journal_of (s.old.generation + 1))
-          (StandsEither s.old.node s.old.generation held) }
+        (StandsEither s.old.node s.old.generation held) }
 
     // After Ok the disk keeps what is held, at the next generation, if there is one, whose journal has no record.
     ensures keeps { (held : Held) → CanCheckpoint (D.told d.old) s.old tables.now objects.now held → OnOk result (Keeps (D.told d.new) s.new held) }

@@ -1,5 +1,5 @@
 //! A snapshot, made in memory.
-ghost use Rattle.std.specs.Prelude.{◌≡◌, ◌≤◌, ◌<◌, ◌^◌, ◌++◌, drop, length, IfOk, OnOk};
+ghost use Rattle.std.specs.Prelude.{◌≡◌, ◌<◌, ◌^◌, ◌++◌, length, IfOk, OnOk};
 ghost use Rattle.store_model.specs.Snapshots.{snapshot_body};
 ghost use Rattle.checkpoint_model.specs.Pieces.{snapshot_framed};
 ghost use Rattle.checkpoint.specs.Checkpoints.{HasSizes, held_kept};
@@ -12,11 +12,7 @@ use snapshot_bodies::{put_base, put_head, put_places};
 use std::alloc::Global;
 use val_types::{Bytes, List, NoMemory};
 
-/// How many bytes say how long a body is.
-const SIZE: usize = 8;
-
 /// Puts the body of a snapshot at the end of some bytes.
-#[tactic(auto, unfolding(store_model::specs::Snapshots::snapshot_body))]
 fn put_body(
     alloc: Global,
     s: &Store,
@@ -28,22 +24,23 @@ fn put_body(
     ensures body { OnOk result (out.new ≡ out.old ++ snapshot_body s.now.node generation (held_kept s.now tables.now objects.now)) }
     ensures few { OnOk result (length objects.now < 2 ^ 32) }
 {
-    put_head(s.node(), generation, s.number(), out)?;
-    put_places(s.node(), s.ends(), s.log(), s.pos(), out)?;
+    let kind = s.node();
+    put_head(kind, generation, s.number(), out)?;
+    put_places(kind, s.ends(), s.log(), s.pos(), out)?;
     put_base(alloc, tables, objects, out)
 }
 
-/// Some bytes with others over their front.
-fn with_front(bytes: Bytes, front: &[u8; 8]) -> Bytes
-    requires { SIZE ≤ length bytes }
-    ensures { result ≡ front.now ++ drop SIZE bytes }
+/// A body as a snapshot's file has it behind the gate: its length, and the body.
+fn frame(alloc: Global, body: &[u8]) -> Result<Bytes, NoMemory>
+    ensures framed { IfOk result (λ framed. framed ≡ snapshot_framed body.now) }
+    ensures fits { OnOk result (length body.now < 2 ^ 64) }
 {
-    let mut items = bytes.into_vec();
-    items[..SIZE].copy_from_slice(front);
-    List::from_vec(items)
+    let mut framed = List::from_slice(alloc, &bytes_u64(body.len() as u64))?;
+    framed.extend_from_slice(body)?;
+    Ok(framed)
 }
 
-/// A snapshot of what a store holds as its file has it behind the gate: the length of its body, and the body.
+/// A snapshot of what a store holds as its file has it behind the gate.
 pub(crate) fn framed_snapshot(
     alloc: Global,
     s: &Store,
@@ -54,8 +51,7 @@ pub(crate) fn framed_snapshot(
     ensures bytes { IfOk result (λ framed. framed ≡ snapshot_framed (snapshot_body s.now.node generation (held_kept s.now tables.now objects.now))) }
     ensures sizes { IfOk result (λ framed. HasSizes s.now.node generation (held_kept s.now tables.now objects.now)) }
 {
-    let mut bytes = List::from_slice(alloc, &[0; 8])?;
-    put_body(alloc, s, generation, tables, objects, &mut bytes)?;
-    let size = (bytes.len() - SIZE) as u64;
-    Ok(with_front(bytes, &bytes_u64(size)))
+    let mut body = List::new(alloc);
+    put_body(alloc, s, generation, tables, objects, &mut body)?;
+    frame(alloc, body.as_slice())
 }

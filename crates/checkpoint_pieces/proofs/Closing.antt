@@ -1,5 +1,5 @@
 -- The gate of a snapshot's file is closed where it has to be.
-use Rattle.std.proofs.Common.{◌≡◌, inl, inr, ℕ, Bool, true, false, List, [], ◌∷◌, Option, refl, sym, ◌∙◌, ap, subst}
+use Rattle.std.proofs.Common.{◌≡◌, inl, inr, ℕ, Bool, true, false, [], ◌∷◌, Option, refl, sym, ◌∙◌, ap, subst}
 use Rattle.std.specs.Prelude.{IfSome, not}
 use Rattle.disk_model.specs.Story.{Story, overwritten, seen}
 use Rattle.disk_model.specs.Moments.{Only}

@@ -1,6 +1,6 @@
 -- The gate of a snapshot's file, as it is read.
-use Rattle.std.proofs.Common.{◌≡◌, ℕ, ◌+◌, ◌-◌, ◌<◌, ◌≤◌, Bool, true, false, eqb, leb, List, [], ◌∷◌, length, take, drop, Option, Some, None, refl, sym, ap, ◌∙◌, arith}
-use Rattle.std.specs.Prelude.{IfSome, min, not, ◌||◌, slice_index}
+use Rattle.std.proofs.Common.{◌≡◌, ℕ, ◌<◌, ◌≤◌, Bool, true, false, eqb, leb, List, [], ◌∷◌, length, take, drop, Option, Some, None, refl, sym, ap, ◌∙◌, arith}
+use Rattle.std.specs.Prelude.{IfSome, not, slice_index}
 use Rattle.std.proofs.lemmas.Bool.{le-leb, or_left}
 use Rattle.disk_model.specs.Story.{Story, seen}
 use Rattle.disk_model.specs.Claims.{Quietly}

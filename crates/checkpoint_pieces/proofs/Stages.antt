@@ -1,8 +1,7 @@
 -- A checkpoint, piece by piece: what each leaves of a disk that stands for what is held.
-use Rattle.std.proofs.Common.{◌≡◌, ◌≢◌, ◌⊎◌, inl, inr, ℕ, ◌+◌, ◌<◌, ◌≤◌, ◌^◌, true, List, [], ◌∷◌, ◌++◌, length, Option, Some, None, Ok, refl, sym, ◌∙◌, ap, subst, arith}
+use Rattle.std.proofs.Common.{◌≡◌, ◌≢◌, ◌⊎◌, inl, inr, ℕ, ◌+◌, ◌<◌, ◌^◌, true, List, [], ◌∷◌, ◌++◌, length, Option, Some, Ok, refl, sym, ◌∙◌, ap, subst, arith}
 use Rattle.std.specs.Prelude.{IfSome}
 use Rattle.disk_model.specs.Story.{Image, Story, overwritten, seen}
-use Rattle.disk_model.specs.Left.{Left}
 use Rattle.disk_model.specs.Moments.{Only, OthersOf}
 use Rattle.disk_model.specs.Claims.{Puts, Steps}
 use Rattle.disk_model.specs.Torn.{Torn}
@@ -15,7 +14,7 @@ use Rattle.store_model.specs.Snapshots.{is_open, snapshot_body, snapshot_in}
 use Rattle.store_model.specs.Stores.{first_log, journal_of, HasLogs, Stands}
 use Rattle.commit_store.specs.Keeping.{AreDurable, HasEnds, IsKept}
 use Rattle.commit_store.proofs.Standing.{durable_on, kept_low, logs_stay}
-use Rattle.checkpoint_model.specs.Pieces.{is_to_close, snapshot_file, snapshot_framed}
+use Rattle.checkpoint_model.specs.Pieces.{snapshot_file, snapshot_framed}
 use Rattle.checkpoint_model.specs.Moments.{HasBody, IsOlder, IsShut, StandsEither}
 use Rattle.checkpoint_model.proofs.Gates.{body_put, body_read, gate_put, older_shut, older_torn, opened_is_open, shut_over, shut_put, shut_torn}
 use Rattle.checkpoint_model.proofs.Keeping.{at_first_gate, newest_counts, newest_stands, no_records, older_may_change, other_is_older}

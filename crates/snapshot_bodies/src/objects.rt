@@ -17,7 +17,7 @@ use sharing::Shared;
 use sql_print::print;
 use std::alloc::{AllocError, Global};
 use store_bodies::{put_object_text, put_row};
-use val_types::{Boxed, Bytes, NoMemory, Row};
+use val_types::{Boxed, Bytes, List, NoMemory, Row};
 
 /// What was made, on the heap.
 fn boxed<T: Drop>(alloc: Global, made: Result<T, NoMemory>) -> Result<Boxed<T>, NoMemory>
@@ -47,14 +47,21 @@ fn put_rows(rows: &[Shared<Row>], out: &mut Bytes) -> Result<(), NoMemory>
     Ok(())
 }
 
-/// Puts the rows of the table of a name that are there to stay, behind their count.
+/// The rows of the table of a name that are there to stay, in the order of their keys and shared with the table.
+fn rows_named(tables: &Tables, name: &Bytes) -> Result<List<Shared<Row>>, NoMemory>
+    ensures { IfOk result (λ rows. rows ≡ rows_of name.now tables.now.committed) }
+{
+    match tables.place(name) {
+        Some(at) => tables.committed_rows(at),
+        None => Err(AllocError),
+    }
+}
+
+/// Puts them behind their count.
 fn put_table_rows(tables: &Tables, name: &Bytes, out: &mut Bytes) -> Result<(), NoMemory>
     ensures { OnOk result (out.new ≡ out.old ++ all_bytes 8 row_bytes (rows_of name.now tables.now.committed)) }
 {
-    let Some(at) = tables.place(name) else {
-        return Err(AllocError);
-    };
-    let rows = tables.committed_rows(at)?;
+    let rows = rows_named(tables, name)?;
     out.extend_from_slice(&bytes_u64(rows.len() as u64))?;
     put_rows(rows.as_slice(), out)
 }
@@ -72,6 +79,7 @@ fn put_rows_behind(tables: &Tables, object: &Object, out: &mut Bytes) -> Result<
 }
 
 /// Puts an object: its text, and its rows.
+#[tactic(auto, using(crate::proofs::Stating::statement_is))]
 fn put_object(
     alloc: Global,
     tables: &Tables,

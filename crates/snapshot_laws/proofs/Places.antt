@@ -1,5 +1,5 @@
 -- The numbers of a source's store are within its bounds.
-use Rattle.std.proofs.Common.{◌≡◌, ℕ, suc, ◌+◌, ◌%◌, ◌<◌, ◌≤◌, ◌^◌, Bool, true, false, cond, eqb, leb, ltb, List, [], ◌∷◌, ◌++◌, length, take, drop, Option, Some, None, Result, Ok, Err, refl, sym, ap, subst, ◌∙◌, arith}
+use Rattle.std.proofs.Common.{◌≡◌, ℕ, suc, ◌+◌, ◌%◌, ◌<◌, ◌≤◌, ◌^◌, Bool, true, false, cond, eqb, leb, ltb, List, [], ◌∷◌, ◌++◌, length, take, drop, Option, Some, None, Result, Ok, Err, refl, ap, subst, arith}
 use Rattle.std.specs.Prelude.{◌&&◌, ◌||◌}
 use Rattle.std.specs.List.{AllByRecursion}
 use Rattle.std.specs.Option.{option_and_then, option_map}
@@ -16,7 +16,7 @@ use Rattle.store_model.specs.declared.record.Record.TheVariants.{Transaction, De
 use Rattle.store_model.specs.Reading.{all_behind, number_of, read_as, text_behind, to_the_end}
 use Rattle.store_model.specs.Bodies.{changes_in, head_in, record_of, record_of_kind, with_changes, with_old_end, with_text}
 use Rattle.store_model.specs.Held.{Held, LogEnd, applied, begins_log, bodies_applied, body_applied, changed, committed, defined_by, first_read, is_next_commit, latest_end, latest_old_end, log_begun, most_committed, most_logs, nothing_held, where_so, with_last_end}
-use Rattle.store_model.specs.Snapshots.{HasPlaces, are_ends, base_in, end_in, ends_if, ends_in, generation_in, held_in, is_open, node_of, of_file, snapshot_in, snapshot_of}
+use Rattle.store_model.specs.Snapshots.{HasPlaces, are_ends, base_in, end_in, ends_if, ends_in, generation_in, held_in, is_open, of_file, snapshot_in, snapshot_of}
 use Rattle.store_model.specs.Stores.{Spot, Stands, begun_by, begun_from, begun_in, greater, greater_if}
 
 -- what a source's store holds is within its bounds
@@ -33,7 +33,8 @@ last_length pos [] = refl
 last_length pos (e ∷ []) = refl
 last_length pos (e ∷ f ∷ ends) = ap (λ n. suc n) (last_length pos (f ∷ ends))
 
-last_ends : (pos : ℕ) (ends : List LogEnd) → pos ≤ latest_end → are_ends ends ≡ true → are_ends (with_last_end pos ends) ≡ true
+last_ends : (pos : ℕ) (ends : List LogEnd) → pos ≤ latest_end → are_ends ends ≡ true
+    → are_ends (with_last_end pos ends) ≡ true
 last_ends pos [] low are = refl
 last_ends pos (e ∷ []) low are = le-leb pos latest_end low
 last_ends pos (e ∷ f ∷ []) low are = and_from (leb e.pos latest_old_end) (leb pos latest_end) (and_parts (leb e.pos latest_old_end) (leb f.pos latest_end) are).0 (le-leb pos latest_end low)
@@ -44,7 +45,8 @@ last_ends pos (e ∷ f ∷ g ∷ ends) low are =
 abbrev ends_begun : (old pos : ℕ) → List LogEnd → List LogEnd
 ends_begun old pos ends = with_last_end old ends ++ record { pos = pos } ∷ []
 
-begun_ends : (old pos : ℕ) (ends : List LogEnd) → old ≤ latest_old_end → pos ≤ latest_end → are_ends ends ≡ true → are_ends (ends_begun old pos ends) ≡ true
+begun_ends : (old pos : ℕ) (ends : List LogEnd) → old ≤ latest_old_end → pos ≤ latest_end → are_ends ends ≡ true
+    → are_ends (ends_begun old pos ends) ≡ true
 begun_ends old pos [] low last are = le-leb pos latest_end last
 begun_ends old pos (e ∷ []) low last are = and_from (leb old latest_old_end) (leb pos latest_end) (le-leb old latest_old_end low) (le-leb pos latest_end last)
 begun_ends old pos (e ∷ f ∷ []) low last are =
@@ -72,11 +74,13 @@ any_says : {X : Type 0} (r : Read X) → Says (λ _. Unit {0}) r
 any_says None = tt
 any_says (Some (x, rest)) = tt
 
-then_says : {X Y : Type 0} (P : Y → Type 0) (Q : X → Type 0) (f : X → List ℕ → Read Y) (r : Read X) → Says Q r → ((x : X) (rest : List ℕ) → Q x → Says P (f x rest)) → Says P (and_then f r)
+then_says : {X Y : Type 0} (P : Y → Type 0) (Q : X → Type 0) (f : X → List ℕ → Read Y) (r : Read X) → Says Q r
+    → ((x : X) (rest : List ℕ) → Q x → Says P (f x rest)) → Says P (and_then f r)
 then_says P Q f None s g = tt
 then_says P Q f (Some (x, rest)) s g = g x rest s
 
-as_says : {X Y : Type 0} (P : Y → Type 0) (Q : X → Type 0) (make : X → Y) (r : Read X) → Says Q r → ((x : X) → Q x → P (make x)) → Says P (read_as make r)
+as_says : {X Y : Type 0} (P : Y → Type 0) (Q : X → Type 0) (make : X → Y) (r : Read X) → Says Q r
+    → ((x : X) → Q x → P (make x)) → Says P (read_as make r)
 as_says P Q make None s g = tt
 as_says P Q make (Some (x, rest)) s g = g x s
 
@@ -88,7 +92,8 @@ ends_say : (bytes : List ℕ) → Says AreSound (ends_in bytes)
 ends_say bytes = then_says AreSound (λ _. Unit {0}) (λ ends rest. option_map (λ es. (es, rest)) (ends_if ends)) (all_behind 4 end_in bytes) (any_says (all_behind 4 end_in bytes))
     (λ ends rest u. by ends rest (ltb 0 (length ends) && leb (length ends) most_logs && are_ends ends) refl)
   where
-    by : (ends : List LogEnd) (rest : List ℕ) (z : Bool) → (ltb 0 (length ends) && leb (length ends) most_logs && are_ends ends) ≡ z
+    by : (ends : List LogEnd) (rest : List ℕ) (z : Bool)
+        → (ltb 0 (length ends) && leb (length ends) most_logs && are_ends ends) ≡ z
         → Says AreSound (option_map (λ es. (es, rest)) (cond z (Some ends) None))
     by ends rest false is = tt
     by ends rest true is =
@@ -151,7 +156,8 @@ kept_holds f (Some b) h = by (eqb (b.0 % 2) f)
 file_holds : (f : ℕ) (file : List ℕ) → Holds (snapshot_in Source f file)
 file_holds f file = by (leb (9 + number_at 1 8 file) (length file))
   where
-    by : (z : Bool) → Holds (cond z (option_and_then (of_file f) (snapshot_of Source (take (number_at 1 8 file) (drop 9 file)))) None)
+    by : (z : Bool)
+        → Holds (cond z (option_and_then (of_file f) (snapshot_of Source (take (number_at 1 8 file) (drop 9 file)))) None)
     by true = kept_holds f (snapshot_of Source (take (number_at 1 8 file) (drop 9 file))) (body_holds (take (number_at 1 8 file) (drop 9 file)))
     by false = tt
 
@@ -196,7 +202,8 @@ from_ok : (a b : Begun) → goes_from a ≡ goes_from b → a ≡ b
 unfolding from_or
 from_ok a b e = ap (from_or a) e
 
-begun_holds : (a b : Result (Option Begun) Spot) (begun : Begun) → HoldsIf a → HoldsIf b → greater_if a b ≡ Ok begun → SoundBegun begun
+begun_holds : (a b : Result (Option Begun) Spot) (begun : Begun) → HoldsIf a → HoldsIf b → greater_if a b ≡ Ok begun
+    → SoundBegun begun
 begun_holds (Err spot) b begun p q is = cc
 begun_holds (Ok x) (Err spot) begun p q is = cc
 begun_holds (Ok x) (Ok y) begun p q is = subst SoundBegun (from_ok (greater x y) begun is) (greater_holds x y p q)
@@ -262,7 +269,8 @@ so : (z : Bool) (o : Option Held) (now : Held) → where_so z o ≡ Some now →
 so true o now e = (refl, e)
 so false o now e = cc
 
-committed_sound : (head : Head) (h now : Held) (o : Option Base) → is_next_commit head h ≡ true → option_map (committed head h) o ≡ Some now → Sound h → Sound now
+committed_sound : (head : Head) (h now : Held) (o : Option Base) → is_next_commit head h ≡ true
+    → option_map (committed head h) o ≡ Some now → Sound h → Sound now
 committed_sound head h now None next e sound = cc
 committed_sound head h now (Some base) next e sound =
     let at = and_parts _ (leb head.pos latest_end) next in
@@ -276,7 +284,8 @@ committed_sound head h now (Some base) next e sound =
       ends = last_ends head.pos h.ends (leb-true head.pos latest_end at.1) sound.ends;
     })
 
-log_sound : (head : Head) (old_end : ℕ) (h now : Held) → begins_log head old_end h ≡ true → Some (log_begun head old_end h) ≡ Some now → Sound h → Sound now
+log_sound : (head : Head) (old_end : ℕ) (h now : Held) → begins_log head old_end h ≡ true
+    → Some (log_begun head old_end h) ≡ Some now → Sound h → Sound now
 log_sound head old_end h now begins e sound =
     let first = and_parts _ (ltb 0 (length h.ends) || eqb old_end 0) begins in
     let old = and_parts _ (leb old_end latest_old_end) first.0 in
@@ -307,26 +316,31 @@ record_sound (TransactionApplied head cs) h now is e sound = absurd is
 record_sound (DefinitionApplied head text) h now is e sound = absurd is
 record_sound (PlaceMoved head) h now is e sound = absurd is
 
-body_sound : (o : Option Record) (h now : Held) → OfSource o → option_and_then (λ r. applied r h) o ≡ Some now → Sound h → Sound now
+body_sound : (o : Option Record) (h now : Held) → OfSource o → option_and_then (λ r. applied r h) o ≡ Some now → Sound h
+    → Sound now
 body_sound None h now is e sound = cc
 body_sound (Some r) h now is e sound = record_sound r h now is e sound
 
 bodies_sound : (bodies : List (List ℕ)) (h now : Held) → bodies_applied Source bodies h ≡ Some now → Sound h → Sound now
 bodies_sound [] h now e sound = subst Sound (held_is h now e) sound
-bodies_sound (body ∷ bodies) h now e sound = by (body_applied Source body h) refl e
+bodies_sound (body ∷ bodies) h now e sound = by (body_applied Source body h) refl e (λ k e'. bodies_sound bodies k now e')
   where
-    by : (x : Option Held) → body_applied Source body h ≡ x → option_and_then (bodies_applied Source bodies) x ≡ Some now → Sound now
-    by None is e = cc
-    by (Some k) is e = bodies_sound bodies k now e (body_sound (record_of Source body) h k (record_source body) is sound)
+    by : (x : Option Held) → body_applied Source body h ≡ x → option_and_then (bodies_applied Source bodies) x ≡ Some now
+        → ((k : Held) → bodies_applied Source bodies k ≡ Some now → Sound k → Sound now) → Sound now
+    by None is e behind = cc
+    by (Some k) is e behind = behind k e (body_sound (record_of Source body) h k (record_source body) is sound)
 
 -- ---- what stands
 
-pub places_held : (generation : ℕ) (image : Image) (held : Held) → Stands Source generation image held → 0 < length held.ends → HasPlaces Source held
+pub places_held : (generation : ℕ) (image : Image) (held : Held) → Stands Source generation image held
+    → 0 < length held.ends → HasPlaces Source held
 places_held generation image held stands some =
     let sound = bodies_sound stands.opened.bodies stands.begun held stands.made (from_holds image (generation, stands.begun) stands.from) in (
       (le-leb held.number most_committed sound.number, sound.place),
-      (cond-true (ltb 0 (length held.ends) && leb (length held.ends) most_logs && are_ends held.ends) (Some held.ends) None
-        (and_from (ltb 0 (length held.ends) && leb (length held.ends) most_logs) (are_ends held.ends)
-        (and_from (ltb 0 (length held.ends)) (leb (length held.ends) most_logs) (lt-ltb 0 (length held.ends) some) (le-leb (length held.ends) most_logs sound.few)) sound.ends),
-        (omega (arith, sound.few), all_low held.ends sound.ends)),
+      (
+        cond-true (ltb 0 (length held.ends) && leb (length held.ends) most_logs && are_ends held.ends) (Some held.ends) None
+            (and_from (ltb 0 (length held.ends) && leb (length held.ends) most_logs) (are_ends held.ends)
+            (and_from (ltb 0 (length held.ends)) (leb (length held.ends) most_logs) (lt-ltb 0 (length held.ends) some) (le-leb (length held.ends) most_logs sound.few)) sound.ends),
+        (omega (arith, sound.few), all_low held.ends sound.ends),
+      ),
     )

@@ -1,16 +1,18 @@
-use Rattle.std.proofs.Common.{◌≡◌, ℕ, sym, subst}
+use Rattle.std.proofs.Common.{ℕ, sym, subst}
 use Rattle.disk_model.specs.Story.{seen}
 use Rattle.disk_model.specs.Moments.{Only}
 use Rattle.checkpoint_pieces.proofs.Both.{ok_one, ok_two, only_other}
 use Rattle.checkpoint_pieces.proofs.Putting.{all_durable, apart, first_exit, last_exit, newest, second_exit, still_shut, third_exit}
 use Rattle.checkpoint_pieces.proofs.pieces.put_pieces.Goals as goal
 
-pub close_gate-requires-clause-durable : goal.close_gate-requires-clause-durable
-close_gate-requires-clause-durable g c = subst (λ (x : ℕ). Only (g.D.Disk.told c.args.d.now) x (seen (g.D.Disk.told c.args.d.now) x)) (sym c.snapshot_file-file.ensures) c.requires.snapshot
+pub close_gate-requires : goal.close_gate-requires
+close_gate-requires g c = record { durable = subst (λ (x : ℕ). Only (g.D.Disk.told c.args.d.now) x (seen (g.D.Disk.told c.args.d.now) x)) (sym c.snapshot_file-file.ensures) c.requires.snapshot }
 
-pub close_journal-requires-clause-durable : goal.close_journal-requires-clause-durable
-close_journal-requires-clause-durable g c = only_other _ _ _ _ _ c.close_gate.ensures.steps (λ e. apart c.args.next _ _ c.snapshot_file-file.ensures c.journal_file-journal.ensures (sym e))
-    (subst (λ (x : ℕ). Only (g.D.Disk.told c.args.d.now) x (seen (g.D.Disk.told c.args.d.now) x)) (sym c.journal_file-journal.ensures) c.requires.journal)
+pub close_journal-requires : goal.close_journal-requires
+close_journal-requires g c = record {
+  durable = only_other _ _ _ _ _ c.close_gate.ensures.steps (λ e. apart c.args.next _ _ c.snapshot_file-file.ensures c.journal_file-journal.ensures (sym e))
+      (subst (λ (x : ℕ). Only (g.D.Disk.told c.args.d.now) x (seen (g.D.Disk.told c.args.d.now) x)) (sym c.journal_file-journal.ensures) c.requires.journal);
+}
 
 pub write_body-requires-clause-durable : goal.write_body-requires-clause-durable
 write_body-requires-clause-durable g c = only_other _ _ _ _ _ c.close_journal.ensures.puts (apart c.args.next _ _ c.snapshot_file-file.ensures c.journal_file-journal.ensures) c.in_ok-close_gate.ensures.durable
