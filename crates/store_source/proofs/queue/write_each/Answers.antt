@@ -45,7 +45,7 @@ loop-w-preserved-then-counts g c =
           (room_now c.loop-w.marks c.loop-w.at _ _ c.in-Some.w.counts c.if-counts.true wants c.loop-w.invariant.room) c.put_mark.ensures.marks c.put_mark.ensures.next)
           (marked _ s es _ _ _ _ c.loop-w.left c.pop.new.self c.in-Some.w _ (c.loop-w.invariant.went s es can) c.in-Some.ensures _ c.write_entry.ensures.leads _
           c.in_ok-write_entry.ensures.on c.in_ok-write_entry.ensures.calls c.if-counts.true m
-          (ap (λ (n : ℕ). record c.args.now { committed = n; src_calls = c.calls.result }) c.number.ensures) c.calls.ensures);
+          (ap (λ (n : ℕ). record c.args.now { committed = n; src_calls = c.calls.result }) c.number.ensures) c.calls.ensures.count);
       room = room_set c.loop-w.marks c.put_mark.new.marks c.loop-w.at c.put_mark.result _ _ m c.in-Some.w.counts c.if-counts.true wants c.loop-w.invariant.room
           c.put_mark.ensures.marks c.put_mark.ensures.next;
       logs = omega (arith, begun_last c.loop-w.left c.pop.new.self c.in-Some.w c.in-Some.ensures, c.loop-w.invariant.logs, c.in_ok-write_entry.ensures.room);
