@@ -19,6 +19,7 @@
 //!   just the marks that it pushed: each image of each moment stands for what the source had behind the first of the entries, no less
 //!   than the marks until then name. After Ok the disk has what all entries make. Marks name each number once and in order, one for
 //!   each transaction that was kept; it makes six calls an entry, and two more where a log ends with the next one's name.
+//!   The store's generation stays.
 //! - [`begin_log`] does the same with the start of the first log, where there is none, and pushes no mark.
 //! - [`log_bytes`] gives just the bytes of a log from a position on, up to a count and the log's committed end, none for a place that
 //!   the source does not have, and from a disk that tells nothing no more than these; it changes nothing.
