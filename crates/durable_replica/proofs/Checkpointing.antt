@@ -6,7 +6,7 @@ use Rattle.disk_model.specs.Story.{Story, count, seen}
 use Rattle.disk_model.specs.Moments.{Always, GoesOn}
 use Rattle.disk_model.proofs.Laws.{if_on}
 use Rattle.table_rules.specs.Stores.{IsWhole, Store as Rows, definitions_of}
-use Rattle.replica_node.specs.Kept.{held_of, replica_of}
+use Rattle.replica_node.specs.Kept.{Kept, held_of, replica_of}
 use Rattle.store_checkpoints.specs.Asking.{ReplicaCan}
 use Rattle.store_checkpoints.specs.snapshot_bodies.catalog_show_create.catalog_objects.Keys.{objects_of}
 use Rattle.store_checkpoints.specs.snapshot_bodies.catalog_show_create.catalog_objects.declared.object.Object.{Object}
@@ -36,7 +36,7 @@ module _ (t : Option Story) (k : DurableReplica) (is : IsOnDisk t k) where
       → seen u first_log ≡ seen t first_log → OnOk r (IsOn u new.store (held_of (replica_of k.node))) → OnOk r (IsOnDisk u new)
   on_still (Err e) u new node fetched goes relay on = tt
   on_still (Ok x) u new node fetched goes relay on = record {
-    on = subst (λ n. IsOn u new.store (held_of (replica_of n))) (sym node) on;
+    on = subst (λ (n : Kept). IsOn u new.store (held_of (replica_of n))) (sym node) on;
     relay = if_on t u (length (seen t first_log) ≡ k.fetched) (length (seen u first_log) ≡ new.fetched) goes is.relay (λ e. ap length relay ∙ e ∙ sym fetched);
   }
 

@@ -83,3 +83,6 @@ returns-clause-on g c s after es can is = ended_on _ s es _ _ _ _ c.loop-w.left 
 
 pub returns-clause-calls : goal.returns-clause-calls
 returns-clause-calls g c s es can = ended_calls _ s es _ _ _ _ c.loop-w.left c.in_default.ensures.0 _ (c.loop-w.invariant.went s es can)
+
+pub returns-clause-generation : goal.returns-clause-generation
+returns-clause-generation g c = c.loop-w.invariant.generation

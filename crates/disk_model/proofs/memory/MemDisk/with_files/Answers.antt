@@ -1,4 +1,4 @@
-use Rattle.std.proofs.Common.{sym, subst}
+use Rattle.std.proofs.Common.{subst}
 use Rattle.hex.specs.Hex.{IsBytes}
 use Rattle.disk_model.specs.Files.{files}
 use Rattle.disk_model.proofs.Recorded.{begins, begins_settled}
