@@ -3,7 +3,7 @@
 use std::alloc::AllocError;
 use thiserror::Error;
 
-/// Why a node gives no answer: memory is short. A node that keeps files will have their faults here, too.
+/// Why a node in memory gives no answer: memory is short. The faults of a node on its disk are those of `disk_model`.
 #[derive(Clone, Copy, PartialEq, Eq, Debug, Error)]
 pub enum NodeFault {
     #[error("out of memory")]

@@ -7,7 +7,6 @@
 //! - `making`: [`item_of`], with `before` ([`Before`]) and `tables` ([`definitions_changed`])
 //! - `items`: [`Items`]; `carrying` and `texts`: whether a log can carry an item, by its rows or by its text
 //! - `definition`: [`encode_definition`]; `start`: [`encode_start`]
-//! - `serving`: [`served_bytes`]
 //!
 //! The definitions in specs/ say what an item is made of (`Items`), and what a log takes (`Logged`).
 //!
@@ -20,7 +19,6 @@
 //!   [`Items::encode`] gives exactly the bytes of their transaction at a place, where it can be logged; or memory is short.
 //! - [`encode_definition`] gives exactly the bytes of a definition at a place, where it can be logged, or memory is short;
 //!   [`encode_start`] the 123 bytes with which a log begins.
-//! - [`served_bytes`] are just the bytes of a log from a position on, up to a count; or memory is short.
 //!
 //! # Only tested
 //! Nothing here: that items can be carried is tested where a source logs them.
@@ -31,7 +29,6 @@ mod carrying;
 mod definition;
 mod items;
 mod making;
-mod serving;
 mod start;
 mod tables;
 mod texts;
@@ -42,7 +39,6 @@ pub use binlog_cache::binlog_sizes;
 pub use definition::encode_definition;
 pub use items::Items;
 pub use making::item_of;
-pub use serving::served_bytes;
 pub use start::encode_start;
 pub use tables::definitions_changed;
 pub use unsafe_rules;

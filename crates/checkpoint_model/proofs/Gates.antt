@@ -19,7 +19,7 @@ use Rattle.checkpoint_model.specs.Moments.{HasBody, IsOlder, IsShut}
 open_is : (a b : ℕ) (xs : List ℕ) → is_open (a ∷ b ∷ xs) ≡ not (eqb a 0)
 open_is a b xs = ap (λ z. z && not (eqb a 0)) (lt-ltb 1 (length (a ∷ b ∷ xs)) (omega arith))
 
-close_is : (a b : ℕ) (xs : List ℕ) → is_to_close (a ∷ b ∷ xs) ≡ not (eqb a 0)
+pub close_is : (a b : ℕ) (xs : List ℕ) → is_to_close (a ∷ b ∷ xs) ≡ not (eqb a 0)
 close_is a b xs = ap (λ z. z || is_open (a ∷ b ∷ xs)) (lt-leb (length (a ∷ b ∷ xs)) 1 (omega arith)) ∙ open_is a b xs
 
 over_is : (at : ℕ) (piece file : List ℕ) → at ≤ length file → overwritten at piece file ≡ take at file ++ piece ++ drop (at + length piece) file
@@ -74,6 +74,10 @@ shut_torn n [] file' shut torn = absurd (omega (arith, shut.some))
 shut_torn n (a ∷ xs) [] shut torn = absurd (omega (arith, torn.no_shorter))
 shut_torn n (a ∷ xs) (b ∷ ys) shut torn = record { some = omega arith; gate = ap (λ l. slice_index l 0) torn.before ∙ shut.gate }
 
+pub shut_over : (piece file : List ℕ) → IsShut file → IsShut (overwritten 1 piece file)
+shut_over piece [] shut = absurd (omega (arith, shut.some))
+shut_over piece (a ∷ xs) shut = subst IsShut (sym (over_is 1 piece (a ∷ xs) (omega arith))) (record { some = omega arith; gate = shut.gate })
+
 pub body_put : (body file : List ℕ) → IsShut file → HasBody body (overwritten 1 (snapshot_framed body) file)
 body_put body [] shut = absurd (omega (arith, shut.some))
 body_put body (a ∷ xs) shut = record { gate = a; rest = drop (1 + length (snapshot_framed body)) (a ∷ xs); is = over_is 1 (snapshot_framed body) (a ∷ xs) (omega arith) }
@@ -104,6 +108,11 @@ module _ (kind : Kind) (f : ℕ) (body rest : List ℕ) (fits : length body < 2 
       ∙ cond-true (leb (9 + length body) (suc (length l))) (option_and_then (of_file f) (snapshot_of kind (take (length body) (drop 8 l)))) None long_enough
       ∙ ap (λ b. option_and_then (of_file f) (snapshot_of kind (take (length body) b))) behind_size
       ∙ ap (λ b. option_and_then (of_file f) (snapshot_of kind b)) (take_at body rest (length body) refl)
+
+pub opened_is_open : (body rest : List ℕ) → is_open (1 ∷ (snapshot_framed body ++ rest)) ≡ true
+opened_is_open body rest =
+    ap (λ z. z && true) (lt-ltb 1 (suc (length (snapshot_framed body ++ rest)))
+    (omega (arith, length-append (snapshot_framed body) rest, length-append (number_bytes 8 (length body)) body, field_width 8 (length body))))
 
 pub body_read : (kind : Kind) (generation : ℕ) (held : Held) (f : ℕ) (body file : List ℕ) → HasBody body file → length body < 2 ^ 64 → generation % 2 ≡ f → snapshot_of kind body ≡ Some (generation, held)
     → snapshot_in kind f file ≡ Some (generation, held)

@@ -1,10 +1,6 @@
 -- What a checkpoint's pieces leave of an image that stands for what is held.
-use Rattle.std.proofs.Common.{◌≡◌, ◌≢◌, inl, inr, ℕ, suc, ◌+◌, ◌<◌, ◌≤◌, ◌^◌, Bool, true, false, cond, eqb, List, [], ◌∷◌, ◌++◌, length, Some, Ok, refl, sym, ap, subst, ◌∙◌, arith}
-use Rattle.std.proofs.lemmas.Bool.{cond-true, cond-false, eq-eqb, ne_eqb, lt-ltb}
-use Rattle.std.specs.Prelude.{◌&&◌}
-use Rattle.std.proofs.lemmas.List.{length-append}
-use Rattle.byte_fields.specs.Field.{number_bytes}
-use Rattle.byte_fields.proofs.FieldLaws.{field_width}
+use Rattle.std.proofs.Common.{◌≡◌, ◌≢◌, inl, inr, ℕ, ◌+◌, ◌<◌, ◌≤◌, ◌^◌, Bool, true, false, cond, eqb, List, [], ◌∷◌, ◌++◌, length, Some, Ok, refl, sym, ap, subst, ◌∙◌, arith}
+use Rattle.std.proofs.lemmas.Bool.{cond-true, cond-false, eq-eqb, ne_eqb}
 use Rattle.disk_model.specs.Story.{Image, overwritten}
 use Rattle.gate_journal.specs.Records.{and_behind, none_from, records, records_from}
 use Rattle.gate_journal.specs.Journal.{IsAtGate}
@@ -18,7 +14,7 @@ use Rattle.store_model.proofs.Standing.{long, there}
 use Rattle.checkpoint_model.specs.Pieces.{Piece, all_put, is_to_close, put, snapshot_file, snapshot_framed}
 use Rattle.checkpoint_model.specs.Moments.{AtEach, HasBody, IsOlder, IsShut, IsTornBy, StandsEither}
 use Rattle.checkpoint_model.specs.Laws.{CheckpointsKeep, CheckpointsLead, NewestCounts, OlderMayChange, OtherIsOlder}
-use Rattle.checkpoint_model.proofs.Gates.{body_put, body_read, body_torn, gate_put, older_shut, older_torn, shut_already, shut_put, shut_torn}
+use Rattle.checkpoint_model.proofs.Gates.{body_put, body_read, body_torn, gate_put, older_shut, older_torn, opened_is_open, shut_already, shut_put, shut_torn}
 use Rattle.checkpoint_model.proofs.Generations.{begun_next, begun_still, older_other}
 
 -- ---- a journal whose first gate is closed
@@ -171,12 +167,9 @@ module _ (kind : Kind) (g : ℕ) (start : Image) (held : Held) (stands : Stands 
         let same' = same_put opened_gate image (in_snapshot opened_gate refl) same in
         let file : image' f ≡ 1 ∷ (snapshot_framed body ++ has.rest) = put_own opened_gate image ∙ ap (overwritten 0 (1 ∷ [])) has.is ∙ gate_put 1 has.gate (snapshot_framed body ++ has.rest) in
         let now : HasBody body (image' f) = record { gate = 1; rest = has.rest; is = file } in
-        newest_stands kind g start image' held stands same'.active (ap is_open file ∙ open_one)
+        newest_stands kind g start image' held stands same'.active (ap is_open file ∙ opened_is_open body has.rest)
         (body_read kind (g + 1) held f body (image' f) now fits refl (snapshot_again kind (g + 1) held is))
         (no_records (image' j) (subst IsShut (sym (put_other opened_gate image j (λ e. f_not_j (sym e)))) shut)) logs
-      where
-        open_one : is_open (1 ∷ (snapshot_framed body ++ has.rest)) ≡ true
-        open_one = ap (λ (z : Bool). z && true) (lt-ltb 1 (suc (length (snapshot_framed body ++ has.rest))) (omega (arith, length-append (snapshot_framed body) has.rest, length-append (number_bytes 8 (length body)) body, field_width 8 (length body))))
 
   abbrev pub rest : List Piece
   rest = journal_gate ∷ written ∷ opened_gate ∷ []

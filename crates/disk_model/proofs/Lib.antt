@@ -8,3 +8,4 @@ pub mod Quiet
 pub mod ByHand
 pub mod Examples
 pub mod Recorded
+pub mod Told

@@ -2,6 +2,7 @@
 ghost use Rattle.std.specs.Prelude.{◌≡◌, ℕ, ◌+◌, ◌-◌, ◌^◌, ◌<◌, ◌≤◌, min, length, Option, IfOk, OnOk, IfSome};
 ghost use Rattle.disk_model.specs.declared.call.Call.TheVariants.{Look, Cut, Sync};
 ghost use Rattle.disk_model.specs.Story.{Story, seen};
+ghost use Rattle.disk_model.specs.Left.{AreBytes};
 ghost use Rattle.disk_model.specs.Answers.{Tells, HasDiskCause, Reads, write_call};
 
 use crate::refusals::DiskRefusal;
@@ -49,7 +50,8 @@ pub trait Disk {
         ensures story { Tells result (λ done. Sync file done) (told self.old) (told self.new) }
         ensures cause { HasDiskCause (faults self.old) (faults self.new) result };
 
-    /// How many calls of the five above there were, up to 2^64 - 1. It is none itself, and takes no memory.
+    /// How many calls of the five above there were, up to 2^64 - 1. It is none itself, and takes no memory. What is told is a story of bytes.
     fn calls(&self) -> u64
-        ensures { IfSome (told self.now) (λ s. result ≡ min (length s.calls) (2 ^ 64 - 1)) };
+        ensures count { IfSome (told self.now) (λ s. result ≡ min (length s.calls) (2 ^ 64 - 1)) }
+        ensures bytes { IfSome (told self.now) (λ s. AreBytes s.first s.calls) };
 }

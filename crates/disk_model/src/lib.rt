@@ -30,8 +30,9 @@
 //! - [`settle`], [`whole_file`]: at each moment a crash leaves what it might have left before; the bytes are the
 //!   file's. [`write_unsynced`], [`cut_unsynced`]: other files stay at each moment.
 //! - [`MemDisk`] and [`FuseDisk`] tell the story of their calls, also of those that fail and of those that
-//!   find no memory; [`TwistDisk`] and [`HostDisk`] have the clauses that speak of counts: Failed comes only
-//!   where the count of faults rose.
+//!   find no memory. What a disk tells is a story of bytes (`bytes` of [`Disk::calls`]), so that each file reads as
+//!   bytes (lemmas of `proofs/Told`). [`TwistDisk`] and [`HostDisk`] have the clauses that speak of counts: Failed
+//!   comes only where the count of faults rose.
 //! - [`images_by_hand`], [`lengths_by_hand`]: what a crash may leave and what not, of two writes whose ranges
 //!   overlap, with a sync between them, and of a file that is cut and grown.
 //! - [`images_by_law`]: what is read may always be left, a sync adds no image, one write over a durable file

@@ -1,8 +1,10 @@
 //! A disk in memory, which keeps its calls and tells what each moment may leave.
 ghost use Rattle.std.specs.Prelude.{◌≡◌, ℕ, ◌+◌, ◌-◌, ◌^◌, ◌<◌, ◌≤◌, min, List, [], ◌∷◌, length, reverse, Some, true, false, IfOk, OnOk, OnErr, IsErr};
+ghost use Rattle.hex.specs.Hex.{IsBytes};
 ghost use Rattle.disk_model.specs.declared.call.Call.TheVariants.{Look};
 ghost use Rattle.disk_model.specs.Story.{changed, seen};
-ghost use Rattle.disk_model.specs.Files.{story_of};
+ghost use Rattle.disk_model.specs.Left.{written_by};
+ghost use Rattle.disk_model.specs.Files.{files, story_of};
 ghost use Rattle.disk_model.specs.Moments.{IsSettled};
 ghost use Rattle.disk_model.specs.Answers.{Reads, Tells, HasDiskCause, write_call};
 
@@ -30,13 +32,31 @@ pub struct MemDisk {
 impl Model for MemDisk {
     ghost use Rattle.std.specs.Prelude.{◌≡◌, ℕ, reverse};
     ghost use Rattle.disk_model.specs.Story.{seen_after};
+    ghost use Rattle.disk_model.specs.Left.{AreBytes};
     ghost use Rattle.disk_model.specs.Files.{MemState, files};
 
     ghost Value = { MemState };
 
     ghost view = { λ d. record { first = d.first; calls = reverse d.calls; faults = d.faults } };
 
-    ghost invariant = { λ d. (f : ℕ) → files d.held.list.items f ≡ seen_after (files d.first) (reverse d.calls) f };
+    ghost invariant = { λ d. ((f : ℕ) → files d.held.list.items f ≡ seen_after (files d.first) (reverse d.calls) f)
+      × AreBytes (files d.first) (reverse d.calls) };
+}
+
+/// A number of eight bits is a byte.
+fn is_bytes(file: &[u8])
+    ensures { IsBytes file.now }
+{
+    let _ = file;
+}
+
+/// Files hold bytes.
+fn are_bytes(list: &[Bytes])
+    ensures { (f : ℕ) → IsBytes (files list.now f) }
+{
+    for file in list {
+        is_bytes(file.as_slice());
+    }
 }
 
 impl MemDisk {
@@ -60,6 +80,7 @@ impl MemDisk {
         ensures settled { IfOk result (λ d. IsSettled (Some (story_of d))) }
     {
         let held = Files::copied(alloc, &first)?;
+        are_bytes(first.as_slice());
         Ok(MemDisk {
             alloc,
             first,
@@ -85,7 +106,8 @@ impl MemDisk {
 
     /// Keeps a call that changes nothing that is read.
     fn keep(&mut self, call: Call) -> Result<(), NoMemory>
-        requires { (file : List ℕ) → changed call file ≡ file }
+        requires same { (file : List ℕ) → changed call file ≡ file }
+        requires bytes { IsBytes (written_by call) }
         ensures ok { OnOk result (self.new ≡ record self.old { calls = call ∷ self.old.calls }) }
         ensures err { OnErr result (self.new ≡ self.old) }
     {
@@ -94,7 +116,8 @@ impl MemDisk {
 
     /// Keeps a call that fails, and counts the fault.
     pub(crate) fn fail<T>(&mut self, call: Call) -> Result<T, DiskRefusal>
-        requires { (file : List ℕ) → changed call file ≡ file }
+        requires same { (file : List ℕ) → changed call file ≡ file }
+        requires bytes { IsBytes (written_by call) }
         ensures err { IsErr result }
         ensures story { Tells result (λ _. call) (Some (story_of self.old)) (Some (story_of self.new)) }
         ensures cause { HasDiskCause self.old.faults self.new.faults result }

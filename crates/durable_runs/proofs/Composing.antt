@@ -1,7 +1,7 @@
 -- The laws of runs, together.
 use Rattle.durable_runs.specs.Runs.{Side}
 use Rattle.durable_runs.specs.Laws.{RunsCompose, RunsLast}
-use Rattle.durable_runs.proofs.Joining.{runs_untold, runs_none, runs_kept, runs_failed, runs_committed, runs_more, runs_join, runs_idle, runs_rest, lasts_begins, lasts_goes_on, lasts_rests, lasts_ends}
+use Rattle.durable_runs.proofs.Joining.{runs_untold, runs_none, runs_kept, runs_failed, runs_committed, runs_more, runs_join, runs_idle, runs_rest, lasts_begins, lasts_goes_on, lasts_rests, lasts_ends, lasts_behind}
 
 module _ {S X : Type 0} (side : Side S X) where
   pub compose : RunsCompose side
@@ -18,4 +18,4 @@ module _ {S X : Type 0} (side : Side S X) where
   }
 
   pub last : RunsLast side
-  last = record { begins = lasts_begins side; goes_on = lasts_goes_on side; rests = lasts_rests side; ends = lasts_ends side }
+  last = record { begins = lasts_begins side; goes_on = lasts_goes_on side; rests = lasts_rests side; ends = lasts_ends side; behind = lasts_behind side }

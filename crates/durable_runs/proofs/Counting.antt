@@ -8,7 +8,7 @@ use Rattle.disk_model.specs.Moments.{Each, Always}
 use Rattle.disk_model.proofs.ByHand.{bytes_by_test, all_below}
 use Rattle.disk_model.proofs.Laws.{left_synced}
 use Rattle.disk_model.proofs.Moments.{since_start, always_call}
-use Rattle.durable_runs.specs.Marks.{Named}
+use Rattle.durable_runs.specs.Marks.{AreBehind, Named}
 use Rattle.durable_runs.specs.Runs.{Claim, Runs}
 use Rattle.durable_runs.specs.Worked.{counting, no_call, byte_kept, one_behind}
 use Rattle.durable_runs.proofs.Joining.{runs_committed}
@@ -36,6 +36,13 @@ none_named c = omega (arith, c.holds, c.stands)
 pub early_is_none : Runs counting no_call byte_kept 0 (7 ∷ []) [] (one_behind 1) → ⊥
 early_is_none run =
     none_named (subst (λ (l : List Named). Claim counting 0 (7 ∷ []) l 1 no_file) (sym run.marks) (run.claim.after 1 (omega arith) (omega arith) no_file nothing_left))
+
+-- ---- a mark that says a call that was not made
+
+pub late_is_none : Runs counting no_call byte_kept 0 (7 ∷ []) [] (one_behind 3) → ⊥
+late_is_none run =
+    let behind : AreBehind 2 (one_behind 3) = subst (λ (l : List Named). AreBehind 2 l) (sym run.marks) run.behind in
+    omega (arith, behind.0)
 
 -- ---- a mark behind the sync
 

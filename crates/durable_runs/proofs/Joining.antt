@@ -8,9 +8,9 @@ use Rattle.disk_model.specs.Story.{Image, Story, count, seen}
 use Rattle.disk_model.specs.Moments.{Each, Since, Always, GoesOn, IsSettled}
 use Rattle.disk_model.proofs.Moments.{since_none, since_map, since_joined, since_start, since_last, on_refl, on_trans, on_count}
 use Rattle.disk_model.proofs.Laws.{by_left}
-use Rattle.durable_runs.specs.Marks.{Named, named, Between, NameNow}
+use Rattle.durable_runs.specs.Marks.{Named, named, AreBehind, Between, NameNow}
 use Rattle.durable_runs.specs.Runs.{Side, behind_steps, Claim, NamesReached, Runs, Lasts}
-use Rattle.durable_runs.proofs.Naming.{named_least, later_name_nothing, named_low, named_late, between_append, now_between}
+use Rattle.durable_runs.proofs.Naming.{named_least, later_name_nothing, named_low, named_late, between_append, now_between, behind_later, behind_append, now_behind}
 use Rattle.durable_runs.proofs.Steps.{some_same, steps_behind, steps_part, take_past}
 
 module _ {S X : Type 0} (side : Side S X) where
@@ -39,27 +39,29 @@ module _ {S X : Type 0} (side : Side S X) where
 
   -- calls that keep what the store has, and marks that name no more than that
   named_now : (t u : Option Story) (s : S) (a more : List Named) → GoesOn t u → Always (count t) u (side.Stands s) → IfSome t (λ _. Between (count t) (side.number s) more)
-      → Runs side t u s [] a (a ++ more)
-  named_now None None s a more on always names = record {
+      → IfSome u (λ _. AreBehind (count u) more) → Runs side t u s [] a (a ++ more)
+  named_now None None s a more on always names behind = record {
     more = more;
     marks = refl;
     on = on;
     claim = since_none 0 (Claim side s [] more);
     names = tt;
+    behind = behind;
   }
-  named_now None (Some u) s a more on always names = absurd on
-  named_now (Some t) u s a more on always names = record {
+  named_now None (Some u) s a more on always names behind = absurd on
+  named_now (Some t) u s a more on always names behind = record {
     more = more;
     marks = refl;
     on = on;
     claim = since_map (count (Some t)) u (λ n image. side.Stands s image) (Claim side s [] more)
         (λ n image le ge stands. claim_now s [] more n image (named_low (side.number s) n (count (Some t)) (side.number s) more (omega arith) names) stands) always;
     names = record { most = side.number s; risen = omega arith; between = names; reached = λ now e. reached_same s now e };
+    behind = behind;
   }
 
   pub runs_kept : (t u : Option Story) (s : S) (a : List Named) → GoesOn t u → Always (count t) u (side.Stands s) → Runs side t u s [] a a
   runs_kept t u s a on always =
-      subst (λ (b : List Named). Runs side t u s [] a b) (append-nil a) (named_now t u s a [] on always (if_told t (Unit {0}) tt))
+      subst (λ (b : List Named). Runs side t u s [] a b) (append-nil a) (named_now t u s a [] on always (if_told t (Unit {0}) tt) (if_told u (Unit {0}) tt))
 
   pub runs_none : (t : Option Story) (s : S) (a : List Named) → Each t (side.Stands s) → Runs side t t s [] a a
   runs_none t s a each = runs_kept t t s a (on_refl t) (since_start t (λ n image. side.Stands s image) each)
@@ -68,12 +70,16 @@ module _ {S X : Type 0} (side : Side S X) where
   idle_between None s more names = tt
   idle_between (Some t) s more names = now_between (count (Some t)) (side.number s) more names
 
+  idle_behind : (t : Option Story) (s : S) (more : List Named) → IfSome t (λ _. NameNow (count t) (side.number s) more) → IfSome t (λ _. AreBehind (count t) more)
+  idle_behind None s more names = tt
+  idle_behind (Some t) s more names = now_behind (count (Some t)) (side.number s) more names
+
   pub runs_idle : (t : Option Story) (s : S) (a more : List Named) → Each t (side.Stands s) → IfSome t (λ _. NameNow (count t) (side.number s) more)
       → Runs side t t s [] a (a ++ more)
-  runs_idle t s a more each names = named_now t t s a more (on_refl t) (since_start t (λ n image. side.Stands s image) each) (idle_between t s more names)
+  runs_idle t s a more each names = named_now t t s a more (on_refl t) (since_start t (λ n image. side.Stands s image) each) (idle_between t s more names) (idle_behind t s more names)
 
   pub runs_untold : (s : S) (xs : List X) (a more : List Named) → Runs side None None s xs a (a ++ more)
-  runs_untold s xs a more = record { more = more; marks = refl; on = tt; claim = since_none 0 (Claim side s xs more); names = tt }
+  runs_untold s xs a more = record { more = more; marks = refl; on = tt; claim = since_none 0 (Claim side s xs more); names = tt; behind = tt }
 
   -- ---- one commit
 
@@ -86,6 +92,7 @@ module _ {S X : Type 0} (side : Side S X) where
     claim = since_map (count t) u (λ n image. side.Stands s image ⊎ side.Stands now image) (Claim side s (x ∷ []) []) (λ n image le' ge either. at n image either) always;
     names = if_told t (NamesReached side (count t) s (x ∷ []) [])
         (record { most = side.number now; risen = le; between = tt; reached = λ (after : S) e. reached_one s now after x made e });
+    behind = if_told u (Unit {0}) tt;
   }
     where
       at : (n : ℕ) (image : Image) → side.Stands s image ⊎ side.Stands now image → Claim side s (x ∷ []) [] n image
@@ -106,6 +113,7 @@ module _ {S X : Type 0} (side : Side S X) where
         (λ n image le' ge h. at n image h (cases_lt n (count (Some u))))
         (since_last (count (Some t)) (Some u) (λ image. side.Stands s image ⊎ side.Stands now image) (side.Stands now) always each);
     names = record { most = side.number now; risen = le; between = between; reached = λ (after : S) e. reached_one s now after x made e };
+    behind = (omega (arith, calls), tt);
   }
     where
       between : Between (count (Some t)) (side.number now) (m ∷ [])
@@ -176,6 +184,7 @@ module _ {S X : Type 0} (side : Side S X) where
     on = on_trans t u v p.on q.on;
     claim = claim t u v p.on q.on p.claim q.claim p.names q.names;
     names = names t u p.on p.names q.names;
+    behind = behind u v q.on p.behind q.behind;
   }
     where
       claim : (t u v : Option Story) → GoesOn t u → GoesOn u v → Since (count t) u (Claim side s xs p.more) → Since (count u) v (Claim side mid ys q.more)
@@ -196,6 +205,14 @@ module _ {S X : Type 0} (side : Side S X) where
       names None u on low high = tt
       names (Some t) None on low high = absurd on
       names (Some t) (Some u) on low high = names_join (count (Some t)) (count (Some u)) s mid xs ys p.more q.more (on_count (Some t) (Some u) on) made low high
+
+      behind : (u v : Option Story) → GoesOn u v → IfSome u (λ _. AreBehind (count u) p.more) → IfSome v (λ _. AreBehind (count v) q.more)
+          → IfSome v (λ _. AreBehind (count v) (p.more ++ q.more))
+      behind None None on first rest = tt
+      behind None (Some v) on first rest = absurd on
+      behind (Some u) None on first rest = absurd on
+      behind (Some u) (Some v) on first rest =
+          behind_append (count (Some v)) p.more q.more (behind_later (count (Some u)) (count (Some v)) p.more (on_count (Some u) (Some v) on) first) rest
 
   pub runs_rest : (t u : Option Story) (s now : S) (xs : List X) (a b more : List Named) → Runs side t u s xs a b → behind_steps side xs s ≡ Some now
       → Each u (side.Stands now) → IfSome u (λ _. NameNow (count u) (side.number now) more) → Runs side t u s xs a (b ++ more)
@@ -224,6 +241,7 @@ module _ {S X : Type 0} (side : Side S X) where
     on = p.on;
     claim = since_map (count t) u (Claim side s xs p.more) (Claim side s (xs ++ ys) p.more) (λ n image le ge c. claim_more s xs ys p.more n image c) p.claim;
     names = names t p.names;
+    behind = p.behind;
   }
     where
       names : (t : Option Story) → IfSome t (λ _. NamesReached side (count t) s xs p.more) → IfSome t (λ _. NamesReached side (count t) s (xs ++ ys) p.more)
@@ -262,3 +280,7 @@ module _ {S X : Type 0} (side : Side S X) where
   pub lasts_ends : (t u : Option Story) (s : S) (xs : List X) (marks : List Named) → Lasts side t u s xs marks → Since (count t) u (Claim side s xs marks)
   unfolding Lasts
   lasts_ends t u s xs marks p = subst (λ (l : List Named). Since (count t) u (Claim side s xs l)) (sym p.marks) p.claim
+
+  pub lasts_behind : (t u : Option Story) (s : S) (xs : List X) (marks : List Named) → Lasts side t u s xs marks → IfSome u (λ _. AreBehind (count u) marks)
+  unfolding Lasts
+  lasts_behind t u s xs marks p = subst (λ (l : List Named). IfSome u (λ _. AreBehind (count u) l)) (sym p.marks) p.behind

@@ -61,6 +61,20 @@ pub now_between : (calls number : ℕ) (marks : List Named) → NameNow calls nu
 now_between calls number [] names = tt
 now_between calls number (m ∷ marks) names = (omega (arith, names.0), (omega (arith, names.1.0), now_between calls number marks names.1.1))
 
+-- ---- no more calls than there were
+
+pub behind_later : (n m : ℕ) (marks : List Named) → n ≤ m → AreBehind n marks → AreBehind m marks
+behind_later n m [] le behind = tt
+behind_later n m (k ∷ marks) le behind = (omega (arith, le, behind.0), behind_later n m marks le behind.1)
+
+pub behind_append : (n : ℕ) (marks more : List Named) → AreBehind n marks → AreBehind n more → AreBehind n (marks ++ more)
+behind_append n [] more first rest = rest
+behind_append n (m ∷ marks) more first rest = (first.0, behind_append n marks more first.1 rest)
+
+pub now_behind : (calls number : ℕ) (marks : List Named) → NameNow calls number marks → AreBehind calls marks
+now_behind calls number [] names = tt
+now_behind calls number (m ∷ marks) names = (omega (arith, names.0), now_behind calls number marks names.1.1)
+
 -- ---- one after the other
 
 pub rises_join : (start : ℕ) (marks more : List Named) → RiseByOne start marks → RiseByOne (last_named start marks) more → RiseByOne start (marks ++ more)

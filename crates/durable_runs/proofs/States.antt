@@ -12,12 +12,12 @@ use Rattle.store_model.specs.declared.record.Kind.TheVariants.{Replica}
 use Rattle.store_model.specs.declared.record.Record.{Record}
 use Rattle.store_model.specs.Held.{Held, applied}
 use Rattle.store_model.specs.Stores.{Spot, held_by}
-use Rattle.durable_runs.specs.Marks.{Named, named, NameNow, replica_mark, served_mark}
+use Rattle.durable_runs.specs.Marks.{Named, named, AreBehind, NameNow, replica_mark, served_mark}
 use Rattle.durable_runs.specs.Runs.{behind_steps, Claim, Runs, Lasts}
 use Rattle.durable_runs.specs.Replicas.{replica_side, ReplicaStands, ReplicaRuns, AreStates, Carries, CarriesTo, Served, StateImage}
 use Rattle.durable_runs.proofs.Naming.{named_rises}
 use Rattle.durable_runs.proofs.Steps.{some_same, steps_behind}
-use Rattle.durable_runs.proofs.Joining.{runs_kept, runs_idle, runs_join, lasts_begins, lasts_ends}
+use Rattle.durable_runs.proofs.Joining.{runs_kept, runs_idle, runs_join, lasts_begins, lasts_behind, lasts_ends}
 
 take_beyond : (front back : List Record) (k : ℕ) → length front ≤ k → take k (front ++ back) ≡ front ++ take (k - length front) back
 take_beyond [] back k le = let e : k ≡ k - 0 = omega arith in ap (λ (n : ℕ). take n back) e
@@ -123,6 +123,11 @@ module _ (P : Held → Type 0) where
   carries_images t u held marks c =
       since_map (count t) u (Claim replica_side held c.records (map replica_mark marks)) (StateImage P held marks)
       (λ n image le ge claim. image_is held marks c.records c.states n image claim) (lasts_ends replica_side t u held c.records (map replica_mark marks) c.runs)
+
+  -- no mark of it says more calls than the disk has had
+  pub carries_marks : (t u : Option Story) (held : Held) (marks : List Mark) → Carries P t u held [] marks → IfSome u (λ _. AreBehind (count u) (map replica_mark marks))
+  unfolding Lasts
+  carries_marks t u held marks c = lasts_behind replica_side t u held c.records (map replica_mark marks) c.runs
 
   -- a run serves no more than its source had committed before, as the marks until its first call say, where no state has more
   pub states_served : (start : ℕ) (t u : Option Story) (held : Held) (a b : List Mark) → ((h : Held) → P h → h.number ≤ named start (map served_mark b) (count t))

@@ -21,13 +21,13 @@ use Rattle.store_model.specs.Stores.{held_by}
 use Rattle.store_model.specs.Entries.{writer_at, old_end, ends_behind, changes_of_items, record_of_entry, IsWithin, entry_of, held_behind, KeptSays}
 use Rattle.store_model.specs.Laws.{HasLog}
 use Rattle.store_model.proofs.Leading.{entry_leads, writer_goes_on}
-use Rattle.durable_runs.specs.Marks.{source_mark}
+use Rattle.durable_runs.specs.Marks.{AreBehind, source_mark}
 use Rattle.durable_runs.specs.Runs.{behind_steps, Claim}
 use Rattle.waiting_entries.specs.Added.{added, added_to}
 use Rattle.durable_runs.specs.Sources.{Stored, SourceStands, stored_in, stored_behind, entry_stored, held_after, records_of, records_applied, AreWithin, source_side, SourceLasts, SourceImage}
 use Rattle.durable_runs.specs.Laws.{HasFirstLog, StoredBehind}
 use Rattle.durable_runs.proofs.Steps.{some_same, steps_part}
-use Rattle.durable_runs.proofs.Joining.{lasts_begins, lasts_ends}
+use Rattle.durable_runs.proofs.Joining.{lasts_begins, lasts_behind, lasts_ends}
 
 -- ---- what is kept of an entry
 
@@ -289,6 +289,10 @@ pub source_images : (t u : Option Story) (s : Stored) (es : List (Entry Whole)) 
 source_images t u s es marks has lasts =
     since_map (count t) u (Claim source_side s es (map source_mark marks)) (SourceImage s es marks) (λ n image le ge c. image_is s es marks n image has c)
     (lasts_ends source_side t u s es (map source_mark marks) lasts)
+
+pub source_behind : (t u : Option Story) (s : Stored) (es : List (Entry Whole)) (marks : List Mark) → SourceLasts t u s es marks
+    → IfSome u (λ _. AreBehind (count u) (map source_mark marks))
+source_behind t u s es marks lasts = lasts_behind source_side t u s es (map source_mark marks) lasts
 
 seen_stands : (t : Option Story) (held : Held) → IfSome t (λ _. held_by Source (seen t) ≡ Ok held) → IfSome t (λ _. SourceStands (stored_in held (seen t)) (seen t))
 seen_stands None held is = tt

@@ -74,7 +74,8 @@ module _ {S X : Type 0} (side : Side S X) where
     pub rest : (t u : Option Story) (s now : S) (xs : List X) (a b more : List Named) → Runs side t u s xs a b → behind_steps side xs s ≡ Some now
         → Each u (side.Stands now) → IfSome u (λ _. NameNow (count u) (side.number now) more) → Runs side t u s xs a (b ++ more)
 
-  -- A whole run: it begins on a settled disk, goes on run by run, and claims in the end that each image of each moment is as it says.
+  -- A whole run: it begins on a settled disk, goes on run by run, and claims in the end that each image of each moment is as it says, and
+  -- that no mark says more calls than the disk has had.
   pub record RunsLast : Type 0 where
     pub begins : (t : Option Story) (s : S) → IsSettled t → IfSome t (λ _. side.Stands s (seen t)) → Lasts side t t s [] []
     pub goes_on : (t u v : Option Story) (s mid : S) (xs ys : List X) (a b : List Named) → Lasts side t u s xs a → behind_steps side xs s ≡ Some mid
@@ -82,6 +83,7 @@ module _ {S X : Type 0} (side : Side S X) where
     pub rests : (t u : Option Story) (s now : S) (xs : List X) (a more : List Named) → Lasts side t u s xs a → behind_steps side xs s ≡ Some now
         → Each u (side.Stands now) → IfSome u (λ _. NameNow (count u) (side.number now) more) → Lasts side t u s xs (a ++ more)
     pub ends : (t u : Option Story) (s : S) (xs : List X) (marks : List Named) → Lasts side t u s xs marks → Since (count t) u (Claim side s xs marks)
+    pub behind : (t u : Option Story) (s : S) (xs : List X) (marks : List Named) → Lasts side t u s xs marks → IfSome u (λ _. AreBehind (count u) marks)
 
 -- ---- a source
 
@@ -145,11 +147,14 @@ pub record SourcesStand : Type 0 where
       → record_of Source body ≡ Some (record_of_entry (kept_entry e) s.held.number (writer_at s.held)) → HasLogs first_log now.held.ends image'
       → ((n : ℕ) → log_in n now.held.ends image' ≡ now.logs n) → SourceStands now image'
 
--- A run on a settled disk begins with what is read of it; and in the end each image of each moment holds what a prefix of the entries left.
+-- A run on a settled disk begins with what is read of it; and in the end each image of each moment holds what a prefix of the entries left,
+-- and no mark says more calls than the disk has had.
 pub record SourcesLast : Type 0 where
   pub begins : (t : Option Story) (held : Held) → IsSettled t → IfSome t (λ _. held_by Source (seen t) ≡ Ok held) → SourceLasts t t (stored_in held (seen t)) [] []
   pub images : (t u : Option Story) (s : Stored) (es : List (Entry Whole)) (marks : List Mark) → HasFirstLog es s.held → SourceLasts t u s es marks
       → Since (count t) u (SourceImage s es marks)
+  pub behind : (t u : Option Story) (s : Stored) (es : List (Entry Whole)) (marks : List Mark) → SourceLasts t u s es marks
+      → IfSome u (λ _. AreBehind (count u) (map source_mark marks))
 
 -- ---- a replica
 

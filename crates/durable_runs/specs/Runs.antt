@@ -3,7 +3,7 @@ use Rattle.std.specs.Prelude.{◌≡◌, ◌<◌, ◌≤◌, ◌^◌, ℕ, List,
 use Rattle.std.specs.Option.{option_and_then}
 use Rattle.disk_model.specs.Story.{Image, Story, count}
 use Rattle.disk_model.specs.Moments.{Since, GoesOn}
-use Rattle.durable_runs.specs.Marks.{Named, named, Between}
+use Rattle.durable_runs.specs.Marks.{Named, named, AreBehind, Between}
 
 -- a disk has had no more calls than a mark can say
 abbrev pub CallsFit : Option Story → Type 0
@@ -41,13 +41,15 @@ module _ {S X : Type 0} (side : Side S X) where
 
   -- A run of steps, from one story of a disk to a later one: each image since its start, inside a call too, is as the claim says of the
   -- marks that it pushed. An image of the call n + 1 is judged by what the marks of up to n calls name. The moment between two runs
-  -- belongs to the later one. A call that failed is a call, so the same is said whether the last step was kept or not.
+  -- belongs to the later one. A call that failed is a call, so the same is said whether the last step was kept or not. No mark says more
+  -- calls than the disk has had by the end: one that did would name less.
   pub record Runs (t u : Option Story) (s : S) (xs : List X) (old new : List Named) : Type 0 where
     pub more : List Named
     pub marks : new ≡ old ++ more
     pub on : GoesOn t u
     pub claim : Since (count t) u (Claim s xs more)
     pub names : IfSome t (λ _. NamesReached (count t) s xs more)
+    pub behind : IfSome u (λ _. AreBehind (count u) more)
 
   -- The run from its very start, with all its marks.
   unfoldable pub Lasts : (t u : Option Story) → S → List X → List Named → Type 0

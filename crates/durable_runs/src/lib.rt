@@ -7,7 +7,7 @@
 //! the other are a run. Calls that fail are calls like others.
 //!
 //! It stands on `disk_model` (images at each moment), `store_model` (what an image of a store holds), `session_model` (what entries make
-//! of a source) and on the marks of `answer_text`; nodes with stores will stand on it.
+//! of a source) and on the marks of `answer_text`; what writes a store, and the laws of runs over stores, stand on it.
 //!
 //! - `specs/Marks`: marks as a side reads them, and what they name
 //! - `specs/Runs`: the claim on an image, runs, and whole runs, for either side
@@ -21,7 +21,8 @@
 //! - A run comes of no call, of calls that keep what the store has, of a commit that failed wherever it did, of one that was kept and
 //!   its mark, and of marks that the other side pushed while this disk was not called; a run is one of more steps; runs one behind the
 //!   other are a run, where the moment between them belongs to the later one ([`runs_compose`]).
-//! - A whole run begins on a settled disk and claims in the end that each image of each moment is as it says ([`runs_last`]).
+//! - A whole run begins on a settled disk and claims in the end that each image of each moment is as it says, and that no mark says more
+//!   calls than the disk has had ([`runs_last`]).
 //! - What a source's store holds behind entries goes on from what it holds behind the first of them, and is what their records make, one
 //!   after the other ([`held_goes_on`]); its logs have what the entries put there ([`stores_go_on`], [`logs_go_on`]), and an image with the entry's record open stands for that
 //!   ([`sources_stand`]). So each image of
@@ -37,7 +38,8 @@
 //! - Runs over both disks compose, also where a command calls one of them ([`both_compose`]).
 //! - Of a source and a replica that have nothing, nothing is owed ([`nothing_owed`]).
 //! - Marks, entries, records, logs and images of a run by hand ([`marks_by_hand`], [`entries_by_hand`], [`logs_by_hand`],
-//!   [`images_by_hand`]); a mark that is pushed one call early makes no run ([`runs_by_hand`]).
+//!   [`images_by_hand`]); a mark that is pushed one call early makes no run, nor does one that says a call more
+//!   ([`runs_by_hand`]).
 #![tactic(auto)]
 
 mod marks;

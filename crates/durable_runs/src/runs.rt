@@ -9,7 +9,8 @@ pub fn runs_compose()
     ensures replica { RunsCompose replica_side }
 {}
 
-/// A whole run begins on a settled disk, goes on run by run, and claims in the end of each image of each moment what it says.
+/// A whole run begins on a settled disk, goes on run by run, and claims in the end of each image of each moment what it says. No mark of
+/// it says more calls than the disk has had.
 pub fn runs_last()
     ensures source { RunsLast source_side }
     ensures replica { RunsLast replica_side }

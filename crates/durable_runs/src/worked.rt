@@ -38,10 +38,11 @@ pub fn marks_by_hand()
 {}
 
 /// A byte that is written and synced is a run where its mark is pushed behind the sync, and none where it is pushed behind the write: a crash
-/// between the two calls may leave no byte.
+/// between the two calls may leave no byte. Nor is it one where its mark says a third call, which was not made.
 pub fn runs_by_hand()
     ensures kept { Runs counting no_call byte_kept 0 (7 ∷ []) [] (one_behind 2) }
     ensures early { Runs counting no_call byte_kept 0 (7 ∷ []) [] (one_behind 1) → ⊥ }
+    ensures late { Runs counting no_call byte_kept 0 (7 ∷ []) [] (one_behind 3) → ⊥ }
 {}
 
 /// What is held behind each of the three entries; the same row again cannot be put. Their records are those of a journal by hand.

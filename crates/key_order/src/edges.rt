@@ -8,12 +8,12 @@ ghost use Rattle.sql_tree.specs.declared.expressions.Limit.{Limit as Leaving};
 ghost use Rattle.key_order.specs.Given.{IsEdge, IsWay, LeavesOne};
 
 use crate::ordering::are_columns;
-use row_store::{Tables, tables_are_kept};
 use sharing::Shared;
 use sql_tree::{Count, FromClause, Limit, OrderItem};
 use std::alloc::Global;
 use val_types::{Bytes, List, NoMemory, Row, TableDef};
 use where_candidates::SeenTable;
+use where_candidates::row_store::{Tables, tables_are_kept};
 use where_candidates::where_keys::Outside;
 
 /// Whether LIMIT leaves just the first row.

@@ -9,11 +9,11 @@ ghost use Rattle.key_order.specs.Columns.{count_in, edge_value, end_in, end_of, 
 ghost use Rattle.key_order.specs.Given.{IsWholeAnswer};
 
 use crate::columns::is_column;
-use row_store::{Tables, tables_are_kept};
 use sharing::Shared;
 use sql_tree::{Aggregate, Expr, FromClause, Selection};
 use std::alloc::Global;
 use val_types::{Agg, Bytes, Duplicate, List, NoMemory, Row, TableDef, Value};
+use where_candidates::row_store::{Tables, tables_are_kept};
 use where_candidates::where_keys::Outside;
 
 /// How many, where that is a number of 64 bits.

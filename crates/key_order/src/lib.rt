@@ -34,5 +34,5 @@ pub use edges::row_at_edge;
 pub use ends::row_of_ends;
 pub use laws::{extremes_stand_outside, keys_order_rows, rows_are_counted};
 pub use ordering::by_key;
-pub use row_store::tables_are_kept;
 pub use where_candidates;
+pub use where_candidates::row_store::tables_are_kept;

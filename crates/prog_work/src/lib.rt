@@ -19,6 +19,7 @@
 //! - what holds of every [`Work`]: its changes can be taken back, which gives the committed rows, and made again, which
 //!   gives the rows that stand; its tables are those of the catalog, each table with an AUTO_INCREMENT column has its
 //!   counter and no other has one ([`Work::together`])
+//! - [`Work::stored`] gives the tables by what is there to stay of them, which are the committed rows
 //! - [`Work::take_back_to`] takes back just the changes behind a mark, without memory, and leaves what is committed;
 //!   [`Work::commit`] lets them stand
 //! - [`Work::insert_row`], [`Work::update_row`] and [`Work::delete_row`] store and note one change of a row, or refuse it with

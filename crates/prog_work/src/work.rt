@@ -1,5 +1,8 @@
 //! What statements work on.
 ghost use Rattle.std.specs.Prelude.{◌≡◌, []};
+ghost use Rattle.table_rules.specs.Stores.{IsWhole, definitions_of};
+ghost use Rattle.sql_reach.specs.catalog_rules.Bases.{definitions_in};
+ghost use Rattle.catalog.specs.catalog_objects.Keys.{objects_of};
 ghost use Rattle.prog_work.specs.Contents.{IsTogether, committed_tables, contents_of, nothing, taken_back};
 ghost use Rattle.prog_work.specs.Together.{AreTogether};
 
@@ -105,6 +108,18 @@ impl Work {
     pub fn tables(&self) -> &Tables
         ensures { result.now.tables ≡ self.now.tables }
     {
+        &self.stage.tables
+    }
+
+    /// The same tables by what is there to stay of them: the rows that were last committed, beside whatever is open.
+    pub fn stored(&self) -> &Tables
+        ensures shown { result.now.tables ≡ self.now.tables }
+        ensures committed { result.now.committed ≡ committed_tables self.now }
+        ensures none { self.now.changes ≡ [] → result.now.committed ≡ self.now.tables }
+        ensures theirs { definitions_of result.now.tables ≡ definitions_in (objects_of self.now.objects) }
+        ensures whole { IsWhole result.now }
+    {
+        tables_are_kept(&self.stage.tables);
         &self.stage.tables
     }
 

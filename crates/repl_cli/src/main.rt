@@ -2,7 +2,8 @@
 //! the command line.
 //!
 //! `main` hands both nodes, at the system's edges, to [`start`]: the source's disk is the folder `source` where the program is called, the
-//! replica's the folder `replica`, each made by the first write. A standard stream that is closed fails at its first use.
+//! replica's the folder `replica`, each made by the first write. A standard stream that is closed fails at its first use. Where the
+//! environment variable `REPL_PROGRESS` is set, how much was read of the input and of each folder is told on standard error.
 //!
 //! # Proved
 //! Nothing of its own: who the nodes are, and what is done with them, are clauses of `repl_run`.
@@ -15,6 +16,7 @@ use answer_text::Status;
 use disk_model::HostDisk;
 use port_traits::HostEnv;
 use repl_run::{Known, exit_of, replica_identity, source_identity, start, tell};
+use run_progress::{Watch, WatchedDisk};
 use std::fs::File;
 use std::process::ExitCode;
 use val_types::NoMemory;
@@ -28,10 +30,14 @@ const REPLICA_FOLDER: &str = "replica";
 /// What is opened where a standard stream is closed: a folder, of which no stream can be read or written.
 const NO_STREAM: &str = "/";
 
-/// The disk over a folder.
-fn disk_over<'a>(rt: &'a HostRuntime, folder: &str) -> Result<HostDisk<&'a HostRuntime>, NoMemory> {
+/// The disk over a folder, of which it is told how much was read where that was asked for.
+fn disk_over<'a>(
+    rt: &'a HostRuntime,
+    folder: &'static str,
+) -> Result<WatchedDisk<'a, HostDisk<&'a HostRuntime>>, NoMemory> {
     let alloc = rt.alloc();
-    HostDisk::new(alloc, rt, String::from_str(alloc, folder)?)
+    let disk = HostDisk::new(alloc, rt, String::from_str(alloc, folder)?)?;
+    Ok(WatchedDisk::new(disk, Watch::asked(rt, folder)))
 }
 
 /// The program over the system's edges.

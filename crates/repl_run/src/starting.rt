@@ -8,6 +8,7 @@ use crate::program::top;
 use answer_text::Status;
 use disk_model::Disk;
 use port_traits::{Env, StdSink, StdSource};
+use run_progress::{Watch, WatchedReader};
 use run_streams::empty_report;
 use script_run::write_log;
 use std::io;
@@ -42,7 +43,8 @@ fn call<E: Env, F: Env, D: Disk, R: Disk>(
     requires rep_settled { IsSettled (R.told rep.old) }
 {
     // A log is read a header and a body at a time, of which the system gives many at once.
-    let Ok(reader) = BufReader::with_capacity(rt.alloc(), READ_AHEAD, rt.reader()) else {
+    let watched = WatchedReader::new(rt.reader(), Watch::asked(rt, "standard input"));
+    let Ok(reader) = BufReader::with_capacity(rt.alloc(), READ_AHEAD, watched) else {
         return Status::NoMemory;
     };
     let mut input = StdSource::new(reader);

@@ -1,5 +1,5 @@
 -- How a replay ends.
-use Rattle.std.proofs.Common.{◌≡◌, ◌⊎◌, inl, inr, ℕ, ◌+◌, true, List, [], ◌∷◌, ◌++◌, Option, Some, None, Ok, refl, sym, ap, ◌∙◌, arith, subst, append-nil, length-append}
+use Rattle.std.proofs.Common.{◌≡◌, ◌⊎◌, inl, inr, ℕ, ◌+◌, true, List, [], ◌∷◌, ◌++◌, Option, Some, None, Ok, refl, sym, ap, ◌∙◌, arith, subst, append-nil, length-append, map}
 use Rattle.std.proofs.lemmas.List.{take-append-le}
 use Rattle.std.specs.Prelude.{IfSome}
 use Rattle.answer_text.specs.declared.report.Mark.{Mark}
@@ -9,12 +9,14 @@ use Rattle.answer_text.specs.declared.status.Status.TheVariants.{Done, BadWords,
 use Rattle.port_traits.specs.declared.identity.Identity.{Identity}
 use Rattle.port_traits.specs.declared.identity.Draw.{Draw}
 use Rattle.disk_model.specs.Story.{Story, count, seen}
+use Rattle.durable_replica.specs.store_replica.durable_runs.Marks.{AreBehind, replica_mark}
+use Rattle.durable_replica.specs.store_replica.durable_runs.Runs.{CallsFit}
 use Rattle.disk_model.specs.Moments.{Each, GoesOn, Since}
 use Rattle.store_model.specs.declared.record.Kind.TheVariants.{Replica as OfReplica}
 use Rattle.store_model.specs.Held.{Held}
 use Rattle.store_model.specs.Stores.{held_by}
 use Rattle.durable_replica.specs.store_replica.durable_runs.Replicas.{ReplicaStands, StateImage}
-use Rattle.durable_replica.proofs.of_store_replica.of_durable_runs.States.{carries_images, carries_widen}
+use Rattle.durable_replica.proofs.of_store_replica.of_durable_runs.States.{carries_images, carries_marks, carries_widen}
 use Rattle.durable_replica.specs.store_replica.Writing.{OpensOn}
 use Rattle.durable_replica.proofs.of_store_replica.Standings.{each_stands, opens_now}
 use Rattle.durable_replica.specs.replica_node.apply_model.Stops.{Differs as Stop}
@@ -85,6 +87,9 @@ module _ (identity : Identity) (draw : Draw) (from : Replica) (ps qs all : List 
       (carries_widen (IsBehind identity draw from ps) (IsBehind identity draw from all) t u (held_of from) [] marks
       (λ h state. subst (λ (xs : List Piece). IsBehind identity draw from xs h) (sym is) (more_pieces identity draw from ps qs h state)) (broke.carries fit)))
 
+  pub marks_behind : CallsFit u → IfSome u (λ _. AreBehind (count u) (map replica_mark marks))
+  marks_behind fit = carries_marks (IsBehind identity draw from ps) t u (held_of from) marks (broke.carries fit)
+
 holds_now : (u : Option Story) (r : code_replaying.Replaying) (s t : Replay) → Stands r s → t ≡ s → (identity : Identity) (draw : Draw) (from : Replica) (ps : List Piece) (first : Option Story) (marks : List Mark)
     → Lasts identity draw from ps first u r marks → Holds u t
 holds_now u r s t stands same identity draw from ps first marks lasts =
@@ -116,6 +121,7 @@ module _ (start left : Option (List ℕ)) (t u : Option Story) (report : Report)
     bytes = log.bytes;
     input_is = log.input_is;
     survives = survives_all identity draw from ps log.more.pieces _ (ap (λ (g : Grouped). g.pieces) log.groups) t u report.marks opens broke;
+    behind = marks_behind identity draw from ps log.more.pieces _ (ap (λ (g : Grouped). g.pieces) log.groups) t u report.marks opens broke;
   }
 
   -- ---- all of them

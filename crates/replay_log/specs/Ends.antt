@@ -11,7 +11,7 @@ use Rattle.disk_model.specs.Moments.{Each, Since}
 use Rattle.store_model.specs.declared.record.Kind.TheVariants.{Replica as OfReplica}
 use Rattle.store_model.specs.Held.{Held}
 use Rattle.store_model.specs.Stores.{held_by}
-use Rattle.durable_replica.specs.store_replica.durable_runs.Marks.{last_named, replica_mark}
+use Rattle.durable_replica.specs.store_replica.durable_runs.Marks.{AreBehind, last_named, replica_mark}
 use Rattle.durable_replica.specs.store_replica.durable_runs.Replicas.{ReplicaStands, StateImage}
 use Rattle.durable_replica.specs.store_replica.durable_runs.Runs.{CallsFit}
 use Rattle.durable_replica.specs.store_replica.Pushed.{NameInTurn}
@@ -72,7 +72,7 @@ Survives State t u marks =
 -- ---- how far it came
 
 -- The replica was opened, and the groups of the log on the input are carried out from its place on, at the draw of its opening: each image
--- of its disk holds what the first of them make.
+-- of its disk holds what the first of them make, and no mark says more calls than that has had.
 pub record Replays (input : Option (List ℕ)) (t u : Option Story) (report : Report) : Type 0 where
   pub identity : Identity
   pub draw : Draw
@@ -82,6 +82,7 @@ pub record Replays (input : Option (List ℕ)) (t u : Option Story) (report : Re
   pub bytes : List ℕ
   pub input_is : IfSome input (λ all. all ≡ bytes)
   pub survives : Survives (λ held. IsBehind identity draw from (grouped_from from.place.pos bytes).pieces) t u report.marks
+  pub behind : CallsFit u → IfSome u (λ _. AreBehind (count u) (map replica_mark report.marks))
 
 -- what that comes to
 abbrev pub behind_all : {input : Option (List ℕ)} {t u : Option Story} {report : Report} → Replays input t u report → Replay

@@ -1,6 +1,6 @@
 //! What a replica does: definitions and no code.
 //!
-//! A replica has a base, which began empty, and follows the log of its source: it fetches bytes, and carries out the whole groups among
+//! A replica has a base, which began empty or with what its store has, and follows the log of its source: it fetches bytes, and carries out the whole groups among
 //! them, one after the other, each whole or not at all (`apply_model`). It shows its rows and changes none by itself.
 //!
 //! The definitions stand in specs/: `Replica` (what it keeps, and where it fetches), `Applying` (APPLY), `Selecting` (a SELECT of the

@@ -38,6 +38,7 @@
 //!   row does; [`Tables::held_at`] and [`Tables::name_at`] give the row of a key and a table's name as they
 //!   are held
 //! - [`Tables::rows`] gives the rows in their order, shared with the table, without copies, or wants memory;
+//!   [`Tables::rows_between`] those of which the first values of the primary keys are in a range, found by search;
 //!   [`Tables::committed_rows`] those that are there to stay; [`Tables::copy`] gives equal tables that keep the
 //!   same keys, with the same rows that are there to stay
 //! - [`Tables::count`], [`Tables::first`] and [`Tables::last`] give how many rows a table has, and the two at its ends, without memory

@@ -1,11 +1,14 @@
 //! Rows read where they stand: all of a table, and those that have a key of another.
-ghost use Rattle.std.specs.Prelude.{◌≡◌, ℕ, Some, find, option_copied, IfOk, List};
+ghost use Rattle.std.specs.Prelude.{◌≡◌, ℕ, Some, filter, find, option_copied, IfOk, List};
 ghost use Rattle.table_rules.specs.Tables.{Table};
 ghost use Rattle.table_rules.specs.Stored.{has_key_in_way, key_in_way, row_in_way, rows_of, table_named};
 ghost use Rattle.table_rules.specs.Stores.{place_of};
+ghost use Rattle.table_sheet.specs.value_ranges.Keys.{row_is_in};
+ghost use Rattle.table_sheet.specs.value_ranges.Ranges.{range_of};
 
 use crate::tables::Tables;
 use sharing::Shared;
+use table_sheet::value_ranges::ValueRange;
 use val_types::{List, NoMemory, Row};
 
 impl Tables {
@@ -19,6 +22,23 @@ impl Tables {
             return Ok(List::new(self.alloc));
         }
         self.shelves[at].sheet.rows(self.alloc)
+    }
+
+    /// The rows of the table at a place of which the primary keys begin in a range, in their order, each shared with the table: found
+    /// by search, and walked from there to the end of the range; none where there is no table.
+    pub fn rows_between(
+        &self,
+        at: usize,
+        range: ValueRange<'_>,
+    ) -> Result<List<Shared<Row>>, NoMemory>
+        ensures { (name : List ℕ) → (table : Table) → place_of name self.now.tables ≡ Some at
+            → table_named name self.now.tables ≡ Some table
+            → IfOk result (λ rows. rows ≡ filter (row_is_in table.definition (range_of range.entry)) table.rows) }
+    {
+        if at >= self.shelves.len() {
+            return Ok(List::new(self.alloc));
+        }
+        self.shelves[at].sheet.rows_between(self.alloc, range)
     }
 
     /// The rows of the table at a place that are there to stay, whatever is shown, in their order and shared with the

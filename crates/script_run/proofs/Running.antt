@@ -19,7 +19,7 @@ use Rattle.run_laws.specs.session_replays.Followed.{EntriesFollow}
 use Rattle.store_model.specs.Held.{Held}
 use Rattle.durable_replica.specs.replica_node.Kept.{held_of}
 use Rattle.durable_replica.specs.replica_node.replica_model.Replica.{Replica}
-use Rattle.run_laws.specs.run_model.Asked.{Asked, say, select, take_bytes, take_groups, restart_source, restart_replica}
+use Rattle.run_laws.specs.run_model.Asked.{Asked, say, select, take_bytes, take_groups, checkpoint_source, checkpoint_replica, restart_source, restart_replica}
 use Rattle.run_laws.specs.run_model.Run.{Names, Both, Starts, both_from, next, end_of, told_lines, lines_shown, draws_of, kept_if, draws_source, draws_replica, mark_at, last_mark, number_before, place_before, source_from}
 use Rattle.run_laws.specs.run_model.Following.{Follows}
 use Rattle.run_laws.specs.Laws.{GoesThrough, IsLoggedAsSet, IsSound, OfEach}
@@ -44,6 +44,7 @@ use Rattle.script_run.proofs.Recovering.{recovers_by, served_begins, served_more
 use Rattle.script_run.proofs.Surviving.{carried_next, carried_some, fits_before, on_some, rep_survives_by, rep_survives_since, survives_by}
 use Rattle.script_run.proofs.Beginning.{each_from}
 use Rattle.script_run.proofs.Disks.{both_trans, if_told, where_told}
+use Rattle.script_run.proofs.Generations.{AtBehind, at_more, at_none, both_none, both_raised, both_still}
 use Rattle.script_run.proofs.Marks.{called_last, called_within, marks_begin, marks_last, marks_on, no_marks, numbers_are}
 
 -- what the laws say of disks, and of what a replica has carried out
@@ -135,6 +136,8 @@ next_from names b (say n text) d = refl
 next_from names b (select text) d = refl
 next_from names b (take_bytes n) d = refl
 next_from names b (take_groups n) d = refl
+next_from names b checkpoint_source d = refl
+next_from names b checkpoint_replica d = refl
 next_from names b restart_source d = refl
 next_from names b restart_replica d = refl
 
@@ -242,6 +245,8 @@ starts law from t u cs report before nodes opened =
           (since_none t.replica u.replica opened.names b cs report.marks opened.carries);
       serves = λ begins fits. subst (λ (e : Both). ServedSince t.replica u.replica (source_from from).committed (committed_of e) report.marks) (sym (end_none opened.names b cs))
           (served_begins law.served opened.names opened.src from t.replica u.replica report.marks (opened.together.follows begins) begins opened.together.holds opened.carries fits);
+      raised = both_none t u cs opened.src_first opened.rep_first opened.on opened.began opened.rep_began opened.at;
+      at = at_none u cs opened.src_first opened.rep_first opened.at;
       together = subst (λ (e : Both). Together opened.names u (stores_in t opened.held (held_of from.replica)) nodes e) (sym (end_none opened.names b cs)) opened.together;
     }
 
@@ -262,6 +267,7 @@ goes_on law from t u v cs i k c old new before now after nodes nodes' is k_is go
     let here : slice_get cs (length ds) ≡ Some c = ap (slice_get cs) going.count_is ∙ is in
     let number : k ≡ 1 + length ds = omega (arith, k_is, going.count_is) in
     let b' : Both = (next names b c told.draw).both in
+    let at : AtBehind t u v cs ds (ds ++ told.draw ∷ []) going.raised = at_more t u v cs ds told.draw c going.raised here going.at told.raises in
     record {
       names = names;
       src = going.src;
@@ -294,6 +300,8 @@ goes_on law from t u v cs i k c old new before now after nodes nodes' is k_is go
             named_all = subst (λ (e : Both). NamesAll v.replica (source_from from).committed (committed_of e) new.marks) (sym (end_last names first cs ds told.draw c here))
                 (told.all_named (source_from from).committed fits so_far.named_all);
           };
+      raised = both_raised t u v cs ds told.draw c going.raised here going.on told.on at;
+      at = at;
       together = subst (λ (e : Both). Together names v start nodes' e) (sym (end_last names first cs ds told.draw c here)) told.together;
     }
 
@@ -390,6 +398,7 @@ ceased law from t u v cs i k c old new before now after nodes is k_is same grew 
           (carried_some names first cs ds left.at c here t.replica u.replica v.replica old.marks new.marks left.on.replica going.carries left.carries);
       carried = carried_more law from t u cs i old before now nodes going left.at c here;
       recovers = recovered_more law from t u v cs i old new before now nodes going left.at c here left.on.replica left.pushed.more left.pushed.marks left.carries;
+      raised = both_still t u v cs ds left.on going.raised;
     }
 
 broke : Lasting → (from : Starts) (t u v : Disks) (cs : List Asked) (i k : ℕ) (c : Asked) (old new : Report) (before now after : Option (List ℕ)) (nodes : Nodes) → slice_get cs i ≡ Some c → k ≡ i + 1
@@ -425,6 +434,7 @@ broke law from t u v cs i k c old new before now after nodes is k_is going told 
       carried = carried_more law from t u cs i old before now nodes going told.draw c here;
       recovers = recovered_more law from t u v cs i old new before now nodes going told.draw c here told.on.replica told.marked.pushed.more told.marked.pushed.marks
           (on_some u.replica v.replica names b c told.draw old.marks new.marks told.carries);
+      raised = both_raised t u v cs ds told.draw c going.raised here going.on told.on (at_more t u v cs ds told.draw c going.raised here going.at told.raises);
     }
 
 stops_by : Lasting → (status : Status) (from : Starts) (t u v : Disks) (cs : List Asked) (i k : ℕ) (c : Asked) (old new : Report) (before now after : Option (List ℕ)) (nodes : Nodes) → slice_get cs i ≡ Some c → k ≡ i + 1 → Grew old new
@@ -475,6 +485,7 @@ ends law from t u cs report before after nodes going =
       carried = carried_now law from t u cs (length cs) report before after nodes going;
       recovers = λ begins. recovers_by law.images names going.src from cs going.draws (stores_in t going.held (held_of from.replica)).source t.replica u.replica report.marks begun (going.followed begins) (going.sounds begins) begins
           (stood_at from t u cs (length cs) report before after nodes going) (λ fits. (going.carries fits).carries) (λ fits. (going.serves begins fits).served);
+      raised = going.raised;
       follows = λ begins. going.together.follows (from_there names going.src from cs going.draws begins);
     }
 
@@ -665,6 +676,7 @@ lined_if (Ok lines) names b k c t u start old mid new now nodes is out = record 
   lasts = subst (λ (ms : List Mark). LastsOn t.source u.source start.source b.machine.history (next names b c out.draw).both.machine.history ms new.marks) (ap (λ (r : Report). r.marks) is) out.lasts;
   carries = subst (λ (ms : List Mark). CarriesOn t.replica u.replica names b c out.draw ms new.marks) (ap (λ (r : Report). r.marks) is) out.carries;
   all_named = subst (λ (ms : List Mark). NamesOn t.replica u.replica (committed_of b) (committed_of (next names b c out.draw).both) ms new.marks) (ap (λ (r : Report). r.marks) is) out.all_named;
+  raises = out.raises;
   shows = out.shows;
 }
 
@@ -699,6 +711,7 @@ told_all names b k c t u start old new nodes before after lines lined wrote = re
   lasts = lined.lasts;
   carries = lined.carries;
   all_named = lined.all_named;
+  raises = lined.raises;
   together = lined.shows.together;
 }
 
@@ -716,6 +729,7 @@ told_front names b k c t u start old new nodes before after lines lined wrote = 
   begins = lined.shows.together.stands.first;
   lasts = lined.lasts;
   carries = lined.carries;
+  raises = lined.raises;
 }
 
 pub told_by : (r : Result (Unit {0}) Status) (names : Names) (b : Both) (k : ℕ) (c : Asked) (t u : Disks) (start : Stores) (old new : Report) (nodes : Nodes) (before after : Option (List ℕ)) (lines : List ℕ)

@@ -15,12 +15,12 @@ use Rattle.run_stores.specs.durable_runs.Marks.{NameNow, Named, replica_mark, so
 use Rattle.run_stores.specs.durable_runs.Replicas.{Carries, CarriesTo, ReplicaStands}
 use Rattle.run_stores.specs.durable_runs.Runs.{CallsFit, Lasts, behind_steps}
 use Rattle.run_stores.specs.durable_runs.Sources.{SourceLasts, SourceRuns, SourceStands, Stored, source_side, stored_in}
-use Rattle.durable_replica.proofs.of_store_replica.of_durable_runs.States.{carries_behind, carries_idle, carries_images, carries_join, carries_to_widen, carries_widen}
+use Rattle.durable_replica.proofs.of_store_replica.of_durable_runs.States.{carries_behind, carries_idle, carries_images, carries_join, carries_marks, carries_to_widen, carries_widen}
 use Rattle.durable_replica.specs.replica_node.Kept.{held_of}
 use Rattle.run_laws.specs.log_entries.declared.entries.Entry.{Entry}
 use Rattle.run_laws.specs.session_model.Machine.{Whole}
 use Rattle.run_laws.specs.run_model.replica_model.Replica.{Replica as ReplicaNow}
-use Rattle.run_laws.specs.run_model.Asked.{Asked, say, select, take_bytes, take_groups, restart_source, restart_replica}
+use Rattle.run_laws.specs.run_model.Asked.{Asked, say, select, take_bytes, take_groups, checkpoint_source, checkpoint_replica, restart_source, restart_replica}
 use Rattle.run_laws.specs.run_model.Run.{Names, Both, end_of, next}
 use Rattle.run_laws.specs.run_model.States.{IsOnTheWay, IsStateOf}
 use Rattle.script_run.specs.Survives.{CarriedSince, CarriesOn, CarriesSome, IsHeldOf, IsHeldOnTheWay, Lasted, LastsOn, ReplicaSurvives, Survives}
@@ -62,6 +62,7 @@ survives_by law t u held es marks holds first lasted = record {
   held = held;
   holds = holds;
   images = λ fits. law.images t u (stored_in held (seen t)) es marks first (lasted fits);
+  behind = λ fits. law.behind t u (stored_in held (seen t)) es marks (lasted fits);
 }
 
 -- ---- states of the replica
@@ -72,6 +73,8 @@ way_begins names b (say n text) d r is = is
 way_begins names b (select text) d r is = is
 way_begins names b (take_bytes n) d r is = is
 way_begins names b (take_groups n) d r is = (0, is)
+way_begins names b checkpoint_source d r is = is
+way_begins names b checkpoint_replica d r is = is
 way_begins names b restart_source d r is = is
 way_begins names b restart_replica d r is = is
 
@@ -145,7 +148,12 @@ module _ (names : Names) (first : Both) (cs : List Asked) (ds : List Draw) (d : 
 -- what it went through is what each image holds
 pub rep_survives_by : (State : Held → Type 0) (t u : Option Story) (held : Held) (marks : List Mark) → held_by Replica (seen t) ≡ Ok held → (CallsFit u → Carries State t u held [] marks)
     → ReplicaSurvives t u State marks
-rep_survives_by State t u held marks holds carried = record { held = held; holds = holds; images = λ fits. carries_images State t u held marks (carried fits) }
+rep_survives_by State t u held marks holds carried = record {
+  held = held;
+  holds = holds;
+  images = λ fits. carries_images State t u held marks (carried fits);
+  behind = λ fits. carries_marks State t u held marks (carried fits);
+}
 
 pub rep_survives_since : (t u : Option Story) (names : Names) (b : Both) (cs : List Asked) (ds : List Draw) (now : ReplicaNow) (marks : List Mark) → held_by Replica (seen t) ≡ Ok (held_of b.replica)
     → CarriedSince t u names b cs ds now marks → ReplicaSurvives t u (IsHeldOf names b cs ds) marks

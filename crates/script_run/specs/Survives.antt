@@ -9,7 +9,7 @@ use Rattle.store_model.specs.declared.record.Kind.TheVariants.{Source, Replica}
 use Rattle.store_model.specs.Entries.{writer_at}
 use Rattle.store_model.specs.Held.{Held}
 use Rattle.store_model.specs.Stores.{held_by}
-use Rattle.run_stores.specs.durable_runs.Marks.{named, served_mark}
+use Rattle.run_stores.specs.durable_runs.Marks.{AreBehind, named, replica_mark, served_mark, source_mark}
 use Rattle.run_stores.specs.durable_runs.Runs.{CallsFit}
 use Rattle.run_stores.specs.durable_runs.Sources.{SourceImage, SourceLasts, Stored, stored_in}
 use Rattle.run_stores.specs.durable_runs.Replicas.{Carries, CarriesTo, IsCarried, ReplicaImage, Served, StateImage}
@@ -27,11 +27,12 @@ use Rattle.durable_replica.specs.replica_node.Kept.{held_of}
 
 -- Each image of each moment since the run began, inside a write too, holds what the source's store held behind some first entries of these:
 -- the base and the number that they lead to, and in each log, up to its end, what stood there and what they put there. Its number is no
--- less than the marks until then name.
+-- less than the marks until then name, of which none says more calls than the disk has had.
 pub record Survives (t u : Option Story) (entries : List (Entry Whole)) (marks : List Mark) : Type 0 where
   pub held : Held
   pub holds : held_by Source (seen t) ≡ Ok held
   pub images : CallsFit u → Since (count t) u (SourceImage (stored_in held (seen t)) entries marks)
+  pub behind : CallsFit u → IfSome u (λ _. AreBehind (count u) (map source_mark marks))
 
 -- a run of the source's disk so far, over what its machine put out, with all its marks
 abbrev pub Lasted : (t u : Option Story) → Stored → List (Entry Whole) → List Mark → Type 0
@@ -61,11 +62,13 @@ SourceOpens t u = IfSome t (λ _. (held : Held) → held_by Source (seen t) ≡ 
 
 -- ---- the replica's disk
 
--- Each image of each moment since the run began holds one of some states, whose number is no less than the marks until then name.
+-- Each image of each moment since the run began holds one of some states, whose number is no less than the marks until then name, of which
+-- none says more calls than the disk has had.
 pub record ReplicaSurvives (t u : Option Story) (State : Held → Type 0) (marks : List Mark) : Type 0 where
   pub held : Held
   pub holds : held_by Replica (seen t) ≡ Ok held
   pub images : CallsFit u → Since (count t) u (StateImage State held marks)
+  pub behind : CallsFit u → IfSome u (λ _. AreBehind (count u) (map replica_mark marks))
 
 -- what a store holds that has what a replica is while a command is carried out, and at some moment of commands
 abbrev pub IsHeldOnTheWay : Names → Both → Asked → Draw → Held → Type 0

@@ -53,13 +53,14 @@
 //! - What may stand on the source's disk (`Survives`), at every status but BadScript and ReadFault, at which no call was made: each image
 //!   of each moment since the run began, inside a write too, holds what the source's store held behind some first entries of those that its
 //!   commands put out, the one in flight among them (`MayPut`): base and number, and in each log, up to its end, what stood there and what they
-//!   put there. It holds no less than the marks until then name.
+//!   put there. It holds no less than the marks until then name, and no mark says more calls than the disk has had.
 //! - What may stand on the replica's (`ReplicaSurvives`), at the same statuses: each image of each moment since the run began, inside a
 //!   write too, holds what the replica of the definition is behind some steps of some APPLY, or behind some commands (`IsStateOf`): base,
 //!   number and place together, and of a group all or nothing. Its number is no less than the marks until then name. Where the run began as
 //!   one may, each such image has carried out a prefix of the entries that were owed and committed (`ReplicaRecovers`): its place is
 //!   behind them, and where each item of them does the same at every replica, its base is what they make of the one that the replica had; and
-//!   its number is no more than the source had committed when the replica's disk had had so many calls.
+//!   its number is no more than the source had committed when the replica's disk had had so many calls. No mark says more calls than it has
+//!   had.
 //! - Settled disks with such images are where the next run stands (`RunStands`), and an opening keeps what each has, whatever it answers and
 //!   whether the other opens or not (`SourceOpens`, `ReplicaOpens`), so that a second stop inside it loses nothing.
 //! - At BadScript and ReadFault all but the input is as before, and no disk was called (`idle`). At BadScript the input was read to its end

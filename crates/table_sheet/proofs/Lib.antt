@@ -7,6 +7,8 @@ pub mod Costing
 pub mod Counted
 pub mod Entering
 pub mod Exchanged
+pub mod Firsts
+pub mod Fronts
 pub mod Hiding
 pub mod Keeping
 pub mod Lasting
@@ -15,6 +17,7 @@ pub mod Moving
 pub mod OnKey
 pub mod OnValues
 pub mod Passing
+pub mod Ranging
 pub mod Refusing
 pub mod Settled
 pub mod Shown

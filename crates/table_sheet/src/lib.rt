@@ -20,6 +20,7 @@
 //! - `matching`: rows found by their values in a unique key
 //! - `reading`: all rows, and the keys in the way of one
 //! - `counting`: how many rows are shown
+//! - `between`: the rows of which the primary keys begin in a range
 //! - `ending`: the last row
 //! - `writing`: rows inserted, replaced and deleted
 //! - `standing`: rows that stand just so, replaced and taken out
@@ -43,6 +44,7 @@
 //!   aside, and without; they take no memory
 //! - [`Sheet::settle`] makes exactly the rows that are shown the committed ones, so that the same are shown then; it takes no memory
 //! - [`Sheet::count`] is how many rows are shown, [`Sheet::first`] and [`Sheet::last`] the first and the last of them
+//! - [`Sheet::rows_between`] gives the rows of which the first values of the primary keys are in a range, in order, or wants memory
 //! - [`Sheet::rows`], [`Sheet::committed_rows`] and [`Sheet::keys`] give the rows and keys in order, or want memory;
 //!   [`Sheet::key_in_way`] the number of the first key in the way, [`Sheet::row_on_key`] the row that has the key of a number
 //! - [`Sheet::clear`] leaves the definition alone, without memory; [`Sheet::copy`] has the same definition, committed rows and entries,
@@ -51,9 +53,10 @@
 //!   (`page` of [`Sheet::definition`])
 //!
 //! # Only tested
-//! Nothing yet.
+//! That calls succeed with ample memory, in `test_sheets`.
 #![tactic(auto)]
 
+mod between;
 mod committed;
 mod comparing;
 mod copying;
@@ -79,3 +82,4 @@ pub use overlay::Overlay;
 pub use refusal::SheetRefusal;
 pub use row_index::block_list;
 pub use sheet::Sheet;
+pub use value_ranges;

@@ -39,7 +39,7 @@ pub(crate) fn start_below(committed: &Committed, overlay: &Overlay) -> Place
 }
 
 /// What the next slot shows, None behind the last one.
-fn step<'a>(
+pub(crate) fn step<'a>(
     definition: &Shared<TableDef>,
     committed: &'a Committed,
     overlay: &'a Overlay,

@@ -1,4 +1,4 @@
-//! Conditions that name a key of a row, and conditions that may seem to.
+//! Conditions that name a key of a row or a range of it, and conditions that may seem to.
 
 use crate::playing::{Frame, expect_all, held};
 
@@ -162,5 +162,79 @@ fn values_named(rt: HostRuntime) {
         "conditions that may name the values of a unique key",
         held(alloc, &UNIQUES, &VALUES),
         VALUES.len(),
+    );
+}
+
+/// Behind a table `t` of five rows, whose key is `id`, a table `w` of four rows, whose key is `a` and `b`, and a function that notes its calls
+/// in a table `l`.
+static RANGES: Frame = Frame {
+    before: "s1: CREATE TABLE t (id INT, v INT, PRIMARY KEY (id)) //\ns1: CREATE TABLE w (a INT, b VARCHAR(5), v INT, PRIMARY KEY (a, b)) //\ns1: CREATE TABLE l (n INT, PRIMARY KEY (n)) //\ns1: CREATE FUNCTION c(n INT) RETURNS INT BEGIN INSERT INTO l VALUES (n); RETURN n; END //\ns1: INSERT INTO t VALUES (1, 10), (2, 20), (3, 30), (4, 40), (5, NULL) //\ns1: INSERT INTO w VALUES (1, 'a', 1), (1, 'b', 2), (2, 'a', 3), (3, 'a', 4) //\n",
+    behind: "",
+    first: "1 ok 0\n2 ok 0\n3 ok 0\n4 ok 0\n5 ok 5\n6 ok 4\n",
+    last: "",
+};
+
+/// Scripts behind them, and the lines behind theirs.
+static BETWEEN: [(&str, &str); 10] = [
+    // a range of the key: with its ends and without, either way round, the nearer of two ends, and no row
+    (
+        "s1: SELECT id FROM t WHERE id >= 2 AND id < 4 //\ns1: SELECT id FROM t WHERE id > 2 AND id <= 4 //\ns1: SELECT id FROM t WHERE 4 < id //\ns1: SELECT id FROM t WHERE 2 >= t.id //\ns1: SELECT id FROM t WHERE id > 1 AND id > 3 //\ns1: SELECT id FROM t WHERE id > 3 AND id > 1 //\ns1: SELECT id FROM t WHERE id >= 3 AND id > 3 //\ns1: SELECT id FROM t WHERE id < 4 AND id <= 2 AND id < 9 //\ns1: SELECT id FROM t WHERE id > 3 AND id < 3 //\ns1: SELECT id FROM t WHERE id >= 3 AND 3 >= id //\ns1: SELECT id FROM t WHERE id > 9 //\n",
+        "7 row 2\n7 row 3\n7 rows 2\n8 row 3\n8 row 4\n8 rows 2\n9 row 5\n9 rows 1\n10 row 1\n10 row 2\n10 rows 2\n11 row 4\n11 row 5\n11 rows 2\n12 row 4\n12 row 5\n12 rows 2\n13 row 4\n13 row 5\n13 rows 2\n14 row 1\n14 row 2\n14 rows 2\n15 rows 0\n16 row 3\n16 rows 1\n17 rows 0\n",
+    ),
+    // OR, NOT and <> say no range; what is true, false or unknown on any row may stand before one that does
+    (
+        "s1: SELECT id FROM t WHERE id > 4 OR id < 2 //\ns1: SELECT id FROM t WHERE NOT (id > 2) //\ns1: SELECT id FROM t WHERE (id > 4 OR v = 20) AND id < 5 //\ns1: SELECT id FROM t WHERE id <> 3 AND id > 2 //\ns1: SELECT id FROM t WHERE (id > 2) = 0 //\ns1: SELECT id FROM t WHERE v = 30 AND id > 2 //\ns1: SELECT id FROM t WHERE v > 20 //\ns1: SELECT id FROM t WHERE id + 1 > 5 //\n",
+        "7 row 1\n7 row 5\n7 rows 2\n8 row 1\n8 row 2\n8 rows 2\n9 row 2\n9 rows 1\n10 row 4\n10 row 5\n10 rows 2\n11 row 1\n11 row 2\n11 rows 2\n12 row 3\n12 rows 1\n13 row 3\n13 row 4\n13 rows 2\n14 row 5\n14 rows 1\n",
+    ),
+    // an error behind a range comes for its rows alone, one before it for any row; a value of the other kind
+    (
+        "s1: SELECT id FROM t WHERE id > 3 AND 1 DIV (v - 20) = 1 //\ns1: SELECT id FROM t WHERE id < 3 AND 1 DIV (v - 20) = 1 //\ns1: SELECT id FROM t WHERE 1 DIV (v - 20) = 1 AND id > 3 //\ns1: SELECT id FROM t WHERE id > 2 AND id > 'a' //\ns1: SELECT id FROM t WHERE id > 9 AND id > 'a' //\ns1: SELECT id FROM t WHERE id > 'a' //\ns1: UPDATE t SET v = 0 WHERE id < 2 AND v + 9223372036854775807 = 1 //\ns1: UPDATE t SET v = 0 WHERE id > 9 AND v + 9223372036854775807 = 1 //\n",
+        "7 rows 0\n8 error 1365\n9 error 1365\n10 error 30002\n11 rows 0\n12 error 30002\n13 error 1690\n14 ok 0\n",
+    ),
+    // a function that changes rows is called for the rows of a range behind it, and for each row before it
+    (
+        "s1: SELECT id FROM t WHERE id >= 2 AND id <= 3 AND c(id) = 3 //\ns1: SELECT n FROM l //\ns1: SELECT id FROM t WHERE c(id + 10) > 11 AND id < 3 //\ns1: SELECT COUNT(*) FROM l //\ns1: SELECT id FROM t WHERE id > 3 AND c(id + 20) = 24 AND id < 5 //\ns1: SELECT COUNT(*) FROM l //\n",
+        "7 row 3\n7 rows 1\n8 row 2\n8 row 3\n8 rows 2\n9 row 2\n9 rows 1\n10 row 7\n10 rows 1\n11 row 4\n11 rows 1\n12 row 9\n12 rows 1\n",
+    ),
+    // RAND() is drawn for each row of a range behind it, and for each row before it
+    (
+        "s1: SET rand_seed1 = 1, rand_seed2 = 2 //\ns1: SELECT id FROM t WHERE id > 1 AND id < 4 AND FLOOR(RAND() * 1073741823) > 0 //\ns1: SELECT FLOOR(RAND() * 1073741823) //\ns1: SET rand_seed1 = 1, rand_seed2 = 2 //\ns1: SELECT id FROM t WHERE FLOOR(RAND() * 1073741823) > 0 AND id > 4 //\ns1: SELECT FLOOR(RAND() * 1073741823) //\n",
+        "7 ok 0\n8 row 2\n8 row 3\n8 rows 2\n9 row 293\n9 rows 1\n10 ok 0\n11 row 5\n11 rows 1\n12 row 25129\n12 rows 1\n",
+    ),
+    // NULL ends no range, and what stands behind it is evaluated for each row; user variables
+    (
+        "s1: SELECT id FROM t WHERE id > NULL //\ns1: SELECT id FROM t WHERE id > NULL AND c(id) = 0 //\ns1: SELECT COUNT(*) FROM l //\ns1: SELECT id FROM t WHERE id > @k //\ns1: SET @k = 3 //\ns1: SELECT id FROM t WHERE id > @k //\ns1: SELECT id FROM t WHERE id > 3 AND c(id + 10) > 0 AND v IS NULL //\ns1: SELECT COUNT(*) FROM l //\n",
+        "7 rows 0\n8 rows 0\n9 row 5\n9 rows 1\n10 rows 0\n11 ok 0\n12 row 4\n12 row 5\n12 rows 2\n13 row 5\n13 rows 1\n14 row 7\n14 rows 1\n",
+    ),
+    // the first column of a key of two: a range of it, its value alone, and more behind; the second column says none
+    (
+        "s1: SELECT a, b FROM w WHERE a >= 2 //\ns1: SELECT b FROM w WHERE a = 1 //\ns1: SELECT b FROM w WHERE a = 1 AND b > 'a' //\ns1: SELECT a FROM w WHERE b > 'a' //\ns1: SELECT a FROM w WHERE a < 3 AND b = 'a' //\ns1: SELECT a FROM w WHERE a = 1 AND a > 1 //\ns1: UPDATE w SET v = 0 WHERE a > 1 //\ns1: SELECT v FROM w //\n",
+        "7 row 2, 'a'\n7 row 3, 'a'\n7 rows 2\n8 row 'a'\n8 row 'b'\n8 rows 2\n9 row 'b'\n9 rows 1\n10 row 1\n10 rows 1\n11 row 1\n11 row 2\n11 rows 2\n12 rows 0\n13 ok 2\n14 row 1\n14 row 2\n14 row 0\n14 row 0\n14 rows 4\n",
+    ),
+    // a local hides the column; columns of rows in view outside, and a subquery
+    (
+        "s1: CREATE FUNCTION h(id INT) RETURNS INT RETURN (SELECT COUNT(*) FROM t WHERE id > 2) //\ns1: CREATE FUNCTION k(id INT) RETURNS INT RETURN (SELECT COUNT(*) FROM t WHERE t.id > id) //\ns1: SELECT h(3), h(2), k(3) //\ns1: SELECT a, (SELECT COUNT(*) FROM t WHERE id > a) FROM w //\ns1: SELECT id FROM t WHERE id > (SELECT MAX(a) FROM w) //\ns1: CREATE TRIGGER g AFTER UPDATE ON t FOR EACH ROW DELETE FROM w WHERE a > OLD.id //\ns1: UPDATE t SET v = 1 WHERE id = 2 //\ns1: SELECT a FROM w //\n",
+        "7 ok 0\n8 ok 0\n9 row 5, 0, 2\n9 rows 1\n10 row 1, 4\n10 row 1, 4\n10 row 2, 3\n10 row 3, 2\n10 rows 4\n11 row 4\n11 row 5\n11 rows 2\n12 ok 0\n13 ok 1\n14 row 1\n14 row 1\n14 row 2\n14 rows 3\n",
+    ),
+    // rows of a range in a transaction, beside it, and behind it
+    (
+        "s1: BEGIN //\ns1: DELETE FROM t WHERE id >= 2 AND id <= 3 //\ns1: INSERT INTO t VALUES (0, 0), (7, 70) //\ns1: UPDATE t SET id = 6 WHERE id > 6 //\ns1: SELECT id FROM t WHERE id > 1 //\ns1: SELECT id FROM t WHERE id < 4 //\ns2: SELECT id FROM t WHERE id > 1 AND id < 4 //\ns2: SELECT id FROM t WHERE id > 5 //\ns1: INSERT INTO t VALUES (3, 33) //\ns1: SELECT id, v FROM t WHERE id >= 2 AND id < 5 //\ns1: ROLLBACK //\ns1: SELECT id, v FROM t WHERE id >= 2 AND id < 4 //\n",
+        "7 ok 0\n8 ok 2\n9 ok 2\n10 ok 1\n11 row 4\n11 row 5\n11 row 6\n11 rows 3\n12 row 0\n12 row 1\n12 rows 2\n13 row 2\n13 row 3\n13 rows 2\n14 rows 0\n15 ok 1\n16 row 3, 33\n16 row 4, 40\n16 rows 2\n17 ok 0\n18 row 2, 20\n18 row 3, 30\n18 rows 2\n",
+    ),
+    // rows of a range changed, ordered and counted
+    (
+        "s1: UPDATE t SET v = 0 WHERE id > 3 //\ns1: UPDATE t SET id = id + 10 WHERE id >= 4 //\ns1: SELECT id FROM t WHERE id < 99 ORDER BY id DESC LIMIT 2 //\ns1: SELECT COUNT(*), MIN(id), MAX(id) FROM t WHERE id > 1 AND id < 15 //\ns1: DELETE FROM t WHERE id > 2 AND id < 15 //\ns1: SELECT * FROM t //\n",
+        "7 ok 2\n8 ok 2\n9 row 15\n9 row 14\n9 rows 2\n10 row 3, 2, 14\n10 rows 1\n11 ok 2\n12 row 1, 10\n12 row 2, 20\n12 row 15, 0\n12 rows 3\n",
+    ),
+];
+
+#[test]
+fn ranges_named(rt: HostRuntime) {
+    let alloc = rt.alloc();
+    expect_all(
+        &rt,
+        "conditions that may say a range of a key",
+        held(alloc, &RANGES, &BETWEEN),
+        BETWEEN.len(),
     );
 }

@@ -20,18 +20,10 @@ static BAD_SCRIPTS: [(&str, &str); 13] = [
     ("s1: SELECT 1 // s1: SELECT 2 /", "bad script at 0\n"),
     ("s1: SELECT 1 //\n\ns1: SELECT 2 /", "bad script at 17\n"),
     (
-        "s1: SELECT 1 //\nreplica: CHECKPOINT //",
-        "bad script at 16\n",
-    ),
-    (
         "replica: APPLY 1 //\nsource: FLUSH //",
         "bad script at 20\n",
     ),
-    (
-        "s1: SELECT 1 //\nsource: CHECKPOINT //",
-        "bad script at 16\n",
-    ),
-    ("replica: CHECKPOINT //", "bad script at 0\n"),
+    ("source: FLUSH //", "bad script at 0\n"),
     // what does not split comes before what is asked too early
     ("source: RESTART //\nx", "bad script at 19\n"),
 ];

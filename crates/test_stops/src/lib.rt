@@ -2,6 +2,7 @@
 //!
 //! They stand in a crate of their own above `repl_run`, since a crate with tests of its own is proved once more for them.
 //!
+//! - `checkpoints`: CHECKPOINT of both nodes, with a stop at each of its calls and in the openings behind it
 //! - `playing`: calls of the program over disks that are handed in
 //! - `disks`: what a source's files hold, later calls on them, RESTART, files that stand for nothing
 //! - `events`: logs of another server, made event by event
@@ -14,6 +15,8 @@
 //! - `turns`: calls one after the other on both disks
 #![tactic(auto)]
 
+#[cfg(test)]
+mod checkpoints;
 #[cfg(test)]
 mod disks;
 #[cfg(test)]

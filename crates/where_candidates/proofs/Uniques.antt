@@ -10,8 +10,8 @@ use Rattle.table_rules.specs.Stored.{table_named, row_of_values}
 use Rattle.row_store.specs.Found.{found_with}
 use Rattle.row_store.specs.table_sheet.Keyed.{row_with}
 use Rattle.sql_tree.specs.Tree.{Tree}
-use Rattle.where_keys.specs.declared.outside.Outside.{Outside}
-use Rattle.where_keys.specs.Keys.{key_in}
+use Rattle.where_ranges.specs.where_keys.declared.outside.Outside.{Outside}
+use Rattle.where_ranges.specs.where_keys.Keys.{key_in}
 use Rattle.where_candidates.specs.declared.seeing.Named.{Named}
 use Rattle.where_candidates.specs.Candidates.{first_named}
 

@@ -1,5 +1,5 @@
 -- What the rows are that a WHERE has to look at.
-use Rattle.std.specs.Prelude.{◌≡◌, ℕ, suc, List, [], ◌∷◌, Option, Some, None, option_to_list, Result, Ok, Err}
+use Rattle.std.specs.Prelude.{◌≡◌, ℕ, suc, List, [], ◌∷◌, filter, Option, Some, None, option_to_list, Result, Ok, Err}
 use Rattle.std.specs.Option.{option_map, option_or}
 use Rattle.std.specs.Borrow.{Bor}
 use Rattle.val_types.specs.declared.value.Value.{Value}
@@ -10,15 +10,18 @@ use Rattle.val_types.specs.declared.definitions.TableDef.{TableDef}
 use Rattle.table_rules.specs.Tables.{Table}
 use Rattle.table_rules.specs.Stored.{row_at, table_named}
 use Rattle.row_store.specs.Found.{found_with}
+use Rattle.value_ranges.specs.Ranges.{Range, everything}
+use Rattle.value_ranges.specs.Keys.{row_is_in}
 use Rattle.sql_tree.specs.Tree.{Tree, Part, no_part, part}
 use Rattle.sql_tree.specs.View.{view_tree}
 use Rattle.sql_tree.specs.declared.expressions.Expr.{Expr}
-use Rattle.where_keys.specs.sql_meaning.Scenes.{Scene, kept_by}
-use Rattle.where_keys.specs.sql_meaning.Frames.{World, Frame}
-use Rattle.where_keys.specs.where_laws.Laws.{kept_where}
-use Rattle.where_keys.specs.declared.outside.Outside.{Outside}
-use Rattle.where_keys.specs.Sides.{IsRound}
-use Rattle.where_keys.specs.Keys.{key_in}
+use Rattle.where_ranges.specs.where_keys.sql_meaning.Scenes.{Scene, kept_by}
+use Rattle.where_ranges.specs.where_keys.sql_meaning.Frames.{World, Frame}
+use Rattle.where_ranges.specs.where_keys.where_laws.Laws.{kept_where}
+use Rattle.where_ranges.specs.where_keys.declared.outside.Outside.{Outside}
+use Rattle.where_ranges.specs.where_keys.Sides.{IsRound}
+use Rattle.where_ranges.specs.where_keys.Keys.{key_in}
+use Rattle.where_ranges.specs.Saying.{key_range}
 use Rattle.where_candidates.specs.declared.seeing.Named.{Named}
 use Rattle.where_candidates.specs.declared.seeing.SeenTable.{SeenTable}
 
@@ -42,9 +45,15 @@ abbrev pub unique_of_part : Outside → TableDef → Part → Option Named
 unique_of_part outside d no_part = None
 unique_of_part outside d (part t) = first_named outside d t 1 d.uniques
 
+-- the range that a WHERE says of the first column of the primary key
+abbrev pub range_of_part : Outside → TableDef → Part → Range
+range_of_part outside d no_part = everything
+range_of_part outside d (part t) = key_range outside d t
+
 -- Rows that are all that a WHERE over the table of a name has to look at: of them it keeps the same ones as of all rows, with the same
 -- scene or error behind it, in whatever scene, and whatever else is round it. Where it names a primary key, they are the row of that key
--- alone; else where it names each value of a unique key, they are the row that has these.
+-- alone; else where it names each value of a unique key, they are the row that has these; else they are the rows within the range that it
+-- says of the first column of the primary key.
 pub record AreCandidates (outside : Outside) (name : List ℕ) (d : TableDef) (p : Part) (tables : List Table) (rows : List (List Value)) : Type 0 where
   pub all : List (List Value)
   pub there : table_named name tables ≡ Some (record { definition = d; rows = all })
@@ -55,6 +64,7 @@ pub record AreCandidates (outside : Outside) (name : List ℕ) (d : TableDef) (p
   pub lone :
       (named : Named) → key_of_part outside d p ≡ None → unique_of_part outside d p ≡ Some named
       → rows ≡ option_to_list (found_with name named.which named.values tables)
+  pub within : key_of_part outside d p ≡ None → unique_of_part outside d p ≡ None → rows ≡ filter (row_is_in d (range_of_part outside d p)) all
 
 -- a table with its candidates, or 1146 where there is none of the name; or memory is short
 abbrev pub Sees : Outside → List ℕ → Part → List Table → Result SeenTable SqlRefusal → Type 0

@@ -5,7 +5,7 @@ ghost use Rattle.table_rules.specs.Stores.{definitions_of, place_of};
 ghost use Rattle.row_store.specs.Found.{found_with};
 ghost use Rattle.sql_tree.specs.Tree.{part};
 ghost use Rattle.sql_tree.specs.View.{view_part, view_tree};
-ghost use Rattle.where_keys.specs.Keys.{key_in};
+ghost use Rattle.where_ranges.specs.where_keys.Keys.{key_in};
 ghost use Rattle.where_candidates.specs.Candidates.{AreCandidates, Sees, first_named, part_if};
 
 use row_store::{Tables, tables_are_kept};
@@ -13,7 +13,9 @@ use sharing::Shared;
 use sql_tree::Expr;
 use std::alloc::Global;
 use val_types::{Boxed, Bytes, List, NoMemory, Row, SqlError, SqlRefusal, TableDef};
-use where_keys::{Outside, key_named, values_named};
+use value_ranges::has_end;
+use where_ranges::range_named;
+use where_ranges::where_keys::{Outside, key_named, values_named};
 
 /// A name that is no table's.
 const NO_SUCH_TABLE: SqlError = 1146;
@@ -88,6 +90,29 @@ fn unique_named(
     Ok(None)
 }
 
+/// The rows that a condition leaves to be looked at where it names no key: those within the range that it says of the first column of the
+/// primary key.
+fn rows_by_range(
+    tables: &Tables,
+    outside: &Outside<'_>,
+    at: usize,
+    definition: &TableDef,
+    condition: &Expr,
+) -> Result<List<Shared<Row>>, NoMemory>
+    ensures { (name : List ℕ) → place_of name tables.now.tables ≡ Some at → slice_get (definitions_of tables.now.tables) at ≡ Some definition.now
+        → key_in outside.now definition.now (view_tree condition.now) definition.now.primary ≡ None
+        → first_named outside.now definition.now (view_tree condition.now) 1 definition.now.uniques ≡ None
+        → IfOk result (λ rows. AreCandidates outside.now name definition.now (part (view_tree condition.now)) tables.now.tables rows) }
+{
+    tables_are_kept(tables);
+    let range = range_named(outside, definition, condition);
+    if has_end(range) {
+        tables.rows_between(at, range)
+    } else {
+        tables.rows(at)
+    }
+}
+
 /// The rows that a condition leaves to be looked at where it does not name the primary key.
 fn rows_by_unique(
     alloc: Global,
@@ -104,7 +129,7 @@ fn rows_by_unique(
     tables_are_kept(tables);
     match unique_named(alloc, outside, definition, condition)? {
         Some(named) => row_with(alloc, tables, at, named.which, &named.values),
-        None => tables.rows(at),
+        None => rows_by_range(tables, outside, at, definition, condition),
     }
 }
 
@@ -132,7 +157,8 @@ fn rows_for(
 }
 
 /// The rows of the table at a place that a WHERE has to look at, each shared with the table: the row of a primary key that
-/// the condition names whole, else that of a unique key of which it names each value, else all.
+/// the condition names whole, else that of a unique key of which it names each value, else those within the range that it says of the
+/// first column of the primary key, else all.
 pub fn candidates(
     alloc: Global,
     tables: &Tables,

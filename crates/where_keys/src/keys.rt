@@ -52,7 +52,7 @@ fn is_plain(side: Option<Side<'_>>) -> bool
 }
 
 /// Whether a condition is true, false or unknown on each row, and changes nothing.
-fn is_quiet(outside: &Outside<'_>, definition: &TableDef, e: &Expr) -> bool
+pub fn is_quiet(outside: &Outside<'_>, definition: &TableDef, e: &Expr) -> bool
     ensures { result ≡ quiet_in outside.now definition.now (view_tree e.now) }
 {
     match e {

@@ -11,9 +11,11 @@
 //! - `laws`: what follows
 //!
 //! The definitions in specs/ (`Sides`, `Keys`) say of the code's parts what they give; the conditions that they know are among those of
-//! `where_laws`, which knows rows in view outside and `-` before a value, too.
+//! `where_laws`, which knows rows in view outside and `-` before a value, too. `where_ranges` reads ranges by the same sides.
 //!
 //! # Proved
+//! - [`known_side`] gives just the side of a comparison that an expression is, None where that is not known; [`do_compare`] and [`is_quiet`] say
+//!   just whether two sides compare, and whether a condition is true, false or unknown on each row and changes nothing
 //! - [`values_named`] gives just the values that the condition names for some columns, None where it names not each, or wants memory;
 //!   [`key_named`] those of the primary key
 //! - where a condition names the primary key, or each column of a unique key, a WHERE keeps the same rows, with the same scene or error
@@ -27,7 +29,8 @@ mod outside;
 mod sides;
 
 // What is its own, and the crates below that it speaks of, passed on: who stands above names them through it.
-pub use keys::{key_named, values_named};
+pub use keys::{is_quiet, key_named, values_named};
 pub use laws::named_keys_are_enough;
 pub use outside::{Outside, RowOf};
 pub use session_ctx;
+pub use sides::{Side, do_compare, known_side};

@@ -15,7 +15,7 @@ use val_types::{Bytes, ColType, ColumnDef, TableDef, Value};
 
 /// The column at a place, or a value that stands whatever the row.
 #[derive(Clone, Copy)]
-pub(crate) enum Side<'a> {
+pub enum Side<'a> {
     Column(usize, &'a ColumnDef),
     Standing(&'a Value),
 }
@@ -117,7 +117,7 @@ fn name_side<'a>(
 }
 
 /// What an expression is, None where that is not known here.
-pub(crate) fn known_side<'a>(
+pub fn known_side<'a>(
     outside: &'a Outside<'_>,
     definition: &'a TableDef,
     e: &'a Expr,
@@ -160,7 +160,7 @@ fn kind_of(side: Side<'_>) -> Kind
 }
 
 /// Whether two sides compare: a number and a text do not.
-pub(crate) fn do_compare(a: Side<'_>, b: Side<'_>) -> bool
+pub fn do_compare(a: Side<'_>, b: Side<'_>) -> bool
     ensures { result ≡ sides_compare (side_view a.entry) (side_view b.entry) }
 {
     match (kind_of(a), kind_of(b)) {

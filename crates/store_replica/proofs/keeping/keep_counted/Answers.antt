@@ -45,7 +45,7 @@ returns-in-Ok-clause-run g c r held next can fits =
     let marked = c.set.ensures ∙ mark_set c.args.marks.now c.push.new.self c.args.now mark c.len-at.result c.len-at.ensures c.in_ok-push.ensures.ok in
     runs_same _ _ held r _ _ _ (sym marked)
     (marked_run _ c.args.store.now c.args.p r held next can _ (c.write_record.ensures.leads r held next can) c.write_record.new.store (c.in-Ok.ensures.on r held next can)
-    c.args.marks.now mark c.number.ensures c.calls.ensures fits)
+    c.args.marks.now mark c.number.ensures c.calls.ensures.count fits)
 
 pub returns-in-Ok-clause-goes : goal.returns-in-Ok-clause-goes
 returns-in-Ok-clause-goes g c = (c.write_record.ensures.leads c.requires.0 c.requires.1.0 c.requires.1.1.0 c.requires.1.1.1.0).on

@@ -1,12 +1,11 @@
 use Rattle.std.proofs.Common.{◌≡◌, List, sym, ◌∙◌}
 use Rattle.std.specs.Prelude.{option_to_list}
 use Rattle.val_types.specs.declared.value.Value.{Value}
-use Rattle.table_rules.specs.Stored.{rows_of}
 use Rattle.row_store.specs.Found.{found_with}
 use Rattle.sql_tree.specs.Tree.{part}
 use Rattle.sql_tree.specs.View.{view_tree}
 use Rattle.where_candidates.specs.Candidates.{AreCandidates}
-use Rattle.where_candidates.proofs.Enough.{if_ok, unique_so, unkeyed_so}
+use Rattle.where_candidates.proofs.Enough.{if_ok, unique_so}
 use Rattle.where_candidates.proofs.seeing.rows_by_unique.Goals as goal
 
 pub returns-in-Some : goal.returns-in-Some
@@ -16,7 +15,4 @@ returns-in-Some c = λ name place there none.
     (λ rows is. unique_so c.args.outside.now name c.args.definition.now (view_tree c.args.condition.now) c.args.tables.now c.args.at c.in-Some.named rows c.tables_are_kept.ensures none (sym c.in_ok-named.ensures ∙ c.in-Some.is) place there is) (c.row_with.ensures name place)
 
 pub returns-in-None : goal.returns-in-None
-returns-in-None c = λ name place there none.
-    if_ok c.rows.result (λ (rows : List (List Value)). rows ≡ rows_of name c.args.tables.now.tables)
-    (λ (rows : List (List Value)). AreCandidates c.args.outside.now name c.args.definition.now (part (view_tree c.args.condition.now)) c.args.tables.now.tables rows)
-    (λ rows is. unkeyed_so c.args.outside.now name c.args.definition.now (view_tree c.args.condition.now) c.args.tables.now.tables c.args.at rows none (sym c.in_ok-named.ensures ∙ c.in-None.is) place there is) (c.rows.ensures name place)
+returns-in-None c = λ name place there none. c.rows_by_range.ensures name place there none (sym c.in_ok-named.ensures ∙ c.in-None.is)

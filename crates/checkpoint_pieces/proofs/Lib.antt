@@ -1,0 +1,5 @@
+pub mod Both
+pub mod Stages
+pub mod Reading
+pub mod Closing
+pub mod Putting
