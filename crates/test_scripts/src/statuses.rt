@@ -1,11 +1,12 @@
 //! How a run ends, and what it tells.
 
 use crate::playing::{
-    ANY, Outcome, REPLICA_MOMENT, SOURCE_MOMENT, Shown, asked, asked_in_pieces, draw, expect_all,
-    is_rep, is_root, joined, plays, report_of, wanted,
+    ANY, Outcome, Shown, asked, asked_in_pieces, expect_all, is_rep, is_root, joined, plays,
+    report_of, wanted,
 };
 use answer_text::{Mark, Report, Status};
-use repl_run::{number_of, tell};
+use program_calls::repl_run::{number_of, tell};
+use program_calls::{REPLICA_MOMENT, SOURCE_MOMENT, draw};
 use std::alloc::Global;
 use val_types::{Bytes, List};
 

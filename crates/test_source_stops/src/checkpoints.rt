@@ -4,10 +4,12 @@ ghost use Rattle.std.specs.Prelude.{Some};
 ghost use Rattle.disk_model.specs.Files.{story_of};
 ghost use Rattle.disk_model.specs.Moments.{IsSettled};
 
-use crate::left::{FILES, again, dumped, dumped_replica, files_of, named, named_applied};
-use crate::playing::{Ended, asked, comes_to, over};
 use crash_images::{CRASHES, disk_left, files_left, no_files};
 use disk_model::{Disk, FuseDisk, MemDisk};
+use program_calls::{
+    Ended, FILES, again, asked, comes_to, dumped, dumped_replica, files_of, named, named_applied,
+    over,
+};
 use std::alloc::Global;
 use val_types::{Bytes, List};
 
