@@ -30,7 +30,7 @@
 //! - A device's fault is answered only where the disk's count of faults rose (`cause`).
 //!
 //! # Only tested
-//! In `test_stops`, where the program runs over disks: that a source opens, goes on and opens again with ample memory.
+//! In `test_source_stops`, where the program runs over disks: that a source opens, goes on and opens again with ample memory.
 #![tactic(auto)]
 
 mod checkpointing;
