@@ -399,6 +399,23 @@ fn open_rows_are_not_kept(rt: HostRuntime) {
     assert!(&rt; dumped.is_some_and(|text| text.as_slice() == dump_at(alloc, 2).as_slice()));
 }
 
+/// A checkpoint takes no draw and pushes no mark: each node's next command has the draw behind that of its opening.
+#[test]
+fn a_checkpoint_takes_no_draw(rt: HostRuntime) {
+    let alloc = rt.alloc();
+    let script =
+        b"source: CHECKPOINT //\nreplica: CHECKPOINT //\ns1: SELECT UNIX_TIMESTAMP() //\nreplica: SELECT UNIX_TIMESTAMP() //";
+    let ended = over(
+        alloc,
+        &asked("run", script),
+        &mut MemDisk::new(alloc),
+        &mut MemDisk::new(alloc),
+    );
+    let lines = "1 ok 0\n2 ok 0\n3 row 1700000001\n3 rows 1\n4 row 1600000001\n4 rows 1\n";
+    assert!(&rt; comes_to(&ended, lines, ""));
+    assert!(&rt; ended.is_some_and(|ended| ended.report.marks.as_slice().is_empty()));
+}
+
 // ---- many in a row
 
 /// The generation of a snapshot as its file has it: eight bytes behind a gate, a length and the kind of its node.
