@@ -11,7 +11,7 @@ use std::alloc::Global;
 use val_types::{Bytes, List};
 
 /// Scripts that do not split or that ask what no node does yet, and the line that tells the first bad byte.
-static BAD_SCRIPTS: [(&str, &str); 13] = [
+static BAD_SCRIPTS: [(&str, &str); 11] = [
     ("s1: SELECT 1", "bad script at 0\n"),
     ("s0: SELECT 1 //", "bad script at 0\n"),
     ("s100: SELECT 1 //", "bad script at 0\n"),
