@@ -10,6 +10,9 @@ use Rattle.store_checkpoints.proofs.source.checkpoint_source.Goals as goal
 pub checkpoint-requires-clause-durable : goal.checkpoint-requires-clause-durable
 checkpoint-requires-clause-durable g c = c.requires.1.keeps.holds.durable
 
+pub returns-then-generation-eq-MAX-clause-stays : goal.returns-then-generation-eq-MAX-clause-stays
+returns-then-generation-eq-MAX-clause-stays g c s can = no_call _ _ s can.on
+
 pub returns-then-is_empty-clause-stays : goal.returns-then-is_empty-clause-stays
 returns-then-is_empty-clause-stays g c s can = no_call _ _ s can.on
 
