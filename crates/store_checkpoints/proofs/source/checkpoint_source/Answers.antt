@@ -21,7 +21,7 @@ returns-clause-stays g c s can =
     source_stays _ c.args.store.now c.args.tables.now c.args.objects.now s can c.generation_fits.ensures
     (λ next. read_again c.held_is_made_again.ensures.images c.held_is_read_again.ensures Source c.args.store.now.generation s.held can.tables next _ c.calls.ensures.bytes
     (source_told _ c.args.store.now s can.on) (source_numbers c.sources_have_places.ensures c.args.store.now.generation _ s.held (has_log _ c.args.store.now s can.on
-      (not_empty c.is_empty.result c.ends.result.now c.args.store.now.ends.list c.is_empty.ensures (search rules) c.ends.ensures))))
+    (not_empty c.is_empty.result c.ends.result.now c.args.store.now.ends.list c.is_empty.ensures (search rules) c.ends.ensures))))
     _ (c.checkpoint.ensures.images s.held) (λ last. (c.checkpoint.ensures.last last).1)
 
 pub returns-clause-on : goal.returns-clause-on
@@ -29,7 +29,7 @@ returns-clause-on g c s can =
     source_on _ c.args.store.now c.args.tables.now c.args.objects.now s can c.generation_fits.ensures
     (λ next. read_again c.held_is_made_again.ensures.images c.held_is_read_again.ensures Source c.args.store.now.generation s.held can.tables next _ c.calls.ensures.bytes
     (source_told _ c.args.store.now s can.on) (source_numbers c.sources_have_places.ensures c.args.store.now.generation _ s.held (has_log _ c.args.store.now s can.on
-      (not_empty c.is_empty.result c.ends.result.now c.args.store.now.ends.list c.is_empty.ensures (search rules) c.ends.ensures))))
+    (not_empty c.is_empty.result c.ends.result.now c.args.store.now.ends.list c.is_empty.ensures (search rules) c.ends.ensures))))
     _ c.checkpoint.result c.checkpoint.new.s (c.checkpoint.ensures.images s.held) (c.checkpoint.ensures.keeps s.held)
     (ap (λ (k : Store). k.node) c.checkpoint.ensures.rest) (λ last. ((c.checkpoint.ensures.last last).1, (c.checkpoint.ensures.last last).2))
 
