@@ -7,11 +7,11 @@ use Rattle.store_checkpoints.proofs.Again.{has_log, next_is, read_again, source_
 use Rattle.store_checkpoints.proofs.Staying.{on_ok, source_on, source_stays, source_told}
 use Rattle.store_checkpoints.proofs.source.checkpoint_source.Goals as goal
 
-pub checkpoint-requires-clause-durable : goal.checkpoint-requires-clause-durable
-checkpoint-requires-clause-durable g c = c.requires.1.keeps.holds.durable
+pub checkpoint-requires : goal.checkpoint-requires
+checkpoint-requires g c = record { durable = c.requires.1.keeps.holds.durable }
 
-pub returns-then-generation-eq-MAX-clause-stays : goal.returns-then-generation-eq-MAX-clause-stays
-returns-then-generation-eq-MAX-clause-stays g c s can = no_call _ _ s can.on
+pub returns-then-generation-clause-stays : goal.returns-then-generation-clause-stays
+returns-then-generation-clause-stays g c s can = no_call _ _ s can.on
 
 pub returns-then-is_empty-clause-stays : goal.returns-then-is_empty-clause-stays
 returns-then-is_empty-clause-stays g c s can = no_call _ _ s can.on
