@@ -61,9 +61,13 @@ none_of : (kind : Kind) (ends : List LogEnd) → kind ≡ Replica → HasEnds ki
 none_of kind ends is own = subst (λ (k : Kind). HasEnds k ends) is own
 
 pub replica_numbers : (t : Option Story) (store : Store) (held : Held) → ReplicaIsOn t store held → store.log < 2 ^ 32 → store.pos < 2 ^ 32 → HasNumbers Replica held
-replica_numbers t store held on log pos =
-    ((none_of store.node held.ends on.node on.keeps.holds.own,
-        (subst (λ (n : ℕ). n < 2 ^ 32) on.keeps.holds.shows.log log, subst (λ (n : ℕ). n < 2 ^ 32) on.keeps.holds.shows.pos pos)), on.fits)
+replica_numbers t store held on log pos = (
+  (
+    none_of store.node held.ends on.node on.keeps.holds.own,
+    (subst (λ (n : ℕ). n < 2 ^ 32) on.keeps.holds.shows.log log, subst (λ (n : ℕ). n < 2 ^ 32) on.keeps.holds.shows.pos pos),
+  ),
+  on.fits,
+)
 
 -- ---- the next generation
 

@@ -2,7 +2,7 @@ use Rattle.std.proofs.Common.{◌+◌, ap, refl, ◌∙◌}
 use Rattle.checkpoint.proofs.Keeping.{at_next, closes, goes_on, journal_durable, snapshot_durable, to_work, untouched}
 use Rattle.checkpoint.proofs.checkpointing.checkpoint.Goals as goal
 
-pub returns-then-generation-clause-images : goal.returns-then-generation-eq-MAX-clause-images
+pub returns-then-generation-clause-images : goal.returns-then-generation-clause-images
 returns-then-generation-clause-images g c held can = untouched c.args.s.now c.args.tables.now c.args.objects.now _ refl _ held can
 
 pub returns-in_err-framed-clause-images : goal.returns-in_err-framed-clause-images

@@ -5,8 +5,8 @@ use Rattle.store_checkpoints.proofs.Again.{next_is, read_again, replica_numbers}
 use Rattle.store_checkpoints.proofs.Staying.{on_ok, replica_fetched, replica_goes, replica_on, replica_stays, replica_told}
 use Rattle.store_checkpoints.proofs.replica.checkpoint_replica.Goals as goal
 
-pub checkpoint-requires-clause-durable : goal.checkpoint-requires-clause-durable
-checkpoint-requires-clause-durable g c = c.requires.1.keeps.holds.durable
+pub checkpoint-requires : goal.checkpoint-requires
+checkpoint-requires g c = record { durable = c.requires.1.keeps.holds.durable }
 
 pub returns-clause-goes : goal.returns-clause-goes
 returns-clause-goes g c held can =
