@@ -1,5 +1,5 @@
 -- A store's files stay durable from call to call.
-use Rattle.std.proofs.Common.{◌≡◌, Option, Result, Ok, Err, sym, ◌∙◌, ap, subst}
+use Rattle.std.proofs.Common.{◌≡◌, Option, Result, Ok, Err, sym, ◌∙◌, subst}
 use Rattle.std.specs.Prelude.{OnOk}
 use Rattle.disk_model.specs.Story.{Story}
 use Rattle.store_model.specs.declared.record.Kind.{Kind}
@@ -8,9 +8,10 @@ use Rattle.checkpoint.specs.commit_store.declared.store.Store.{Store}
 use Rattle.checkpoint.specs.commit_store.Keeping.{AreDurable, Keeps}
 
 -- a store that is started
-pub started_stays : (t : Option Story) (store now : Store) (held : Held) (node : Kind) → now ≡ record store { journal = now.journal } → store.node ≡ node → Keeps t now held → AreDurable node t
-started_stays t store now held node rest is keeps = subst (λ (k : Kind). AreDurable k t) (ap (λ (k : Store). k.node) rest ∙ is) keeps.holds.durable
+pub started_stays : (t : Option Story) (now : Store) (held : Held) (kind node : Kind) → now.node ≡ kind → kind ≡ node → Keeps t now held → AreDurable node t
+started_stays t now held kind node same is keeps = subst (λ (k : Kind). AreDurable k t) (same ∙ is) keeps.holds.durable
 
+-- where a node of the same kind is opened
 pub of_node : (t : Option Story) (kind node : Kind) → node ≡ kind → AreDurable kind t → AreDurable node t
 of_node t kind node is durable = subst (λ (k : Kind). AreDurable k t) (sym is) durable
 
