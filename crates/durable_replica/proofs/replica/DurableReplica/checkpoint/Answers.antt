@@ -2,7 +2,7 @@ use Rattle.std.proofs.Common.{refl, ap}
 use Rattle.commit_store.specs.declared.store.Store.{Store}
 use Rattle.replica_node.specs.Kept.{held_of, replica_of}
 use Rattle.durable_replica.proofs.Snapshotting.{can_checkpoint, on_still, still_runs}
-use Rattle.durable_replica.proofs.checkpointing.DurableReplica.checkpoint.Goals as goal
+use Rattle.durable_replica.proofs.replica.DurableReplica.checkpoint.Goals as goal
 
 pub checkpoint_replica-requires : goal.checkpoint_replica-requires
 checkpoint_replica-requires g c = (held_of (replica_of c.args.self.now.node), c.requires.on)

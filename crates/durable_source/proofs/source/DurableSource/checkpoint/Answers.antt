@@ -1,7 +1,7 @@
 use Rattle.std.proofs.Common.{refl, ap}
 use Rattle.commit_store.specs.declared.store.Store.{Store}
 use Rattle.durable_source.proofs.Snapshotting.{can_checkpoint, some_still, stands_still, still_runs}
-use Rattle.durable_source.proofs.checkpointing.DurableSource.checkpoint.Goals as goal
+use Rattle.durable_source.proofs.source.DurableSource.checkpoint.Goals as goal
 
 pub checkpoint_source-requires : goal.checkpoint_source-requires
 checkpoint_source-requires g c = (c.requires.1.1.0.now, c.requires.1.1.0.on)
