@@ -1,5 +1,5 @@
 -- What is held is read again from a snapshot of the next generation.
-use Rattle.std.proofs.Common.{◌≡◌, ◌<◌, ◌≤◌, ◌^◌, ◌⊎◌, inl, inr, ℕ, ◌+◌, ◌-◌, ◌==◌, cond, true, false, List, [], ◌∷◌, length, min, Option, Some, None, refl, sym, ◌∙◌, ap, subst, arith}
+use Rattle.std.proofs.Common.{◌≡◌, ◌<◌, ◌^◌, ◌⊎◌, inl, inr, ℕ, ◌+◌, ◌-◌, ◌==◌, cond, List, [], ◌∷◌, length, min, Option, Some, None, ◌∙◌, subst, arith}
 use Rattle.std.specs.Prelude.{IfSome}
 use Rattle.std.proofs.lemmas.Bool.{leb-true, cases_eq, cond-true, cond-false, eq-eqb, ne_eqb}
 use Rattle.disk_model.specs.Story.{Story, seen}
@@ -14,7 +14,7 @@ use Rattle.store_model.specs.Snapshots.{HasPlaces}
 use Rattle.store_model.specs.Stores.{Stands}
 use Rattle.store_model.proofs.Standing.{together}
 use Rattle.commit_store.specs.declared.store.Store.{Store}
-use Rattle.commit_store.specs.Keeping.{HasEnds, Keeps, positions}
+use Rattle.commit_store.specs.Keeping.{HasEnds, positions}
 use Rattle.checkpoint_model.specs.Pieces.{last_generation}
 use Rattle.checkpoint.specs.checkpoint_pieces.Newest.{IsReadAgain}
 use Rattle.checkpoint.specs.Checkpoints.{HasSizes}
