@@ -8,8 +8,8 @@ use Rattle.disk_model.specs.Left.{Left, LeftAfter}
 use Rattle.disk_model.specs.Story.{Image, Story, count, seen}
 use Rattle.disk_model.specs.Moments.{AfterCall, Each, GoesOn, Only, calls_until}
 use Rattle.disk_model.proofs.Moments.{on_count, on_trans, until_all, until_on}
-use Rattle.commit_store.specs.declared.store.Store.{Store}
-use Rattle.commit_store.specs.Keeping.{AreDurable, Keeps}
+use Rattle.durable_replica.specs.replica_node.commit_store.declared.store.Store.{Store}
+use Rattle.durable_replica.specs.replica_node.commit_store.Keeping.{AreDurable, Keeps}
 use Rattle.store_model.specs.declared.record.Kind.{Kind}
 use Rattle.store_model.specs.declared.record.Kind.TheVariants.{Source, Replica}
 use Rattle.store_model.specs.Held.{Held}
