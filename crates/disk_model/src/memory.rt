@@ -40,7 +40,7 @@ impl Model for MemDisk {
     ghost view = { λ d. record { first = d.first; calls = reverse d.calls; faults = d.faults } };
 
     ghost invariant = { λ d. ((f : ℕ) → files d.held.list.items f ≡ seen_after (files d.first) (reverse d.calls) f)
-      × AreBytes (files d.first) (reverse d.calls) };
+        × AreBytes (files d.first) (reverse d.calls) };
 }
 
 /// A number of eight bits is a byte.

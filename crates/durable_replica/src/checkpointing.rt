@@ -1,5 +1,5 @@
 //! A checkpoint of the replica.
-ghost use Rattle.std.specs.Prelude.{◌≡◌, ◌+◌, ◌-◌, ◌^◌, List as Items, [], OnOk, min};
+ghost use Rattle.std.specs.Prelude.{◌≡◌, ◌+◌, ◌-◌, ◌^◌, List as Items, [], Ok, OnOk, min};
 ghost use Rattle.answer_text.specs.declared.report.Mark.{Mark};
 ghost use Rattle.disk_model.specs.Answers.{HasNodeCause};
 ghost use Rattle.disk_model.specs.Moments.{GoesOn};
@@ -12,9 +12,9 @@ use disk_model::{Disk, NodeFault};
 use store_checkpoints::checkpoint_replica;
 
 impl DurableReplica {
-    /// Writes what the store has as a snapshot of the next generation, if there is one. In memory all is as before, and so is what was
-    /// fetched. The disk stands for what the replica has at each moment, also at a fault; and at a fault nothing is said of the replica any
-    /// more.
+    /// Writes what the store has as a snapshot of the next generation. Where there is none it does nothing. In memory all is as before, and
+    /// so is what was fetched. The disk stands for what the replica has at each moment, also at a fault; and at a fault nothing is said of
+    /// the replica any more.
     pub fn checkpoint<D: Disk>(&mut self, d: &mut D) -> Result<(), NodeFault>
         requires { IsOnDisk (D.told d.old) self.old }
         ensures node { self.new.node ≡ self.old.node }
@@ -24,6 +24,7 @@ impl DurableReplica {
         ensures fetched { self.new.fetched ≡ self.old.fetched }
         ensures number { self.new.store.number ≡ self.old.store.number }
         ensures generation { OnOk result (self.new.store.generation ≡ min (self.old.store.generation + 1) (2 ^ 64 - 1)) }
+        ensures last { self.old.store.generation ≡ 2 ^ 64 - 1 → (result ≡ Ok tt) × (D.told d.new ≡ D.told d.old) × (self.new ≡ self.old) }
         ensures cause { HasNodeCause (D.faults d.old) (D.faults d.new) result }
     {
         let tables = self.node.tables();

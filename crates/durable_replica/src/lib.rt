@@ -23,7 +23,8 @@
 //! - [`DurableReplica::fetch`] takes just the piece, and its calls are a run of no record. [`DurableReplica::select`] answers as the
 //!   definition does and calls no disk.
 //! - [`DurableReplica::checkpoint`]: memory and what was fetched stay as they were, and its calls are a run of no record, whichever of them
-//!   fails; after Ok the disk has what it had, at the next generation, if there is one (`on`, `runs`, `generation`).
+//!   fails; after Ok the disk has what it had, at the next generation, if there is one (`on`, `runs`, `generation`). At the last generation
+//!   it calls no disk (`last`).
 //! - [`DurableReplica::restart`] is the definition's RESTART, its calls are a run of no record, and a disk that tells is never damaged then
 //!   (`replica`, `runs`, `whole`).
 //! - A store is opened at the generation that counts on its disk (`active`), and only a checkpoint moves it on (`generation`).

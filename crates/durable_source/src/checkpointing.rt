@@ -1,5 +1,5 @@
 //! A checkpoint of the source.
-ghost use Rattle.std.specs.Prelude.{◌≡◌, ◌+◌, ◌-◌, ◌^◌, List as Items, [], OnOk, min};
+ghost use Rattle.std.specs.Prelude.{◌≡◌, ◌+◌, ◌-◌, ◌^◌, List as Items, [], Ok, OnOk, min};
 ghost use Rattle.answer_text.specs.declared.report.Mark.{Mark};
 ghost use Rattle.disk_model.specs.Answers.{HasNodeCause};
 ghost use Rattle.disk_model.specs.Moments.{GoesOn};
@@ -13,9 +13,9 @@ use disk_model::{Disk, NodeFault};
 use store_checkpoints::checkpoint_source;
 
 impl DurableSource {
-    /// Writes what the store has as a snapshot of the next generation, if there is one: the catalog, and the rows of the last commit, also
-    /// beside an open transaction. In memory all is as before. The disk stands for what the source has at each moment, also at a fault; and
-    /// at a fault nothing is said of the source any more.
+    /// Writes what the store has as a snapshot of the next generation: the catalog, and the rows of the last commit, also beside an open
+    /// transaction. Where there is no next generation it does nothing. In memory all is as before. The disk stands for what the source has
+    /// at each moment, also at a fault; and at a fault nothing is said of the source any more.
     pub fn checkpoint<D: Disk>(&mut self, d: &mut D) -> Result<(), NodeFault>
         requires { (from : Stored) × ((m : Machine) × (Stands (D.told d.old) self.old from m × Holds (beginning_of from) m)) }
         ensures node { self.new.node ≡ self.old.node }
@@ -27,6 +27,7 @@ impl DurableSource {
         ensures some { OnOk result ((from : Stored) × ((m : Machine) × (Stands (D.told d.new) self.new from m × Holds (beginning_of from) m))) }
         ensures number { self.new.store.number ≡ self.old.store.number }
         ensures generation { OnOk result (self.new.store.generation ≡ min (self.old.store.generation + 1) (2 ^ 64 - 1)) }
+        ensures last { self.old.store.generation ≡ 2 ^ 64 - 1 → (result ≡ Ok tt) × (D.told d.new ≡ D.told d.old) × (self.new ≡ self.old) }
         ensures cause { HasNodeCause (D.faults d.old) (D.faults d.new) result }
     {
         let tables = self.node.tables();

@@ -22,7 +22,7 @@
 //!   there is none (`runs`), and it answers Damaged only with the first place of damage (`damaged`).
 //! - [`DurableSource::checkpoint`]: for each run for which the source stands, it stands for it still, also beside an open transaction, and its
 //!   calls are a run over no entry, whichever of them fails; after Ok its store is at the next generation, if there is one (`stands`,
-//!   `runs`, `generation`).
+//!   `runs`, `generation`). At the last generation it calls no disk (`last`).
 //! - [`DurableSource::restart`] stands for the machine's RESTART, its calls are a run over what that puts out, and a disk that tells is
 //!   never damaged then (`stands`, `runs`, `whole`).
 //! - [`DurableSource::log_bytes`] gives just the bytes of a log from a position on, up to a count and the log's committed end.
@@ -30,7 +30,7 @@
 //! - A device's fault is answered only where the disk's count of faults rose (`cause`).
 //!
 //! # Only tested
-//! In `test_stops`, where the program runs over disks: that a source opens, goes on and opens again with ample memory.
+//! In `test_source_stops`, where the program runs over disks: that a source opens, goes on and opens again with ample memory.
 #![tactic(auto)]
 
 mod checkpointing;

@@ -1,9 +1,8 @@
 //! What counts bytes, and tells how many.
 
-use std::env;
-use std::io;
 use std::io::Write;
 use std::time::Instant;
+use std::{env, io};
 
 /// The environment variable that asks for it, whatever it holds.
 const VARIABLE: &str = "REPL_PROGRESS";

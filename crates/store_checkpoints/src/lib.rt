@@ -13,7 +13,8 @@
 //! - [`checkpoint_source`]: at each moment, whichever call fails, each image of the disk stands for what the source's store has, with the bytes
 //!   of each log (`stays`), and after Ok the disk has it (`on`). So its calls are a run of no entry (law `runs_compose` of `durable_runs`).
 //! - [`checkpoint_replica`]: the same of a replica; what it has fetched stays as it was (`fetched`).
-//! - Behind both the store's number is what it was, and after Ok its generation is the next one, if there is one (`generation`).
+//! - Behind both the store's number is what it was, and after Ok its generation is the next one, if there is one (`generation`). At the last
+//!   generation neither calls a disk or changes anything (`last`).
 #![tactic(auto)]
 
 mod bounds;

@@ -1,8 +1,9 @@
 //! A checkpoint of a replica's store.
-ghost use Rattle.std.specs.Prelude.{◌≡◌, ◌+◌, ◌-◌, ◌^◌, min, OnOk};
+ghost use Rattle.std.specs.Prelude.{◌≡◌, ◌+◌, ◌-◌, ◌^◌, min, Ok, OnOk};
 ghost use Rattle.disk_model.specs.Story.{count, seen};
 ghost use Rattle.disk_model.specs.Moments.{Always, GoesOn};
 ghost use Rattle.disk_model.specs.Answers.{HasNodeCause};
+ghost use Rattle.checkpoint_model.specs.Pieces.{last_generation};
 ghost use Rattle.store_model.specs.Held.{Held};
 ghost use Rattle.store_model.specs.Stores.{first_log};
 ghost use Rattle.store_source.specs.durable_runs.Replicas.{ReplicaStands};
@@ -36,6 +37,7 @@ pub fn checkpoint_replica<D: Disk>(
         → seen (D.told d.new) first_log ≡ seen (D.told d.old) first_log }
     ensures generation { OnOk result (store.new.generation ≡ min (store.old.generation + 1) (2 ^ 64 - 1)) }
     ensures number { store.new.number ≡ store.old.number }
+    ensures last { store.old.generation ≡ last_generation → (result ≡ Ok tt) × (D.told d.new ≡ D.told d.old) × (store.new ≡ store.old) }
     ensures cause { HasNodeCause (D.faults d.old) (D.faults d.new) result }
 {
     held_is_made_again();

@@ -1,6 +1,7 @@
 //! A checkpoint of a source's store.
-ghost use Rattle.std.specs.Prelude.{◌≡◌, ◌+◌, ◌-◌, ◌^◌, min, OnOk};
+ghost use Rattle.std.specs.Prelude.{◌≡◌, ◌+◌, ◌-◌, ◌^◌, min, Ok, OnOk};
 ghost use Rattle.disk_model.specs.Answers.{HasNodeCause};
+ghost use Rattle.checkpoint_model.specs.Pieces.{last_generation};
 ghost use Rattle.store_source.specs.durable_runs.Sources.{Stored};
 ghost use Rattle.store_source.specs.Writing.{IsOn, StaysOn};
 ghost use Rattle.store_checkpoints.specs.Asking.{SourceCan};
@@ -29,6 +30,7 @@ pub fn checkpoint_source<D: Disk>(
     ensures on { (s : Stored) → SourceCan (D.told d.old) store.old tables.now objects.now s → OnOk result (IsOn (D.told d.new) store.new s) }
     ensures generation { OnOk result (store.new.generation ≡ min (store.old.generation + 1) (2 ^ 64 - 1)) }
     ensures number { store.new.number ≡ store.old.number }
+    ensures last { store.old.generation ≡ last_generation → (result ≡ Ok tt) × (D.told d.new ≡ D.told d.old) × (store.new ≡ store.old) }
     ensures cause { HasNodeCause (D.faults d.old) (D.faults d.new) result }
 {
     held_is_made_again();
@@ -36,6 +38,10 @@ pub fn checkpoint_source<D: Disk>(
     sources_have_places();
     let _ = d.calls();
     generation_fits(store);
+    let generation = store.generation();
+    if generation == u64::MAX {
+        return Ok(());
+    }
     if store.ends().is_empty() {
         return Err(NodeFault::NoMemory);
     }

@@ -53,10 +53,11 @@ held_told (Some s) kind stored o is e = e ∙ ap (λ (h : Held). Ok h) (sym (hel
 pub active : (t : Option Story) (kind : Kind) (begun stored : Stored) (o : Opened) → begun.node ≡ kind → Begins t begun → stored.generation ≡ begun.generation → IsOpened stored o
     → IsActive t kind o.store.generation
 active None kind begun stored o node from same is = tt
-active (Some s) kind begun stored o node from same is =
-    (held_in begun,
-      subst (λ (k : Kind). begun_from k (seen (Some s)) ≡ Ok (o.store.generation, held_in begun)) node
-      (from ∙ ap (λ (g : ℕ). Ok (g, held_in begun)) (sym (is.generation ∙ same))))
+active (Some s) kind begun stored o node from same is = (
+  held_in begun,
+  subst (λ (k : Kind). begun_from k (seen (Some s)) ≡ Ok (o.store.generation, held_in begun)) node
+      (from ∙ ap (λ (g : ℕ). Ok (g, held_in begun)) (sym (is.generation ∙ same))),
+)
 
 -- ---- the disk
 

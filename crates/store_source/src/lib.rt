@@ -26,7 +26,7 @@
 //! - A refusal is the disk's own, or want of memory. Failed comes only where the disk's count of faults rose.
 //!
 //! # Only tested
-//! In `test_stops`, where the program runs over disks: that entries are written with ample memory, and what crashes leave meanwhile.
+//! In `test_source_stops`, where the program runs over disks: that entries are written with ample memory, and what crashes leave meanwhile.
 #![tactic(auto)]
 
 mod beginning;

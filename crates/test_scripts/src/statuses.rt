@@ -1,16 +1,17 @@
 //! How a run ends, and what it tells.
 
 use crate::playing::{
-    ANY, Outcome, REPLICA_MOMENT, SOURCE_MOMENT, Shown, asked, asked_in_pieces, draw, expect_all,
-    is_rep, is_root, joined, plays, report_of, wanted,
+    ANY, Outcome, Shown, asked, asked_in_pieces, expect_all, is_rep, is_root, joined, plays,
+    report_of, wanted,
 };
 use answer_text::{Mark, Report, Status};
-use repl_run::{number_of, tell};
+use program_calls::repl_run::{number_of, tell};
+use program_calls::{REPLICA_MOMENT, SOURCE_MOMENT, draw};
 use std::alloc::Global;
 use val_types::{Bytes, List};
 
 /// Scripts that do not split or that ask what no node does yet, and the line that tells the first bad byte.
-static BAD_SCRIPTS: [(&str, &str); 13] = [
+static BAD_SCRIPTS: [(&str, &str); 11] = [
     ("s1: SELECT 1", "bad script at 0\n"),
     ("s0: SELECT 1 //", "bad script at 0\n"),
     ("s100: SELECT 1 //", "bad script at 0\n"),

@@ -72,7 +72,7 @@ row_there key d (Some t) here = let same : t.definition ≡ d = cc in ap (λ (e 
 
 -- all rows are within a range without ends
 open_all : (d : TableDef) (range : Range) (row : List Value) → has_end range ≡ false → row_is_in d range row ≡ true
-open_all d range row open = step range.low range.high open
+open_all d range row endless = step range.low range.high endless
   where
     step : (low high : Option Bound) → (is_some low || is_some high) ≡ false
         → (is_from low (first_of (primary_key d row)) && is_to high (first_of (primary_key d row))) ≡ true
@@ -81,19 +81,19 @@ open_all d range row open = step range.low range.high open
     step (Some a) high e = cc
 
 all_within : (d : TableDef) (range : Range) (rows : List (List Value)) → has_end range ≡ false → filter (row_is_in d range) rows ≡ rows
-all_within d range [] open = refl
-all_within d range (row ∷ rows) open = rw (open_all d range row open) (ap (λ (rest : List (List Value)). row ∷ rest) (all_within d range rows open))
+all_within d range [] endless = refl
+all_within d range (row ∷ rows) endless = rw (open_all d range row endless) (ap (λ (rest : List (List Value)). row ∷ rest) (all_within d range rows endless))
 
 -- all rows are enough
 all_so : (o : Outside) (name : List ℕ) (d : TableDef) (p : Part) (tables : List Table) (at : ℕ) (rows : List (List Value)) → key_of_part o d p ≡ None → unique_of_part o d p ≡ None → has_end (range_of_part o d p) ≡ false
     → place_of name tables ≡ Some at → slice_get (definitions_of tables) at ≡ Some d → rows ≡ rows_of name tables → AreCandidates o name d p tables rows
-all_so o name d p tables at rows none nothing open place there is = record {
+all_so o name d p tables at rows none nothing endless place there is = record {
   all = rows_of name tables;
   there = table_is d (table_named name tables) (sym (definition_there name tables at place) ∙ there);
   enough = λ world frame round scene. ap (λ (left : List (List Value)). kept_by (kept_where world frame d p) left scene) (sym is);
   alone = λ key named. cc;
   lone = λ named first so. cc;
-  within = λ no so. is ∙ sym (all_within d (range_of_part o d p) (rows_of name tables) open);
+  within = λ no so. is ∙ sym (all_within d (range_of_part o d p) (rows_of name tables) endless);
 }
 
 pub without_so : (o : Outside) (name : List ℕ) (d : TableDef) (tables : List Table) (at : ℕ) (rows : List (List Value)) → place_of name tables ≡ Some at
@@ -102,7 +102,7 @@ without_so o name d tables at rows place there is = all_so o name d no_part tabl
 
 pub unkeyed_so : (o : Outside) (name : List ℕ) (d : TableDef) (t : Tree) (tables : List Table) (at : ℕ) (rows : List (List Value)) → key_in o d t d.primary ≡ None → first_named o d t 1 d.uniques ≡ None
     → has_end (key_range o d t) ≡ false → place_of name tables ≡ Some at → slice_get (definitions_of tables) at ≡ Some d → rows ≡ rows_of name tables → AreCandidates o name d (part t) tables rows
-unkeyed_so o name d t tables at rows none nothing open place there is = all_so o name d (part t) tables at rows none nothing open place there is
+unkeyed_so o name d t tables at rows none nothing endless place there is = all_so o name d (part t) tables at rows none nothing endless place there is
 
 some_is : (a b : List Value) → Some a ≡ Some b → a ≡ b
 some_is a b e = cc

@@ -21,8 +21,8 @@ returns-then-has_end c = λ name place there none nothing.
     (c.rows_between.ensures name (record { definition = c.args.definition.now; rows = rows_of name c.args.tables.now.tables }) place
     (table_there name c.args.definition.now c.args.tables.now.tables c.args.at place there))
 
-pub returns : goal.returns
-returns c = λ name place there none nothing.
+pub returns-else-has_end : goal.returns-else-has_end
+returns-else-has_end c = λ name place there none nothing.
     if_ok c.rows.result (λ (rows : List (List Value)). rows ≡ rows_of name c.args.tables.now.tables)
     (λ (rows : List (List Value)). AreCandidates c.args.outside.now name c.args.definition.now (part (view_tree c.args.condition.now)) c.args.tables.now.tables rows)
     (λ rows is.

@@ -1,4 +1,5 @@
-use Rattle.std.proofs.Common.{refl}
+use Rattle.std.proofs.Common.{refl, ap}
+use Rattle.commit_store.specs.declared.store.Store.{Store}
 use Rattle.replica_node.specs.Kept.{held_of, replica_of}
 use Rattle.durable_replica.proofs.Checkpointing.{can_checkpoint, on_still, still_runs}
 use Rattle.durable_replica.proofs.checkpointing.DurableReplica.checkpoint.Goals as goal
@@ -26,3 +27,8 @@ returns-clause-goes g c =
     let can = can_checkpoint _ c.args.self.now c.requires c.tables-tables.result.now c.objects-objects.result.now c.tables-tables.ensures.committed c.tables-tables.ensures.theirs
     c.tables-tables.ensures.whole c.objects-objects.ensures in
     c.checkpoint_replica.ensures.goes (held_of (replica_of c.args.self.now.node)) can
+
+pub returns-clause-last : goal.returns-clause-last
+returns-clause-last g c last =
+    let same = c.checkpoint_replica.ensures.last last in
+    (same.0, same.1, ap (λ (store : Store). record c.args.self.now { store = store }) same.2)

@@ -1,4 +1,5 @@
-use Rattle.std.proofs.Common.{refl}
+use Rattle.std.proofs.Common.{refl, ap}
+use Rattle.commit_store.specs.declared.store.Store.{Store}
 use Rattle.durable_source.proofs.Checkpointing.{can_checkpoint, some_still, stands_still, still_runs}
 use Rattle.durable_source.proofs.checkpointing.DurableSource.checkpoint.Goals as goal
 
@@ -40,3 +41,8 @@ returns-clause-some g c =
     (c.checkpoint_source.ensures.on stands.now
     (can_checkpoint _ c.args.self.now from m stands holds c.tables-tables.result.now c.objects-objects.result.now c.tables-tables.ensures.committed c.tables-tables.ensures.theirs
     c.tables-tables.ensures.whole c.objects-objects.ensures)))
+
+pub returns-clause-last : goal.returns-clause-last
+returns-clause-last g c last =
+    let same = c.checkpoint_source.ensures.last last in
+    (same.0, same.1, ap (λ (store : Store). record c.args.self.now { store = store }) same.2)

@@ -1,8 +1,7 @@
 //! Calls of the program one after the other, each on what the one before left of both disks.
 
-use crate::left::{dumped, dumped_replica, files_of};
-use crate::playing::{asked, comes_to, over};
 use crash_images::{disk_left, no_files};
+use program_calls::{asked, comes_to, dumped, dumped_replica, files_of, over};
 use std::alloc::Global;
 use val_types::{Bytes, List};
 

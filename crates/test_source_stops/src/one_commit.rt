@@ -4,11 +4,10 @@ ghost use Rattle.std.specs.Prelude.{Some};
 ghost use Rattle.disk_model.specs.Files.{story_of};
 ghost use Rattle.disk_model.specs.Moments.{IsSettled};
 
-use crate::left::{FILES, dumped};
-use crate::playing::{Ended, asked, over};
 use answer_text::Mark;
 use crash_images::{CRASHES, Crash, files_left, no_files};
 use disk_model::{Call, Disk, FuseDisk, MemDisk};
+use program_calls::{Ended, FILES, asked, dumped, over};
 use std::alloc::Global;
 
 static TABLE: &str = "s1: CREATE TABLE t (id INT, v INT, PRIMARY KEY (id)) //

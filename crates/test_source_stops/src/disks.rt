@@ -3,10 +3,9 @@ ghost use Rattle.std.specs.Prelude.{Some, IfSome};
 ghost use Rattle.disk_model.specs.Files.{story_of};
 ghost use Rattle.disk_model.specs.Moments.{IsSettled};
 
-use crate::left::again;
-use crate::playing::{asked, bytes, comes_to, over};
 use crash_images::{disk_left, no_files};
 use disk_model::{MemDisk, TwistDisk};
+use program_calls::{again, asked, bytes, comes_to, over};
 use std::alloc::Global;
 
 /// A disk with a file 2 of these bytes, and else without any.

@@ -1,13 +1,15 @@
 //! CHECKPOINT of a source and of a replica: what their files hold behind it, a stop inside and behind each of its calls of the disk and of
 //! the openings that follow, open transactions, and many checkpoints in a row.
-ghost use Rattle.std.specs.Prelude.{Some};
+ghost use Rattle.std.specs.Prelude.{Some, IfSome};
 ghost use Rattle.disk_model.specs.Files.{story_of};
 ghost use Rattle.disk_model.specs.Moments.{IsSettled};
 
-use crate::left::{FILES, again, dumped, dumped_replica, files_of, named, named_applied};
-use crate::playing::{Ended, asked, comes_to, over};
 use crash_images::{CRASHES, disk_left, files_left, no_files};
 use disk_model::{Disk, FuseDisk, MemDisk};
+use program_calls::{
+    Ended, FILES, asked, bytes, comes_to, dumped, dumped_replica, files_of, named, named_applied,
+    over,
+};
 use std::alloc::Global;
 use val_types::{Bytes, List};
 
@@ -16,14 +18,14 @@ use val_types::{Bytes, List};
 /// The snapshot of a source that has nothing but its log: open, 29 bytes; a source, generation 1, number 0; one log that ends at 123; no
 /// object.
 static NEW_SNAPSHOT: [u8; 38] = [
-    1, 29, 0, 0, 0, 0, 0, 0, 0, 1, 1, 0, 0, 0, 0, 0, 0, 0, 0, 0, 0, 0, 0, 0, 0, 0, 1, 0, 0, 0, 123, 0,
-    0, 0, 0, 0, 0, 0,
+    1, 29, 0, 0, 0, 0, 0, 0, 0, 1, 1, 0, 0, 0, 0, 0, 0, 0, 0, 0, 0, 0, 0, 0, 0, 0, 1, 0, 0, 0, 123,
+    0, 0, 0, 0, 0, 0, 0,
 ];
 
 /// That of a replica that has carried out nothing: open, 29 bytes; a replica, generation 1, number 0; the place 1:4; no object.
 static NEW_REPLICA: [u8; 38] = [
-    1, 29, 0, 0, 0, 0, 0, 0, 0, 2, 1, 0, 0, 0, 0, 0, 0, 0, 0, 0, 0, 0, 0, 0, 0, 0, 1, 0, 0, 0, 4, 0, 0,
-    0, 0, 0, 0, 0,
+    1, 29, 0, 0, 0, 0, 0, 0, 0, 2, 1, 0, 0, 0, 0, 0, 0, 0, 0, 0, 0, 0, 0, 0, 0, 0, 1, 0, 0, 0, 4,
+    0, 0, 0, 0, 0, 0, 0,
 ];
 
 #[test]
@@ -81,7 +83,7 @@ fn a_later_commit_goes_on_in_the_other_journal(rt: HostRuntime) {
 // ---- a stop at each call
 
 /// A source with a checkpoint behind each second of its commits.
-static COMMITS: &str = "s1: CREATE TABLE t (id INT, PRIMARY KEY (id)) //
+const COMMITS: &str = "s1: CREATE TABLE t (id INT, PRIMARY KEY (id)) //
 s1: INSERT INTO t VALUES (1) //
 source: CHECKPOINT //
 s1: INSERT INTO t VALUES (2) //
@@ -94,7 +96,7 @@ s1: INSERT INTO t VALUES (4) //
 static COMMITS_LINES: &str = "1 ok 0\n2 ok 1\n3 ok 0\n4 ok 1\n5 ok 1\n6 ok 0\n7 ok 0\n8 ok 1\n";
 
 /// A replica with checkpoints between what it carries out.
-static CARRIES: &str = "s1: CREATE TABLE t (id INT, PRIMARY KEY (id)) //
+const CARRIES: &str = "s1: CREATE TABLE t (id INT, PRIMARY KEY (id)) //
 s1: INSERT INTO t VALUES (1) //
 s1: INSERT INTO t VALUES (2) //
 s1: INSERT INTO t VALUES (3) //
@@ -163,7 +165,7 @@ fn played(alloc: Global, side: Side, script: &str, disk: &mut FuseDisk) -> Optio
 }
 
 /// How many transactions the marks of a call name.
-fn kept(side: Side, ended: &Ended) -> u64 {
+fn named_of(side: Side, ended: &Ended) -> u64 {
     match side {
         Side::Source => named(ended.report.marks.as_slice()),
         Side::Replica => named_applied(ended.report.marks.as_slice()),
@@ -186,32 +188,59 @@ fn opens_well(alloc: Global, side: Side, files: &[Bytes]) -> bool {
         for crash in CRASHES.iter() {
             let left = files_left(alloc, files, disk.inner().history(), *crash);
             match shown(alloc, side, left.as_slice()) {
-                Some(again) if again.as_slice() == text.as_slice() || text.is_empty() => {}
+                Some(again) if again.as_slice() == text.as_slice() => {}
                 _ => return false,
             }
         }
         if ended.line.is_empty() {
-            return k > 1;
+            return k > 1 && disk.calls() < k;
         }
     }
     false
 }
 
+/// A script that keeps something at one of the nodes, the line with which it stops where that node's disk fails, and how many calls of the
+/// disk its commits and checkpoints take.
+struct Kept {
+    side: Side,
+    script: &'static str,
+    line: &'static str,
+    calls: u64,
+}
+
+/// Five commits of six calls; checkpoints of ten calls over a new file, twice, and of eleven over one with an older snapshot: a sync and
+/// one or two looks, and four pieces with their syncs.
+static AT_SOURCE: Kept = Kept {
+    side: Side::Source,
+    script: COMMITS,
+    line: "source disk fault\n",
+    calls: 61,
+};
+
+/// Four groups of four calls, and the same three checkpoints.
+static AT_REPLICA: Kept = Kept {
+    side: Side::Replica,
+    script: CARRIES,
+    line: "replica disk fault\n",
+    calls: 47,
+};
+
 /// Whether a call whose k-th call of the disk fails stops there, and each crash leaves a front of the transactions that holds what the
 /// marks name, also where the opening of it stops.
-fn stops_well(alloc: Global, side: Side, script: &str, line: &[u8], k: u64) -> bool {
+fn stops_well(alloc: Global, kept: &Kept, k: u64) -> bool {
     let mut disk = FuseDisk::new(MemDisk::new(alloc), k);
-    let Some(ended) = played(alloc, side, script, &mut disk) else {
+    let Some(ended) = played(alloc, kept.side, kept.script, &mut disk) else {
         return false;
     };
-    if ended.line.as_slice() != line || disk.calls() != k {
+    if ended.line.as_slice() != kept.line.as_bytes() || disk.calls() != k {
         return false;
     }
-    let least = kept(side, &ended);
+    let least = named_of(kept.side, &ended);
     let none = no_files(alloc, FILES);
     for crash in CRASHES.iter() {
         let files = files_left(alloc, none.as_slice(), disk.inner().history(), *crash);
-        if !holds(alloc, side, files.as_slice(), least) || !opens_well(alloc, side, files.as_slice())
+        if !holds(alloc, kept.side, files.as_slice(), least)
+            || !opens_well(alloc, kept.side, files.as_slice())
         {
             return false;
         }
@@ -220,43 +249,59 @@ fn stops_well(alloc: Global, side: Side, script: &str, line: &[u8], k: u64) -> b
 }
 
 /// How many calls of the disk a script takes that ends well.
-fn calls_of(alloc: Global, side: Side, script: &str) -> Option<u64> {
+fn calls_of(alloc: Global, kept: &Kept) -> Option<u64> {
     let mut disk = FuseDisk::new(MemDisk::new(alloc), 0);
-    let ended = played(alloc, side, script, &mut disk)?;
+    let ended = played(alloc, kept.side, kept.script, &mut disk)?;
     if !ended.line.is_empty() {
         return None;
     }
     Some(disk.calls())
 }
 
-/// The first call that does not stop well, 0 where each does.
-fn first_bad(alloc: Global, side: Side, script: &str, line: &[u8], least: u64) -> u64 {
-    let Some(calls) = calls_of(alloc, side, script) else {
-        return 1;
-    };
-    if calls < least || calls > 200 {
-        return 1;
-    }
-    for k in 1..calls + 1 {
-        if !stops_well(alloc, side, script, line, k) {
+/// The first call from one on that does not stop well, up to another one; that one where each does.
+fn first_bad(alloc: Global, kept: &Kept, from: u64, to: u64) -> u64 {
+    for k in from..to {
+        if !stops_well(alloc, kept, k) {
             return k;
         }
     }
-    0
+    to
 }
 
-/// Five commits of six calls and three checkpoints of eight, behind the opening.
-#[test]
-fn a_source_stops_at_each_call(rt: HostRuntime) {
-    let bad = first_bad(rt.alloc(), Side::Source, COMMITS, b"source disk fault\n", 54);
-    assert_eq!(&rt; bad, 0);
+/// Whether each of the calls from one on stops well, up to another one, or to the last: opening takes some before those that are counted.
+fn stop_well(alloc: Global, kept: &Kept, from: u64, to: u64) -> bool {
+    match calls_of(alloc, kept) {
+        Some(calls) if calls > kept.calls && calls < kept.calls.saturating_add(30) => {
+            let end = to.min(calls.saturating_add(1));
+            from < end && first_bad(alloc, kept, from, end) == end
+        }
+        _ => false,
+    }
 }
 
-/// Four groups of four calls and three checkpoints of eight, behind the opening and a piece of a log.
 #[test]
-fn a_replica_stops_at_each_call(rt: HostRuntime) {
-    let bad = first_bad(rt.alloc(), Side::Replica, CARRIES, b"replica disk fault\n", 41);
-    assert_eq!(&rt; bad, 0);
+fn a_source_stops_at_the_first_calls(rt: HostRuntime) {
+    assert!(&rt; stop_well(rt.alloc(), &AT_SOURCE, 1, 25));
+}
+
+#[test]
+fn a_source_stops_at_the_middle_calls(rt: HostRuntime) {
+    assert!(&rt; stop_well(rt.alloc(), &AT_SOURCE, 25, 50));
+}
+
+#[test]
+fn a_source_stops_at_the_last_calls(rt: HostRuntime) {
+    assert!(&rt; stop_well(rt.alloc(), &AT_SOURCE, 50, 100));
+}
+
+#[test]
+fn a_replica_stops_at_the_first_calls(rt: HostRuntime) {
+    assert!(&rt; stop_well(rt.alloc(), &AT_REPLICA, 1, 25));
+}
+
+#[test]
+fn a_replica_stops_at_the_last_calls(rt: HostRuntime) {
+    assert!(&rt; stop_well(rt.alloc(), &AT_REPLICA, 25, 100));
 }
 
 #[test]
@@ -270,11 +315,8 @@ fn the_commits_end_well(rt: HostRuntime) {
         &mut MemDisk::new(alloc),
     );
     assert!(&rt; comes_to(&ended, COMMITS_LINES, ""));
-    let mut disk = again(alloc, &disk);
-    assert!(&rt; disk.is_some_and(|mut disk| {
-        let ended = over(alloc, &asked("dump source", b""), &mut disk, &mut MemDisk::new(alloc));
-        ended.is_some_and(|ended| ended.written.as_slice() == dump_at(alloc, 5).as_slice())
-    }));
+    let text = dumped(alloc, files_of(alloc, &disk).as_slice());
+    assert!(&rt; text.is_some_and(|text| text.as_slice() == dump_at(alloc, 5).as_slice()));
 }
 
 // ---- open transactions
@@ -338,19 +380,48 @@ fn a_transaction_goes_on(rt: HostRuntime) {
 fn open_rows_are_not_kept(rt: HostRuntime) {
     let alloc = rt.alloc();
     let mut disk = MemDisk::new(alloc);
-    let script = b"s1: CREATE TABLE t (id INT, PRIMARY KEY (id)) //\ns1: INSERT INTO t VALUES (1) //\ns1: BEGIN //\ns1: INSERT INTO t VALUES (2) //\ns1: DELETE FROM t WHERE id = 1 //\nsource: CHECKPOINT //";
+    let script =
+        b"s1: CREATE TABLE t (id INT, PRIMARY KEY (id)) //\ns1: INSERT INTO t VALUES (1) //\ns1: BEGIN //\ns1: INSERT INTO t VALUES (2) //\ns1: DELETE FROM t WHERE id = 1 //\nsource: CHECKPOINT //";
     let ended = over(
         alloc,
         &asked("run", script),
         &mut disk,
         &mut MemDisk::new(alloc),
     );
-    assert!(&rt; comes_to(&ended, "1 ok 0\n2 ok 1\n3 ok 0\n4 ok 1\n5 ok 1\n6 ok 0\n", ""));
+    assert!(&rt;
+        comes_to(
+            &ended,
+            "1 ok 0\n2 ok 1\n3 ok 0\n4 ok 1\n5 ok 1\n6 ok 0\n",
+            ""
+        )
+    );
     let dumped = dumped(alloc, files_of(alloc, &disk).as_slice());
     assert!(&rt; dumped.is_some_and(|text| text.as_slice() == dump_at(alloc, 2).as_slice()));
 }
 
+/// A checkpoint takes no draw and pushes no mark: each node's next command has the draw behind that of its opening.
+#[test]
+fn a_checkpoint_takes_no_draw(rt: HostRuntime) {
+    let alloc = rt.alloc();
+    let script =
+        b"source: CHECKPOINT //\nreplica: CHECKPOINT //\ns1: SELECT UNIX_TIMESTAMP() //\nreplica: SELECT UNIX_TIMESTAMP() //";
+    let ended = over(
+        alloc,
+        &asked("run", script),
+        &mut MemDisk::new(alloc),
+        &mut MemDisk::new(alloc),
+    );
+    let lines = "1 ok 0\n2 ok 0\n3 row 1700000001\n3 rows 1\n4 row 1600000001\n4 rows 1\n";
+    assert!(&rt; comes_to(&ended, lines, ""));
+    assert!(&rt; ended.is_some_and(|ended| ended.report.marks.as_slice().is_empty()));
+}
+
 // ---- many in a row
+
+/// The generation of a snapshot as its file has it: eight bytes behind a gate, a length and the kind of its node.
+fn generation_in(snapshot: &[u8]) -> &[u8] {
+    snapshot.get(10..18).unwrap_or(b"")
+}
 
 /// A script that makes a table with a row, and then so many checkpoints.
 fn many(alloc: Global, count: u64) -> Bytes {
@@ -377,9 +448,71 @@ fn a_hundred_in_a_row(rt: HostRuntime) {
         &mut MemDisk::new(alloc),
     );
     assert!(&rt; ended.is_some_and(|ended| ended.line.is_empty()));
-    assert!(&rt; disk.contents(0)[10..18] == [100, 0, 0, 0, 0, 0, 0, 0]);
-    assert!(&rt; disk.contents(1)[10..18] == [99, 0, 0, 0, 0, 0, 0, 0]);
+    assert!(&rt; generation_in(disk.contents(0)) == b"\x64\x00\x00\x00\x00\x00\x00\x00".as_slice());
+    assert!(&rt; generation_in(disk.contents(1)) == b"\x63\x00\x00\x00\x00\x00\x00\x00".as_slice());
     assert!(&rt; disk.contents(2).first() == Some(&0));
     let dumped = dumped(alloc, files_of(alloc, &disk).as_slice());
     assert!(&rt; dumped.is_some_and(|text| text.as_slice() == dump_at(alloc, 2).as_slice()));
+}
+
+// ---- the last generation
+
+/// The checkpoint of a node.
+fn checkpoint_of(side: Side) -> &'static str {
+    match side {
+        Side::Source => "source: CHECKPOINT //",
+        Side::Replica => "replica: CHECKPOINT //",
+    }
+}
+
+/// A snapshot with the last generation.
+fn raised(alloc: Global, snapshot: &[u8]) -> Bytes {
+    let mut raised = bytes(alloc, snapshot);
+    for at in 10..18 {
+        if at < raised.len() {
+            raised.set(at, 255);
+        }
+    }
+    raised
+}
+
+/// The disk that comes up behind a first checkpoint, with the last generation in its snapshot, which stands in file 1 as well.
+fn at_the_last(alloc: Global, side: Side) -> Option<MemDisk>
+    ensures { IfSome result (λ d. IsSettled (Some (story_of d))) }
+{
+    let mut disk = FuseDisk::new(MemDisk::new(alloc), 0);
+    let _ = played(alloc, side, checkpoint_of(side), &mut disk);
+    let mut files: List<Bytes> = List::new(alloc);
+    for (at, file) in files_of(alloc, disk.inner()).as_slice().iter().enumerate() {
+        let left = if at == 1 {
+            raised(alloc, file.as_slice())
+        } else {
+            bytes(alloc, file.as_slice())
+        };
+        let _ = files.push(left);
+    }
+    disk_left(alloc, files.as_slice())
+}
+
+/// Whether a checkpoint is answered there, and calls no disk.
+fn does_nothing(alloc: Global, side: Side) -> bool {
+    let (Some(one), Some(other)) = (at_the_last(alloc, side), at_the_last(alloc, side)) else {
+        return false;
+    };
+    let mut one = FuseDisk::new(one, 0);
+    let mut other = FuseDisk::new(other, 0);
+    let opened = played(alloc, side, "", &mut one);
+    let asked = played(alloc, side, checkpoint_of(side), &mut other);
+    comes_to(&opened, "", "")
+        && comes_to(&asked, "1 ok 0\n", "")
+        && generation_in(other.inner().contents(1))
+            == b"\xff\xff\xff\xff\xff\xff\xff\xff".as_slice()
+        && one.calls() == other.calls()
+}
+
+#[test]
+fn the_last_generation_stays(rt: HostRuntime) {
+    let alloc = rt.alloc();
+    assert!(&rt; does_nothing(alloc, Side::Source));
+    assert!(&rt; does_nothing(alloc, Side::Replica));
 }

@@ -1,15 +1,15 @@
 //! A replica on its disk: what it carries out stays, and a later call, a RESTART or a replay goes on behind it.
 
 use crate::events::{put_end, put_removal, put_text, put_transaction, put_unknown};
-use crate::left::{dumped, dumped_replica, files_of};
-use crate::playing::{Ended, asked, bytes, comes_to, over};
-use crate::shop::{SHOP, dump_at};
 use crate::turns::{
     Both, Turn, behind, behind_all, both_show, file, no_disks, replays, runs, shows,
 };
 use answer_text::Mark;
 use crash_images::{disk_left, no_files};
 use disk_model::{Call, MemDisk};
+use program_calls::{
+    Ended, SHOP, asked, bytes, comes_to, dump_at, dumped, dumped_replica, files_of, over,
+};
 use std::alloc::Global;
 use val_types::{Bytes, List};
 

@@ -175,3 +175,14 @@ pub fn dump_at(alloc: Global, number: u64) -> Bytes {
     put_lines(&mut text, LAST_LINES.as_slice(), number);
     text
 }
+
+/// How many commands were answered: each answer of the shop is one line.
+pub fn answered(written: &[u8]) -> usize {
+    let mut lines: usize = 0;
+    for byte in written {
+        if *byte == b'\n' {
+            lines = lines.saturating_add(1);
+        }
+    }
+    lines
+}

@@ -1,12 +1,10 @@
 //! A source that stops inside and behind each call of its disk, and what it finds when it opens again: the tables behind a front of what it
 //! committed, which holds all that its marks name and all that it answered.
 
-use crate::left::{FILES, dumped, named};
-use crate::playing::{Call, Ended, asked, over};
-use crate::shop::{SHOP, dump_at};
 use answer_text::Mark;
 use crash_images::{CRASHES, disk_left, files_left, no_files};
 use disk_model::{Disk, FuseDisk, MemDisk};
+use program_calls::{Call, Ended, FILES, SHOP, answered, asked, dump_at, dumped, named, over};
 use std::alloc::Global;
 use val_types::Bytes;
 
@@ -39,17 +37,6 @@ fn are_in_order(marks: &[Mark]) -> bool {
         }
     }
     true
-}
-
-/// How many commands were answered: each answer of the shop is one line.
-pub fn answered(written: &[u8]) -> usize {
-    let mut lines: usize = 0;
-    for byte in written {
-        if *byte == b'\n' {
-            lines = lines.saturating_add(1);
-        }
-    }
-    lines
 }
 
 /// Whether the marks of a call that stopped name all that it answered, and no more than the command in flight adds.

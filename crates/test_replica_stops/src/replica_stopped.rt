@@ -1,14 +1,14 @@
 //! A replica that stops inside and behind each call of its disk, and what it finds when it opens again: the shop behind a front of what it
 //! carried out, which holds all that its marks name and all that it answered.
 
-use crate::left::{FILES, again, dumped, dumped_replica, files_of, named_applied};
-use crate::playing::{Ended, asked, over};
 use crate::replicas::{log_of, shop_with, shows_shop};
-use crate::shop::SHOP;
-use crate::stopped::answered;
 use answer_text::Mark;
 use crash_images::{CRASHES, Crash, disk_left, files_left, no_files};
 use disk_model::{Disk, FuseDisk, MemDisk};
+use program_calls::{
+    Ended, FILES, SHOP, again, answered, asked, dumped, dumped_replica, files_of, named_applied,
+    over,
+};
 use std::alloc::Global;
 use val_types::{Bytes, List};
 

@@ -1,6 +1,6 @@
 //! Logs of another server, made event by event behind the head of a log.
 
-use crate::playing::bytes;
+use program_calls::bytes;
 use std::alloc::Global;
 use val_types::Bytes;
 

@@ -3,7 +3,8 @@ ghost use Rattle.std.specs.Prelude.{Some, IfSome};
 ghost use Rattle.disk_model.specs.Files.{story_of};
 ghost use Rattle.disk_model.specs.Moments.{IsSettled};
 
-use crate::playing::{Ended, asked, bytes, over};
+use crate::calls::{Ended, asked, over};
+use crate::environments::bytes;
 use answer_text::Mark;
 use crash_images::disk_left;
 use disk_model::MemDisk;
