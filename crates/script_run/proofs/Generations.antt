@@ -26,13 +26,13 @@ use Rattle.script_run.proofs.Disks.{where_told}
 
 -- the files of snapshots alone say it
 active_same : (kind : Kind) (g : ℕ) (image image' : Image) → image' 0 ≡ image 0 → image' 1 ≡ image 1 → IsActive kind g image → IsActive kind g image'
+unfolding begun_from
 active_same kind g image image' zeroth first active = (active.0, same ∙ active.1)
   where
     here : (f : ℕ) → image' f ≡ image f → begun_in kind image' f ≡ begun_in kind image f
     here f is = ap (λ file. begun_in kind (λ _. file) f) is
 
     same : begun_from kind image' ≡ begun_from kind image
-    unfolding begun_from
     same = ap (λ a. greater_if a (begun_in kind image' 1)) (here 0 zeroth) ∙ ap (greater_if (begun_in kind image 0)) (here 1 first)
 
 generation_in : Result (ℕ × Held) Spot → ℕ

@@ -27,9 +27,9 @@ pub record IsAt (kind : Kind) (t : Option Story) (generation : ℕ) : Type 0 whe
   pub read : IfSome t (λ _. IsActive kind generation (seen t))
   pub each : Each t (IsActive kind generation)
 
-pub record AreAt (t : Disks) (source replica : ℕ) : Type 0 where
-  pub source : IsAt Source t.source source
-  pub replica : IsAt Replica t.replica replica
+pub record AreAt (t : Disks) (src rep : ℕ) : Type 0 where
+  pub source : IsAt Source t.source src
+  pub replica : IsAt Replica t.replica rep
 
 -- a checkpoint raises the generation of its node's disk, and no other command any
 abbrev pub Raises : Asked → (t u : Disks) → Type 0
