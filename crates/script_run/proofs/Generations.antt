@@ -1,38 +1,43 @@
 -- The generations of both disks, command by command.
-use Rattle.std.proofs.Common.{◌≡◌, ◌⊎◌, inl, inr, ℕ, ◌+◌, ◌-◌, ◌^◌, ◌≤◌, ◌<◌, min, zero, suc, Bool, true, false, List, [], ◌∷◌, ◌++◌, length, take, Option, Some, None, is_some, Result, Ok, Err, IfSome, refl, sym, ap, ◌∙◌, subst, arith, length-append}
+use Rattle.std.proofs.Common.{◌≡◌, ◌⊎◌, inl, inr, ℕ, ◌+◌, ◌-◌, ◌^◌, ◌≤◌, ◌<◌, min, zero, suc, Bool, true, false, List, [], ◌∷◌, ◌++◌, length, take, map, Option, Some, None, is_some, Result, Ok, Err, IfSome, refl, sym, ap, ◌∙◌, subst, arith, length-append}
 use Rattle.std.proofs.lemmas.Bool.{cases_lt}
 use Rattle.std.specs.Prelude.{slice_get}
 use Rattle.port_traits.specs.declared.identity.Draw.{Draw}
+use Rattle.answer_text.specs.declared.report.Mark.{Mark}
 use Rattle.disk_model.specs.declared.call.Call.{Call}
 use Rattle.disk_model.specs.Left.{Left, LeftAfter}
 use Rattle.disk_model.specs.Story.{Image, Story, count, seen}
 use Rattle.disk_model.specs.Moments.{AfterCall, Each, GoesOn, Only, calls_until}
 use Rattle.disk_model.proofs.Moments.{on_count, on_trans, until_all, until_on}
-use Rattle.commit_store.specs.declared.store.Store.{Store}
-use Rattle.commit_store.specs.Keeping.{AreDurable, Keeps}
+use Rattle.durable_replica.specs.replica_node.commit_store.declared.store.Store.{Store}
+use Rattle.durable_replica.specs.replica_node.commit_store.Keeping.{AreDurable, Keeps}
 use Rattle.store_model.specs.declared.record.Kind.{Kind}
 use Rattle.store_model.specs.declared.record.Kind.TheVariants.{Source, Replica}
 use Rattle.store_model.specs.Held.{Held}
 use Rattle.store_model.specs.Stores.{Spot, Stands, begun_from, begun_in, greater_if}
+use Rattle.run_stores.specs.durable_runs.Marks.{AreBehind, Named, replica_mark, source_mark}
+use Rattle.run_stores.specs.durable_runs.Runs.{CallsFit}
 use Rattle.run_laws.specs.run_model.Asked.{Asked}
 use Rattle.run_laws.specs.run_model.Run.{Both, Names, checkpoints_replica, checkpoints_source, count_of, one_if}
 use Rattle.script_run.specs.declared.nodes.Nodes.{Nodes}
 use Rattle.script_run.specs.Disks.{BothGoOn, Disks, Stores}
-use Rattle.script_run.specs.Generations.{AreAt, BothRaised, IsActive, IsAt, Raised, Raises, WasAt, generation_behind}
+use Rattle.script_run.specs.Generations.{AreAt, AreInTime, BothRaised, IsActive, IsAt, Raised, Raises, WasAt, generation_behind}
+use Rattle.script_run.specs.Marks.{Pushed, applied_up, command_marks, marks_up, next_applied_mark, next_mark, uncounted}
 use Rattle.script_run.specs.Together.{Together}
 use Rattle.script_run.proofs.Disks.{where_told}
+use Rattle.script_run.proofs.Surviving.{fits_before}
 
 -- ---- what is active
 
 -- the files of snapshots alone say it
 active_same : (kind : Kind) (g : ℕ) (image image' : Image) → image' 0 ≡ image 0 → image' 1 ≡ image 1 → IsActive kind g image → IsActive kind g image'
+unfolding begun_from
 active_same kind g image image' zeroth first active = (active.0, same ∙ active.1)
   where
     here : (f : ℕ) → image' f ≡ image f → begun_in kind image' f ≡ begun_in kind image f
     here f is = ap (λ file. begun_in kind (λ _. file) f) is
 
     same : begun_from kind image' ≡ begun_from kind image
-    unfolding begun_from
     same = ap (λ a. greater_if a (begun_in kind image' 1)) (here 0 zeroth) ∙ ap (greater_if (begun_in kind image 0)) (here 1 first)
 
 generation_in : Result (ℕ × Held) Spot → ℕ
@@ -106,22 +111,90 @@ each_after None P each image left = absurd left
 each_after (Some s) P each image left =
     each image (λ f. subst (λ (cs : List Call). LeftAfter s.first cs f (image f)) (until_all s.calls (length s.calls) (omega arith)) (left f))
 
-was_still : (kind : Kind) (t u v : Option Story) (g : ℕ) → GoesOn u v → WasAt kind t u g → WasAt kind t v g
-was_still kind t u v g on was = record {
-  moment = was.moment;
+was_still : (kind : Kind) (t u v : Option Story) (moment g : ℕ) → GoesOn u v → WasAt kind t u moment g → WasAt kind t v moment g
+was_still kind t u v moment g on was = record {
   begun = was.begun;
   came = omega (arith, was.came, on_count u v on);
-  images = λ image left. was.images image (after_before u v was.moment image on was.came left);
+  images = λ image left. was.images image (after_before u v moment image on was.came left);
 }
 
-was_now : (kind : Kind) (t u : Option Story) (g : ℕ) → GoesOn t u → IsAt kind u g → WasAt kind t u g
-was_now kind t u g on at = record { moment = count u; begun = on_count t u on; came = omega arith; images = each_after u (IsActive kind g) at.each }
+was_now : (kind : Kind) (t u : Option Story) (g : ℕ) → GoesOn t u → IsAt kind u g → WasAt kind t u (count u) g
+was_now kind t u g on at = record { begun = on_count t u on; came = omega arith; images = each_after u (IsActive kind g) at.each }
 
-raised_still : (kind : Kind) (is : Asked → Bool) (t u v : Option Story) (cs : List Asked) (ds : List Draw) → GoesOn u v → Raised kind is t u cs ds → Raised kind is t v cs ds
-raised_still kind is t u v cs ds on raised = record {
+-- ---- marks in their time
+
+-- all marks of one command
+abbrev OfCommand : ℕ → List Mark → Type 0
+OfCommand k [] = Unit {0}
+OfCommand k (m ∷ marks) = (m.command ≡ k) × OfCommand k marks
+
+of_both : (k : ℕ) (marks more : List Mark) → OfCommand k marks → OfCommand k more → OfCommand k (marks ++ more)
+of_both k [] more first rest = rest
+of_both k (m ∷ marks) more first rest = (first.0, of_both k marks more first.1 rest)
+
+of_uncounted : (k : ℕ) (marks : List Mark) → OfCommand k (map uncounted marks) → OfCommand k marks
+of_uncounted k [] of = tt
+of_uncounted k (m ∷ marks) of = (of.0, of_uncounted k marks of.1)
+
+up_of : (at : Mark) (n : ℕ) → OfCommand at.command (marks_up at n)
+up_of at zero = tt
+up_of at (suc n) = (refl, up_of (next_mark at) n)
+
+applied_of : (at : Mark) (n : ℕ) → OfCommand at.command (applied_up at n)
+applied_of at zero = tt
+applied_of at (suc n) = (refl, applied_of (next_applied_mark at) n)
+
+pushed_of : (at : Mark) (commits groups : ℕ) (old new : List Mark) (pushed : Pushed at commits groups old new) → OfCommand at.command pushed.more
+pushed_of at commits groups old new pushed =
+    of_uncounted at.command pushed.more (subst (OfCommand at.command) (sym pushed.are)
+    (of_both at.command (marks_up at commits) (applied_up (record at { committed = at.committed + commits }) groups) (up_of at commits) (applied_of (record at { committed = at.committed + commits }) groups)))
+
+-- the moments behind so many commands, and a last one
+moment_by : (moments : ℕ → ℕ) (last n i : ℕ) → (n < i) ⊎ (i ≤ n) → ℕ
+moment_by moments last n i (inl new) = last
+moment_by moments last n i (inr old) = moments i
+
+moments_on : (moments : ℕ → ℕ) (last n : ℕ) → ℕ → ℕ
+moments_on moments last n i = moment_by moments last n i (cases_lt n i)
+
+module _ (read : Mark → Named) (moments : ℕ → ℕ) (n : ℕ) where
+  -- marks of a later command say nothing of these
+  time_still : (old more : List Mark) → AreInTime read n moments old → OfCommand (n + 1) more → AreInTime read n moments (old ++ more)
+  time_still [] [] before of = tt
+  time_still [] (m ∷ more) before of = (λ within. absurd (omega (arith, within, of.0)), time_still [] more before of.1)
+  time_still (m ∷ old) more before of = (before.0, time_still old more before.1 of)
+
+  -- with that command
+  time_on : (last : ℕ) (marks : List Mark) → AreInTime read n moments marks → AreBehind last (map read marks) → AreInTime read (n + 1) (moments_on moments last n) marks
+  time_on last [] before behind = tt
+  time_on last (m ∷ marks) before behind = (λ within. one (cases_lt n m.command), time_on last marks before.1 behind.1)
+    where
+      one : (d : (n < m.command) ⊎ (m.command ≤ n)) → (read m).calls ≤ moment_by moments last n m.command d
+      one (inl new) = behind.0
+      one (inr old) = before.0 old
+
+  both_times : (u v : Option Story) (old more : List Mark) → GoesOn u v → IfSome u (λ _. AreInTime read n moments old) → OfCommand (n + 1) more
+      → IfSome v (λ _. AreInTime read n moments (old ++ more))
+  both_times None None old more on before of = tt
+  both_times None (Some r) old more on before of = absurd on
+  both_times (Some s) None old more on before of = absurd on
+  both_times (Some s) (Some r) old more on before of = time_still old more before of
+
+  time_behind : (v : Option Story) (marks : List Mark) → IfSome v (λ _. AreInTime read n moments marks) → IfSome v (λ _. AreBehind (count v) (map read marks))
+      → IfSome v (λ _. AreInTime read (n + 1) (moments_on moments (count v) n) marks)
+  time_behind None marks before behind = tt
+  time_behind (Some r) marks before behind = time_on (count (Some r)) marks before behind
+
+raised_still : (kind : Kind) (is : Asked → Bool) (read : Mark → Named) (t u v : Option Story) (cs : List Asked) (ds : List Draw) (old new more : List Mark) → GoesOn u v → new ≡ old ++ more → OfCommand (length ds + 1) more
+    → Raised kind is read t u cs ds old → Raised kind is read t v cs ds new
+raised_still kind is read t u v cs ds old new more on all of raised = record {
   first = raised.first;
   began = raised.began;
-  behind = λ i within. was_still kind t u v (generation_behind raised.first (count_of is cs (take i ds))) on (raised.behind i within);
+  moments = raised.moments;
+  order = raised.order;
+  behind = λ i within. was_still kind t u v (raised.moments i) (generation_behind raised.first (count_of is cs (take i ds))) on (raised.behind i within);
+  in_time = λ fits. subst (λ (ms : List Mark). IfSome v (λ _. AreInTime read (length ds) raised.moments ms)) (sym all)
+      (both_times read raised.moments (length ds) u v old more on (raised.in_time (fits_before u v on fits)) of);
 }
 
 -- one command more
@@ -147,39 +220,69 @@ behind_more : (first n : ℕ) (b : Bool) → generation_behind (generation_behin
 behind_more first n true = let same : suc n ≡ n + 1 = omega arith in ap (generation_behind first) same
 behind_more first n false = let same : n ≡ n + 0 = omega arith in ap (generation_behind first) same
 
-raised_on : (kind : Kind) (is : Asked → Bool) (t u v : Option Story) (cs : List Asked) (ds : List Draw) (d : Draw) (c : Asked) → slice_get cs (length ds) ≡ Some c → GoesOn t u → GoesOn u v
-    → (raised : Raised kind is t u cs ds) → IsAt kind v (generation_behind raised.first (count_of is cs (ds ++ d ∷ []))) → Raised kind is t v cs (ds ++ d ∷ [])
-raised_on kind is t u v cs ds d c here first second raised at = record {
+raised_on : (kind : Kind) (is : Asked → Bool) (read : Mark → Named) (t u v : Option Story) (cs : List Asked) (ds : List Draw) (d : Draw) (c : Asked) (old new more : List Mark) → slice_get cs (length ds) ≡ Some c
+    → GoesOn t u → GoesOn u v → new ≡ old ++ more → OfCommand (length ds + 1) more → (CallsFit v → IfSome v (λ _. AreBehind (count v) (map read new)))
+    → (raised : Raised kind is read t u cs ds old) → IsAt kind v (generation_behind raised.first (count_of is cs (ds ++ d ∷ []))) → Raised kind is read t v cs (ds ++ d ∷ []) new
+raised_on kind is read t u v cs ds d c old new more here first second all of marks raised at = record {
   first = raised.first;
   began = raised.began;
-  behind = λ i within. by i within (cases_lt (length ds) i);
+  moments = After;
+  order = λ i within. ordered i (omega (arith, within, count_is)) (cases_lt n i) (cases_lt n (i + 1));
+  behind = λ i within. by i within (cases_lt n i);
+  in_time = λ fits. subst (λ (k : ℕ). IfSome v (λ _. AreInTime read k After new)) (sym count_is)
+      (time_behind read raised.moments n v new (subst (λ (ms : List Mark). IfSome v (λ _. AreInTime read n raised.moments ms)) (sym all)
+      (both_times read raised.moments n u v old more second (raised.in_time (fits_before u v second fits)) of)) (marks fits));
 }
   where
-    At : List Draw → Type 0
-    At xs = WasAt kind t v (generation_behind raised.first (count_of is cs xs))
+    n : ℕ
+    n = length ds
 
-    by : (i : ℕ) → i ≤ length (ds ++ d ∷ []) → (length ds < i) ⊎ (i ≤ length ds) → At (take i (ds ++ d ∷ []))
-    by i within (inr old) = subst At (sym (take_front i ds d old)) (was_still kind t u v (generation_behind raised.first (count_of is cs (take i ds))) second (raised.behind i old))
+    After : ℕ → ℕ
+    After = moments_on raised.moments (count v) n
+
+    count_is : length (ds ++ d ∷ []) ≡ length ds + 1
+    count_is = length-append ds (d ∷ [])
+
+    ordered : (i : ℕ) → i < length ds + 1 → (a : (length ds < i) ⊎ (i ≤ length ds)) → (b : (length ds < i + 1) ⊎ (i + 1 ≤ length ds))
+        → moment_by raised.moments (count v) (length ds) i a ≤ moment_by raised.moments (count v) (length ds) (i + 1) b
+    ordered i within (inl new) b = absurd (omega (arith, within, new))
+    ordered i within (inr old) (inl new) = let came = (raised.behind i old).came in let later = on_count u v second in omega (arith, came, later)
+    ordered i within (inr old) (inr still) = raised.order i (omega (arith, still))
+
+    At : (moment : ℕ) → List Draw → Type 0
+    At moment xs = WasAt kind t v moment (generation_behind raised.first (count_of is cs xs))
+
+    by : (i : ℕ) → i ≤ length (ds ++ d ∷ []) → (a : (length ds < i) ⊎ (i ≤ length ds)) → At (moment_by raised.moments (count v) (length ds) i a) (take i (ds ++ d ∷ []))
+    by i within (inr old) =
+        subst (At (raised.moments i)) (sym (take_front i ds d old)) (was_still kind t u v (raised.moments i) (generation_behind raised.first (count_of is cs (take i ds))) second (raised.behind i old))
     by i within (inl new) =
         let all : length (ds ++ d ∷ []) ≡ i = omega (arith, within, new, length-append ds (d ∷ [])) in
-        subst At (sym (take_whole (ds ++ d ∷ [])) ∙ ap (λ n. take n (ds ++ d ∷ [])) all) (was_now kind t v (generation_behind raised.first (count_of is cs (ds ++ d ∷ []))) (on_trans t u v first second) at)
+        subst (At (count v)) (sym (take_whole (ds ++ d ∷ [])) ∙ ap (λ n. take n (ds ++ d ∷ [])) all) (was_now kind t v (generation_behind raised.first (count_of is cs (ds ++ d ∷ []))) (on_trans t u v first second) at)
 
 -- of both disks
 
-pub both_still : (t u v : Disks) (cs : List Asked) (ds : List Draw) → BothGoOn u v → BothRaised t u cs ds → BothRaised t v cs ds
-both_still t u v cs ds on raised = record {
-  source = raised_still Source checkpoints_source t.source u.source v.source cs ds on.source raised.source;
-  replica = raised_still Replica checkpoints_replica t.replica u.replica v.replica cs ds on.replica raised.replica;
-}
+-- no mark says more calls than both disks have had
+pub record AreTold (v : Disks) (marks : List Mark) : Type 0 where
+  pub source : CallsFit v.source → IfSome v.source (λ _. AreBehind (count v.source) (map source_mark marks))
+  pub replica : CallsFit v.replica → IfSome v.replica (λ _. AreBehind (count v.replica) (map replica_mark marks))
+
+pub both_still : (t u v : Disks) (cs : List Asked) (ds : List Draw) (at : Mark) (commits groups : ℕ) (old new : List Mark) → at.command ≡ length ds + 1 → BothGoOn u v → Pushed at commits groups old new → BothRaised t u cs ds old
+    → BothRaised t v cs ds new
+both_still t u v cs ds at commits groups old new number on pushed raised =
+    let of : OfCommand (length ds + 1) pushed.more = subst (λ (k : ℕ). OfCommand k pushed.more) number (pushed_of at commits groups old new pushed) in
+    record {
+      source = raised_still Source checkpoints_source source_mark t.source u.source v.source cs ds old new pushed.more on.source pushed.marks of raised.source;
+      replica = raised_still Replica checkpoints_replica replica_mark t.replica u.replica v.replica cs ds old new pushed.more on.replica pushed.marks of raised.replica;
+    }
 
 -- where both are behind so many commands that were carried out
-abbrev pub AtBehind : (t u v : Disks) (cs : List Asked) (ds ds' : List Draw) → BothRaised t u cs ds → Type 0
-AtBehind t u v cs ds ds' raised =
+abbrev pub AtBehind : (t u v : Disks) (cs : List Asked) (ds ds' : List Draw) (marks : List Mark) → BothRaised t u cs ds marks → Type 0
+AtBehind t u v cs ds ds' marks raised =
     AreAt v (generation_behind raised.source.first (count_of checkpoints_source cs ds')) (generation_behind raised.replica.first (count_of checkpoints_replica cs ds'))
 
-pub at_more : (t u v : Disks) (cs : List Asked) (ds : List Draw) (d : Draw) (c : Asked) (raised : BothRaised t u cs ds) → slice_get cs (length ds) ≡ Some c → AtBehind t u u cs ds ds raised → Raises c u v
-    → AtBehind t u v cs ds (ds ++ d ∷ []) raised
-at_more t u v cs ds d c raised here at raises =
+pub at_more : (t u v : Disks) (cs : List Asked) (ds : List Draw) (d : Draw) (c : Asked) (marks : List Mark) (raised : BothRaised t u cs ds marks) → slice_get cs (length ds) ≡ Some c → AtBehind t u u cs ds ds marks raised
+    → Raises c u v → AtBehind t u v cs ds (ds ++ d ∷ []) marks raised
+at_more t u v cs ds d c marks raised here at raises =
     let now = raises (generation_behind raised.source.first (count_of checkpoints_source cs ds)) (generation_behind raised.replica.first (count_of checkpoints_replica cs ds)) at in
     record {
       source = subst (IsAt Source v.source) (behind_more raised.source.first (count_of checkpoints_source cs ds) (checkpoints_source c)
@@ -188,11 +291,13 @@ at_more t u v cs ds d c raised here at raises =
           ∙ ap (generation_behind raised.replica.first) (sym (count_last checkpoints_replica cs ds d c here))) now.replica;
     }
 
-pub both_raised : (t u v : Disks) (cs : List Asked) (ds : List Draw) (d : Draw) (c : Asked) (raised : BothRaised t u cs ds) → slice_get cs (length ds) ≡ Some c → BothGoOn t u → BothGoOn u v
-    → AtBehind t u v cs ds (ds ++ d ∷ []) raised → BothRaised t v cs (ds ++ d ∷ [])
-both_raised t u v cs ds d c raised here first second at = record {
-  source = raised_on Source checkpoints_source t.source u.source v.source cs ds d c here first.source second.source raised.source at.source;
-  replica = raised_on Replica checkpoints_replica t.replica u.replica v.replica cs ds d c here first.replica second.replica raised.replica at.replica;
+pub both_raised : (t u v : Disks) (cs : List Asked) (ds : List Draw) (d : Draw) (c : Asked) (mark : Mark) (commits groups : ℕ) (old new : List Mark) (raised : BothRaised t u cs ds old) → slice_get cs (length ds) ≡ Some c
+    → BothGoOn t u → BothGoOn u v → mark.command ≡ length ds + 1 → Pushed mark commits groups old new → AreTold v new → AtBehind t u v cs ds (ds ++ d ∷ []) old raised → BothRaised t v cs (ds ++ d ∷ []) new
+both_raised t u v cs ds d c mark commits groups old new raised here first second number pushed told at = record {
+  source = raised_on Source checkpoints_source source_mark t.source u.source v.source cs ds d c old new pushed.more here first.source second.source pushed.marks
+      (subst (λ (k : ℕ). OfCommand k pushed.more) number (pushed_of mark commits groups old new pushed)) told.source raised.source at.source;
+  replica = raised_on Replica checkpoints_replica replica_mark t.replica u.replica v.replica cs ds d c old new pushed.more here first.replica second.replica pushed.marks
+      (subst (λ (k : ℕ). OfCommand k pushed.more) number (pushed_of mark commits groups old new pushed)) told.replica raised.replica at.replica;
 }
 
 -- before any command
@@ -202,18 +307,26 @@ none_counted is [] (suc i) = refl
 none_counted is (c ∷ cs) zero = refl
 none_counted is (c ∷ cs) (suc i) = refl
 
-raised_none : (kind : Kind) (is : Asked → Bool) (t u : Option Story) (cs : List Asked) (first : ℕ) → GoesOn t u → IfSome t (λ _. IsActive kind first (seen t)) → IsAt kind u first → Raised kind is t u cs []
-raised_none kind is t u cs first on began at = record {
+no_time : (u : Option Story) (read : Mark → Named) (moments : ℕ → ℕ) → IfSome u (λ _. AreInTime read 0 moments [])
+no_time None read moments = tt
+no_time (Some s) read moments = tt
+
+raised_none : (kind : Kind) (is : Asked → Bool) (read : Mark → Named) (t u : Option Story) (cs : List Asked) (first : ℕ) (marks : List Mark) → marks ≡ [] → GoesOn t u → IfSome t (λ _. IsActive kind first (seen t))
+    → IsAt kind u first → Raised kind is read t u cs [] marks
+raised_none kind is read t u cs first marks none on began at = record {
   first = first;
   began = began;
-  behind = λ i within. subst (λ n. WasAt kind t u (generation_behind first n)) (sym (none_counted is cs i)) (was_now kind t u first on at);
+  moments = λ i. count u;
+  order = λ i within. omega arith;
+  behind = λ i within. subst (λ n. WasAt kind t u (count u) (generation_behind first n)) (sym (none_counted is cs i)) (was_now kind t u first on at);
+  in_time = λ fits. subst (λ (ms : List Mark). IfSome u (λ _. AreInTime read 0 (λ i. count u) ms)) (sym none) (no_time u read (λ i. count u));
 }
 
-pub both_none : (t u : Disks) (cs : List Asked) (source replica : ℕ) → BothGoOn t u → IfSome t.source (λ _. IsActive Source source (seen t.source)) → IfSome t.replica (λ _. IsActive Replica replica (seen t.replica))
-    → AreAt u source replica → BothRaised t u cs []
-both_none t u cs source replica on began rep_began at = record {
-  source = raised_none Source checkpoints_source t.source u.source cs source on.source began at.source;
-  replica = raised_none Replica checkpoints_replica t.replica u.replica cs replica on.replica rep_began at.replica;
+pub both_none : (t u : Disks) (cs : List Asked) (source replica : ℕ) (marks : List Mark) → marks ≡ [] → BothGoOn t u → IfSome t.source (λ _. IsActive Source source (seen t.source))
+    → IfSome t.replica (λ _. IsActive Replica replica (seen t.replica)) → AreAt u source replica → BothRaised t u cs [] marks
+both_none t u cs source replica marks none on began rep_began at = record {
+  source = raised_none Source checkpoints_source source_mark t.source u.source cs source marks none on.source began at.source;
+  replica = raised_none Replica checkpoints_replica replica_mark t.replica u.replica cs replica marks none on.replica rep_began at.replica;
 }
 
 pub at_none : (u : Disks) (cs : List Asked) (source replica : ℕ) → AreAt u source replica
