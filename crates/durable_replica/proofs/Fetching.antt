@@ -7,15 +7,15 @@ use Rattle.answer_text.specs.declared.report.Mark.{Mark}
 use Rattle.disk_model.specs.Story.{Story, overwritten, seen}
 use Rattle.disk_model.specs.Moments.{GoesOn}
 use Rattle.disk_model.proofs.Laws.{if_both, if_on}
-use Rattle.store_replica.specs.durable_runs.Marks.{replica_mark}
-use Rattle.store_replica.specs.durable_runs.Replicas.{ReplicaRuns, replica_side}
-use Rattle.store_replica.proofs.of_durable_runs.Joining.{runs_none}
+use Rattle.store_checkpoints.specs.store_replica.durable_runs.Marks.{replica_mark}
+use Rattle.store_checkpoints.specs.store_replica.durable_runs.Replicas.{ReplicaRuns, replica_side}
+use Rattle.store_checkpoints.proofs.of_store_replica.of_durable_runs.Joining.{runs_none}
 use Rattle.replica_node.specs.replica_model.Replica.{Replica, fetched}
 use Rattle.replica_node.specs.Kept.{held_of, replica_of}
 use Rattle.store_model.specs.Held.{Held}
 use Rattle.store_model.specs.Stores.{first_log}
-use Rattle.store_replica.specs.Writing.{IsOn}
-use Rattle.store_replica.proofs.Standings.{each_stands}
+use Rattle.store_checkpoints.specs.store_replica.Writing.{IsOn}
+use Rattle.store_checkpoints.proofs.of_store_replica.Standings.{each_stands}
 use Rattle.durable_replica.specs.Standing.{IsOnDisk}
 use Rattle.durable_replica.specs.declared.replica.DurableReplica.{DurableReplica}
 use Rattle.durable_replica.proofs.Opened.{if_map}

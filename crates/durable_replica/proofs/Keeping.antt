@@ -11,11 +11,11 @@ use Rattle.disk_model.proofs.Laws.{if_on}
 use Rattle.disk_model.proofs.Moments.{on_count, on_refl, on_trans}
 use Rattle.commit_store.specs.declared.prepared.Prepared.{Prepared}
 use Rattle.commit_store.specs.declared.store.Store.{Store}
-use Rattle.store_replica.specs.durable_runs.Marks.{replica_mark}
-use Rattle.store_replica.specs.durable_runs.Replicas.{CarriesTo, ReplicaRuns, replica_side}
-use Rattle.store_replica.specs.durable_runs.Runs.{CallsFit}
-use Rattle.store_replica.proofs.of_durable_runs.Joining.{runs_none}
-use Rattle.store_replica.proofs.of_durable_runs.States.{carries_join, carries_none, carries_one}
+use Rattle.store_checkpoints.specs.store_replica.durable_runs.Marks.{replica_mark}
+use Rattle.store_checkpoints.specs.store_replica.durable_runs.Replicas.{CarriesTo, ReplicaRuns, replica_side}
+use Rattle.store_checkpoints.specs.store_replica.durable_runs.Runs.{CallsFit}
+use Rattle.store_checkpoints.proofs.of_store_replica.of_durable_runs.Joining.{runs_none}
+use Rattle.store_checkpoints.proofs.of_store_replica.of_durable_runs.States.{carries_join, carries_none, carries_one}
 use Rattle.replica_node.specs.replica_model.Applying.{Going, apply}
 use Rattle.replica_node.specs.replica_model.Replica.{Replica}
 use Rattle.replica_node.specs.Kept.{held_of, replica_of}
@@ -25,9 +25,9 @@ use Rattle.replica_node.specs.declared.told.Applied.{Applied}
 use Rattle.store_model.specs.declared.record.Record.{Record}
 use Rattle.store_model.specs.Held.{Held}
 use Rattle.store_model.specs.Stores.{first_log}
-use Rattle.store_replica.specs.Pushed.{ArePushed}
-use Rattle.store_replica.specs.Writing.{CanKeep, IsCounted, IsOn}
-use Rattle.store_replica.proofs.Standings.{each_stands}
+use Rattle.store_checkpoints.specs.store_replica.Pushed.{ArePushed}
+use Rattle.store_checkpoints.specs.store_replica.Writing.{CanKeep, IsCounted, IsOn}
+use Rattle.store_checkpoints.proofs.of_store_replica.Standings.{each_stands}
 use Rattle.durable_replica.specs.Going.{HasKept, HasRun, IsDone}
 use Rattle.durable_replica.specs.Standing.{IsStateOf}
 use Rattle.durable_replica.specs.declared.replica.DurableReplica.{DurableReplica}

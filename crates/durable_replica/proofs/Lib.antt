@@ -3,5 +3,6 @@ pub mod Keeping
 pub mod Opened
 pub mod Fetching
 pub mod Restarting
+pub mod Snapshotting
 -- the crate below that this one speaks of, passed on
-pub use Rattle.store_replica.proofs as of_store_replica
+pub use Rattle.store_checkpoints.proofs.of_store_replica as of_store_replica

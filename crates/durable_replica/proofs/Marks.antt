@@ -3,8 +3,8 @@ use Rattle.std.proofs.Common.{◌≡◌, ℕ, List, [], ◌∷◌, ◌++◌, map
 use Rattle.std.proofs.lemmas.List.{append-nil}
 use Rattle.answer_text.specs.declared.report.Mark.{Mark}
 use Rattle.store_model.specs.Held.{next_applied}
-use Rattle.store_replica.specs.durable_runs.Marks.{last_named, replica_mark}
-use Rattle.store_replica.specs.Pushed.{ArePushed, NameInTurn}
+use Rattle.store_checkpoints.specs.store_replica.durable_runs.Marks.{last_named, replica_mark}
+use Rattle.store_checkpoints.specs.store_replica.Pushed.{ArePushed, NameInTurn}
 
 abbrev last : ℕ → List Mark → ℕ
 last n marks = last_named n (map replica_mark marks)

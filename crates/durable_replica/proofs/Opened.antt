@@ -11,10 +11,10 @@ use Rattle.store_model.specs.Held.{Held, LogEnd}
 use Rattle.store_model.specs.Stores.{first_log, held_by}
 use Rattle.store_model.specs.declared.record.Kind.{Kind}
 use Rattle.store_model.specs.declared.record.Kind.TheVariants.{Replica}
-use Rattle.store_replica.specs.store_open.declared.opening.Opened.{Opened}
-use Rattle.store_replica.specs.store_open.Opened.{held_with}
-use Rattle.store_replica.specs.Opening.{IsReady}
-use Rattle.store_replica.specs.Writing.{IsOn, OpensOn}
+use Rattle.store_checkpoints.specs.store_replica.store_open.declared.opening.Opened.{Opened}
+use Rattle.store_checkpoints.specs.store_replica.store_open.Opened.{held_with}
+use Rattle.store_checkpoints.specs.store_replica.Opening.{IsReady}
+use Rattle.store_checkpoints.specs.store_replica.Writing.{IsOn, OpensOn}
 
 pub if_map : (t : Option Story) (X Y : Type 0) → IfSome t (λ _. X) → (X → Y) → IfSome t (λ _. Y)
 if_map None X Y told f = tt

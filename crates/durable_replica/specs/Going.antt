@@ -6,16 +6,16 @@ use Rattle.answer_text.specs.declared.report.Report.{Report}
 use Rattle.disk_model.specs.Story.{Story, seen}
 use Rattle.disk_model.specs.Moments.{GoesOn}
 use Rattle.commit_store.specs.declared.store.Store.{Store}
-use Rattle.store_replica.specs.durable_runs.Replicas.{Carries, CarriesTo}
-use Rattle.store_replica.specs.durable_runs.Runs.{CallsFit}
+use Rattle.store_checkpoints.specs.store_replica.durable_runs.Replicas.{Carries, CarriesTo}
+use Rattle.store_checkpoints.specs.store_replica.durable_runs.Runs.{CallsFit}
 use Rattle.replica_node.specs.replica_model.Applying.{apply}
 use Rattle.replica_node.specs.replica_model.Replica.{Replica}
 use Rattle.replica_node.specs.Kept.{held_of, replica_of}
 use Rattle.replica_node.specs.Steps.{IsTold}
 use Rattle.replica_node.specs.declared.told.Applied.{Applied}
 use Rattle.store_model.specs.Stores.{first_log}
-use Rattle.store_replica.specs.Pushed.{ArePushed}
-use Rattle.store_replica.specs.Writing.{IsOn}
+use Rattle.store_checkpoints.specs.store_replica.Pushed.{ArePushed}
+use Rattle.store_checkpoints.specs.store_replica.Writing.{IsOn}
 use Rattle.durable_replica.specs.Standing.{IsStateOf}
 use Rattle.durable_replica.specs.declared.replica.DurableReplica.{DurableReplica}
 

@@ -7,7 +7,7 @@ use Rattle.replica_node.specs.replica_model.Applying.{go_on, going_from}
 use Rattle.replica_node.specs.replica_model.Replica.{Replica}
 use Rattle.store_model.specs.Held.{Held}
 use Rattle.store_model.specs.Stores.{first_log}
-use Rattle.store_replica.specs.Writing.{IsOn}
+use Rattle.store_checkpoints.specs.store_replica.Writing.{IsOn}
 use Rattle.replica_node.specs.Kept.{held_of, replica_of}
 use Rattle.durable_replica.specs.declared.replica.DurableReplica.{DurableReplica}
 

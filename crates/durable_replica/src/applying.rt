@@ -4,19 +4,19 @@ ghost use Rattle.disk_model.specs.Answers.{HasNodeCause};
 ghost use Rattle.disk_model.specs.Moments.{GoesOn};
 ghost use Rattle.durable_replica.specs.Going.{HasRun, IsDone};
 ghost use Rattle.durable_replica.specs.Standing.{IsOnDisk, IsStateOf};
-ghost use Rattle.store_replica.specs.durable_runs.Replicas.{Carries, CarriesTo};
+ghost use Rattle.store_checkpoints.specs.store_replica.durable_runs.Replicas.{Carries, CarriesTo};
 ghost use Rattle.replica_node.specs.replica_model.Applying.{apply};
 ghost use Rattle.replica_node.specs.Kept.{held_of, replica_of};
 ghost use Rattle.replica_node.specs.Steps.{IsFront, IsTold};
-ghost use Rattle.store_replica.specs.durable_runs.Runs.{CallsFit};
-ghost use Rattle.store_replica.specs.Pushed.{ArePushed};
+ghost use Rattle.store_checkpoints.specs.store_replica.durable_runs.Runs.{CallsFit};
+ghost use Rattle.store_checkpoints.specs.store_replica.Pushed.{ArePushed};
 
 use crate::replica::DurableReplica;
 use answer_text::Report;
 use disk_model::{Disk, NodeFault};
 use port_traits::Draw;
 use replica_node::{Applied, Step};
-use store_replica::keep;
+use store_checkpoints::store_replica::keep;
 
 impl DurableReplica {
     /// Carries out up to so many definitions and transactions of what was fetched: each in memory, then by its record on the disk, with a
@@ -41,6 +41,7 @@ impl DurableReplica {
             (D.told d.old) (D.told d.new) (held_of (replica_of self.old.node)) (held_of (replica_of self.new.node)) report.old.marks report.new.marks) }
         ensures pushed { ArePushed report.old.now (replica_of self.old.node).number self.new.store.number report.old.marks report.new.marks }
         ensures number { OnOk result (self.new.store.number ≡ (replica_of self.new.node).number) }
+        ensures generation { OnOk result (self.new.store.generation ≡ self.old.store.generation) }
         ensures marks { IfOk result (λ told. length report.new.marks ≡ length report.old.marks + told.count) }
         ensures rest { report.new ≡ record report.old { marks = report.new.marks } }
         ensures goes { GoesOn (D.told d.old) (D.told d.new) }
@@ -61,6 +62,7 @@ impl DurableReplica {
         ensures identity { self.new.node.identity ≡ self.old.node.identity }
         ensures done { IfOk result (IsDone wanted self.old.node.identity draw.entry.now (replica_of self.old.node) (D.told d.old) report.old (D.told d.new) self.new report.new) }
         ensures err { OnErr result (IsFront wanted self.old.node.identity draw.entry.now (replica_of self.old.node) (replica_of self.new.node)) }
+        ensures generation { self.new.store.generation ≡ self.old.store.generation }
         ensures run { HasRun wanted self.old.node.identity draw.entry.now (replica_of self.old.node) (D.told d.old) report.old (D.told d.new) self.new.store.number report.new }
         ensures cause { HasNodeCause (D.faults d.old) (D.faults d.new) result }
     {

@@ -5,11 +5,11 @@
 //! is pushed (`store_replica`). The record has the group's changes and the place behind it, so that base and place move together. Opening
 //! reads the store (`store_open`) and starts its journal where that has no gate yet. RESTART drops all memory and opens again.
 //!
-//! This crate stands on `replica_node` and on `store_replica`; who carries out a script over two disks will stand on it.
+//! This crate stands on `replica_node` and on `store_checkpoints`, which passes `store_replica` on; who carries out a script over two disks stands on it.
 //!
 //! - `replica`: [`DurableReplica`], with [`DurableReplica::open`], [`DurableReplica::fetch`], [`DurableReplica::select`] and
 //!   [`DurableReplica::restart`]
-//! - `applying`: [`DurableReplica::apply`]
+//! - `applying`: [`DurableReplica::apply`]; `checkpointing`: [`DurableReplica::checkpoint`]
 //! - `specs/Standing`: what a replica has on its disk (`IsOnDisk`), and what its store comes to hold in an APPLY (`IsStateOf`)
 //!
 //! # Proved
@@ -22,8 +22,12 @@
 //!   of damage (`damaged`).
 //! - [`DurableReplica::fetch`] takes just the piece, and its calls are a run of no record. [`DurableReplica::select`] answers as the
 //!   definition does and calls no disk.
+//! - [`DurableReplica::checkpoint`]: memory and what was fetched stay as they were, and its calls are a run of no record, whichever of them
+//!   fails; after Ok the disk has what it had, at the next generation, if there is one (`on`, `runs`, `generation`). At the last generation
+//!   it calls no disk (`last`).
 //! - [`DurableReplica::restart`] is the definition's RESTART, its calls are a run of no record, and a disk that tells is never damaged then
 //!   (`replica`, `runs`, `whole`).
+//! - A store is opened at the generation that counts on its disk (`active`), and only a checkpoint moves it on (`generation`).
 //! - A device's fault is answered only where the disk's count of faults rose (`cause`).
 //!
 //! # Only tested
@@ -31,6 +35,7 @@
 #![tactic(auto)]
 
 mod applying;
+mod checkpointing;
 mod replica;
 
 // What is its own, and the crate below that it speaks of, passed on: who stands above names it through this one.

@@ -7,16 +7,16 @@ ghost use Rattle.disk_model.specs.Moments.{GoesOn, IsSettled};
 ghost use Rattle.disk_model.specs.Story.{seen};
 ghost use Rattle.disk_model.specs.declared.refusals.OpenRefusal.TheVariants.{Damaged};
 ghost use Rattle.durable_replica.specs.Standing.{IsOnDisk};
-ghost use Rattle.store_replica.specs.durable_runs.Replicas.{ReplicaRuns};
+ghost use Rattle.store_checkpoints.specs.store_replica.durable_runs.Replicas.{ReplicaRuns};
 ghost use Rattle.replica_node.specs.replica_model.Replica.{fetched, reopened, replica_from, want};
 ghost use Rattle.replica_node.specs.replica_model.Selecting.{select_answer};
 ghost use Rattle.replica_node.specs.replica_model.apply_model.binlog_sizes.Sizes.{most_text};
 ghost use Rattle.replica_node.specs.Kept.{held_of, replica_of};
-ghost use Rattle.store_replica.specs.store_open.store_load.Loading.{TellsDamage};
+ghost use Rattle.store_checkpoints.specs.store_replica.store_open.store_load.Loading.{TellsDamage};
 ghost use Rattle.store_model.specs.Held.{Held};
-ghost use Rattle.store_model.specs.Stores.{held_by};
+ghost use Rattle.store_model.specs.Stores.{begun_from, held_by};
 ghost use Rattle.store_model.specs.declared.record.Kind.TheVariants.{Replica};
-ghost use Rattle.store_replica.specs.Writing.{OpensOn};
+ghost use Rattle.store_checkpoints.specs.store_replica.Writing.{OpensOn};
 
 use answer_text::Answer;
 use commit_store::Store;
@@ -24,8 +24,8 @@ use disk_model::{Disk, NodeFault, OpenRefusal};
 use port_traits::{Draw, Identity};
 use replica_node::{Place, ReplicaNode};
 use std::alloc::Global;
-use store_replica::store_open::Opened;
-use store_replica::{open_store, put_in_relay};
+use store_checkpoints::store_replica::store_open::Opened;
+use store_checkpoints::store_replica::{open_store, put_in_relay};
 use val_types::{Bytes, Duplicate};
 
 /// A replica in memory, the store on the disk that it is handed with each call, and how many bytes it has fetched since it opened.
@@ -50,6 +50,7 @@ impl DurableReplica {
         ensures opens { (held : Held) → OpensOn (D.told d.old) held → IfOk result (λ k. IfSome (D.told d.old) (λ _.
             (replica_of k.node ≡ replica_from held.base held.number held.place) × (held_of (replica_of k.node) ≡ held))) }
         ensures reopened { IfOk result (λ k. replica_of k.node ≡ reopened (replica_of k.node)) }
+        ensures active { IfOk result (λ k. IfSome (D.told d.old) (λ _. (begun : Held) × (begun_from Replica (seen (D.told d.old)) ≡ Ok (k.store.generation, begun)))) }
         ensures held { IfOk result (λ k. IfSome (D.told d.old) (λ _. held_by Replica (seen (D.told d.old)) ≡ Ok (held_of (replica_of k.node)))) }
         ensures runs { (held : Held) (marks : Items Mark) → OpensOn (D.told d.old) held → ReplicaRuns (D.told d.old) (D.told d.new) held [] marks marks }
         ensures damaged { TellsDamage (D.told d.old) Replica result }
@@ -84,6 +85,7 @@ impl DurableReplica {
         ensures opens { (held : Held) → OpensOn (D.told d.old) held → IfOk result (λ k. IfSome (D.told d.old) (λ _.
             (replica_of k.node ≡ replica_from held.base held.number held.place) × (held_of (replica_of k.node) ≡ held))) }
         ensures reopened { IfOk result (λ k. replica_of k.node ≡ reopened (replica_of k.node)) }
+        ensures active { IfOk result (λ k. IfSome (D.told d.old) (λ _. (begun : Held) × (begun_from Replica (seen (D.told d.old)) ≡ Ok (k.store.generation, begun)))) }
         ensures held { IfOk result (λ k. IfSome (D.told d.old) (λ _. held_by Replica (seen (D.told d.old)) ≡ Ok (held_of (replica_of k.node)))) }
         ensures runs { (held : Held) (marks : Items Mark) → OpensOn (D.told d.old) held → ReplicaRuns (D.told d.old) (D.told d.new) held [] marks marks }
         ensures damaged { TellsDamage (D.told d.old) Replica result }
@@ -102,6 +104,7 @@ impl DurableReplica {
         ensures identity { self.new.node.identity ≡ self.old.node.identity }
         ensures ok { OnOk result (replica_of self.new.node ≡ fetched piece.now (replica_of self.old.node)) }
         ensures on { OnOk result (IsOnDisk (D.told d.new) self.new) }
+        ensures generation { OnOk result (self.new.store.generation ≡ self.old.store.generation) }
         ensures runs { (marks : Items Mark) → ReplicaRuns (D.told d.old) (D.told d.new) (held_of (replica_of self.old.node)) [] marks marks }
         ensures goes { GoesOn (D.told d.old) (D.told d.new) }
         ensures cause { HasNodeCause (D.faults d.old) (D.faults d.new) result }
@@ -132,6 +135,7 @@ impl DurableReplica {
         ensures identity { self.new.node.identity ≡ self.old.node.identity }
         ensures replica { OnOk result (IfSome (D.told d.old) (λ _. replica_of self.new.node ≡ reopened (replica_of self.old.node))) }
         ensures on { OnOk result (IsOnDisk (D.told d.new) self.new) }
+        ensures generation { OnOk result (IfSome (D.told d.old) (λ _. self.new.store.generation ≡ self.old.store.generation)) }
         ensures runs { (marks : Items Mark) → ReplicaRuns (D.told d.old) (D.told d.new) (held_of (replica_of self.old.node)) [] marks marks }
         ensures whole { (file at : ℕ) → IfSome (D.told d.old) (λ _. result ≡ Err (Damaged file at) → ⊥) }
         ensures goes { GoesOn (D.told d.old) (D.told d.new) }

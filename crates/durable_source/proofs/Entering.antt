@@ -12,9 +12,9 @@ use Rattle.session_model.specs.Holding.{EntriesMade, changes_of, define}
 use Rattle.store_model.specs.Held.{Held}
 use Rattle.store_model.specs.Entries.{IsWithin, held_behind, writer_at}
 use Rattle.store_model.specs.Laws.{HasLog}
-use Rattle.store_source.specs.durable_runs.Laws.{HasFirstLog}
-use Rattle.store_source.specs.durable_runs.Sources.{AreWithin, Stored, held_after}
-use Rattle.store_source.proofs.of_durable_runs.Storing.{stored_is, stored_some}
+use Rattle.store_checkpoints.specs.store_source.durable_runs.Laws.{HasFirstLog}
+use Rattle.store_checkpoints.specs.store_source.durable_runs.Sources.{AreWithin, Stored, held_after}
+use Rattle.store_checkpoints.proofs.of_store_source.of_durable_runs.Storing.{stored_is, stored_some}
 use Rattle.source_node.specs.session_shared.waiting_entries.binlog_items.log_entry_laws.Entries.{CanLogAll}
 use Rattle.source_node.specs.session_shared.waiting_entries.Waiting.{CanWaitAll, FitsStore, HaveBodies}
 

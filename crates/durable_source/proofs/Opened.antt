@@ -25,18 +25,18 @@ use Rattle.store_model.specs.Held.{Held, LogEnd, last_end, most_committed}
 use Rattle.store_model.specs.Entries.{held_behind, writer_at}
 use Rattle.store_model.specs.Stores.{held_by}
 use Rattle.commit_store.specs.declared.store.Store.{Store}
-use Rattle.store_source.specs.durable_runs.Laws.{HasFirstLog, StoredBehind}
-use Rattle.store_source.specs.durable_runs.Marks.{source_mark}
-use Rattle.store_source.specs.durable_runs.Runs.{behind_steps}
-use Rattle.store_source.specs.durable_runs.Sources.{SourceRuns, Stored, source_side, stored_behind}
-use Rattle.store_source.proofs.of_durable_runs.Joining.{runs_join, runs_more}
-use Rattle.store_source.proofs.of_durable_runs.Storing.{stored_is, stored_rises}
+use Rattle.store_checkpoints.specs.store_source.durable_runs.Laws.{HasFirstLog, StoredBehind}
+use Rattle.store_checkpoints.specs.store_source.durable_runs.Marks.{source_mark}
+use Rattle.store_checkpoints.specs.store_source.durable_runs.Runs.{behind_steps}
+use Rattle.store_checkpoints.specs.store_source.durable_runs.Sources.{SourceRuns, Stored, source_side, stored_behind}
+use Rattle.store_checkpoints.proofs.of_store_source.of_durable_runs.Joining.{runs_join, runs_more}
+use Rattle.store_checkpoints.proofs.of_store_source.of_durable_runs.Storing.{stored_is, stored_rises}
 use Rattle.store_open.specs.declared.opening.Opened.{Opened}
 use Rattle.store_open.specs.Opened.{held_with}
-use Rattle.store_source.specs.Beginning.{begun_with}
-use Rattle.store_source.specs.Writing.{IsOn}
-use Rattle.store_source.proofs.Images.{if_map}
-use Rattle.store_source.proofs.Logs.{count_positions}
+use Rattle.store_checkpoints.specs.store_source.Beginning.{begun_with}
+use Rattle.store_checkpoints.specs.store_source.Writing.{IsOn}
+use Rattle.store_checkpoints.proofs.of_store_source.Images.{if_map}
+use Rattle.store_checkpoints.proofs.of_store_source.Logs.{count_positions}
 use Rattle.source_node.specs.Standing.{state_of}
 use Rattle.source_node.specs.session_shared.waiting_entries.Making.{has_place}
 use Rattle.durable_source.specs.declared.source.DurableSource.{DurableSource}

@@ -7,6 +7,7 @@ use Rattle.answer_text.specs.declared.report.Mark.{Mark}
 use Rattle.disk_model.specs.Story.{Story, seen}
 use Rattle.disk_model.specs.Moments.{IsSettled}
 use Rattle.disk_model.specs.Claims.{Quietly}
+use Rattle.disk_model.proofs.Laws.{if_both}
 use Rattle.disk_model.specs.declared.refusals.OpenRefusal.{OpenRefusal}
 use Rattle.disk_model.specs.declared.refusals.OpenRefusal.TheVariants.{Disk, Damaged, NoMemory}
 use Rattle.session_model.specs.log_model.Log.{LogPlace}
@@ -16,17 +17,22 @@ use Rattle.session_model.specs.Openings.{committed_in, opened_from, opening_entr
 use Rattle.store_model.specs.declared.record.Kind.{Kind}
 use Rattle.store_model.specs.declared.record.Kind.TheVariants.{Source}
 use Rattle.store_model.specs.Entries.{writer_at}
-use Rattle.store_model.specs.Stores.{held_by, Stands as StandsStored}
+use Rattle.store_model.specs.Held.{Held}
+use Rattle.store_model.specs.Stores.{Spot, begun_from, held_by, Stands as StandsStored}
 use Rattle.store_model.proofs.Standing.{together}
-use Rattle.store_source.specs.durable_runs.Sources.{SourceRuns, SourceStands, Stored, source_side}
-use Rattle.store_source.proofs.of_durable_runs.Steps.{steps_behind}
+use Rattle.store_checkpoints.specs.store_source.durable_runs.Sources.{SourceRuns, SourceStands, Stored, source_side}
+use Rattle.store_checkpoints.proofs.of_store_source.of_durable_runs.Steps.{steps_behind}
+use Rattle.store_open.specs.Opened.{IsActive}
 use Rattle.store_open.specs.store_load.Loading.{TellsDamage}
-use Rattle.store_source.proofs.Images.{Told, durable, if_map, told}
-use Rattle.store_source.proofs.Steps.{on_looked}
+use Rattle.store_checkpoints.proofs.of_store_source.Images.{Told, durable, if_map, told}
+use Rattle.store_checkpoints.proofs.of_store_source.Steps.{on_looked}
 use Rattle.durable_source.specs.declared.source.DurableSource.{DurableSource}
 use Rattle.durable_source.specs.Standing.{OpensOn, Stands, beginning_of}
 use Rattle.durable_source.proofs.Starting.{looked, stays_runs}
 use Rattle.durable_source.proofs.Standings.{beginning_is, first_goes_on, writer_is}
+
+same_begun : (r : Result (ℕ × Held) Spot) (a b : ℕ × Held) → r ≡ Ok a → r ≡ Ok b → a.0 ≡ b.0
+same_begun r a b e f = ap (λ (x : Result (ℕ × Held) Spot). elim x [ Ok p ↦ p.0 | Err spot ↦ 0 ]) (sym e ∙ f)
 
 module _ (t : Option Story) (k : DurableSource) (from : Stored) (m : Machine) (stands : Stands t k from m) where
   -- its disk is settled, and stands for what it has
@@ -40,6 +46,14 @@ module _ (t : Option Story) (k : DurableSource) (from : Stored) (m : Machine) (s
             (subst (λ (kind : Kind). StandsStored kind k.store.generation (seen t) stands.now.held) stands.on.node x.0);
         logs = x.1;
       })
+
+  -- what its image begins with is of the store's generation
+  pub same_generation : (generation : ℕ) → IsActive t Source generation → IfSome t (λ _. generation ≡ k.store.generation)
+  same_generation generation active =
+      if_both t ((begun : Held) × (begun_from Source (seen t) ≡ Ok (generation, begun))) (StandsStored Source k.store.generation (seen t) stands.now.held)
+      (generation ≡ k.store.generation) active
+      (subst (λ (kind : Kind). IfSome t (λ _. StandsStored kind k.store.generation (seen t) stands.now.held)) stands.on.node stands.on.keeps.holds.stands)
+      (λ begun at. same_begun (begun_from Source (seen t)) (generation, begun.0) (k.store.generation, at.begun) begun.1 at.from)
 
   -- calls that only look
   pub looked_stands : (u : Option Story) → Quietly t u → Stands u k from m

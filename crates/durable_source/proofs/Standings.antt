@@ -16,16 +16,16 @@ use Rattle.session_model.specs.Holding.{Beginning, Holds, RunsGoOn}
 use Rattle.session_model.specs.Openings.{committed_in}
 use Rattle.store_model.specs.Held.{Held}
 use Rattle.store_model.specs.Entries.{writer_at}
-use Rattle.store_source.specs.durable_runs.Laws.{HasFirstLog, StoredBehind}
-use Rattle.store_source.specs.durable_runs.Marks.{source_mark}
-use Rattle.store_source.specs.durable_runs.Runs.{behind_steps}
-use Rattle.store_source.specs.durable_runs.Sources.{SourceRuns, Stored, held_after, source_side}
-use Rattle.store_source.proofs.of_durable_runs.Storing.{stored_is, stored_rises, stored_some}
-use Rattle.store_source.proofs.of_durable_runs.Joining.{runs_more, runs_none}
-use Rattle.store_source.proofs.of_durable_runs.Steps.{some_same, steps_behind}
-use Rattle.store_source.specs.Pushed.{ArePushed}
-use Rattle.store_source.specs.Writing.{CanWrite, IsOn}
-use Rattle.store_source.proofs.Images.{each_stands}
+use Rattle.store_checkpoints.specs.store_source.durable_runs.Laws.{HasFirstLog, StoredBehind}
+use Rattle.store_checkpoints.specs.store_source.durable_runs.Marks.{source_mark}
+use Rattle.store_checkpoints.specs.store_source.durable_runs.Runs.{behind_steps}
+use Rattle.store_checkpoints.specs.store_source.durable_runs.Sources.{SourceRuns, Stored, held_after, source_side}
+use Rattle.store_checkpoints.proofs.of_store_source.of_durable_runs.Storing.{stored_is, stored_rises, stored_some}
+use Rattle.store_checkpoints.proofs.of_store_source.of_durable_runs.Joining.{runs_more, runs_none}
+use Rattle.store_checkpoints.proofs.of_store_source.of_durable_runs.Steps.{some_same, steps_behind}
+use Rattle.store_checkpoints.specs.store_source.Pushed.{ArePushed}
+use Rattle.store_checkpoints.specs.store_source.Writing.{CanWrite, IsOn}
+use Rattle.store_checkpoints.proofs.of_store_source.Images.{each_stands}
 use Rattle.source_node.specs.session_shared.waiting_entries.declared.waiting.Waiting.{Waiting}
 use Rattle.source_node.specs.session_shared.waiting_entries.Waiting.{CanWaitAll, all_waiting}
 use Rattle.source_node.specs.Standing.{IsStepped, Kept, state_of, without_waiting}

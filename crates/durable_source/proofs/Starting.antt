@@ -25,16 +25,16 @@ use Rattle.store_model.specs.Stores.{first_log, held_by, journal_of, Stands}
 use Rattle.store_model.proofs.Standing.{apart, still_stands, together}
 use Rattle.commit_store.specs.declared.store.Store.{Store}
 use Rattle.commit_store.specs.Keeping.{AreDurable, Holds as StoreHolds, Keeps, StandsFor, positions}
-use Rattle.store_source.specs.durable_runs.Marks.{Named, source_mark}
-use Rattle.store_source.specs.durable_runs.Runs.{Runs}
-use Rattle.store_source.specs.durable_runs.Sources.{SourceRuns, SourceStands, Stored, end_of, log_in, source_side, stored_in}
-use Rattle.store_source.proofs.of_durable_runs.Joining.{runs_kept, runs_untold}
+use Rattle.store_checkpoints.specs.store_source.durable_runs.Marks.{Named, source_mark}
+use Rattle.store_checkpoints.specs.store_source.durable_runs.Runs.{Runs}
+use Rattle.store_checkpoints.specs.store_source.durable_runs.Sources.{SourceRuns, SourceStands, Stored, end_of, log_in, source_side, stored_in}
+use Rattle.store_checkpoints.proofs.of_store_source.of_durable_runs.Joining.{runs_kept, runs_untold}
 use Rattle.store_open.specs.store_load.Loading.{TellsDamage}
 use Rattle.store_open.proofs.of_store_load.Whole.{same_short}
 use Rattle.store_open.specs.Opened.{held_with}
-use Rattle.store_source.specs.Writing.{IsOn, StaysOn}
-use Rattle.store_source.proofs.Images.{if_map, stays_both}
-use Rattle.store_source.proofs.Logs.{count_positions, last_position}
+use Rattle.store_checkpoints.specs.store_source.Writing.{IsOn, StaysOn}
+use Rattle.store_checkpoints.proofs.of_store_source.Images.{if_map, stays_both}
+use Rattle.store_checkpoints.proofs.of_store_source.Logs.{count_positions, last_position}
 use Rattle.durable_source.specs.Opening.{IsReady}
 use Rattle.durable_source.specs.Standing.{OpensOn}
 

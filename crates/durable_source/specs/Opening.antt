@@ -6,10 +6,10 @@ use Rattle.store_model.specs.sql_reach.Defining.{counters_begun}
 use Rattle.store_model.specs.declared.record.Kind.TheVariants.{Source}
 use Rattle.store_model.specs.Held.{most_committed}
 use Rattle.store_model.specs.Stores.{held_by}
-use Rattle.store_source.specs.durable_runs.Sources.{Stored, stored_in}
+use Rattle.store_checkpoints.specs.store_source.durable_runs.Sources.{Stored, stored_in}
 use Rattle.store_open.specs.declared.opening.Opened.{Opened}
 use Rattle.store_open.specs.Opened.{held_with}
-use Rattle.store_source.specs.Writing.{IsOn}
+use Rattle.store_checkpoints.specs.store_source.Writing.{IsOn}
 use Rattle.durable_source.specs.Standing.{OpensOn}
 
 -- what a store was opened on: what is held, with the logs as they are read

@@ -4,10 +4,10 @@ use Rattle.disk_model.specs.Story.{Story, seen}
 use Rattle.session_model.specs.Machine.{Machine, session_slots}
 use Rattle.session_model.specs.Holding.{Beginning}
 use Rattle.store_model.specs.Entries.{writer_at}
-use Rattle.store_source.specs.durable_runs.Laws.{HasFirstLog}
-use Rattle.store_source.specs.durable_runs.Runs.{behind_steps}
-use Rattle.store_source.specs.durable_runs.Sources.{Stored, SourceStands, source_side}
-use Rattle.store_source.specs.Writing.{IsOn}
+use Rattle.store_checkpoints.specs.store_source.durable_runs.Laws.{HasFirstLog}
+use Rattle.store_checkpoints.specs.store_source.durable_runs.Runs.{behind_steps}
+use Rattle.store_checkpoints.specs.store_source.durable_runs.Sources.{Stored, SourceStands, source_side}
+use Rattle.store_checkpoints.specs.store_source.Writing.{IsOn}
 use Rattle.source_node.specs.Standing.{Stands as StandsInMemory}
 use Rattle.durable_source.specs.declared.source.DurableSource.{DurableSource}
 

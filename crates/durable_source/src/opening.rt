@@ -6,13 +6,14 @@ ghost use Rattle.disk_model.specs.Answers.{HasOpenCause};
 ghost use Rattle.disk_model.specs.Moments.{IsSettled};
 ghost use Rattle.disk_model.specs.Story.{Story};
 ghost use Rattle.commit_store.specs.Keeping.{positions};
-ghost use Rattle.store_source.specs.durable_runs.Sources.{SourceRuns, Stored};
+ghost use Rattle.store_checkpoints.specs.store_source.durable_runs.Sources.{SourceRuns, Stored};
 ghost use Rattle.durable_source.specs.Opening.{IsReady};
 ghost use Rattle.durable_source.specs.Standing.{OpensOn};
+ghost use Rattle.store_open.specs.Opened.{IsActive};
 ghost use Rattle.store_open.specs.store_load.Loading.{TellsDamage};
 ghost use Rattle.store_model.specs.Held.{LogEnd, last_end, most_committed, most_logs};
 ghost use Rattle.store_model.specs.declared.record.Kind.TheVariants.{Source};
-ghost use Rattle.store_source.specs.Writing.{IsOn};
+ghost use Rattle.store_checkpoints.specs.store_source.Writing.{IsOn};
 
 use commit_store::Store;
 use disk_model::{Disk, OpenRefusal};
@@ -38,6 +39,7 @@ fn is_within(store: &Store) -> bool
 pub(crate) fn open_store<D: Disk>(alloc: Global, d: &mut D) -> Result<Opened, OpenRefusal>
     requires settled { IsSettled (D.told d.old) }
     ensures ready { IfOk result (IsReady (D.told d.old) (D.told d.new)) }
+    ensures active { IfOk result (λ o. IsActive (D.told d.old) Source o.store.generation) }
     ensures runs { (from : Stored) (marks : Items Mark) → OpensOn (D.told d.old) from → SourceRuns (D.told d.old) (D.told d.new) from [] marks marks }
     ensures damaged { TellsDamage (D.told d.old) Source result }
     ensures cause { HasOpenCause (D.faults d.old) (D.faults d.new) result }

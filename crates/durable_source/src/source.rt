@@ -6,8 +6,8 @@ ghost use Rattle.disk_model.specs.Claims.{Quietly};
 ghost use Rattle.disk_model.specs.Moments.{GoesOn, IsSettled};
 ghost use Rattle.disk_model.specs.declared.refusals.OpenRefusal.TheVariants.{Damaged};
 ghost use Rattle.disk_model.specs.Story.{seen};
-ghost use Rattle.store_source.specs.durable_runs.Runs.{CallsFit};
-ghost use Rattle.store_source.specs.durable_runs.Sources.{SourceRuns, Stored, end_of};
+ghost use Rattle.store_checkpoints.specs.store_source.durable_runs.Runs.{CallsFit};
+ghost use Rattle.store_checkpoints.specs.store_source.durable_runs.Sources.{SourceRuns, Stored, end_of};
 ghost use Rattle.durable_source.specs.Standing.{OpensOn, Stands, beginning_of};
 ghost use Rattle.session_model.specs.binlog_sizes.Sizes.{most_text};
 ghost use Rattle.session_model.specs.Holding.{Holds};
@@ -18,8 +18,8 @@ ghost use Rattle.store_model.specs.declared.record.Kind.TheVariants.{Source};
 ghost use Rattle.source_node.specs.session_shared.waiting_entries.binlog_items.log_entry_laws.Entries.{CanLogAll};
 ghost use Rattle.store_model.specs.Entries.{writer_at};
 ghost use Rattle.store_model.specs.Held.{Held};
-ghost use Rattle.store_model.specs.Stores.{held_by};
-ghost use Rattle.store_source.specs.Pushed.{ArePushed};
+ghost use Rattle.store_model.specs.Stores.{begun_from, held_by};
+ghost use Rattle.store_checkpoints.specs.store_source.Pushed.{ArePushed};
 
 use crate::opening::{open_store, writer_of};
 use answer_text::{Answer, Report};
@@ -29,16 +29,16 @@ use port_traits::{Draw, Identity};
 use session_model::{openings_hold, runs_hold};
 use source_node::SourceNode;
 use std::alloc::Global;
+use store_checkpoints::store_source::{begin_log, log_bytes, write_out};
 use store_open::Opened;
-use store_source::{begin_log, write_out};
 use val_types::{Bytes, Duplicate};
 
 /// A source in memory, and the store on the disk that it is handed with each call.
 #[derive(Drop)]
 pub struct DurableSource {
-    alloc: Global,
-    node: SourceNode,
-    store: Store,
+    pub(crate) alloc: Global,
+    pub(crate) node: SourceNode,
+    pub(crate) store: Store,
 }
 
 impl DurableSource {
@@ -56,6 +56,7 @@ impl DurableSource {
             Stands (D.told d.new) k from (opened_from identity draw.entry.now (beginning_of from)))) }
         ensures some { IfOk result (λ k. (from : Stored) × Stands (D.told d.new) k from (opened_from identity draw.entry.now (beginning_of from))) }
         ensures held { IfOk result (λ _. IfSome (D.told d.old) (λ _. (held : Held) × (held_by Source (seen (D.told d.old)) ≡ Ok held))) }
+        ensures active { IfOk result (λ k. IfSome (D.told d.old) (λ _. (begun : Held) × (begun_from Source (seen (D.told d.old)) ≡ Ok (k.store.generation, begun)))) }
         ensures runs { (from : Stored) (marks : Items Mark) → OpensOn (D.told d.old) from
             → SourceRuns (D.told d.old) (D.told d.new) from (opening_entries identity draw.entry.now (writer_at from.held)) marks marks }
         ensures damaged { TellsDamage (D.told d.old) Source result }
@@ -94,6 +95,7 @@ impl DurableSource {
             CanLogAll (map kept_entry (step whole (self.old.node.identity) m.state session text.now draw.entry.now).committed) m.state.shared.committed m.state.shared.place) }
         ensures goes { GoesOn (D.told d.old) (D.told d.new) }
         ensures some { IfOk result (λ _. (from : Stored) × ((m : Machine) × (Stands (D.told d.new) self.new from m × Holds (beginning_of from) m))) }
+        ensures generation { OnOk result (self.new.store.generation ≡ self.old.store.generation) }
         ensures pushed { ArePushed report.old.now self.old.store.number self.new.store.number report.old.marks report.new.marks }
         ensures rest { report.new ≡ record report.old { marks = report.new.marks } }
         ensures cause { HasNodeCause (D.faults d.old) (D.faults d.new) result }
@@ -130,7 +132,7 @@ impl DurableSource {
         ensures quiet { Quietly (D.told d.old) (D.told d.new) }
         ensures cause { HasDiskCause (D.faults d.old) (D.faults d.new) result }
     {
-        store_source::log_bytes(alloc, &self.store, d, log, pos, max)
+        log_bytes(alloc, &self.store, d, log, pos, max)
     }
 
     /// Drops all memory and opens again at a draw: sessions and open transactions are gone, and nobody writes.
@@ -142,6 +144,8 @@ impl DurableSource {
         ensures some { OnOk result ((from : Stored) × ((m : Machine) × (Stands (D.told d.new) self.new from m × Holds (beginning_of from) m))) }
         ensures runs { (from : Stored) (m : Machine) (stands : Stands (D.told d.old) self.old from m) (marks : Items Mark) → Holds (beginning_of from) m
             → SourceRuns (D.told d.old) (D.told d.new) stands.now (opening_entries (self.old.node.identity) draw.entry.now m.state.shared.place) marks marks }
+        ensures generation { (from : Stored) (m : Machine) → Stands (D.told d.old) self.old from m
+            → OnOk result (IfSome (D.told d.old) (λ _. self.new.store.generation ≡ self.old.store.generation)) }
         ensures whole { (from : Stored) (m : Machine) (file at : ℕ) → Stands (D.told d.old) self.old from m
             → IfSome (D.told d.old) (λ _. result ≡ Err (Damaged file at) → ⊥) }
         ensures cause { HasOpenCause (D.faults d.old) (D.faults d.new) result }

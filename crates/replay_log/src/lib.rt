@@ -21,7 +21,8 @@
 //!   just the line of these groups was written; at WriteFault a front of it; else nothing. No other status comes.
 //! - In these cases the disk holds what the groups make, and the marks name each that was carried out once, in order, up to the number
 //!   behind the last. At whatever status, each image of each moment of the disk, inside a write too, holds what the first of the groups make
-//!   of what the disk held, and no less than the marks until then name. Of a disk that tells nothing no image is claimed.
+//!   of what the disk held, and no less than the marks until then name, of which none says more calls than the disk has had. Of a disk that
+//!   tells nothing no image is claimed.
 //! - Where the disk's files stood for nothing the replay ends with ReplicaDamaged and their first place of damage, and nothing was read; it
 //!   ends so nowhere else where the disk tells its calls.
 //! - A fault comes only where the stream's or the disk's count of faults rose, or stands at its last value (`read_fault`, `write_fault`,

@@ -18,6 +18,7 @@
 //! # Proved
 //! - [`ReplicaNode::found`] has just the rows, the number and the place that it is given, and has fetched nothing.
 //! - [`ReplicaNode::want`] is exactly the definition's place, and [`ReplicaNode::number`] the count of what was carried out.
+//! - [`ReplicaNode::tables`] and [`ReplicaNode::objects`] give just the base that it keeps.
 //! - [`ReplicaNode::fetch`] puts just the piece behind what was fetched, or memory is short and all is as before.
 //! - [`ReplicaNode::step`] goes on just as the definition does (`step`). A definition, a transaction and the end of a log leave a record
 //!   which a replica's store can have, and which leads from all that was held before to all that is held behind: the base, the

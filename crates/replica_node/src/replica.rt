@@ -1,6 +1,9 @@
 //! The replica.
 ghost use Rattle.std.specs.Prelude.{◌≡◌, ◌≤◌, ◌+◌, [], length, IfOk, OnErr, OnOk};
+ghost use Rattle.table_rules.specs.Stores.{IsWhole, definitions_of};
 ghost use Rattle.stmt_apply.specs.prog_run.prog_work.Contents.{base_of};
+ghost use Rattle.stmt_apply.specs.prog_run.prog_work.catalog_objects.Keys.{objects_of};
+ghost use Rattle.log_groups.specs.catalog_rules.Bases.{definitions_in};
 ghost use Rattle.relay_log.specs.Reaching.{place_seen};
 ghost use Rattle.replica_model.specs.apply_model.binlog_sizes.Sizes.{most_text};
 ghost use Rattle.replica_model.specs.Replica.{fetched, want};
@@ -15,6 +18,8 @@ use std::alloc::Global;
 use std::marker::Model;
 use stmt_apply::answer_making::NodeFault;
 use stmt_apply::prog_run::Work;
+use stmt_apply::prog_run::catalog_objects::Objects;
+use stmt_apply::prog_run::exec_state::dml_rows::row_store::Tables;
 use val_types::Bytes;
 
 /// A replica in memory, which contracts see as who it is and what it keeps. It is dropped here.
@@ -84,6 +89,22 @@ impl ReplicaNode {
         ensures { result.now ≡ self.now.identity }
     {
         &self.identity
+    }
+
+    /// The tables that are kept in memory, all rows of which are there to stay.
+    pub fn tables(&self) -> &Tables
+        ensures committed { result.now.committed ≡ (replica_of self.now).base.tables }
+        ensures theirs { definitions_of result.now.tables ≡ definitions_in ((replica_of self.now).base.catalog) }
+        ensures whole { IsWhole result.now }
+    {
+        self.work.stored()
+    }
+
+    /// The objects of the catalog, in order of creation.
+    pub fn objects(&self) -> &Objects
+        ensures { objects_of result.now ≡ (replica_of self.now).base.catalog }
+    {
+        self.work.catalog().objects()
     }
 
     /// How many definitions and transactions were carried out.

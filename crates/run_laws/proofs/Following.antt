@@ -17,7 +17,7 @@ use Rattle.apply_laws.specs.session_model.Openings.{opening_entries}
 use Rattle.apply_laws.specs.session_replays.Followed.{EntriesFollow, UnwarnedFollow, MixedIsUnwarned, RowsAreUnwarned}
 use Rattle.run_model.specs.replica_model.Replica.{Replica, want, fetched, reopened}
 use Rattle.run_model.specs.replica_model.Applying.{apply, go_on, going_from}
-use Rattle.run_model.specs.Asked.{Asked, say, select, take_bytes, take_groups, restart_source, restart_replica}
+use Rattle.run_model.specs.Asked.{Asked, say, select, take_bytes, take_groups, checkpoint_source, checkpoint_replica, restart_source, restart_replica}
 use Rattle.run_model.specs.Run.{Names, Both, ReplicaStep, opened_again, carried_in, Starts, first_both, log_with, next, number_before}
 use Rattle.run_model.specs.Following.{AreCommitted, all_carried, applied_of, begun_anew, Follows, groups_of, head_entries, place_behind}
 use Rattle.run_laws.specs.Laws.{IsSound, FollowsBegins, FollowsOpened, FollowsGoOn, FollowsOnTheWay, NoApplyStops, NothingIsDamaged, AllCarriedIsEqual, IsLoggedAsSet, IsUnderOther, OthersFollow, WarnedAsShown, may_warn}
@@ -159,6 +159,8 @@ follows_go_on below appliers names b (say n text) draw f sound =
 follows_go_on below appliers names b (select text) draw f sound = f
 follows_go_on below appliers names b (take_bytes n) draw f sound = fetch_follows below names b n f sound
 follows_go_on below appliers names b (take_groups n) draw f sound = (apply_came below appliers names draw n b f sound).follows
+follows_go_on below appliers names b checkpoint_source draw f sound = f
+follows_go_on below appliers names b checkpoint_replica draw f sound = f
 follows_go_on below appliers names b restart_source draw f sound = source_follows below.have below.heads names b draw f sound
 follows_go_on below appliers names b restart_replica draw f sound = reopened_follows names b f
 
@@ -201,6 +203,8 @@ other_follows unwarned mixed rows names b (say n text) draw before logged other 
 other_follows unwarned mixed rows names b (select text) draw before logged other = before
 other_follows unwarned mixed rows names b (take_bytes n) draw before logged other = before
 other_follows unwarned mixed rows names b (take_groups n) draw before logged other = before
+other_follows unwarned mixed rows names b checkpoint_source draw before logged other = before
+other_follows unwarned mixed rows names b checkpoint_replica draw before logged other = before
 other_follows unwarned mixed rows names b restart_source draw before logged other =
     in_both b.machine.history (opening_entries names.source draw b.machine.state.shared.place) before (head_follows draw.now names.source.server_id (b.machine.state.shared.place.log == 0))
 other_follows unwarned mixed rows names b restart_replica draw before logged other = before

@@ -26,7 +26,7 @@ use Rattle.apply_laws.specs.session_replays.Texts.{EntriesSay}
 use Rattle.apply_laws.specs.session_replays.Followed.{EntriesFollow}
 use Rattle.apply_laws.specs.session_replays.Replaying.{Replays}
 use Rattle.run_model.specs.replica_model.Applying.{Going, Stop, differs, damaged, foreign, apply, go_on, going_from}
-use Rattle.run_model.specs.Asked.{Asked, say, select, take_bytes, take_groups, restart_source, restart_replica}
+use Rattle.run_model.specs.Asked.{Asked, say, select, take_bytes, take_groups, checkpoint_source, checkpoint_replica, restart_source, restart_replica}
 use Rattle.run_model.specs.Run.{Names, Both, Starts, carried_in, from_nothing, number_before, place_before, source_from, log_with, Told, answered, got, went, applied, first_both, next, end_of}
 use Rattle.run_model.specs.Following.{AreCommitted, Follows, head_entries, reader_from}
 
@@ -137,6 +137,8 @@ IsLoggedAsSet names b (say n text) draw = EntriesIn (format_of (session_at n b.m
 IsLoggedAsSet names b (select text) draw = Unit {0}
 IsLoggedAsSet names b (take_bytes n) draw = Unit {0}
 IsLoggedAsSet names b (take_groups n) draw = Unit {0}
+IsLoggedAsSet names b checkpoint_source draw = Unit {0}
+IsLoggedAsSet names b checkpoint_replica draw = Unit {0}
 IsLoggedAsSet names b restart_source draw = Unit {0}
 IsLoggedAsSet names b restart_replica draw = Unit {0}
 
@@ -159,6 +161,8 @@ IsUnderOther b (say n text) draw = may_warn (format_of (session_at n b.machine))
 IsUnderOther b (select text) draw = Unit {0}
 IsUnderOther b (take_bytes n) draw = Unit {0}
 IsUnderOther b (take_groups n) draw = Unit {0}
+IsUnderOther b checkpoint_source draw = Unit {0}
+IsUnderOther b checkpoint_replica draw = Unit {0}
 IsUnderOther b restart_source draw = Unit {0}
 IsUnderOther b restart_replica draw = Unit {0}
 

@@ -4,12 +4,15 @@ use Rattle.script_read.specs.Commands.{What, of_session, source_checkpoint, sour
 use Rattle.script_read.specs.Script.{split_of}
 
 -- A text of the session with this number; of the replica a SELECT, so many bytes to be fetched, so many groups to be carried out; that
--- the source opens again on what it has committed, or the replica on what it has carried out.
+-- a node writes what its store holds as a snapshot; that the source opens again on what it has committed, or the replica on what it has
+-- carried out.
 pub data Asked : Type 0 where
   say : ℕ → List ℕ → Asked
   select : List ℕ → Asked
   take_bytes : ℕ → Asked
   take_groups : ℕ → Asked
+  checkpoint_source : Asked
+  checkpoint_replica : Asked
   restart_source : Asked
   restart_replica : Asked
 
@@ -17,12 +20,12 @@ pub data Asked : Type 0 where
 abbrev pub asked_by : What → Option Asked
 asked_by (of_session n text) = Some (say n text)
 asked_by (replica_select text) = Some (select text)
-asked_by source_checkpoint = None
+asked_by source_checkpoint = Some checkpoint_source
 asked_by source_flush = None
 asked_by source_restart = Some restart_source
 asked_by (fetch n) = Some (take_bytes n)
 asked_by (apply n) = Some (take_groups n)
-asked_by replica_checkpoint = None
+asked_by replica_checkpoint = Some checkpoint_replica
 asked_by replica_restart = Some restart_replica
 
 -- one more in front, or the place of the first that is refused

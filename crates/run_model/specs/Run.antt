@@ -20,7 +20,7 @@ use Rattle.replica_model.specs.Replica.{Replica, first_replica, fetched, reopene
 use Rattle.replica_model.specs.Applying.{Going, apply}
 use Rattle.replica_model.specs.Selecting.{select_answer}
 use Rattle.replica_model.specs.Lines.{fetched_line, going_line}
-use Rattle.run_model.specs.Asked.{Asked, say, select, take_bytes, take_groups, restart_source, restart_replica}
+use Rattle.run_model.specs.Asked.{Asked, say, select, take_bytes, take_groups, checkpoint_source, checkpoint_replica, restart_source, restart_replica}
 
 -- ---- where both nodes began
 
@@ -122,19 +122,21 @@ handed b piece = record { both = record b { replica = fetched piece b.replica };
 abbrev pub applied : Both → Draw → Going → Next
 applied b draw a = record { both = record b { replica = a.replica; steps = b.steps ++ replicate a.count (carried_at draw) }; told = went a }
 
--- a node opened again, which is ok
-abbrev pub opened_on : Both → Next
-opened_on b = record { both = b; told = answered (ok 0) }
+-- a node did what was asked, which is ok
+abbrev pub done_on : Both → Next
+done_on b = record { both = b; told = answered (ok 0) }
 
 -- a session's text is a step of the source; FETCH takes the next bytes of its log; APPLY carries out groups of those that were fetched;
--- the replica's SELECT reads its rows; a RESTART opens its node again, the source's at its draw
+-- the replica's SELECT reads its rows; a CHECKPOINT leaves both nodes as they are; a RESTART opens its node again, the source's at its draw
 abbrev pub next : Names → Both → Asked → Draw → Next
 next names b (say n text) draw = said b (step whole names.source b.machine.state n text draw)
 next names b (select text) draw = record { both = b; told = answered (select_answer names.replica draw b.replica.counters b.replica.base text) }
 next names b (take_bytes n) draw = handed b (log_bytes (log_with b.from b.machine) (want b.replica) n)
 next names b (take_groups n) draw = applied b draw (apply n names.replica draw b.replica)
-next names b restart_source draw = opened_on (record b { machine = restarted names.source draw b.machine })
-next names b restart_replica draw = opened_on (record b { replica = reopened b.replica; steps = b.steps ++ opened_again ∷ [] })
+next names b checkpoint_source draw = done_on b
+next names b checkpoint_replica draw = done_on b
+next names b restart_source draw = done_on (record b { machine = restarted names.source draw b.machine })
+next names b restart_replica draw = done_on (record b { replica = reopened b.replica; steps = b.steps ++ opened_again ∷ [] })
 
 -- the lines that show it
 abbrev pub told_lines : ℕ → Told → List ℕ
@@ -142,7 +144,7 @@ told_lines k (answered a) = shown k a
 told_lines k (got count) = fetched_line k count
 told_lines k (went a) = going_line k a
 
--- ---- commands, each at its draw; FETCH takes none, and whichever stands there is not looked at
+-- ---- commands, each at its draw; FETCH and CHECKPOINT take none, and whichever stands there is not looked at
 
 -- both nodes after commands, as many as there are draws
 abbrev pub end_of : Names → Both → List Asked → List Draw → Both
@@ -164,12 +166,14 @@ pub data Node : Type 0 where
   the_replica : Node
 
 -- the node that a command takes its draw from: a session's text from the source, SELECT and APPLY from the replica, each RESTART from
--- its own; FETCH takes none
+-- its own; FETCH and CHECKPOINT take none
 abbrev pub drawn_by : Asked → Option Node
 drawn_by (say n text) = Some the_source
 drawn_by (select text) = Some the_replica
 drawn_by (take_bytes n) = None
 drawn_by (take_groups n) = Some the_replica
+drawn_by checkpoint_source = None
+drawn_by checkpoint_replica = None
 drawn_by restart_source = Some the_source
 drawn_by restart_replica = Some the_replica
 
@@ -189,6 +193,34 @@ draws_source c = is_source (drawn_by c)
 
 abbrev pub draws_replica : Asked → Bool
 draws_replica c = is_replica (drawn_by c)
+
+-- the node that a command has write a snapshot
+abbrev pub checkpointed_by : Asked → Option Node
+checkpointed_by (say n text) = None
+checkpointed_by (select text) = None
+checkpointed_by (take_bytes n) = None
+checkpointed_by (take_groups n) = None
+checkpointed_by checkpoint_source = Some the_source
+checkpointed_by checkpoint_replica = Some the_replica
+checkpointed_by restart_source = None
+checkpointed_by restart_replica = None
+
+-- whether a command is a checkpoint of the source, or of the replica
+abbrev pub checkpoints_source : Asked → Bool
+checkpoints_source c = is_source (checkpointed_by c)
+
+abbrev pub checkpoints_replica : Asked → Bool
+checkpoints_replica c = is_replica (checkpointed_by c)
+
+abbrev pub one_if : Bool → ℕ
+one_if true = 1
+one_if false = 0
+
+-- how many commands pass a test, of those that have a draw
+abbrev pub count_of : (Asked → Bool) → List Asked → List Draw → ℕ
+count_of p [] ds = 0
+count_of p (c ∷ cs) [] = 0
+count_of p (c ∷ cs) (d ∷ ds) = one_if (p c) + count_of p cs ds
 
 abbrev pub kept_if : Bool → Draw → List Draw → List Draw
 kept_if true d ds = d ∷ ds

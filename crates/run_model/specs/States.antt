@@ -3,7 +3,7 @@ use Rattle.std.specs.Prelude.{◌≡◌, ◌⊎◌, ℕ, List, [], ◌∷◌}
 use Rattle.port_traits.specs.declared.identity.Draw.{Draw}
 use Rattle.replica_model.specs.Replica.{Replica}
 use Rattle.replica_model.specs.Applying.{go_on, going_from}
-use Rattle.run_model.specs.Asked.{Asked, say, select, take_bytes, take_groups, restart_source, restart_replica}
+use Rattle.run_model.specs.Asked.{Asked, say, select, take_bytes, take_groups, checkpoint_source, checkpoint_replica, restart_source, restart_replica}
 use Rattle.run_model.specs.Run.{Names, Both, next}
 
 -- What a replica is while a command is carried out at a draw: behind some steps of an APPLY, of which none is one; and as before it in any other
@@ -13,6 +13,8 @@ IsOnTheWay names b (say n text) draw r = r ≡ b.replica
 IsOnTheWay names b (select text) draw r = r ≡ b.replica
 IsOnTheWay names b (take_bytes n) draw r = r ≡ b.replica
 IsOnTheWay names b (take_groups n) draw r = (steps : ℕ) × (r ≡ (go_on steps n names.replica draw (going_from b.replica)).replica)
+IsOnTheWay names b checkpoint_source draw r = r ≡ b.replica
+IsOnTheWay names b checkpoint_replica draw r = r ≡ b.replica
 IsOnTheWay names b restart_source draw r = r ≡ b.replica
 IsOnTheWay names b restart_replica draw r = r ≡ b.replica
 

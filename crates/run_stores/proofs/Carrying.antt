@@ -24,7 +24,7 @@ use Rattle.run_laws.specs.session_model.Holding.{changes_of, define}
 use Rattle.run_laws.specs.session_replays.Followed.{EntriesFollow}
 use Rattle.run_laws.specs.run_model.replica_model.Replica.{Replica}
 use Rattle.run_laws.specs.run_model.replica_model.Applying.{go_on, going_from}
-use Rattle.run_laws.specs.run_model.Asked.{Asked, say, select, take_bytes, take_groups, restart_source, restart_replica}
+use Rattle.run_laws.specs.run_model.Asked.{Asked, say, select, take_bytes, take_groups, checkpoint_source, checkpoint_replica, restart_source, restart_replica}
 use Rattle.run_laws.specs.run_model.Run.{Names, Both, Read, nothing, bytes_to, Starts, number_before, place_before, applied, next, end_of}
 use Rattle.run_laws.specs.run_model.Following.{AreCommitted, Follows, head_entries, reader_at, reader_from}
 use Rattle.run_laws.specs.Laws.{FollowsGoOn, FollowsOnTheWay, IsSound}
@@ -148,6 +148,8 @@ carried_on_the_way have heads way names b (take_bytes n) draw source replica r f
 carried_on_the_way have heads way names b (take_groups n) draw source replica r f sound begins stand at =
     let there : Both = (applied b draw (go_on at.0 n names.replica draw (going_from b.replica))).both in
     as_it_was have heads names there source replica r (way names b draw at.0 n f sound) sound begins stand at.1
+carried_on_the_way have heads way names b checkpoint_source draw source replica r f sound begins stand same = as_it_was have heads names b source replica r f sound begins stand same
+carried_on_the_way have heads way names b checkpoint_replica draw source replica r f sound begins stand same = as_it_was have heads names b source replica r f sound begins stand same
 carried_on_the_way have heads way names b restart_source draw source replica r f sound begins stand same = as_it_was have heads names b source replica r f sound begins stand same
 carried_on_the_way have heads way names b restart_replica draw source replica r f sound begins stand same = as_it_was have heads names b source replica r f sound begins stand same
 
@@ -166,6 +168,8 @@ one_later before names b (say n text) draw r has = put_more before b r (step who
 one_later before names b (select text) draw r has = has
 one_later before names b (take_bytes n) draw r has = has
 one_later before names b (take_groups n) draw r has = has
+one_later before names b checkpoint_source draw r has = has
+one_later before names b checkpoint_replica draw r has = has
 one_later before names b restart_source draw r has = put_more before b r (opening_entries names.source draw b.machine.state.shared.place) has
 one_later before names b restart_replica draw r has = has
 
@@ -180,6 +184,8 @@ from_stays names b (say n text) draw = refl
 from_stays names b (select text) draw = refl
 from_stays names b (take_bytes n) draw = refl
 from_stays names b (take_groups n) draw = refl
+from_stays names b checkpoint_source draw = refl
+from_stays names b checkpoint_replica draw = refl
 from_stays names b restart_source draw = refl
 from_stays names b restart_replica draw = refl
 

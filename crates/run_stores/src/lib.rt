@@ -2,7 +2,7 @@
 //!
 //! A run begins where a source's and a replica's stores stand, and leaves both where the next one begins. `durable_runs` says when a replica's
 //! store is behind its source's, `run_laws` where a run may begin and where it ends; here is that the one is the other, for a source of one
-//! log. Nodes with stores will stand on it.
+//! log. Who carries out a script over two disks stands on it.
 //!
 //! In specs/: `Standing` (what stores have to be, and what they stand for), `Carried` (what a replica has carried out at any moment), `Laws`
 //! (what each law says).

@@ -1,7 +1,9 @@
 pub mod Asking
 pub mod Beginning
+pub mod Checkpointing
 pub mod Disks
 pub mod Drawing
+pub mod Generations
 pub mod Logged
 pub mod Marks
 pub mod Opened

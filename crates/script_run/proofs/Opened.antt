@@ -46,6 +46,7 @@ use Rattle.script_run.proofs.Disks.{both_told, if_told, where_told}
 use Rattle.script_run.proofs.Surviving.{rep_survives_by, survives_by}
 use Rattle.script_run.specs.Together.{IsOneLog, Opened}
 use Rattle.script_run.proofs.Beginning.{beginning_is}
+use Rattle.script_run.proofs.Generations.{kept_at}
 use Rattle.script_run.proofs.Serving.{stays_at}
 use Rattle.script_run.proofs.Spoken.{failed_by}
 
@@ -224,6 +225,14 @@ opened_each holds opens law last t u nodes report s r goes stays marks = by t.so
           held = stands.held;
           holds = stands.holds;
           rep_holds = rep_holds;
+          src_first = nodes.source.store.generation;
+          rep_first = nodes.replica.store.generation;
+          began = s.active;
+          rep_began = r.active;
+          at = record {
+            source = kept_at Source u.source nodes.source.store stand.now.held stand.on.node stand.on.keeps;
+            replica = kept_at Replica u.replica nodes.replica.store (held_of (replica_of nodes.replica.node)) r.on.on.node r.on.on.keeps;
+          };
           lasts = subst (λ (ms : List Mark). Lasted t.source u.source start.source (both_from names s.draw from).machine.history ms) (sym marks) lasted;
           carries = λ fits. subst (λ (ms : List Mark). CarriesTo (IsHeldOf names (both_from names s.draw from) [] []) t.replica u.replica (held_of from.replica) (held_of from.replica) [] ms) (sym marks)
               (carries_none (IsHeldOf names (both_from names s.draw from) [] []) t.replica u.replica (held_of from.replica) [] [] (from.replica, (refl, refl))
@@ -270,6 +279,7 @@ source_still t u source mid new s is = record {
   told = ap (λ (r : Report). r.src_identity) is ∙ s.told;
   drawn = ap (λ (r : Report). r.src_draws) is ∙ s.drawn;
   stands = s.stands;
+  active = s.active;
   runs = s.runs;
 }
 

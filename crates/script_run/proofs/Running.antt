@@ -11,15 +11,19 @@ use Rattle.answer_text.specs.declared.status.Status.TheVariants.{Done, BadWords,
 use Rattle.fault_counts.specs.Causes.{Rose}
 use Rattle.disk_model.specs.Story.{Story, seen}
 use Rattle.run_stores.specs.durable_runs.Laws.{SourcesLast}
-use Rattle.run_stores.specs.durable_runs.Replicas.{IsCarried}
+use Rattle.run_stores.specs.durable_runs.Replicas.{Carries, IsCarried}
+use Rattle.run_stores.specs.durable_runs.Runs.{CallsFit}
 use Rattle.run_stores.specs.durable_runs.Sources.{Stored}
+use Rattle.durable_replica.proofs.of_store_replica.of_durable_runs.States.{carries_marks}
+use Rattle.run_laws.specs.log_entries.declared.entries.Entry.{Entry}
+use Rattle.run_laws.specs.session_model.Machine.{Whole}
 use Rattle.run_stores.specs.Carried.{AllSound, CarriedOnTheWay, FollowersAreServed, ImagesHaveCarried, StatesHaveCarried}
 use Rattle.run_stores.specs.Standing.{StandAt}
 use Rattle.run_laws.specs.session_replays.Followed.{EntriesFollow}
 use Rattle.store_model.specs.Held.{Held}
 use Rattle.durable_replica.specs.replica_node.Kept.{held_of}
 use Rattle.durable_replica.specs.replica_node.replica_model.Replica.{Replica}
-use Rattle.run_laws.specs.run_model.Asked.{Asked, say, select, take_bytes, take_groups, restart_source, restart_replica}
+use Rattle.run_laws.specs.run_model.Asked.{Asked, say, select, take_bytes, take_groups, checkpoint_source, checkpoint_replica, restart_source, restart_replica}
 use Rattle.run_laws.specs.run_model.Run.{Names, Both, Starts, both_from, next, end_of, told_lines, lines_shown, draws_of, kept_if, draws_source, draws_replica, mark_at, last_mark, number_before, place_before, source_from}
 use Rattle.run_laws.specs.run_model.Following.{Follows}
 use Rattle.run_laws.specs.Laws.{GoesThrough, IsLoggedAsSet, IsSound, OfEach}
@@ -44,6 +48,7 @@ use Rattle.script_run.proofs.Recovering.{recovers_by, served_begins, served_more
 use Rattle.script_run.proofs.Surviving.{carried_next, carried_some, fits_before, on_some, rep_survives_by, rep_survives_since, survives_by}
 use Rattle.script_run.proofs.Beginning.{each_from}
 use Rattle.script_run.proofs.Disks.{both_trans, if_told, where_told}
+use Rattle.script_run.proofs.Generations.{AreTold, AtBehind, at_more, at_none, both_none, both_raised, both_still}
 use Rattle.script_run.proofs.Marks.{called_last, called_within, marks_begin, marks_last, marks_on, no_marks, numbers_are}
 
 -- what the laws say of disks, and of what a replica has carried out
@@ -135,6 +140,8 @@ next_from names b (say n text) d = refl
 next_from names b (select text) d = refl
 next_from names b (take_bytes n) d = refl
 next_from names b (take_groups n) d = refl
+next_from names b checkpoint_source d = refl
+next_from names b checkpoint_replica d = refl
 next_from names b restart_source d = refl
 next_from names b restart_replica d = refl
 
@@ -242,12 +249,22 @@ starts law from t u cs report before nodes opened =
           (since_none t.replica u.replica opened.names b cs report.marks opened.carries);
       serves = λ begins fits. subst (λ (e : Both). ServedSince t.replica u.replica (source_from from).committed (committed_of e) report.marks) (sym (end_none opened.names b cs))
           (served_begins law.served opened.names opened.src from t.replica u.replica report.marks (opened.together.follows begins) begins opened.together.holds opened.carries fits);
+      raised = both_none t u cs opened.src_first opened.rep_first report.marks opened.marks opened.on opened.began opened.rep_began opened.at;
+      at = at_none u cs opened.src_first opened.rep_first opened.at;
       together = subst (λ (e : Both). Together opened.names u (stores_in t opened.held (held_of from.replica)) nodes e) (sym (end_none opened.names b cs)) opened.together;
     }
 
 -- a run that began as one may has come to where the same is known of it
 pub from_there : (names : Names) (src : Draw) (from : Starts) (cs : List Asked) (ds : List Draw) → Begins from → Begins (end_of names (both_from names src from) cs ds).from
 from_there names src from cs ds begins = subst Begins (sym (end_from names (both_from names src from) cs ds)) begins
+
+-- no mark says more calls than the disks have had, as runs from the start say
+are_told : Lasting → (t v : Disks) (start : Stored) (es : List (Entry Whole)) (State : Held → Type 0) (held : Held) (marks : List Mark) → Lasted t.source v.source start es marks
+    → (CallsFit v.replica → Carries State t.replica v.replica held [] marks) → AreTold v marks
+are_told law t v start es State held marks lasts carries = record {
+  source = λ fits. law.sources.behind t.source v.source start es marks (lasts fits);
+  replica = λ fits. carries_marks State t.replica v.replica held marks (carries fits);
+}
 
 pub goes_on : Lasting → (from : Starts) (t u v : Disks) (cs : List Asked) (i k : ℕ) (c : Asked) (old new : Report) (before now after : Option (List ℕ)) (nodes nodes' : Nodes) → slice_get cs i ≡ Some c → k ≡ i + 1
     → Going from t u cs i old before now nodes → ((names : Names) (start : Stores) (b : Both) → Together names u start nodes b → Told names b k c u v start old new nodes' now after)
@@ -262,6 +279,7 @@ goes_on law from t u v cs i k c old new before now after nodes nodes' is k_is go
     let here : slice_get cs (length ds) ≡ Some c = ap (slice_get cs) going.count_is ∙ is in
     let number : k ≡ 1 + length ds = omega (arith, k_is, going.count_is) in
     let b' : Both = (next names b c told.draw).both in
+    let at : AtBehind t u v cs ds (ds ++ told.draw ∷ []) old.marks going.raised = at_more t u v cs ds told.draw c old.marks going.raised here going.at told.raises in
     record {
       names = names;
       src = going.src;
@@ -294,6 +312,10 @@ goes_on law from t u v cs i k c old new before now after nodes nodes' is k_is go
             named_all = subst (λ (e : Both). NamesAll v.replica (source_from from).committed (committed_of e) new.marks) (sym (end_last names first cs ds told.draw c here))
                 (told.all_named (source_from from).committed fits so_far.named_all);
           };
+      raised = both_raised t u v cs ds told.draw c (mark_at k b) told.marked.commits told.marked.groups old.marks new.marks going.raised here going.on told.on (omega (arith, number)) told.marked.pushed
+          (are_told law t v start.source b'.machine.history (IsHeldOf names first cs (ds ++ told.draw ∷ [])) (held_of first.replica) new.marks (told.lasts t.source going.lasts)
+          (λ fits. (carried_next names first cs ds told.draw c here t.replica u.replica v.replica old.marks new.marks told.on.replica going.carries told.carries fits).carries)) at;
+      at = at;
       together = subst (λ (e : Both). Together names v start nodes' e) (sym (end_last names first cs ds told.draw c here)) told.together;
     }
 
@@ -390,6 +412,7 @@ ceased law from t u v cs i k c old new before now after nodes is k_is same grew 
           (carried_some names first cs ds left.at c here t.replica u.replica v.replica old.marks new.marks left.on.replica going.carries left.carries);
       carried = carried_more law from t u cs i old before now nodes going left.at c here;
       recovers = recovered_more law from t u v cs i old new before now nodes going left.at c here left.on.replica left.pushed.more left.pushed.marks left.carries;
+      raised = both_still t u v cs ds (mark_at k b) left.commits left.groups old.marks new.marks (omega (arith, number)) left.on left.pushed going.raised;
     }
 
 broke : Lasting → (from : Starts) (t u v : Disks) (cs : List Asked) (i k : ℕ) (c : Asked) (old new : Report) (before now after : Option (List ℕ)) (nodes : Nodes) → slice_get cs i ≡ Some c → k ≡ i + 1
@@ -403,6 +426,7 @@ broke law from t u v cs i k c old new before now after nodes is k_is going told 
     let here : slice_get cs (length ds) ≡ Some c = ap (slice_get cs) going.count_is ∙ is in
     let number : k ≡ 1 + length ds = omega (arith, k_is, going.count_is) in
     let b' : Both = (next names b c told.draw).both in
+    let at : AtBehind t u v cs ds (ds ++ told.draw ∷ []) old.marks going.raised = at_more t u v cs ds told.draw c old.marks going.raised here going.at told.raises in
     record {
       names = names;
       src = going.src;
@@ -425,6 +449,10 @@ broke law from t u v cs i k c old new before now after nodes is k_is going told 
       carried = carried_more law from t u cs i old before now nodes going told.draw c here;
       recovers = recovered_more law from t u v cs i old new before now nodes going told.draw c here told.on.replica told.marked.pushed.more told.marked.pushed.marks
           (on_some u.replica v.replica names b c told.draw old.marks new.marks told.carries);
+      raised = both_raised t u v cs ds told.draw c (mark_at k b) told.marked.commits told.marked.groups old.marks new.marks going.raised here going.on told.on (omega (arith, number)) told.marked.pushed
+          (are_told law t v (stores_in t going.held (held_of from.replica)).source b'.machine.history (IsHeldOf names first cs (ds ++ told.draw ∷ [])) (held_of first.replica) new.marks (told.lasts t.source going.lasts)
+          (λ fits. (carried_next names first cs ds told.draw c here t.replica u.replica v.replica old.marks new.marks told.on.replica going.carries told.carries fits).carries)) at;
+      at = at;
     }
 
 stops_by : Lasting → (status : Status) (from : Starts) (t u v : Disks) (cs : List Asked) (i k : ℕ) (c : Asked) (old new : Report) (before now after : Option (List ℕ)) (nodes : Nodes) → slice_get cs i ≡ Some c → k ≡ i + 1 → Grew old new
@@ -475,6 +503,8 @@ ends law from t u cs report before after nodes going =
       carried = carried_now law from t u cs (length cs) report before after nodes going;
       recovers = λ begins. recovers_by law.images names going.src from cs going.draws (stores_in t going.held (held_of from.replica)).source t.replica u.replica report.marks begun (going.followed begins) (going.sounds begins) begins
           (stood_at from t u cs (length cs) report before after nodes going) (λ fits. (going.carries fits).carries) (λ fits. (going.serves begins fits).served);
+      raised = going.raised;
+      at = going.at;
       follows = λ begins. going.together.follows (from_there names going.src from cs going.draws begins);
     }
 
@@ -665,6 +695,7 @@ lined_if (Ok lines) names b k c t u start old mid new now nodes is out = record 
   lasts = subst (λ (ms : List Mark). LastsOn t.source u.source start.source b.machine.history (next names b c out.draw).both.machine.history ms new.marks) (ap (λ (r : Report). r.marks) is) out.lasts;
   carries = subst (λ (ms : List Mark). CarriesOn t.replica u.replica names b c out.draw ms new.marks) (ap (λ (r : Report). r.marks) is) out.carries;
   all_named = subst (λ (ms : List Mark). NamesOn t.replica u.replica (committed_of b) (committed_of (next names b c out.draw).both) ms new.marks) (ap (λ (r : Report). r.marks) is) out.all_named;
+  raises = out.raises;
   shows = out.shows;
 }
 
@@ -699,6 +730,7 @@ told_all names b k c t u start old new nodes before after lines lined wrote = re
   lasts = lined.lasts;
   carries = lined.carries;
   all_named = lined.all_named;
+  raises = lined.raises;
   together = lined.shows.together;
 }
 
@@ -716,6 +748,7 @@ told_front names b k c t u start old new nodes before after lines lined wrote = 
   begins = lined.shows.together.stands.first;
   lasts = lined.lasts;
   carries = lined.carries;
+  raises = lined.raises;
 }
 
 pub told_by : (r : Result (Unit {0}) Status) (names : Names) (b : Both) (k : ℕ) (c : Asked) (t u : Disks) (start : Stores) (old new : Report) (nodes : Nodes) (before after : Option (List ℕ)) (lines : List ℕ)

@@ -67,6 +67,7 @@ use Rattle.script_run.specs.Marks.{CalledNow, Pushed, command_marks, committed_o
 use Rattle.run_stores.specs.durable_runs.Marks.{NameNow, last_named, replica_mark, source_mark}
 use Rattle.script_run.specs.Survives.{CarriesOn, CarriesSome, IsHeldOnTheWay, Lasted, LastsOn, NamesOn}
 use Rattle.script_run.proofs.Disks.{both_refl, both_told, where_told}
+use Rattle.script_run.proofs.Generations.{GenerationsGo, raises_by}
 use Rattle.script_run.proofs.Recovering.{names_none, names_said, names_still}
 use Rattle.script_run.proofs.Surviving.{carries_rest, carries_still, held_here, lasts_on, lasts_rest, lasts_still}
 use Rattle.script_run.specs.Together.{AreOnDisks, Before, Began, CarriedOut, Drew, GaveUp, Grew, IsOneLog, Marked, Shows, SourceIsOn, Together}
@@ -131,7 +132,7 @@ applied_none : (n : ℕ) → n < 2 ^ 64 → n ≡ min (n + 0) (2 ^ 64 - 1)
 applied_none n fits = omega (arith, fits)
 
 -- nothing was pushed, nothing committed, and nothing carried out
-marked_none : (k : ℕ) (b b' : Both) (old new : Report) → b.replica.number < 2 ^ 64 → new.marks ≡ old.marks → committed_of b' ≡ committed_of b → carried_in b'.steps ≡ carried_in b.steps
+pub marked_none : (k : ℕ) (b b' : Both) (old new : Report) → b.replica.number < 2 ^ 64 → new.marks ≡ old.marks → committed_of b' ≡ committed_of b → carried_in b'.steps ≡ carried_in b.steps
     → b'.replica.number ≡ b.replica.number → Marked k b b' old new
 marked_none k b b' old new fits same number steps applied = record {
   commits = 0;
@@ -143,7 +144,7 @@ marked_none k b b' old new fits same number steps applied = record {
 }
 
 -- a disk that was not called
-lasts_none : (t : Option Story) (start : Stored) (es : List (Entry Whole)) (old new : List Mark) → new ≡ old → LastsOn t t start es es old new
+pub lasts_none : (t : Option Story) (start : Stored) (es : List (Entry Whole)) (old new : List Mark) → new ≡ old → LastsOn t t start es es old new
 lasts_none t start es old new same first lasted = subst (λ (ms : List Mark). Lasted first t start es ms) (sym same) lasted
 
 -- each image of the replica's disk stands for what the replica has
@@ -152,7 +153,7 @@ replica_stands names t start nodes b r =
     subst (λ (x : Replica). Each t.replica (ReplicaStands (held_of x))) r.replica (replica_each t.replica nodes.replica.store (held_of (replica_of nodes.replica.node)) r.replica_on.on)
 
 -- it was not called, and no mark was pushed
-rep_still : (names : Names) (t : Disks) (start : Stores) (nodes : Nodes) (b : Both) (c : Asked) (draw : Draw) (old new : List Mark) → Together names t start nodes b → new ≡ old
+pub rep_still : (names : Names) (t : Disks) (start : Stores) (nodes : Nodes) (b : Both) (c : Asked) (draw : Draw) (old new : List Mark) → Together names t start nodes b → new ≡ old
     → CallsFit t.replica → CarriesTo (IsHeldOnTheWay names b c draw) t.replica t.replica (held_of b.replica) (held_of b.replica) old new
 rep_still names t start nodes b c draw old new r same fits =
     carries_still (IsHeldOnTheWay names b c draw) t.replica (held_of b.replica) old new same (held_here names b c draw) (replica_stands names t start nodes b r)
@@ -167,13 +168,13 @@ rep_rest names t start nodes k b c draw old new before after at pushed fits =
     (commits_name t.replica old.now before pushed.more at.began.rep_calls fits pushed.named)) fits
 
 -- a run of the replica that keeps what it has
-rep_looked : (names : Names) (b : Both) (c : Asked) (draw : Draw) (t u : Option Story) (old new : List Mark) → new ≡ old → ((marks : List Mark) → ReplicaRuns t u (held_of b.replica) [] marks marks)
+pub rep_looked : (names : Names) (b : Both) (c : Asked) (draw : Draw) (t u : Option Story) (old new : List Mark) → new ≡ old → ((marks : List Mark) → ReplicaRuns t u (held_of b.replica) [] marks marks)
     → CallsFit u → CarriesTo (IsHeldOnTheWay names b c draw) t u (held_of b.replica) (held_of b.replica) old new
 rep_looked names b c draw t u old new same runs fits =
     carries_none (IsHeldOnTheWay names b c draw) t u (held_of b.replica) old new (held_here names b c draw) (subst (λ (ms : List Mark). ReplicaRuns t u (held_of b.replica) [] old ms) (sym same) (runs old))
 
 -- a node that was given a disk has kept it
-runs_here : (nodes : Nodes) (b : Both) (t u : Option Story) → replica_of nodes.replica.node ≡ b.replica → ((marks : List Mark) → ReplicaRuns t u (held_of (replica_of nodes.replica.node)) [] marks marks)
+pub runs_here : (nodes : Nodes) (b : Both) (t u : Option Story) → replica_of nodes.replica.node ≡ b.replica → ((marks : List Mark) → ReplicaRuns t u (held_of (replica_of nodes.replica.node)) [] marks marks)
     → (marks : List Mark) → ReplicaRuns t u (held_of b.replica) [] marks marks
 runs_here nodes b t u is runs marks = subst (λ (x : Replica). ReplicaRuns t u (held_of x) [] marks marks) is (runs marks)
 
@@ -262,12 +263,21 @@ line_on from identity m n text draw line =
 
 -- ---- one command
 
-carried : (names : Names) (b : Both) (k : ℕ) (c : Asked) (draw : Draw) (t u : Disks) (start : Stores) (old new : Report) (nodes : Nodes) (lines : List ℕ) → Drew c draw old new → Began k b t new
+pub carried : (names : Names) (b : Both) (k : ℕ) (c : Asked) (draw : Draw) (t u : Disks) (start : Stores) (old new : Report) (first nodes : Nodes) (lines : List ℕ) → Together names t start first b → GenerationsGo c first nodes → Drew c draw old new → Began k b t new
     → Marked k b (next names b c draw).both old new → LastsOn t.source u.source start.source b.machine.history (next names b c draw).both.machine.history old.marks new.marks
     → CarriesOn t.replica u.replica names b c draw old.marks new.marks → NamesOn t.replica u.replica (committed_of b) (committed_of (next names b c draw).both) old.marks new.marks
     → Shows names b k c draw t u start nodes lines → CarriedOut names b k c t u start old new nodes lines
-carried names b k c draw t u start old new nodes lines drew began marked lasts carries all_named shows =
-    record { draw = draw; drew = drew; began = began; marked = marked; lasts = lasts; carries = carries; all_named = all_named; shows = shows }
+carried names b k c draw t u start old new first nodes lines before go drew began marked lasts carries all_named shows = record {
+  draw = draw;
+  drew = drew;
+  began = began;
+  marked = marked;
+  lasts = lasts;
+  carries = carries;
+  all_named = all_named;
+  raises = raises_by names c t u start first nodes b (next names b c draw).both before shows.together go;
+  shows = shows;
+}
 
 -- what the laws say of a session's text
 pub record Says : Type 0 where
@@ -332,7 +342,7 @@ all_said known names k b b' t u start nodes nodes' old new before r' pushed =
 
 -- a session's text
 pub said : Says → (nodes nodes' : Nodes) (t u rep : Option Story) (start : Stores) (k n : ℕ) (text : List ℕ) (draw : Draw) (old new : Report) (answer : Answer) (lines : List ℕ) → n < 100 → length text ≤ 1048576 → IsBytes text
-    → nodes'.replica ≡ nodes.replica → nodes'.source.node.identity ≡ nodes.source.node.identity → GoesOn t u
+    → nodes'.replica ≡ nodes.replica → nodes'.source.node.identity ≡ nodes.source.node.identity → nodes'.source.store.generation ≡ nodes.source.store.generation → GoesOn t u
     → ((from : Stored) (m : Machine) → Stands t nodes.source from m → Holds (beginning_of from) m → (answer ≡ (step whole nodes.source.node.identity m.state n text draw).answer)
     × Stands u nodes'.source from (machine_after m (step whole nodes.source.node.identity m.state n text draw)))
     → ((from : Stored) (m : Machine) → Stands t nodes.source from m → Holds (beginning_of from) m
@@ -342,7 +352,7 @@ pub said : Says → (nodes nodes' : Nodes) (t u rep : Option Story) (start : Sto
     → ArePushed old.now nodes.source.store.number nodes'.source.store.number old.marks new.marks
     → lines ≡ shown k answer → Drew (say n text) draw old new → new.now ≡ old.now
     → (names : Names) (b : Both) → Before names (disks t rep) start nodes k b old → CarriedOut names b k (say n text) (disks t rep) (disks u rep) start old new nodes' lines
-said says nodes nodes' t u rep start k n text draw old new answer lines within short bytes replica identity on stands can runs pushed lines_are drew stays names b before =
+said says nodes nodes' t u rep start k n text draw old new answer lines within short bytes replica identity generation on stands can runs pushed lines_are drew stays names b before =
     let r : Together names (disks t rep) start nodes b = before.together in
     let here : Holds (beginning_of start.source) b.machine = holds_here says.known names (disks t rep) start nodes b r in
     let given = rw r.source_name at (stands start.source b.machine r.stands here) in
@@ -350,7 +360,7 @@ said says nodes nodes' t u rep start k n text draw old new answer lines within s
     let there : n < length b.machine.state.sessions = omega (arith, within, r.stands.slots) in
     let r' : Together names (disks u rep) start nodes' (next names b (say n text) draw).both =
     said_together says nodes nodes' t u rep start n text draw within short bytes replica identity on names b r given.1 put in
-    carried names b k (say n text) draw (disks t rep) (disks u rep) start old new nodes' lines drew (began_on k b (disks t rep) old new stays before.began)
+    carried names b k (say n text) draw (disks t rep) (disks u rep) start old new nodes nodes' lines r (record { source = generation; replica = ap (λ (x : DurableReplica). x.store.generation) replica }) drew (began_on k b (disks t rep) old new stays before.began)
     (marked_by says.known names k b (next names b (say n text) draw).both (disks t rep) (disks u rep) start nodes nodes' old new old.now r r' before.began.few refl refl before.began.now pushed)
     (lasts_on says.lasts t u start.source r.stands.now b.machine.history (step whole names.source b.machine.state n text draw).committed old.marks new.marks on r.stands.reached (rw r.source_name at (runs start.source b.machine r.stands here)))
     (rep_rest names (disks t rep) start nodes k b (say n text) draw old new nodes.source.store.number nodes'.source.store.number before pushed)
@@ -438,19 +448,23 @@ line_kept says names b draw holds line =
 -- RESTART of the source
 pub reopened_on : Reopens → (nodes nodes' : Nodes) (t u rep : Option Story) (start : Stores) (k : ℕ) (draw : Draw) (old new : Report) (answer : Answer) (lines : List ℕ)
     → nodes'.replica ≡ nodes.replica → nodes'.source.node.identity ≡ nodes.source.node.identity
+    → ((from : Stored) (m : Machine) → Stands t nodes.source from m → IfSome t (λ _. nodes'.source.store.generation ≡ nodes.source.store.generation))
     → ((from : Stored) (m : Machine) → Stands t nodes.source from m → Holds (beginning_of from) m → IfSome t (λ _. Stands u nodes'.source from (restarted nodes.source.node.identity draw m)))
     → ((from : Stored) (m : Machine) (stands : Stands t nodes.source from m) (marks : List Mark) → Holds (beginning_of from) m
     → SourceRuns t u stands.now (opening_entries nodes.source.node.identity draw m.state.shared.place) marks marks)
     → answer ≡ ok 0 → lines ≡ shown k answer → Drew restart_source draw old new → new.now ≡ old.now → new.marks ≡ old.marks
     → (names : Names) (b : Both) → Before names (disks t rep) start nodes k b old → CarriedOut names b k restart_source (disks t rep) (disks u rep) start old new nodes' lines
-reopened_on says nodes nodes' t u rep start k draw old new answer lines replica identity stands runs is lines_are drew stays same names b before =
+reopened_on says nodes nodes' t u rep start k draw old new answer lines replica identity generation stands runs is lines_are drew stays same names b before =
     let r : Together names (disks t rep) start nodes b = before.together in
     let here : Holds (beginning_of start.source) b.machine = holds_here says.known names (disks t rep) start nodes b r in
     let given = rw r.source_name at (stands start.source b.machine r.stands here) in
     let ran : SourceRuns t u r.stands.now (opening_entries names.source draw b.machine.state.shared.place) old.marks old.marks = rw r.source_name at (runs start.source b.machine r.stands old.marks here) in
     let on : BothGoOn (disks t rep) (disks u rep) = record { source = ran.on; replica = on_refl rep } in
     let b' : Both = (next names b restart_source draw).both in
-    carried names b k restart_source draw (disks t rep) (disks u rep) start old new nodes' lines drew (began_on k b (disks t rep) old new stays before.began)
+    carried names b k restart_source draw (disks t rep) (disks u rep) start old new nodes nodes' lines r (record {
+      source = where_told t (nodes'.source.store.generation ≡ nodes.source.store.generation) r.told.source (generation start.source b.machine r.stands);
+      replica = ap (λ (x : DurableReplica). x.store.generation) replica;
+    }) drew (began_on k b (disks t rep) old new stays before.began)
     (marked_none k b b' old new before.began.few same (ap (λ (m : Mark). m.committed) (says.marks.source names b k draw)) refl refl)
     (subst (λ (ms : List Mark). LastsOn t u start.source b.machine.history b'.machine.history old.marks ms) (sym same)
     (lasts_on says.lasts t u start.source r.stands.now b.machine.history (opening_entries names.source draw b.machine.state.shared.place) old.marks old.marks ran.on r.stands.reached (λ fits. ran)))
@@ -499,7 +513,7 @@ pub selected : (nodes nodes' : Nodes) (t : Disks) (start : Stores) (k : ℕ) (te
     → (names : Names) (b : Both) → Before names t start nodes k b old → CarriedOut names b k (select text) t t start old new nodes' lines
 selected nodes nodes' t start k text draw old new answer lines same given lines_are drew stays marks names b before =
     let r : Together names t start nodes b = before.together in
-    carried names b k (select text) draw t t start old new nodes' lines drew (began_on k b t old new stays before.began) (marked_none k b b old new before.began.few marks refl refl refl)
+    carried names b k (select text) draw t t start old new nodes nodes' lines r (record { source = ap (λ (x : Nodes). x.source.store.generation) same; replica = ap (λ (x : Nodes). x.replica.store.generation) same }) drew (began_on k b t old new stays before.began) (marked_none k b b old new before.began.few marks refl refl refl)
     (lasts_none t.source start.source b.machine.history old.marks new.marks marks) (rep_still names t start nodes b (select text) draw old.marks new.marks r marks)
     (names_none t.replica t.replica (committed_of b) (committed_of b) old.marks new.marks (on_refl t.replica) refl marks) (record {
       lines_are = lines_are ∙ ap (shown k) (given ∙ ap (λ (i : Identity). select_answer i draw (replica_of nodes.replica.node).counters (replica_of nodes.replica.node).base text) r.replica_name
@@ -511,7 +525,7 @@ selected nodes nodes' t start k text draw old new answer lines same given lines_
     })
 
 -- nodes of which the replica was changed, and the source's disk looked at
-replica_changed : (names : Names) (t u : Disks) (start : Stores) (nodes nodes' : Nodes) (b : Both) (x : Replica) (steps : List ReplicaStep) → nodes'.replica.node.identity ≡ nodes.replica.node.identity
+pub replica_changed : (names : Names) (t u : Disks) (start : Stores) (nodes nodes' : Nodes) (b : Both) (x : Replica) (steps : List ReplicaStep) → nodes'.replica.node.identity ≡ nodes.replica.node.identity
     → replica_of nodes'.replica.node ≡ x → IsOnDisk u.replica nodes'.replica → BothGoOn t u → Stands u.source nodes'.source start.source b.machine → nodes'.source.node.identity ≡ nodes.source.node.identity
     → (Begins b.from → Follows names (record b { replica = x; steps = steps }))
     → Together names t start nodes b → Together names u start nodes' (record b { replica = x; steps = steps })
@@ -630,7 +644,7 @@ module _ (nodes : Nodes) (src t u : Option Story) (start : Stores) (k n : ℕ) (
 
 -- APPLY
 pub applied : RunsLast source_side → Known → (nodes nodes' : Nodes) (src t u : Option Story) (start : Stores) (k n : ℕ) (draw : Draw) (old new : Report) (told : Applied) (lines : List ℕ) → FollowsGoOn → NoApplyStops → NothingIsDamaged
-    → nodes'.source ≡ nodes.source → nodes'.replica.node.identity ≡ nodes.replica.node.identity
+    → nodes'.source ≡ nodes.source → nodes'.replica.node.identity ≡ nodes.replica.node.identity → nodes'.replica.store.generation ≡ nodes.replica.store.generation
     → replica_of nodes'.replica.node ≡ (apply n nodes.replica.node.identity draw (replica_of nodes.replica.node)).replica
     → IsTold told (apply n nodes.replica.node.identity draw (replica_of nodes.replica.node)) → IsOnDisk u nodes'.replica → GoesOn t u
     → (CallsFit u → CarriesTo (IsStateOf n nodes.replica.node.identity draw (replica_of nodes.replica.node)) t u (held_of (replica_of nodes.replica.node)) (held_of (replica_of nodes'.replica.node)) old.marks new.marks)
@@ -638,7 +652,7 @@ pub applied : RunsLast source_side → Known → (nodes nodes' : Nodes) (src t u
     → length new.marks ≡ length old.marks + told.count
     → lines ≡ applied_line k told.count (record { log = told.log; pos = told.pos }) (option_map stop_of told.stop) → Drew (take_groups n) draw old new → new.now ≡ old.now
     → (names : Names) (b : Both) → Before names (disks src t) start nodes k b old → CarriedOut names b k (take_groups n) (disks src t) (disks src u) start old new nodes' lines
-applied law known nodes nodes' src t u start k n draw old new told lines follows stops damaged source identity replica is on_disk goes reaches pushed number many lines_are drew stays names b before =
+applied law known nodes nodes' src t u start k n draw old new told lines follows stops damaged source identity generation replica is on_disk goes reaches pushed number many lines_are drew stays names b before =
     let r : Together names (disks src t) start nodes b = before.together in
     let here : apply n nodes.replica.node.identity draw (replica_of nodes.replica.node) ≡ apply n names.replica draw b.replica =
     ap (λ (i : Identity). apply n i draw (replica_of nodes.replica.node)) r.replica_name ∙ ap (apply n names.replica draw) r.replica in
@@ -647,7 +661,7 @@ applied law known nodes nodes' src t u start k n draw old new told lines follows
     let behind : replica_of nodes'.replica.node ≡ a.replica = replica ∙ ap (λ (a : Going). a.replica) here in
     let groups : length pushed.more ≡ a.count = pushed_length old.marks new.marks pushed.more told.count pushed.marks many ∙ is'.count in
     let on : BothGoOn (disks src t) (disks src u) = record { source = on_refl src; replica = goes } in
-    carried names b k (take_groups n) draw (disks src t) (disks src u) start old new nodes' lines drew (began_on k b (disks src t) old new stays before.began) (record {
+    carried names b k (take_groups n) draw (disks src t) (disks src u) start old new nodes nodes' lines r (record { source = ap (λ (x : DurableSource). x.store.generation) source; replica = generation }) drew (began_on k b (disks src t) old new stays before.began) (record {
       commits = 0;
       groups = length pushed.more;
       pushed = pushed_of nodes src t u start k n draw old new names b before nodes'.replica.store.number pushed;
@@ -688,16 +702,19 @@ unapplied law known nodes src t u start k n draw after old new goes carries push
 -- ---- RESTART of the replica
 
 pub replica_reopened : (nodes nodes' : Nodes) (src t u : Option Story) (start : Stores) (k : ℕ) (draw : Draw) (old new : Report) (answer : Answer) (lines : List ℕ) → FollowsGoOn → RestartsKeepMarks
-    → nodes'.source ≡ nodes.source → nodes'.replica.node.identity ≡ nodes.replica.node.identity → IfSome t (λ _. replica_of nodes'.replica.node ≡ reopened (replica_of nodes.replica.node)) → IsOnDisk u nodes'.replica → GoesOn t u
+    → nodes'.source ≡ nodes.source → nodes'.replica.node.identity ≡ nodes.replica.node.identity → IfSome t (λ _. nodes'.replica.store.generation ≡ nodes.replica.store.generation) → IfSome t (λ _. replica_of nodes'.replica.node ≡ reopened (replica_of nodes.replica.node)) → IsOnDisk u nodes'.replica → GoesOn t u
     → ((marks : List Mark) → ReplicaRuns t u (held_of (replica_of nodes.replica.node)) [] marks marks) → answer ≡ ok 0 → lines ≡ shown k answer → Drew restart_replica draw old new → new.now ≡ old.now → new.marks ≡ old.marks
     → (names : Names) (b : Both) → Before names (disks src t) start nodes k b old → CarriedOut names b k restart_replica (disks src t) (disks src u) start old new nodes' lines
-replica_reopened nodes nodes' src t u start k draw old new answer lines follows marks source identity replica on_disk goes runs is lines_are drew stays same names b before =
+replica_reopened nodes nodes' src t u start k draw old new answer lines follows marks source identity generation replica on_disk goes runs is lines_are drew stays same names b before =
     let r : Together names (disks src t) start nodes b = before.together in
     let b' : Both = (next names b restart_replica draw).both in
     let on : BothGoOn (disks src t) (disks src u) = record { source = on_refl src; replica = goes } in
     let behind : replica_of nodes'.replica.node ≡ reopened b.replica =
     where_told t (replica_of nodes'.replica.node ≡ reopened (replica_of nodes.replica.node)) r.told.replica replica ∙ ap reopened r.replica in
-    carried names b k restart_replica draw (disks src t) (disks src u) start old new nodes' lines drew (began_on k b (disks src t) old new stays before.began)
+    carried names b k restart_replica draw (disks src t) (disks src u) start old new nodes nodes' lines r (record {
+      source = ap (λ (x : DurableSource). x.store.generation) source;
+      replica = where_told t (nodes'.replica.store.generation ≡ nodes.replica.store.generation) r.told.replica generation;
+    }) drew (began_on k b (disks src t) old new stays before.began)
     (marked_none k b b' old new before.began.few same refl (carried_append b.steps (opened_again ∷ []) ∙ sym (none_more (carried_in b.steps))) refl)
     (lasts_none src start.source b.machine.history old.marks new.marks same)
     (rep_looked names b restart_replica draw t u old.marks new.marks same (runs_here nodes b t u r.replica runs))
@@ -780,14 +797,20 @@ applied_drew old new n draws marks draw is told = record {
 fetched_drew : (old : Report) (n : ℕ) → Drew (take_bytes n) some_draw old old
 fetched_drew old n = record { source = refl; replica = refl; src_draws = sym (append-nil old.src_draws); rep_draws = sym (append-nil old.rep_draws) }
 
+-- no store's generation changes
+pub fetched_go : {A E : Type 0} (r : Result A E) (n : ℕ) (nodes nodes' : Nodes) → nodes'.source ≡ nodes.source → OnOk r (nodes'.replica.store.generation ≡ nodes.replica.store.generation) → OnOk r (GenerationsGo (take_bytes n) nodes nodes')
+fetched_go (Err e) n nodes nodes' source generation = tt
+fetched_go (Ok x) n nodes nodes' source generation = record { source = ap (λ (x : DurableSource). x.store.generation) source; replica = generation }
+
 pub fetched_out : {E : Type 0} (r : Result (List ℕ) E) (t u : Disks) (start : Stores) (nodes nodes' : Nodes) (k n : ℕ) (report : Report) (names : Names) (b : Both) → Before names t start nodes k b report
+    → OnOk r (GenerationsGo (take_bytes n) nodes nodes')
     → ((marks : List Mark) → Together names t start nodes b → LastsOn t.source u.source start.source b.machine.history b.machine.history marks marks)
     → ((draw : Draw) (marks : List Mark) → Together names t start nodes b → CarriesOn t.replica u.replica names b (take_bytes n) draw marks marks)
     → ((draw : Draw) → Together names t start nodes b → IfOk r (λ lines. Shows names b k (take_bytes n) draw t u start nodes' lines))
     → IfOk r (λ lines. CarriedOut names b k (take_bytes n) t u start report report nodes' lines)
-fetched_out (Err e) t u start nodes nodes' k n report names b before lasts carries shows = tt
-fetched_out (Ok lines) t u start nodes nodes' k n report names b before lasts carries shows =
-    carried names b k (take_bytes n) some_draw t u start report report nodes' lines (fetched_drew report n) before.began
+fetched_out (Err e) t u start nodes nodes' k n report names b before go lasts carries shows = tt
+fetched_out (Ok lines) t u start nodes nodes' k n report names b before go lasts carries shows =
+    carried names b k (take_bytes n) some_draw t u start report report nodes nodes' lines before.together go (fetched_drew report n) before.began
     (marked_none k b (next names b (take_bytes n) some_draw).both report report before.began.few refl refl refl refl) (lasts report.marks before.together) (carries some_draw report.marks before.together)
     (names_none t.replica u.replica (committed_of b) (committed_of b) report.marks report.marks (shows some_draw before.together).on.replica refl refl) (shows some_draw before.together)
 

@@ -20,7 +20,7 @@ use Rattle.durable_replica.specs.replica_node.Kept.{held_of}
 use Rattle.run_laws.specs.log_entries.declared.entries.Entry.{Entry}
 use Rattle.run_laws.specs.session_model.Machine.{Whole}
 use Rattle.run_laws.specs.run_model.replica_model.Replica.{Replica as ReplicaNow}
-use Rattle.run_laws.specs.run_model.Asked.{Asked, say, select, take_bytes, take_groups, restart_source, restart_replica}
+use Rattle.run_laws.specs.run_model.Asked.{Asked, say, select, take_bytes, take_groups, checkpoint_source, checkpoint_replica, restart_source, restart_replica}
 use Rattle.run_laws.specs.run_model.Run.{Names, Both, end_of, next}
 use Rattle.run_laws.specs.run_model.States.{IsOnTheWay, IsStateOf}
 use Rattle.script_run.specs.Survives.{CarriedSince, CarriesOn, CarriesSome, IsHeldOf, IsHeldOnTheWay, Lasted, LastsOn, ReplicaSurvives, Survives}
@@ -73,6 +73,8 @@ way_begins names b (say n text) d r is = is
 way_begins names b (select text) d r is = is
 way_begins names b (take_bytes n) d r is = is
 way_begins names b (take_groups n) d r is = (0, is)
+way_begins names b checkpoint_source d r is = is
+way_begins names b checkpoint_replica d r is = is
 way_begins names b restart_source d r is = is
 way_begins names b restart_replica d r is = is
 

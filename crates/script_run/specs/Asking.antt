@@ -3,7 +3,7 @@ use Rattle.std.specs.Prelude.{◌≡◌, ℕ, Bool, true, ◌&&◌, nat_lt, nat_
 use Rattle.answer_text.specs.declared.status.Status.{Status}
 use Rattle.answer_text.specs.declared.status.Status.TheVariants.{BadScript, NoMemory}
 use Rattle.script_read.specs.Script.{command_limit}
-use Rattle.run_laws.specs.run_model.Asked.{Asked, say, select, take_bytes, take_groups, restart_source, restart_replica}
+use Rattle.run_laws.specs.run_model.Asked.{Asked, say, select, take_bytes, take_groups, checkpoint_source, checkpoint_replica, restart_source, restart_replica}
 use Rattle.script_run.specs.declared.asked.Asked as code_asked_type
 use Rattle.script_run.specs.declared.asked.Asked.TheVariants as code_asked
 
@@ -12,6 +12,8 @@ asked_seen (code_asked.Say n text) = say n text.now
 asked_seen (code_asked.Select text) = select text.now
 asked_seen (code_asked.Fetch count) = take_bytes count
 asked_seen (code_asked.Apply count) = take_groups count
+asked_seen code_asked.CheckpointSource = checkpoint_source
+asked_seen code_asked.CheckpointReplica = checkpoint_replica
 asked_seen code_asked.RestartSource = restart_source
 asked_seen code_asked.RestartReplica = restart_replica
 
@@ -25,6 +27,8 @@ is_fit (code_asked.Say n text) = nat_lt n 100 && nat_le (length text.now) comman
 is_fit (code_asked.Select text) = nat_le (length text.now) command_limit
 is_fit (code_asked.Fetch count) = true
 is_fit (code_asked.Apply count) = true
+is_fit code_asked.CheckpointSource = true
+is_fit code_asked.CheckpointReplica = true
 is_fit code_asked.RestartSource = true
 is_fit code_asked.RestartReplica = true
 

@@ -2,6 +2,7 @@ pub mod Asking
 pub mod Beginning
 pub mod Disks
 pub mod Faults
+pub mod Generations
 pub mod Logged
 pub mod Marks
 pub mod Opening

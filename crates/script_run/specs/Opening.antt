@@ -14,10 +14,11 @@ use Rattle.run_stores.specs.durable_runs.Replicas.{ReplicaRuns}
 use Rattle.run_stores.specs.durable_runs.Sources.{SourceRuns, Stored}
 use Rattle.run_laws.specs.run_model.replica_model.Replica.{replica_from}
 use Rattle.run_laws.specs.session_model.Openings.{opened_from, opening_entries}
-use Rattle.store_model.specs.declared.record.Kind.TheVariants.{Replica}
+use Rattle.store_model.specs.declared.record.Kind.TheVariants.{Source, Replica}
 use Rattle.store_model.specs.Entries.{writer_at}
 use Rattle.store_model.specs.Held.{Held}
 use Rattle.store_model.specs.Stores.{held_by}
+use Rattle.script_run.specs.Generations.{IsActive}
 
 -- A source was opened at a draw, both of which the report tells: it stands for a run that begins with what its disk had, and its disk's calls
 -- are a run of what opening puts out.
@@ -29,6 +30,7 @@ pub record SourceOpened (t u : Option Story) (source : DurableSource) (report : 
   pub told : report.src_identity ≡ Some identity
   pub drawn : report.src_draws ≡ draw ∷ []
   pub stands : (start : Stored) → OpensOn t start → IfSome t (λ _. Stands u source start (opened_from identity draw (beginning_of start)))
+  pub active : IfSome t (λ _. IsActive Source source.store.generation (seen t))
   pub runs : (start : Stored) (marks : List Mark) → OpensOn t start → SourceRuns t u start (opening_entries identity draw (writer_at start.held)) marks marks
 
 -- A replica was opened so: it is the one that its disk's files stand for, and its disk has that still.
@@ -41,4 +43,5 @@ pub record ReplicaOpened (t u : Option Story) (replica : DurableReplica) (report
   pub is : (held : Held) → IfSome t (λ _. held_by Replica (seen t) ≡ Ok held) → IfSome t (λ _. replica_of replica.node ≡ replica_from held.base held.number held.place)
   pub holds : IfSome t (λ _. held_by Replica (seen t) ≡ Ok (held_of (replica_of replica.node)))
   pub runs : (held : Held) (marks : List Mark) → IfSome t (λ _. held_by Replica (seen t) ≡ Ok held) → ReplicaRuns t u held [] marks marks
+  pub active : IfSome t (λ _. IsActive Replica replica.store.generation (seen t))
   pub on : IsOnDisk u replica

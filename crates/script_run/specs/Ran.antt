@@ -15,6 +15,7 @@ use Rattle.run_streams.specs.Reports.{first_mark}
 use Rattle.run_streams.specs.Wrote.{Wrote, WroteFront}
 use Rattle.script_run.specs.Beginning.{FromEach, ReplicaWasDamaged, SourceWasDamaged, StoodFor}
 use Rattle.script_run.specs.Disks.{Disks}
+use Rattle.script_run.specs.Generations.{AreRaised, BothRaised}
 use Rattle.script_run.specs.Survives.{HasCarriedPrefix, IsHeldOf, MayPut, ReplicaOpens, ReplicaRecovers, ReplicaSurvives, SourceOpens, Survives}
 use Rattle.script_run.specs.Marks.{AreMarks, Called, CalledWithin, command_marks, marks_of, numbers_behind, numbers_of, uncounted}
 
@@ -38,7 +39,9 @@ pub record Reports (names : Names) (src rep : Draw) (from : Starts) (t u : Disks
 -- its statements, run again one transaction after the other, give just the changes of its entries; and the replica follows the source: it has
 -- carried out the first of the entries that were owed and committed, its base and counters are what an applier makes of these, each at the draw
 -- of its APPLY, and where each item of them does the same at every replica, its base is what they make. So has whatever is held at a moment of
--- the replica's disk, and each image of each moment of it: a prefix of them, which the marks bound.
+-- the replica's disk, and each image of each moment of it: a prefix of them, which the marks bound. Behind each command, at moments in
+-- their order, each disk was at the generation at which it opened, raised by the checkpoints of its node among the commands until then, and no
+-- mark of a command says more calls than the disk had had behind it; so it is at the end.
 pub record Ran (from : Starts) (t u : Disks) (cs : List Asked) (report : Report) (before after : Option (List ℕ)) : Type 0 where
   pub names : Names
   pub src : Draw
@@ -55,6 +58,8 @@ pub record Ran (from : Starts) (t u : Disks) (cs : List Asked) (report : Report)
   pub rep_survives : ReplicaSurvives t.replica u.replica (IsHeldOf names (both_from names src from) cs draws) report.marks
   pub carried : Begins from → HasCarriedPrefix names src from cs draws
   pub recovers : Begins from → ReplicaRecovers names src from cs draws t.replica u.replica report.marks
+  pub raised : BothRaised t u cs draws report.marks
+  pub at : AreRaised t u cs draws report.marks raised
   pub follows : Begins from → Follows names (end_of names (both_from names src from) cs draws)
 
 -- writing broke off in the lines of the last command: those before it are whole
@@ -76,6 +81,8 @@ pub record Broke (from : Starts) (t u : Disks) (cs : List Asked) (report : Repor
   pub rep_survives : ReplicaSurvives t.replica u.replica (IsHeldOf names (both_from names src from) cs (draws ++ last ∷ [])) report.marks
   pub carried : Begins from → HasCarriedPrefix names src from cs (draws ++ last ∷ [])
   pub recovers : Begins from → ReplicaRecovers names src from cs (draws ++ last ∷ []) t.replica u.replica report.marks
+  pub raised : BothRaised t u cs (draws ++ last ∷ []) report.marks
+  pub at : AreRaised t u cs (draws ++ last ∷ []) report.marks raised
 
 -- A disk failed, or memory was short, in the command behind some that were carried out: the whole lines of these were written, and the report
 -- begins with their draws. It says where that command began, and has a mark for each transaction and each group of these and for each that
@@ -111,6 +118,7 @@ pub record Ceased (from : Starts) (t u : Disks) (cs : List Asked) (report : Repo
   pub rep_survives : ReplicaSurvives t.replica u.replica (IsHeldOf names (both_from names src from) cs (draws ++ at ∷ [])) report.marks
   pub carried : Begins from → HasCarriedPrefix names src from cs (draws ++ at ∷ [])
   pub recovers : Begins from → ReplicaRecovers names src from cs (draws ++ at ∷ []) t.replica u.replica report.marks
+  pub raised : BothRaised t u cs draws report.marks
 
 -- No command was begun: nothing was written, and the report has no mark and says so. Whatever stood on either disk does still, with what the
 -- opening of the source put out, if it did.

@@ -20,6 +20,7 @@ use Rattle.run_streams.specs.Wrote.{Wrote}
 use Rattle.script_run.specs.declared.nodes.Nodes.{Nodes}
 use Rattle.script_run.specs.Beginning.{FromEach, SourceWasDamaged, ReplicaWasDamaged, StoodFor}
 use Rattle.script_run.specs.Disks.{BothGoOn, Disks, stores_in}
+use Rattle.script_run.specs.Generations.{AreRaised, BothRaised}
 use Rattle.script_run.specs.Ran.{Reports, Broke, Ceased, NotBegun}
 use Rattle.script_run.specs.Marks.{committed_of}
 use Rattle.script_run.specs.Survives.{CarriedSince, Lasted, ServedSince}
@@ -45,6 +46,8 @@ pub record Going (from : Starts) (t u : Disks) (cs : List Asked) (count : ℕ) (
   pub lasts : Lasted t.source u.source (stores_in t held (held_of from.replica)).source (end_of names (both_from names src from) cs draws).machine.history report.marks
   pub carries : CarriedSince t.replica u.replica names (both_from names src from) cs draws (end_of names (both_from names src from) cs draws).replica report.marks
   pub serves : Begins from → CallsFit u.replica → ServedSince t.replica u.replica (source_from from).committed (committed_of (end_of names (both_from names src from) cs draws)) report.marks
+  pub raised : BothRaised t u cs draws report.marks
+  pub at : AreRaised t u cs draws report.marks raised
   pub together : Together names u (stores_in t held (held_of from.replica)) nodes (end_of names (both_from names src from) cs draws)
 
 -- how commands stop; a status without a case here cannot come where both disks tell their stories

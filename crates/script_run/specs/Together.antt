@@ -1,5 +1,5 @@
 -- A source and a replica that stand for both nodes of a run, and what one command makes of them.
-use Rattle.std.specs.Prelude.{◌≡◌, ◌<◌, ℕ, ◌+◌, ◌-◌, ◌^◌, min, List, [], ◌∷◌, ◌++◌, Option, Some, Ok}
+use Rattle.std.specs.Prelude.{◌≡◌, ◌<◌, ℕ, ◌+◌, ◌-◌, ◌^◌, min, List, [], ◌∷◌, ◌++◌, Option, Some, IfSome, Ok}
 use Rattle.port_traits.specs.declared.identity.Draw.{Draw}
 use Rattle.answer_text.specs.declared.report.Report.{Report}
 use Rattle.answer_text.specs.declared.status.Status.{Status}
@@ -27,6 +27,7 @@ use Rattle.run_streams.specs.Reports.{first_mark}
 use Rattle.run_streams.specs.Wrote.{Wrote, WroteFront}
 use Rattle.script_run.specs.declared.nodes.Nodes.{Nodes}
 use Rattle.script_run.specs.Disks.{AreTold, BothGoOn, Disks, Stores, stores_in}
+use Rattle.script_run.specs.Generations.{AreAt, IsActive, Raises}
 use Rattle.script_run.specs.Marks.{CalledNow, Pushed, committed_of, uncounted}
 use Rattle.script_run.specs.Survives.{CarriedSince, CarriesOn, CarriesSome, Lasted, LastsOn, MayPut, NamesOn}
 
@@ -117,7 +118,7 @@ pub record Before (names : Names) (t : Disks) (start : Stores) (nodes : Nodes) (
   pub began : Began k b t report
 
 -- The draw was told, and a mark for each transaction and each group; the report says where the command began. Each disk goes on from what it had
--- before to what it has behind the command.
+-- before to what it has behind the command, at its generation or, behind a checkpoint, at the next.
 pub record CarriedOut (names : Names) (b : Both) (k : ℕ) (c : Asked) (t u : Disks) (start : Stores) (old new : Report) (nodes : Nodes) (lines : List ℕ) : Type 0 where
   pub draw : Draw
   pub drew : Drew c draw old new
@@ -126,6 +127,7 @@ pub record CarriedOut (names : Names) (b : Both) (k : ℕ) (c : Asked) (t u : Di
   pub lasts : LastsOn t.source u.source start.source b.machine.history (next names b c draw).both.machine.history old.marks new.marks
   pub carries : CarriesOn t.replica u.replica names b c draw old.marks new.marks
   pub all_named : NamesOn t.replica u.replica (committed_of b) (committed_of (next names b c draw).both) old.marks new.marks
+  pub raises : Raises c t u
   pub shows : Shows names b k c draw t u start nodes lines
 
 -- A command that was not carried out: a mark was pushed for each transaction and each group that was kept, and the report says where it began.
@@ -156,6 +158,7 @@ pub record Told (names : Names) (b : Both) (k : ℕ) (c : Asked) (t u : Disks) (
   pub lasts : LastsOn t.source u.source start.source b.machine.history (next names b c draw).both.machine.history old.marks new.marks
   pub carries : CarriesOn t.replica u.replica names b c draw old.marks new.marks
   pub all_named : NamesOn t.replica u.replica (committed_of b) (committed_of (next names b c draw).both) old.marks new.marks
+  pub raises : Raises c t u
   pub together : Together names u start nodes (next names b c draw).both
 
 -- a front of them was written
@@ -171,6 +174,7 @@ pub record ToldFront (names : Names) (b : Both) (k : ℕ) (c : Asked) (t u : Dis
   pub begins : HasFirstLog (next names b c draw).both.machine.history start.source.held
   pub lasts : LastsOn t.source u.source start.source b.machine.history (next names b c draw).both.machine.history old.marks new.marks
   pub carries : CarriesOn t.replica u.replica names b c draw old.marks new.marks
+  pub raises : Raises c t u
 
 -- a command that stopped: at a fault of the output, or, with nothing written, at one of a disk or where memory was short
 abbrev pub Stopped : Status → Names → Both → ℕ → Asked → (t u : Disks) → Stores → Report → Report → Option (List ℕ) → Option (List ℕ) → Type 0
@@ -197,6 +201,11 @@ pub record Opened (from : Starts) (t u : Disks) (nodes : Nodes) (report : Report
   pub held : Held
   pub holds : held_by Source (seen t.source) ≡ Ok held
   pub rep_holds : held_by Replica (seen t.replica) ≡ Ok (held_of from.replica)
+  pub src_first : ℕ
+  pub rep_first : ℕ
+  pub began : IfSome t.source (λ _. IsActive Source src_first (seen t.source))
+  pub rep_began : IfSome t.replica (λ _. IsActive Replica rep_first (seen t.replica))
+  pub at : AreAt u src_first rep_first
   pub lasts : Lasted t.source u.source (stores_in t held (held_of from.replica)).source (both_from names src from).machine.history report.marks
   pub carries : CarriedSince t.replica u.replica names (both_from names src from) [] [] from.replica report.marks
   pub together : Together names u (stores_in t held (held_of from.replica)) nodes (both_from names src from)

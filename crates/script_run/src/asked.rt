@@ -13,13 +13,15 @@ use std::alloc::Global;
 use val_types::List;
 
 /// What a command asks: a text of a session; of the replica a SELECT, at most so many bytes to be fetched, or at most so many groups
-/// to be carried out; that the source, or the replica, opens again.
+/// to be carried out; that the source, or the replica, writes what its store holds as a snapshot, or opens again.
 #[derive(Clone, Copy)]
 pub(crate) enum Asked<'a> {
     Say { session: u8, text: &'a [u8] },
     Select { text: &'a [u8] },
     Fetch { count: u32 },
     Apply { count: u32 },
+    CheckpointSource,
+    CheckpointReplica,
     RestartSource,
     RestartReplica,
 }
@@ -36,6 +38,8 @@ fn asked_by<'a>(command: &Command<'a>) -> Option<Asked<'a>>
         What::ReplicaSelect { text } => Some(Asked::Select { text }),
         What::Fetch(count) => Some(Asked::Fetch { count }),
         What::Apply(count) => Some(Asked::Apply { count }),
+        What::SourceCheckpoint => Some(Asked::CheckpointSource),
+        What::ReplicaCheckpoint => Some(Asked::CheckpointReplica),
         What::SourceRestart => Some(Asked::RestartSource),
         What::ReplicaRestart => Some(Asked::RestartReplica),
         _ => None,

@@ -15,8 +15,8 @@
 //!
 //! In specs/: `Disks` (both disks at once), `Beginning` (where a run begins), `Opening` (each node as it was opened), `Ran` (how a run ends),
 //! `Logged` (how the writing of its log ends), `Running` (commands on their way), `Together` (nodes that stand for those of a run, and what one
-//! command makes of them), `Marks` (the marks of a run), `Survives` (what may stand on each disk at any moment), `Asking` (what is read of a
-//! script), `Faults` (the cause of a fault).
+//! command makes of them), `Marks` (the marks of a run), `Survives` (what may stand on each disk at any moment), `Generations` (which generation
+//! is active on each), `Asking` (what is read of a script), `Faults` (the cause of a fault).
 //!
 //! It stands on `run_streams`, `run_model` with its laws (`run_laws`, `run_stores`), `durable_source` and `durable_replica`; `repl_run` asks
 //! [`run_script`] by a word.
@@ -53,13 +53,17 @@
 //! - What may stand on the source's disk (`Survives`), at every status but BadScript and ReadFault, at which no call was made: each image
 //!   of each moment since the run began, inside a write too, holds what the source's store held behind some first entries of those that its
 //!   commands put out, the one in flight among them (`MayPut`): base and number, and in each log, up to its end, what stood there and what they
-//!   put there. It holds no less than the marks until then name.
+//!   put there. It holds no less than the marks until then name, and no mark says more calls than the disk has had.
 //! - What may stand on the replica's (`ReplicaSurvives`), at the same statuses: each image of each moment since the run began, inside a
 //!   write too, holds what the replica of the definition is behind some steps of some APPLY, or behind some commands (`IsStateOf`): base,
 //!   number and place together, and of a group all or nothing. Its number is no less than the marks until then name. Where the run began as
 //!   one may, each such image has carried out a prefix of the entries that were owed and committed (`ReplicaRecovers`): its place is
 //!   behind them, and where each item of them does the same at every replica, its base is what they make of the one that the replica had; and
-//!   its number is no more than the source had committed when the replica's disk had had so many calls.
+//!   its number is no more than the source had committed when the replica's disk had had so many calls. No mark says more calls than it has
+//!   had.
+//! - Behind each command, at moments in their order, each image that a crash left of a disk had the generation active at which the disk was
+//!   opened, raised by the checkpoints of its node among the commands until then, and no mark of a command says more calls than the disk had
+//!   had at its moment (`Raised`); behind all commands that were carried out it is so at the end (`AreRaised`), at Done and at WriteFault.
 //! - Settled disks with such images are where the next run stands (`RunStands`), and an opening keeps what each has, whatever it answers and
 //!   whether the other opens or not (`SourceOpens`, `ReplicaOpens`), so that a second stop inside it loses nothing.
 //! - At BadScript and ReadFault all but the input is as before, and no disk was called (`idle`). At BadScript the input was read to its end

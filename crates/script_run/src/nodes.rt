@@ -1,12 +1,13 @@
 //! A source and a replica, and one command over both.
 ghost use Rattle.std.specs.Prelude.{◌≡◌, ◌≤◌, ◌<◌, ℕ, List as Items, length, IfErr, IfOk, IsTrue, OnErr, OnOk, Option};
 ghost use Rattle.answer_text.specs.declared.report.Mark.{Mark as AnyMark};
+ghost use Rattle.answer_text.specs.declared.report.Report.{Report as AnyReport};
 ghost use Rattle.port_traits.specs.declared.identity.Draw.{Draw as AnyDraw};
 ghost use Rattle.disk_model.specs.Story.{Story};
 ghost use Rattle.disk_model.specs.Moments.{GoesOn};
 ghost use Rattle.durable_replica.specs.Standing.{IsOnDisk};
 ghost use Rattle.script_read.specs.Script.{command_limit};
-ghost use Rattle.run_laws.specs.run_model.Asked.{restart_replica, restart_source, say, select, take_bytes, take_groups};
+ghost use Rattle.run_laws.specs.run_model.Asked.{checkpoint_replica, checkpoint_source, restart_replica, restart_source, say, select, take_bytes, take_groups};
 ghost use Rattle.run_laws.specs.run_model.Run.{Both, Names, mark_at};
 ghost use Rattle.run_streams.specs.Reports.{DrewUntil};
 ghost use Rattle.script_run.specs.Asking.{asked_seen, is_fit};
@@ -190,6 +191,68 @@ impl Nodes {
         }
     }
 
+    /// A CHECKPOINT of the source. It takes no draw.
+    fn checkpoint_source<D: Disk>(
+        &mut self,
+        alloc: Global,
+        number: u32,
+        src: &mut D,
+    ) -> Result<Bytes, Refusal>
+        requires { SourceIsOn (D.told src.old) self.old.source }
+        ensures carried { (names : Names) (rep : Option Story) (start : Stores) (b : Both) (report : AnyReport) → Before names (disks (D.told src.old) rep) start self.old number b report
+            → IfOk result (λ lines.
+            CarriedOut names b number checkpoint_source (disks (D.told src.old) rep) (disks (D.told src.new) rep) start report report self.new lines) }
+        ensures left { (names : Names) (rep : Option Story) (start : Stores) (b : Both) (report : AnyReport) → Before names (disks (D.told src.old) rep) start self.old number b report
+            → OnErr result (GaveUp names b number checkpoint_source (disks (D.told src.old) rep) (disks (D.told src.new) rep) start report report) }
+        ensures on { OnOk result (SourceIsOn (D.told src.new) self.new.source) }
+        ensures replica { self.new.replica ≡ self.old.replica }
+        ensures goes { GoesOn (D.told src.old) (D.told src.new) }
+        ensures refuses { IfErr result (λ refusal. (rep : Option Story) (n : ℕ) →
+            RefusesNodes refusal (disks (D.told src.old) rep) (faults (D.faults src.old) n) (faults (D.faults src.new) n)) }
+        ensures later { D.faults src.old ≤ D.faults src.new }
+    {
+        log_goes_on();
+        logs_go_on();
+        stores_go_on();
+        runs_last();
+        match self.source.checkpoint(src) {
+            Ok(()) => {
+                let answer = ok(alloc, 0);
+                Ok(shown(alloc, number, &answer)?)
+            }
+            Err(fault) => Err(by_open_source(fault)),
+        }
+    }
+
+    /// A CHECKPOINT of the replica. It takes no draw.
+    fn checkpoint_replica<R: Disk>(
+        &mut self,
+        alloc: Global,
+        number: u32,
+        rep: &mut R,
+    ) -> Result<Bytes, Refusal>
+        requires { IsOnDisk (R.told rep.old) self.old.replica }
+        ensures carried { (names : Names) (src : Option Story) (start : Stores) (b : Both) (report : AnyReport) → Before names (disks src (R.told rep.old)) start self.old number b report
+            → IfOk result (λ lines.
+            CarriedOut names b number checkpoint_replica (disks src (R.told rep.old)) (disks src (R.told rep.new)) start report report self.new lines) }
+        ensures left { (names : Names) (src : Option Story) (start : Stores) (b : Both) (report : AnyReport) → Before names (disks src (R.told rep.old)) start self.old number b report
+            → OnErr result (GaveUp names b number checkpoint_replica (disks src (R.told rep.old)) (disks src (R.told rep.new)) start report report) }
+        ensures on { OnOk result (IsOnDisk (R.told rep.new) self.new.replica) }
+        ensures source { self.new.source ≡ self.old.source }
+        ensures goes { GoesOn (R.told rep.old) (R.told rep.new) }
+        ensures refuses { IfErr result (λ refusal. (src : Option Story) (n : ℕ) →
+            RefusesNodes refusal (disks src (R.told rep.old)) (faults n (R.faults rep.old)) (faults n (R.faults rep.new))) }
+        ensures later { R.faults rep.old ≤ R.faults rep.new }
+    {
+        match self.replica.checkpoint(rep) {
+            Ok(()) => {
+                let answer = ok(alloc, 0);
+                Ok(shown(alloc, number, &answer)?)
+            }
+            Err(fault) => Err(by_open_replica(fault)),
+        }
+    }
+
     /// A SELECT of the replica, at the next draw of its environment.
     fn select<F: Env>(
         &mut self,
@@ -231,6 +294,8 @@ impl Nodes {
             → IfOk result (λ lines.
             Shows names b number (take_bytes count) draw (disks (D.told src.old) (R.told rep.old)) (disks (D.told src.new) (R.told rep.new)) start self.new lines) }
         ensures on { OnOk result (AreOnDisks (disks (D.told src.new) (R.told rep.new)) self.new) }
+        ensures source { self.new.source ≡ self.old.source }
+        ensures generation { OnOk result (self.new.replica.store.generation ≡ self.old.replica.store.generation) }
         ensures lasts { (names : Names) (start : Stores) (b : Both) (marks : Items AnyMark) → Together names (disks (D.told src.old) (R.told rep.old)) start self.old b
             → LastsOn (D.told src.old) (D.told src.new) start.source b.machine.history b.machine.history marks marks }
         ensures carries { (names : Names) (start : Stores) (b : Both) (draw : AnyDraw) (marks : Items AnyMark)
@@ -333,6 +398,8 @@ impl Nodes {
             Asked::Say { session, text } => {
                 self.say(alloc, number, session, text, src, src_env, report)
             }
+            Asked::CheckpointSource => self.checkpoint_source(alloc, number, src),
+            Asked::CheckpointReplica => self.checkpoint_replica(alloc, number, rep),
             Asked::RestartSource => self.restart_source(alloc, number, src, src_env, report),
             Asked::RestartReplica => self.restart_replica(alloc, number, rep, rep_env, report),
             Asked::Select { text } => self.select(alloc, number, text, rep_env, report),

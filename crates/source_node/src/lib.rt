@@ -23,6 +23,7 @@
 //!   statement of a procedure is a step of its session. Where memory is short nothing is said.
 //! - [`SourceNode::found`] is the machine's first state on what a store has, and nothing waits; [`SourceNode::identity`] is who
 //!   it is, and [`SourceNode::place`] says how many transactions were committed and where the next entry comes;
+//!   [`SourceNode::tables`] and [`SourceNode::objects`] give what is kept of the last commit, also beside open changes;
 //!   [`SourceNode::take_waiting`] gives just what waits, leaves none, and changes nothing else.
 //!
 //! # Only tested

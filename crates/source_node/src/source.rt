@@ -2,7 +2,10 @@
 ghost use Rattle.std.specs.Prelude.{◌≡◌, ◌<◌, ◌≤◌, [], length, replicate, IfOk};
 ghost use Rattle.session_model.specs.binlog_sizes.Sizes.{most_text};
 ghost use Rattle.session_model.specs.Machine.{Machine, first_state, kept, step, whole};
+ghost use Rattle.table_rules.specs.Stores.{IsWhole, definitions_of};
 ghost use Rattle.source_node.specs.Standing.{IsStepped, no_session, Stands, state_of, without_waiting};
+ghost use Rattle.session_transaction.specs.catalog_objects.Keys.{objects_of};
+ghost use Rattle.session_transaction.specs.catalog_rules.Bases.{definitions_in};
 ghost use Rattle.session_transaction.specs.prog_work.Contents.{base_of};
 ghost use Rattle.session_transaction.specs.session_shared.Logging.{Logs};
 ghost use Rattle.session_transaction.specs.session_shared.waiting_entries.Making.{has_place};
@@ -13,6 +16,8 @@ use port_traits::{Draw, Identity};
 use session_model::steps_are_kept;
 use session_transaction::answer_making::NodeFault;
 use session_transaction::prog_work::Work;
+use session_transaction::prog_work::catalog_objects::Objects;
+use session_transaction::prog_work::exec_state::dml_rows::row_store::Tables;
 use session_transaction::session_shared::waiting_entries::{Head, Waiting};
 use session_transaction::session_shared::{Command, Desk, Session};
 use std::alloc::Global;
@@ -98,6 +103,22 @@ impl SourceNode {
         ensures { result.now ≡ self.now.identity }
     {
         &self.identity
+    }
+
+    /// The tables that are kept in memory: what is there to stay of them are the rows of the last commit, beside whatever is open.
+    pub fn tables(&self) -> &Tables
+        ensures committed { result.now.committed ≡ (state_of self.now).shared.base.tables }
+        ensures theirs { definitions_of result.now.tables ≡ definitions_in ((state_of self.now).shared.base.catalog) }
+        ensures whole { IsWhole result.now }
+    {
+        self.desk.work.stored()
+    }
+
+    /// The objects of the catalog, in order of creation.
+    pub fn objects(&self) -> &Objects
+        ensures { objects_of result.now ≡ (state_of self.now).shared.base.catalog }
+    {
+        self.desk.work.catalog().objects()
     }
 
     /// How many transactions were committed, and where the next entry comes.

@@ -21,7 +21,7 @@ use Rattle.store_load.specs.declared.stored.Stored.{Stored}
 use Rattle.store_load.specs.Loading.{Begins, LogsAreSettled, Reads, ends_at, held_in}
 use Rattle.store_load.proofs.Whole.{same_short}
 use Rattle.store_open.specs.Begun.{IsBegun}
-use Rattle.store_open.specs.Opened.{AreSettled, IsOpened, held_with}
+use Rattle.store_open.specs.Opened.{AreSettled, IsActive, IsOpened, held_with}
 use Rattle.store_open.specs.declared.opening.Opened.{Opened}
 
 abbrev held_at : Base → ℕ → List ℕ → (log pos : ℕ) → Held
@@ -47,6 +47,17 @@ pub held_told : (t : Option Story) (kind : Kind) (stored : Stored) (o : Opened) 
     → IfSome t (λ _. held_by kind (seen t) ≡ Ok (held_with o.work o.store))
 held_told None kind stored o is e = tt
 held_told (Some s) kind stored o is e = e ∙ ap (λ (h : Held). Ok h) (sym (held_same stored o is))
+
+-- ---- the generation
+
+pub active : (t : Option Story) (kind : Kind) (begun stored : Stored) (o : Opened) → begun.node ≡ kind → Begins t begun → stored.generation ≡ begun.generation → IsOpened stored o
+    → IsActive t kind o.store.generation
+active None kind begun stored o node from same is = tt
+active (Some s) kind begun stored o node from same is = (
+  held_in begun,
+  subst (λ (k : Kind). begun_from k (seen (Some s)) ≡ Ok (o.store.generation, held_in begun)) node
+      (from ∙ ap (λ (g : ℕ). Ok (g, held_in begun)) (sym (is.generation ∙ same))),
+)
 
 -- ---- the disk
 

@@ -1,11 +1,12 @@
 -- A store that is opened.
-use Rattle.std.specs.Prelude.{◌≡◌, ◌⊎◌, ℕ, ◌+◌, ◌<◌, ◌≤◌, length, Option}
+use Rattle.std.specs.Prelude.{◌≡◌, ◌⊎◌, ℕ, ◌+◌, ◌<◌, ◌≤◌, length, Option, Ok, IfSome}
 use Rattle.disk_model.specs.Story.{Story, seen}
 use Rattle.disk_model.specs.Moments.{Only}
 use Rattle.prog_work.specs.Contents.{Contents, base_of}
 use Rattle.store_model.specs.sql_reach.Defining.{counters_begun}
+use Rattle.store_model.specs.declared.record.Kind.{Kind}
 use Rattle.store_model.specs.Held.{Held}
-use Rattle.store_model.specs.Stores.{first_log, journal_of}
+use Rattle.store_model.specs.Stores.{begun_from, first_log, journal_of}
 use Rattle.commit_store.specs.declared.store.Store.{Store}
 use Rattle.store_load.specs.declared.stored.Stored.{Stored}
 use Rattle.store_load.specs.Loading.{ends_at}
@@ -30,6 +31,10 @@ pub record IsOpened (stored : Stored) (o : Opened) : Type 0 where
   pub log : o.store.log ≡ stored.reached.log
   pub pos : o.store.pos ≡ stored.reached.pos
   pub journal : o.store.journal ≡ stored.journal
+
+-- what an image begins with, where the disk tells, is of this generation: that of the snapshot that counts, or 0
+abbrev pub IsActive : Option Story → Kind → (generation : ℕ) → Type 0
+IsActive t kind generation = IfSome t (λ _. (begun : Held) × (begun_from kind (seen t) ≡ Ok (generation, begun)))
 
 -- a file that an opening reads: of the snapshots, of a generation's journal, of a log
 abbrev pub IsRead : (generation logs f : ℕ) → Type 0

@@ -13,7 +13,8 @@
 //!
 //! # Proved
 //! - [`load`] gives exactly what the files of a disk that is told hold, or Damaged exactly at their first place of damage: snapshots, then
-//!   the journal record by record, then logs. It starts the counters, and gives a store whose readers give what is held.
+//!   the journal record by record, then logs. It starts the counters, and gives a store whose readers give what is held, at the
+//!   generation of the snapshot that counts (`active`).
 //! - It writes nothing, and a crash leaves at each moment what it might have left before; a refusal of the disk is Disk only where its
 //!   count of faults rose.
 //!

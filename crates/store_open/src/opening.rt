@@ -10,7 +10,7 @@ ghost use Rattle.store_model.specs.sql_reach.Defining.{counters_begun};
 ghost use Rattle.store_model.specs.Stores.{held_by};
 ghost use Rattle.commit_store.specs.Keeping.{AreDurable, Holds};
 ghost use Rattle.store_load.specs.Loading.{TellsDamage};
-ghost use Rattle.store_open.specs.Opened.{AreSettled, IsOpened, held_with};
+ghost use Rattle.store_open.specs.Opened.{AreSettled, IsActive, IsOpened, held_with};
 
 use crate::snapshots::begin;
 use commit_store::Store;
@@ -55,6 +55,7 @@ fn started(alloc: Global, stored: Stored) -> Result<Opened, NoMemory>
 pub fn load<D: Disk>(alloc: Global, d: &mut D, node: Kind) -> Result<Opened, OpenRefusal>
     ensures held { IfOk result (λ o. IfSome (D.told d.old) (λ _. held_by node (seen (D.told d.old)) ≡ Ok (held_with o.work o.store))) }
     ensures damaged { TellsDamage (D.told d.old) node result }
+    ensures active { IfOk result (λ o. IsActive (D.told d.old) node o.store.generation) }
     ensures counters { IfOk result (λ o. o.work.counters ≡ counters_begun (base_of o.work)) }
     ensures none { IfOk result (λ o. o.work.changes ≡ []) }
     ensures node { IfOk result (λ o. o.store.node ≡ node) }

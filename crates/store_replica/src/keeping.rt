@@ -22,6 +22,7 @@ fn write_record<D: Disk>(store: &mut Store, d: &mut D, p: Prepared) -> Result<()
     ensures leads { (r : Record) (held now : Held) → CanKeep (D.told d.old) store.old p r held now → LeadsTo (D.told d.old) (D.told d.new) held now }
     ensures on { (r : Record) (held now : Held) → CanKeep (D.told d.old) store.old p r held now → OnOk result (IsOn (D.told d.new) store.new now) }
     ensures number { OnErr result (store.new.number ≡ store.old.number) }
+    ensures generation { store.new.generation ≡ store.old.generation }
     ensures relay { seen (D.told d.new) first_log ≡ seen (D.told d.old) first_log }
     ensures calls { OnOk result (IfSome (D.told d.old) (λ _. count (D.told d.new) ≡ count (D.told d.old) + 4)) }
     ensures cause { HasDiskCause (D.faults d.old) (D.faults d.new) result }
@@ -49,6 +50,7 @@ fn keep_counted<D: Disk>(
     ensures marks { OnOk result (length marks.new ≡ length marks.old + 1) }
     ensures err { OnErr result (marks.new ≡ marks.old) }
     ensures number { OnErr result (store.new.number ≡ store.old.number) }
+    ensures generation { store.new.generation ≡ store.old.generation }
     ensures relay { seen (D.told d.new) first_log ≡ seen (D.told d.old) first_log }
     ensures calls { OnOk result (IfSome (D.told d.old) (λ _. count (D.told d.new) ≡ count (D.told d.old) + 4)) }
     ensures cause { HasDiskCause (D.faults d.old) (D.faults d.new) result }
@@ -92,6 +94,7 @@ pub fn keep<D: Disk>(
     ensures err { OnErr result (report.new ≡ report.old) }
     ensures rest { report.new ≡ record report.old { marks = report.new.marks } }
     ensures number { OnErr result (store.new.number ≡ store.old.number) }
+    ensures generation { store.new.generation ≡ store.old.generation }
     ensures relay { seen (D.told d.new) first_log ≡ seen (D.told d.old) first_log }
     ensures calls { OnOk result (IfSome (D.told d.old) (λ _. count (D.told d.new) ≡ count (D.told d.old) + 4)) }
     ensures cause { HasDiskCause (D.faults d.old) (D.faults d.new) result }

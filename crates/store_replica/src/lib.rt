@@ -5,8 +5,7 @@
 //! Room for the mark is taken before the first call of the disk; nothing else takes memory. What a replica fetches is put into a file of
 //! its own and never synced, so that nothing is claimed of it after a crash: an opening empties it.
 //!
-//! This crate stands on the store of `commit_store`, on `store_open`, and on the runs of `durable_runs`; a replica with a disk will stand on
-//! it.
+//! This crate stands on the store of `commit_store`, on `store_open`, and on the runs of `durable_runs`; the replica on its disk stands on it.
 //!
 //! - `keeping`: [`keep`]
 //! - `relay`: [`put_in_relay`], and the relay emptied
@@ -19,11 +18,11 @@
 //! - [`keep`]: whatever it answers, and whichever call of the disk fails, it is a run of the replica over its one record, with just the mark
 //!   that it pushed: each image of each moment stands for what the replica had, or for what the record makes of it, no less than the marks
 //!   until then name. After Ok the disk has what the record makes. The mark names the next number, and none is pushed for a record that counts
-//!   no transaction, or at a refusal; it makes four calls, and reads what was fetched as before.
+//!   no transaction, or at a refusal; it makes four calls, and reads what was fetched as before. The store's generation stays.
 //! - [`put_in_relay`] puts a piece into the file of what is fetched, by one call; whatever comes of it, the replica has what it had, and it
 //!   is a run of no record.
-//! - [`open_store`] gives just what a disk holds whose files but the relay's are durable, or the first place of damage; its calls are a run
-//!   of no record, and behind it the relay's file is empty.
+//! - [`open_store`] gives just what a disk holds whose files but the relay's are durable, at the generation that counts, or the first place
+//!   of damage; its calls are a run of no record, and behind it the relay's file is empty.
 //! - A crash leaves what the replica has where its disk is not called, and a replica's store has no logs ([`replicas_stand`]).
 //! - A refusal is the disk's own, or want of memory. Failed comes only where the disk's count of faults rose.
 //!

@@ -12,7 +12,7 @@ ghost use Rattle.store_model.specs.Held.{Held};
 ghost use Rattle.store_model.specs.Stores.{held_by};
 ghost use Rattle.store_model.specs.declared.record.Kind.TheVariants.{Replica};
 ghost use Rattle.store_model.specs.sql_reach.Defining.{counters_begun};
-ghost use Rattle.store_open.specs.Opened.{held_with};
+ghost use Rattle.store_open.specs.Opened.{IsActive, held_with};
 ghost use Rattle.store_replica.specs.Opening.{IsReady};
 ghost use Rattle.store_replica.specs.Writing.{IsOn, OpensOn};
 
@@ -34,6 +34,7 @@ fn number_fits(store: &Store)
 fn start_store<D: Disk>(alloc: Global, d: &mut D) -> Result<Opened, OpenRefusal>
     requires durable { AreDurable Replica (D.told d.old) }
     ensures on { IfOk result (λ o. IsOn (D.told d.new) o.store (held_with o.work o.store)) }
+    ensures active { IfOk result (λ o. IsActive (D.told d.old) Replica o.store.generation) }
     ensures counters { IfOk result (λ o. o.work.counters ≡ counters_begun (base_of o.work)) }
     ensures none { IfOk result (λ o. o.work.changes ≡ []) }
     ensures told { IfOk result (λ o. IfSome (D.told d.old) (λ _. held_by Replica (seen (D.told d.old)) ≡ Ok (held_with o.work o.store))) }

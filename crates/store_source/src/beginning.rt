@@ -52,6 +52,7 @@ pub fn begin_log<D: Disk>(
         → SourceRuns (D.told d.old) (D.told d.new) s (begun_with s.held.ends stamp server_id) marks marks }
     ensures on { (s after : Stored) → IsOn (D.told d.old) store.old s → s.held.number ≤ most_committed
         → behind_steps source_side (begun_with s.held.ends stamp server_id) s ≡ Some after → OnOk result (IsOn (D.told d.new) store.new after) }
+    ensures generation { store.new.generation ≡ store.old.generation }
     ensures calls { OnOk result (IfSome (D.told d.old) (λ _. count (D.told d.new) ≡ count (D.told d.old) + calls_begun store.old.ends.list)) }
     ensures cause { HasDiskCause (D.faults d.old) (D.faults d.new) result }
 {

@@ -83,6 +83,7 @@ pub(crate) fn write_entry<D: Disk>(
     ensures on { (s now : Stored) (e : Entry Whole) → CanWrite (D.told d.old) store.old s (e ∷ []) (w ∷ []) → entry_stored e s ≡ Some now
         → OnOk result (IsOn (D.told d.new) store.new now) }
     ensures number { OnErr result (store.new.number ≡ store.old.number) }
+    ensures generation { store.new.generation ≡ store.old.generation }
     ensures ends { OnErr result (store.new.ends ≡ store.old.ends) }
     ensures room { OnOk result (store.old.ends.room ≤ store.new.ends.room + begun (w ∷ [])) }
     ensures calls { OnOk result (IfSome (D.told d.old) (λ _. count (D.told d.new) ≡ count (D.told d.old) + calls_of store.old.ends.list w)) }

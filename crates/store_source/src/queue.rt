@@ -98,6 +98,7 @@ fn write_each<D: Disk>(
         → ArePushed now s.held.number store.new.number (take at.old marks.old) (take at.new marks.new) }
     ensures on { (s after : Stored) (es : List (Entry Whole)) → CanWrite (D.told d.old) store.old s es queue → behind_steps source_side es s ≡ Some after
         → OnOk result (IsOn (D.told d.new) store.new after) }
+    ensures generation { store.new.generation ≡ store.old.generation }
     ensures calls { (s : Stored) (es : List (Entry Whole)) → CanWrite (D.told d.old) store.old s es queue
         → OnOk result (IfSome (D.told d.old) (λ _. count (D.told d.new) ≡ count (D.told d.old) + all_calls (map kept_entry es) s.held.number (writer_at s.held))) }
     ensures cause { HasDiskCause (D.faults d.old) (D.faults d.new) result }
@@ -134,6 +135,7 @@ pub fn write_out<D: Disk>(
         → ArePushed report.old.now s.held.number store.new.number report.old.marks report.new.marks }
     ensures on { (s after : Stored) (es : List (Entry Whole)) → CanWrite (D.told d.old) store.old s es queue → behind_steps source_side es s ≡ Some after
         → OnOk result (IsOn (D.told d.new) store.new after) }
+    ensures generation { store.new.generation ≡ store.old.generation }
     ensures calls { (s : Stored) (es : List (Entry Whole)) → CanWrite (D.told d.old) store.old s es queue
         → OnOk result (IfSome (D.told d.old) (λ _. count (D.told d.new) ≡ count (D.told d.old) + all_calls (map kept_entry es) s.held.number (writer_at s.held))) }
     ensures rest { report.new ≡ record report.old { marks = report.new.marks } }

@@ -1,6 +1,6 @@
 //! Logs made event by event, as another server might have written them.
 
-use crate::playing::bytes;
+use program_calls::bytes;
 use std::alloc::Global;
 use val_types::Bytes;
 

@@ -5,19 +5,13 @@
 
 use answer_text::{Report, Status, status_line};
 use disk_model::MemDisk;
-use port_traits::{Draw, Identity, MemEnv, MemSink, MemSource};
-use repl_run::{top, write_log};
-use run_streams::empty_report;
+use port_traits::{Identity, MemEnv, MemSink, MemSource};
+use program_calls::repl_run::{top, write_log};
+use program_calls::run_streams::empty_report;
+use program_calls::{bytes, replica_env, source_env, words_of};
 use std::alloc::Global;
 use std::process::Abort;
 use val_types::{Bytes, List, NoMemory};
-
-/// Bytes with memory of their own. What wants memory is left out, and then a test fails.
-pub fn bytes(alloc: Global, of: &[u8]) -> Bytes {
-    let mut bytes = List::new(alloc);
-    let _ = bytes.extend_from_slice(of);
-    bytes
-}
 
 /// Texts, one behind the other.
 pub fn joined(alloc: Global, parts: &[&str]) -> Bytes {
@@ -28,39 +22,6 @@ pub fn joined(alloc: Global, parts: &[&str]) -> Bytes {
     all
 }
 
-/// The moments of the first draws of both nodes.
-pub const SOURCE_MOMENT: u32 = 1_700_000_000;
-
-pub const REPLICA_MOMENT: u32 = 1_600_000_000;
-
-/// The seeds of a node whose first moment is given, and the number of its first identifier: the replica's are its own.
-fn own_numbers(first: u32) -> (u64, u64, u32) {
-    if first == REPLICA_MOMENT {
-        (7, 9, 1000)
-    } else {
-        (1, 2, 0)
-    }
-}
-
-/// A number as the sixteen bytes of an identifier, the most significant first.
-fn identifier_of(number: u32) -> [u8; 16] {
-    let [a, b, c, d] = number.to_be_bytes();
-    [0, 0, 0, 0, 0, 0, 0, 0, 0, 0, 0, 0, a, b, c, d]
-}
-
-/// The n-th draw of a node whose first moment is given.
-pub fn draw(first: u32, n: u32) -> Draw {
-    let now = first.saturating_add(n);
-    let (seed1, seed2, identifier) = own_numbers(first);
-    Draw {
-        now,
-        sys: now,
-        seed1,
-        seed2,
-        uuid: identifier_of(identifier.saturating_add(n)),
-    }
-}
-
 /// Whether a node is the source, or the replica, that every test has.
 pub fn is_root(identity: &Identity) -> bool {
     identity.server_id == 1 && identity.user.as_slice() == b"root@localhost".as_slice()
@@ -68,36 +29,6 @@ pub fn is_root(identity: &Identity) -> bool {
 
 pub fn is_rep(identity: &Identity) -> bool {
     identity.server_id == 2 && identity.user.as_slice() == b"rep@localhost".as_slice()
-}
-
-/// An environment with so many draws.
-fn environment(alloc: Global, identity: Identity, first: u32, count: u32) -> Option<MemEnv> {
-    let mut draws = List::new(alloc);
-    for n in 0..count {
-        let _ = draws.push(draw(first, n));
-    }
-    if 0 < draws.len() {
-        Some(MemEnv::new(identity, draws))
-    } else {
-        None
-    }
-}
-
-/// The environments of the source and of the replica, with so many draws.
-fn source_env(alloc: Global, draws: u32) -> Option<MemEnv> {
-    let root = Identity {
-        server_id: 1,
-        user: bytes(alloc, b"root@localhost"),
-    };
-    environment(alloc, root, SOURCE_MOMENT, draws)
-}
-
-fn replica_env(alloc: Global, draws: u32) -> Option<MemEnv> {
-    let rep = Identity {
-        server_id: 2,
-        user: bytes(alloc, b"rep@localhost"),
-    };
-    environment(alloc, rep, REPLICA_MOMENT, draws)
 }
 
 /// What the program is called with: a command line, what is on its input, whether a read or a write moves at most 10 bytes, the read
@@ -180,17 +111,6 @@ struct Stage {
     replica: MemEnv,
     input: MemSource,
     out: MemSink,
-}
-
-/// The words of a command line.
-fn words_of(alloc: Global, line: &str) -> Vec<String> {
-    let mut words = Vec::new(alloc);
-    for word in line.split_whitespace() {
-        if let Ok(word) = String::from_str(alloc, word) {
-            let _ = words.push(word);
-        }
-    }
-    words
 }
 
 /// The number of a call.

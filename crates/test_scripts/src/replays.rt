@@ -2,11 +2,12 @@
 
 use crate::made::{FIRST_BODY, Piece, begun, put_all, put_text};
 use crate::playing::{
-    ANY, Call, Outcome, REPLICA_MOMENT, Shown, asked, asked_in_pieces, draw, expect_all, is_rep,
-    log_of, plays, report_of, wanted, written_by,
+    ANY, Call, Outcome, Shown, asked, asked_in_pieces, expect_all, is_rep, log_of, plays,
+    report_of, wanted, written_by,
 };
 use answer_text::Report;
 use port_traits::{Draw, Identity};
+use program_calls::{REPLICA_MOMENT, draw};
 use std::alloc::Global;
 use val_types::{Bytes, List};
 

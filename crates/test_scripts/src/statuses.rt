@@ -1,16 +1,17 @@
 //! How a run ends, and what it tells.
 
 use crate::playing::{
-    ANY, Outcome, REPLICA_MOMENT, SOURCE_MOMENT, Shown, asked, asked_in_pieces, draw, expect_all,
-    is_rep, is_root, joined, plays, report_of, wanted,
+    ANY, Outcome, Shown, asked, asked_in_pieces, expect_all, is_rep, is_root, joined, plays,
+    report_of, wanted,
 };
 use answer_text::{Mark, Report, Status};
-use repl_run::{number_of, tell};
+use program_calls::repl_run::{number_of, tell};
+use program_calls::{REPLICA_MOMENT, SOURCE_MOMENT, draw};
 use std::alloc::Global;
 use val_types::{Bytes, List};
 
 /// Scripts that do not split or that ask what no node does yet, and the line that tells the first bad byte.
-static BAD_SCRIPTS: [(&str, &str); 13] = [
+static BAD_SCRIPTS: [(&str, &str); 11] = [
     ("s1: SELECT 1", "bad script at 0\n"),
     ("s0: SELECT 1 //", "bad script at 0\n"),
     ("s100: SELECT 1 //", "bad script at 0\n"),
@@ -20,18 +21,10 @@ static BAD_SCRIPTS: [(&str, &str); 13] = [
     ("s1: SELECT 1 // s1: SELECT 2 /", "bad script at 0\n"),
     ("s1: SELECT 1 //\n\ns1: SELECT 2 /", "bad script at 17\n"),
     (
-        "s1: SELECT 1 //\nreplica: CHECKPOINT //",
-        "bad script at 16\n",
-    ),
-    (
         "replica: APPLY 1 //\nsource: FLUSH //",
         "bad script at 20\n",
     ),
-    (
-        "s1: SELECT 1 //\nsource: CHECKPOINT //",
-        "bad script at 16\n",
-    ),
-    ("replica: CHECKPOINT //", "bad script at 0\n"),
+    ("source: FLUSH //", "bad script at 0\n"),
     // what does not split comes before what is asked too early
     ("source: RESTART //\nx", "bad script at 19\n"),
 ];

@@ -14,6 +14,7 @@ returns-in-Ok-clause-opened g c = record {
   is = replica_is _ c.in-Ok.replica c.in-Ok.ensures.opens;
   holds = c.in-Ok.ensures.held;
   runs = c.open-2.ensures.runs;
+  active = c.in-Ok.ensures.active;
   on = c.in-Ok.ensures.on;
 }
 

@@ -15,6 +15,7 @@ returns-in-Ok-clause-opened g c = record {
   told = c.in_ok-name.ensures.told.0;
   drawn = c.in_ok-name.ensures.told.1 ∙ ap (λ (ds : List Draw). ds ++ c.in_ok-name.draw ∷ []) c.requires.draws;
   stands = c.in-Ok.ensures.stands;
+  active = c.in-Ok.ensures.active;
   runs = c.open-2.ensures.runs;
 }
 

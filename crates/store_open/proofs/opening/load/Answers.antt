@@ -4,7 +4,7 @@ use Rattle.disk_model.proofs.Quiet.{quiet_trans}
 use Rattle.gate_journal.specs.declared.journal.Journal.{Journal}
 use Rattle.gate_journal.specs.Journal.{IsFound}
 use Rattle.store_open.proofs.Beginning.{begins_still, damage_back, held_back, told_on}
-use Rattle.store_open.proofs.Standing.{counters_started, file_durable, held_told, holds, node_is, none_open, settled}
+use Rattle.store_open.proofs.Standing.{active, counters_started, file_durable, held_told, holds, node_is, none_open, settled}
 use Rattle.store_open.proofs.opening.load.Goals as goal
 
 pub load_from-requires-clause-begins : goal.load_from-requires-clause-begins
@@ -29,6 +29,11 @@ returns-in_err-started-clause-quiet g c = quiet_trans _ _ _ c.begin.ensures.quie
 pub returns-clause-held : goal.returns-clause-held
 returns-clause-held g c =
     held_told _ _ c.in_ok-stored.stored c.in_ok-started.field-0 c.in_ok-started.ensures (held_back _ _ _ _ _ c.begin.ensures.quiet c.in_ok-begun.ensures.begun.node c.in_ok-stored.ensures.held)
+
+pub returns-clause-active : goal.returns-clause-active
+returns-clause-active g c =
+    active _ c.args.node c.in_ok-begun.begun c.in_ok-stored.stored c.in_ok-started.field-0 c.in_ok-begun.ensures.begun.node c.in_ok-begun.ensures.begins
+    c.in_ok-stored.ensures.goes.generation c.in_ok-started.ensures
 
 pub returns-clause-counters : goal.returns-clause-counters
 returns-clause-counters g c = counters_started c.in_ok-stored.stored c.in_ok-started.field-0 c.in_ok-started.ensures

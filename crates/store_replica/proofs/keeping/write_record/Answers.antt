@@ -1,8 +1,9 @@
-use Rattle.std.proofs.Common.{ap}
+use Rattle.std.proofs.Common.{ap, ◌∙◌}
 use Rattle.commit_store.specs.declared.store.Store.{Store}
 use Rattle.store_model.specs.Bodies.{body_of}
 use Rattle.store_replica.proofs.Recording.{all_leads, all_on, leads_on, ok_two, ready, room_is, staged_stays, taken}
 use Rattle.store_replica.proofs.Standings.{stays_leads}
+use Rattle.commit_store.proofs.Passed.{commit_stays}
 use Rattle.store_replica.proofs.keeping.write_record.Goals as goal
 
 pub stage-requires-clause-prepared : goal.stage-requires-clause-prepared
@@ -51,3 +52,11 @@ returns-clause-on g c r held now can =
     ok_two c.commit.result (c.commit.ensures.keeps r held now leads) c.commit.ensures.passed (λ kept passes.
     all_on _ c.args.store.now c.take.new.self c.args.p r held now can c.take.ensures.ready c.take.ensures.keeps same _ c.stage.ensures.works images
     c.stage.new.self c.stage.ensures.same keeps staged _ c.commit.ensures.works c.commit.new.self c.commit.new.self.journal kept passes)
+
+pub returns-in_err-stage-clause-generation : goal.returns-in_err-stage-clause-generation
+returns-in_err-stage-clause-generation g c = ap (λ (st : Store). st.generation) (c.stage.ensures.same ∙ c.take.ensures.rest)
+
+pub returns-clause-generation : goal.returns-clause-generation
+returns-clause-generation g c =
+    commit_stays c.commit.result c.stage.new.self c.commit.new.self c.commit.ensures.passed c.commit.ensures.err
+    ∙ ap (λ (st : Store). st.generation) (c.stage.ensures.same ∙ c.take.ensures.rest)

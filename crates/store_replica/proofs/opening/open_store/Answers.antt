@@ -25,6 +25,7 @@ returns-clause-ready g c = record {
   counters = c.in_ok-opened.ensures.counters;
   none = c.in_ok-opened.ensures.none;
   told = c.in_ok-opened.ensures.told;
+  active = c.in_ok-opened.ensures.active;
   is = λ held opens. held_is _ (held_with c.in_ok-opened.opened.work c.in_ok-opened.opened.store) held c.in_ok-opened.ensures.told opens;
   relay = emptied _ _ c.empty_relay.ensures.goes c.in_ok-empty_relay.ensures.reads;
 }

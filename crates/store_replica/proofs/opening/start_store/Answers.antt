@@ -1,4 +1,8 @@
+use Rattle.std.proofs.Common.{ℕ, ap, subst, sym}
 use Rattle.disk_model.proofs.Moments.{on_trans}
+use Rattle.commit_store.specs.declared.store.Store.{Store}
+use Rattle.store_model.specs.declared.record.Kind.TheVariants.{Replica}
+use Rattle.store_open.specs.Opened.{IsActive}
 use Rattle.store_replica.proofs.Standings.{stays_runs}
 use Rattle.store_replica.proofs.Starting.{looked, started_on, started_stays, started_told}
 use Rattle.store_replica.proofs.opening.start_store.Goals as goal
@@ -36,3 +40,7 @@ returns-in_err-start-clause-goes g c = on_trans _ _ _ c.load.ensures.quiet.on c.
 
 pub returns-clause-goes : goal.returns-clause-goes
 returns-clause-goes g c = on_trans _ _ _ c.load.ensures.quiet.on c.start.ensures.works.on
+
+pub returns-clause-active : goal.returns-clause-active
+returns-clause-active g c =
+    subst (λ (n : ℕ). IsActive (g.D.Disk.told c.args.d.now) Replica n) (sym (ap (λ (st : Store). st.generation) c.start.ensures.rest)) c.in_ok-work.ensures.active

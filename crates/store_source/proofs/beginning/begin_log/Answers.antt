@@ -54,3 +54,9 @@ returns-clause-calls g c =
     let none = same ∙ is_none c.is_empty.result c.ends.result.now c.args.store.now.ends.list c.is_empty.ensures (search rules) c.ends.ensures in
     let is = c.in_ok-w.ensures ∙ ap (λ (n : ℕ). waiting_of (LogStart c.args.stamp c.args.server_id) n nowhere) (c.number.ensures ∙ sym (ap (λ (st : Store). st.number) c.make_room.ensures.rest)) in
     ok_calls c.write_entry.result _ _ _ _ _ (begun_calls _ c.make_room.new.self c.requires.0 on c.requires.1.1 c.args.stamp c.args.server_id none _ is ∙ ap calls_begun same) c.write_entry.ensures.calls
+
+pub returns-in_err-make_room-clause-generation : goal.returns-in_err-make_room-clause-generation
+returns-in_err-make_room-clause-generation g c = ap (λ (st : Store). st.generation) c.make_room.ensures.rest
+
+pub returns-clause-generation : goal.returns-clause-generation
+returns-clause-generation g c = c.write_entry.ensures.generation ∙ ap (λ (st : Store). st.generation) c.make_room.ensures.rest

@@ -4,6 +4,7 @@ use Rattle.store_model.specs.Bodies.{body_of}
 use Rattle.store_source.proofs.Images.{stays_leads, stays_both}
 use Rattle.store_source.proofs.Entries.{no_tail, record_for}
 use Rattle.store_source.proofs.Steps.{ok_two, node_after, on_prepared, ready_for, room_is, room_after, staged_stays, leads_on, all_leads, all_on}
+use Rattle.commit_store.proofs.Passed.{commit_stays}
 use Rattle.store_source.proofs.entry.write_entry.Goals as goal
 
 pub stage-requires-clause-prepared : goal.stage-requires-clause-prepared
@@ -17,6 +18,20 @@ commit-requires-clause-room g c =
     let same = c.in_ok-stage.ensures.same ∙ c.take.ensures.rest in
     room_is _ c.args.store.now c.requires.can.0 c.requires.can.1.0 c.args.w c.requires.can.1.1 c.stage.new.self.next c.stage.new.self.ends (ap (λ (st : Store). st.next) same)
     (omega (arith, ap (λ (st : Store). st.ends.room) same, c.requires.room))
+
+pub returns-in_err-write_tail-clause-generation : goal.returns-in_err-write_tail-clause-generation
+returns-in_err-write_tail-clause-generation g c = ap (λ (st : Store). st.generation) c.take.ensures.rest
+
+pub returns-in_err-write_head-clause-generation : goal.returns-in_err-write_head-clause-generation
+returns-in_err-write_head-clause-generation g c = ap (λ (st : Store). st.generation) c.take.ensures.rest
+
+pub returns-in_err-stage-clause-generation : goal.returns-in_err-stage-clause-generation
+returns-in_err-stage-clause-generation g c = ap (λ (st : Store). st.generation) (c.stage.ensures.same ∙ c.take.ensures.rest)
+
+pub returns-clause-generation : goal.returns-clause-generation
+returns-clause-generation g c =
+    commit_stays c.commit.result c.stage.new.self c.commit.new.self c.commit.ensures.passed c.commit.ensures.err
+    ∙ ap (λ (st : Store). st.generation) (c.stage.ensures.same ∙ c.take.ensures.rest)
 
 pub returns-clause-room : goal.returns-clause-room
 returns-clause-room g c =

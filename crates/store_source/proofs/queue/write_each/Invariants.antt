@@ -1,4 +1,4 @@
-use Rattle.std.proofs.Common.{◌≤◌, ◌+◌, List, length, reverse, take}
+use Rattle.std.proofs.Common.{◌≡◌, ◌≤◌, ◌+◌, List, length, reverse, take}
 use Rattle.session_model.specs.log_entries.declared.entries.Entry.{Entry}
 use Rattle.session_model.specs.Machine.{Whole}
 use Rattle.durable_runs.specs.Sources.{Stored}
@@ -13,6 +13,7 @@ invariant-loop-w g l = record {
       → Went (g.D.Disk.told l.initial.d) s es l.now (take l.initial.at l.initial.marks) (g.D.Disk.told l.d) l.store (reverse l.left) (take l.at l.marks);
   room : l.at + wanted (reverse l.left) ≤ length l.marks;
   logs : begun (reverse l.left) ≤ l.store.ends.room;
+  generation : l.store.generation ≡ l.initial.store.generation;
   later : g.D.Disk.faults l.initial.d ≤ g.D.Disk.faults l.d;
 }
 

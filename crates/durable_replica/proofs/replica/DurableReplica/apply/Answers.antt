@@ -30,3 +30,6 @@ returns-clause-rest g c = c.carry_on.ensures.run.rest
 
 pub returns-clause-goes : goal.returns-clause-goes
 returns-clause-goes g c = c.carry_on.ensures.run.goes
+
+pub returns-clause-generation : goal.returns-clause-generation
+returns-clause-generation g c = ok_map c.carry_on.result c.carry_on.ensures.done (λ told done. c.carry_on.ensures.generation)

@@ -24,6 +24,7 @@ loop-count-init g c =
       under = subst (λ (n : ℕ). IsUnder c.args.wanted c.args.self.now.node.identity c.args.draw.now start start n 0) (sym c.here-ahead.ensures.passed)
           (under_begins c.args.wanted c.args.self.now.node.identity c.args.draw.now start);
       kept = begins c.args.wanted c.args.self.now.node.identity c.args.draw.now start _ c.args.report.now c.args.self.now.store c.args.self.now.fetched c.requires.on c.requires.relay;
+      generation = refl;
       later = omega arith;
     }
 
@@ -49,6 +50,7 @@ loop-count-preserved-in-Over g c =
       behind = behind_over c.args.wanted c.args.self.now.node.identity c.args.draw.now (replica_of c.args.self.now.node) (replica_of c.loop-count.self.node) (replica_of c.step.new.self) c.loop-count.ahead.passed c.loop-count.count c.loop-count-test.true c.loop-count.invariant.behind c.in-Over.next step;
       under = over c.args.wanted c.args.self.now.node.identity c.args.draw.now (replica_of c.args.self.now.node) (replica_of c.loop-count.self.node) c.loop-count.ahead.passed c.loop-count.count (replica_of c.step.new.self) c.loop-count-test.true c.loop-count.invariant.under c.in-Over.next step goes;
       kept = same_kept c.args.wanted c.args.self.now.node.identity c.args.draw.now (replica_of c.args.self.now.node) _ c.args.report.now _ (replica_of c.loop-count.self.node) c.loop-count.self.store c.loop-count.self.fetched c.loop-count.report c.loop-count.count c.loop-count.invariant.kept (replica_of c.step.new.self) leaves;
+      generation = c.loop-count.invariant.generation;
       later = c.loop-count.invariant.later;
     }
 
@@ -65,6 +67,9 @@ returns-in_err-keep-in-Moved-clause-err g c =
     step_at c.loop-count.self.node.identity _ c.args.draw.now _ _ _ c.in-Ok.step (Moved c.in-Moved.kept) c.loop-count.invariant.identity c.in-Moved.is c.in-Ok.ensures.step in
     let p = err_from_is_err_and c.from_residual.result c.from_residual.ensures.1 in
     rw p.1 (is_front c.args.wanted c.args.self.now.node.identity c.args.draw.now (replica_of c.args.self.now.node) (replica_of c.step.new.self) 0 c.loop-count.count (behind_moved c.args.wanted c.args.self.now.node.identity c.args.draw.now (replica_of c.args.self.now.node) (replica_of c.loop-count.self.node) (replica_of c.step.new.self) c.loop-count.ahead.passed c.loop-count.count c.loop-count-test.true c.loop-count.invariant.behind c.in-Moved.kept step))
+
+pub returns-in_err-keep-in-Moved-clause-generation : goal.returns-in_err-keep-in-Moved-clause-generation
+returns-in_err-keep-in-Moved-clause-generation g c = c.keep.ensures.generation ∙ c.loop-count.invariant.generation
 
 pub returns-in_err-keep-in-Moved-clause-run : goal.returns-in_err-keep-in-Moved-clause-run
 returns-in_err-keep-in-Moved-clause-run g c =
@@ -94,6 +99,7 @@ loop-count-preserved-in-Moved g c =
           (moved_on c.args.wanted c.args.self.now.node.identity c.args.draw.now (replica_of c.args.self.now.node) (replica_of c.loop-count.self.node) c.loop-count.ahead.passed c.loop-count.count (replica_of c.step.new.self) c.loop-count-test.true c.loop-count.invariant.under c.in-Moved.kept step goes);
       kept = more_kept c.args.wanted c.args.self.now.node.identity c.args.draw.now (replica_of c.args.self.now.node) _ c.args.report.now _ (replica_of c.loop-count.self.node) c.loop-count.self.store c.loop-count.self.fetched c.loop-count.report c.loop-count.count c.loop-count.invariant.kept (replica_of c.step.new.self) c.in-Moved.kept false leaves.0 leaves.1 _ c.keep.new.store c.keep.new.report c.keep.ensures.goes c.keep.ensures.run c.keep.ensures.pushed c.keep.ensures.rest front front' c.loop-count.count
           c.in_ok-keep-in-Moved.ensures.on c.keep.ensures.relay (omega (arith, c.in_ok-keep-in-Moved.ensures.marks));
+      generation = c.keep.ensures.generation ∙ c.loop-count.invariant.generation;
       later = omega (arith, c.loop-count.invariant.later, c.keep.ensures.cause.later);
     }
 
@@ -110,6 +116,9 @@ returns-in_err-keep-in-Carried-clause-err g c =
     step_at c.loop-count.self.node.identity _ c.args.draw.now _ _ _ c.in-Ok.step (Carried c.in-Carried.kept) c.loop-count.invariant.identity c.in-Carried.is c.in-Ok.ensures.step in
     let p = err_from_is_err_and c.from_residual-in_err-keep-in-Carried.result c.from_residual-in_err-keep-in-Carried.ensures.1 in
     rw p.1 (is_front c.args.wanted c.args.self.now.node.identity c.args.draw.now (replica_of c.args.self.now.node) (replica_of c.step.new.self) 0 (c.loop-count.count + 1) (behind_carried c.args.wanted c.args.self.now.node.identity c.args.draw.now (replica_of c.args.self.now.node) (replica_of c.loop-count.self.node) (replica_of c.step.new.self) c.loop-count.ahead.passed c.loop-count.count c.loop-count-test.true c.loop-count.invariant.behind c.in-Carried.kept step))
+
+pub returns-in_err-keep-in-Carried-clause-generation : goal.returns-in_err-keep-in-Carried-clause-generation
+returns-in_err-keep-in-Carried-clause-generation g c = c.keep-in-Carried.ensures.generation ∙ c.loop-count.invariant.generation
 
 pub returns-in_err-keep-in-Carried-clause-run : goal.returns-in_err-keep-in-Carried-clause-run
 returns-in_err-keep-in-Carried-clause-run g c =
@@ -139,6 +148,7 @@ loop-count-preserved g c =
           (carried_on c.args.wanted c.args.self.now.node.identity c.args.draw.now (replica_of c.args.self.now.node) (replica_of c.loop-count.self.node) c.loop-count.ahead.passed c.loop-count.count (replica_of c.step.new.self) c.loop-count-test.true c.loop-count.invariant.under c.in-Carried.kept step goes);
       kept = more_kept c.args.wanted c.args.self.now.node.identity c.args.draw.now (replica_of c.args.self.now.node) _ c.args.report.now _ (replica_of c.loop-count.self.node) c.loop-count.self.store c.loop-count.self.fetched c.loop-count.report c.loop-count.count c.loop-count.invariant.kept (replica_of c.step.new.self) c.in-Carried.kept true leaves.0 leaves.1 _ c.keep-in-Carried.new.store c.keep-in-Carried.new.report c.keep-in-Carried.ensures.goes c.keep-in-Carried.ensures.run c.keep-in-Carried.ensures.pushed c.keep-in-Carried.ensures.rest front front' (c.loop-count.count + 1)
           c.in_ok-keep-in-Carried.ensures.on c.keep-in-Carried.ensures.relay (omega (arith, c.in_ok-keep-in-Carried.ensures.marks));
+      generation = c.keep-in-Carried.ensures.generation ∙ c.loop-count.invariant.generation;
       later = omega (arith, c.loop-count.invariant.later, c.keep-in-Carried.ensures.cause.later);
     }
 

@@ -14,6 +14,7 @@ invariant-loop-count g l = record {
   behind : IsBehind l.wanted l.fn.self.node.identity l.draw (replica_of l.fn.self.node) (replica_of l.self.node) l.ahead.passed l.count;
   under : IsUnder l.wanted l.fn.self.node.identity l.draw (replica_of l.fn.self.node) (replica_of l.self.node) l.ahead.passed l.count;
   kept : HasKept l.wanted l.fn.self.node.identity l.draw (replica_of l.fn.self.node) (g.D.Disk.told l.fn.d) l.fn.report (g.D.Disk.told l.d) (replica_of l.self.node) l.self.store l.self.fetched l.report l.count;
+  generation : l.self.store.generation ≡ l.fn.self.store.generation;
   later : g.D.Disk.faults l.fn.d ≤ g.D.Disk.faults l.d;
 }
 

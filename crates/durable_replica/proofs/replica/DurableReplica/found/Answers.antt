@@ -18,3 +18,6 @@ returns-clause-reopened g c =
 pub returns-clause-held : goal.returns-clause-held
 returns-clause-held g c =
     opened_held _ _ c.in_ok-work.field-0 c.in_ok-work.ensures.ready _ _ _ c.number.ensures c.log.ensures c.pos.ensures _ c.found-node.ensures.replica
+
+pub returns-clause-active : goal.returns-clause-active
+returns-clause-active g c = c.in_ok-work.ensures.ready.active

@@ -4,7 +4,7 @@ use Rattle.replica_node.specs.Kept.{held_of, replica_of}
 use Rattle.durable_replica.specs.declared.replica.DurableReplica.{DurableReplica}
 use Rattle.durable_replica.proofs.Fetching.{none_run}
 use Rattle.durable_replica.proofs.Opened.{first_of}
-use Rattle.durable_replica.proofs.Restarting.{is_durable, not_damaged, opens}
+use Rattle.durable_replica.proofs.Restarting.{is_durable, not_damaged, opens, same_generation}
 use Rattle.durable_replica.proofs.replica.DurableReplica.restart.Goals as goal
 
 pub found-requires : goal.found-requires
@@ -26,3 +26,6 @@ returns-clause-replica g c = first_of _ _ _ (c.in_ok-self.ensures.opens _ (opens
 
 pub returns-clause-runs : goal.returns-clause-runs
 returns-clause-runs g c marks = c.found.ensures.runs _ marks (opens _ c.args.self.now c.requires)
+
+pub returns-clause-generation : goal.returns-clause-generation
+returns-clause-generation g c = same_generation _ c.args.self.now c.requires _ c.in_ok-self.ensures.active

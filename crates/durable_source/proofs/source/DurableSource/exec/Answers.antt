@@ -94,3 +94,6 @@ returns-clause-pushed g c =
     let holds = c.requires.on.1.1.1 in
     pushed_from _ c.args.self.now from m stands _ _ _ _ (c.write_out.ensures.pushed stands.now (step whole c.args.self.now.node.identity m.state c.args.session c.args.text.now c.args.draw.now).committed
     (can_write _ c.args.self.now from m stands holds c.runs_hold.ensures.goes_on c.args.session c.requires.number c.args.text.now c.requires.length c.args.draw.now c.exec.new.self c.in-Ok.answer (c.in-Ok.ensures.stands m stands.node) c.take_waiting-queue.result c.take_waiting-queue.ensures.taken))
+
+pub returns-clause-generation : goal.returns-clause-generation
+returns-clause-generation g c = c.write_out.ensures.generation

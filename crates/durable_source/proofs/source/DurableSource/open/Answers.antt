@@ -1,3 +1,6 @@
+use Rattle.std.proofs.Common.{ℕ, subst, sym}
+use Rattle.store_model.specs.declared.record.Kind.TheVariants.{Source}
+use Rattle.store_open.specs.Opened.{IsActive}
 use Rattle.session_model.specs.Openings.{opening_entries}
 use Rattle.store_model.specs.Entries.{writer_at}
 use Rattle.durable_source.proofs.Opened.{begun_runs, held_there, none_yet, numbered, stands_some, stands_told}
@@ -37,3 +40,6 @@ returns-clause-held g c = held_there _ _ c.in_ok-work.field-0 c.in_ok-work.ensur
 pub returns-clause-runs : goal.returns-clause-runs
 returns-clause-runs g c from marks opens =
     begun_runs _ _ _ c.in_ok-work.field-0 c.in_ok-work.ensures.ready c.args.identity c.args.draw.now c.begin_log.ensures.run from marks opens (c.open_store.ensures.runs from marks opens)
+
+pub returns-clause-active : goal.returns-clause-active
+returns-clause-active g c = subst (λ (n : ℕ). IsActive (g.D.Disk.told c.args.d.now) Source n) (sym c.begin_log.ensures.generation) c.in_ok-work.ensures.active

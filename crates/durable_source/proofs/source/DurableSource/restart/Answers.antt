@@ -3,7 +3,7 @@ use Rattle.std.proofs.lemmas.Result.{err_from_is_err_and}
 use Rattle.session_model.specs.Openings.{opened_from, opening_entries}
 use Rattle.durable_source.specs.declared.source.DurableSource.{DurableSource}
 use Rattle.durable_source.specs.Standing.{beginning_of}
-use Rattle.durable_source.proofs.Restarting.{not_damaged, opens_now, restarted_by, restarted_runs_by}
+use Rattle.durable_source.proofs.Restarting.{not_damaged, opens_now, restarted_by, restarted_runs_by, same_generation}
 use Rattle.durable_source.proofs.Standings.{idle_runs}
 use Rattle.durable_source.proofs.source.DurableSource.restart.Goals as goal
 
@@ -40,3 +40,6 @@ pub returns-clause-runs : goal.returns-clause-runs
 returns-clause-runs g c from m stands marks holds =
     restarted_runs_by _ c.args.self.now from m stands holds c.in_ok-identity.identity c.args.self.now.node.identity (c.in_ok-identity.ensures ∙ c.identity.ensures) c.args.draw.now _ marks
     (c.open.ensures.runs stands.now marks (opens_now _ c.args.self.now from m stands))
+
+pub returns-clause-generation : goal.returns-clause-generation
+returns-clause-generation g c from m stands = same_generation _ c.args.self.now from m stands _ c.in_ok-self.ensures.active

@@ -43,7 +43,7 @@ returns-in_ok-applied_line-in-Ok-clause-grew g c = rep_marked c.args.report.now 
 pub returns-in_ok-applied_line-in-Ok-clause-carried : goal.returns-in_ok-applied_line-in-Ok-clause-carried
 returns-in_ok-applied_line-in-Ok-clause-carried g c names src start b before =
     applied c.runs_last.ensures.source (record { goes_on = c.log_goes_on.ensures; one = c.logs_go_on.ensures.one; stores = c.stores_go_on.ensures }) c.args.self.now _ src _ _ start c.args.number c.args.count c.in_ok-draw.draw c.args.report.now c.apply.new.report c.in-Ok.applied c.in_ok-applied_line-in-Ok.field-0
-    c.replica_follows.ensures.goes_on c.replica_follows.ensures.stops c.replica_follows.ensures.damaged refl c.apply.ensures.identity c.in-Ok.ensures.replica c.in-Ok.ensures.told c.in-Ok.ensures.on c.apply.ensures.goes
+    c.replica_follows.ensures.goes_on c.replica_follows.ensures.stops c.replica_follows.ensures.damaged refl c.apply.ensures.identity c.in-Ok.ensures.generation c.in-Ok.ensures.replica c.in-Ok.ensures.told c.in-Ok.ensures.on c.apply.ensures.goes
     c.in-Ok.ensures.reaches c.apply.ensures.pushed c.in-Ok.ensures.number c.in-Ok.ensures.marks c.in_ok-applied_line-in-Ok.ensures
     (applied_drew c.args.report.now c.apply.new.report c.args.count c.take_draw.new.draws c.apply.new.report.marks c.in_ok-draw.draw c.apply.ensures.rest c.in_ok-draw.ensures.told)
     (ap (λ (r : Report). r.now) c.apply.ensures.rest) names b before

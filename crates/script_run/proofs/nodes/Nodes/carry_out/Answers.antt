@@ -4,7 +4,7 @@ use Rattle.run_laws.specs.run_model.Asked.{take_bytes}
 use Rattle.script_run.proofs.Disks.{both_refl, fewer_refl}
 use Rattle.script_run.proofs.Drawing.{drew_none}
 use Rattle.script_run.proofs.Running.{grew_none}
-use Rattle.script_run.proofs.Spoken.{any_err, fetched_out, gave_up, on_replica, on_same, on_source, replica_alone, short_refuses, some_draw, source_alone}
+use Rattle.script_run.proofs.Spoken.{any_err, fetched_go, fetched_out, gave_up, on_replica, on_same, on_source, replica_alone, short_refuses, some_draw, source_alone}
 use Rattle.script_run.proofs.nodes.Nodes.carry_out.Goals as goal
 
 pub returns-in-Say-clause-rep_drawn : goal.returns-in-Say-clause-rep_drawn
@@ -24,6 +24,60 @@ returns-in-Say-clause-carried g c names start b before = rw c.in-Say.is (c.say.e
 
 pub returns-in-Say-clause-left : goal.returns-in-Say-clause-left
 returns-in-Say-clause-left g c names start b before = rw c.in-Say.is (c.say.ensures.left names _ start b before)
+
+pub returns-in-CheckpointSource-clause-grew : goal.returns-in-CheckpointSource-clause-grew
+returns-in-CheckpointSource-clause-grew g c = grew_none c.args.report.now
+
+pub returns-in-CheckpointSource-clause-src_drawn : goal.returns-in-CheckpointSource-clause-src_drawn
+returns-in-CheckpointSource-clause-src_drawn g c = drew_none _ _ _ _ refl
+
+pub returns-in-CheckpointSource-clause-rep_drawn : goal.returns-in-CheckpointSource-clause-rep_drawn
+returns-in-CheckpointSource-clause-rep_drawn g c = drew_none _ _ _ _ refl
+
+pub returns-in-CheckpointSource-clause-goes : goal.returns-in-CheckpointSource-clause-goes
+returns-in-CheckpointSource-clause-goes g c = record { source = c.checkpoint_source.ensures.goes; replica = on_refl _ }
+
+pub returns-in-CheckpointSource-clause-refuses : goal.returns-in-CheckpointSource-clause-refuses
+returns-in-CheckpointSource-clause-refuses g c = source_alone c.checkpoint_source.result _ _ _ _ _ c.checkpoint_source.ensures.refuses
+
+pub returns-in-CheckpointSource-clause-later : goal.returns-in-CheckpointSource-clause-later
+returns-in-CheckpointSource-clause-later g c = record { source = c.checkpoint_source.ensures.later; replica = omega arith }
+
+pub returns-in-CheckpointSource-clause-carried : goal.returns-in-CheckpointSource-clause-carried
+returns-in-CheckpointSource-clause-carried g c names start b before = rw c.in-CheckpointSource.is (c.checkpoint_source.ensures.carried names _ start b _ before)
+
+pub returns-in-CheckpointSource-clause-left : goal.returns-in-CheckpointSource-clause-left
+returns-in-CheckpointSource-clause-left g c names start b before = rw c.in-CheckpointSource.is (c.checkpoint_source.ensures.left names _ start b _ before)
+
+pub returns-in-CheckpointSource-clause-on : goal.returns-in-CheckpointSource-clause-on
+returns-in-CheckpointSource-clause-on g c = on_source c.checkpoint_source.result _ _ _ c.args.self.now _ c.checkpoint_source.ensures.replica c.requires.on c.checkpoint_source.ensures.on
+
+pub returns-in-CheckpointReplica-clause-grew : goal.returns-in-CheckpointReplica-clause-grew
+returns-in-CheckpointReplica-clause-grew g c = grew_none c.args.report.now
+
+pub returns-in-CheckpointReplica-clause-src_drawn : goal.returns-in-CheckpointReplica-clause-src_drawn
+returns-in-CheckpointReplica-clause-src_drawn g c = drew_none _ _ _ _ refl
+
+pub returns-in-CheckpointReplica-clause-rep_drawn : goal.returns-in-CheckpointReplica-clause-rep_drawn
+returns-in-CheckpointReplica-clause-rep_drawn g c = drew_none _ _ _ _ refl
+
+pub returns-in-CheckpointReplica-clause-goes : goal.returns-in-CheckpointReplica-clause-goes
+returns-in-CheckpointReplica-clause-goes g c = record { source = on_refl _; replica = c.checkpoint_replica.ensures.goes }
+
+pub returns-in-CheckpointReplica-clause-refuses : goal.returns-in-CheckpointReplica-clause-refuses
+returns-in-CheckpointReplica-clause-refuses g c = replica_alone c.checkpoint_replica.result _ _ _ _ _ c.checkpoint_replica.ensures.refuses
+
+pub returns-in-CheckpointReplica-clause-later : goal.returns-in-CheckpointReplica-clause-later
+returns-in-CheckpointReplica-clause-later g c = record { source = omega arith; replica = c.checkpoint_replica.ensures.later }
+
+pub returns-in-CheckpointReplica-clause-carried : goal.returns-in-CheckpointReplica-clause-carried
+returns-in-CheckpointReplica-clause-carried g c names start b before = rw c.in-CheckpointReplica.is (c.checkpoint_replica.ensures.carried names _ start b _ before)
+
+pub returns-in-CheckpointReplica-clause-left : goal.returns-in-CheckpointReplica-clause-left
+returns-in-CheckpointReplica-clause-left g c names start b before = rw c.in-CheckpointReplica.is (c.checkpoint_replica.ensures.left names _ start b _ before)
+
+pub returns-in-CheckpointReplica-clause-on : goal.returns-in-CheckpointReplica-clause-on
+returns-in-CheckpointReplica-clause-on g c = on_replica c.checkpoint_replica.result _ _ _ c.args.self.now _ c.checkpoint_replica.ensures.source c.requires.on c.checkpoint_replica.ensures.on
 
 pub returns-in-RestartSource-clause-rep_drawn : goal.returns-in-RestartSource-clause-rep_drawn
 returns-in-RestartSource-clause-rep_drawn g c = drew_none _ _ _ _ c.restart_source.ensures.others
@@ -115,7 +169,8 @@ returns-in-Fetch-clause-left g c names start b before =
 pub returns-in-Fetch-clause-carried : goal.returns-in-Fetch-clause-carried
 returns-in-Fetch-clause-carried g c names start b before =
     rw c.in-Fetch.is
-    (fetched_out c.fetch.result _ _ start c.args.self.now _ c.args.number c.in-Fetch.count c.args.report.now names b before (λ marks together. c.fetch.ensures.lasts names start b marks together)
+    (fetched_out c.fetch.result _ _ start c.args.self.now _ c.args.number c.in-Fetch.count c.args.report.now names b before
+    (fetched_go c.fetch.result c.in-Fetch.count c.args.self.now _ c.fetch.ensures.source c.fetch.ensures.generation) (λ marks together. c.fetch.ensures.lasts names start b marks together)
     (λ draw marks together. c.fetch.ensures.carries names start b draw marks together) (λ draw together. c.fetch.ensures.shows names start b draw together))
 
 pub returns-in-Say-clause-on : goal.returns-in-Say-clause-on

@@ -37,5 +37,5 @@ returns-in_ok-shown-in-Ok-clause-grew g c = rep_one c.args.report.now c.take_dra
 pub returns-in_ok-shown-in-Ok-clause-carried : goal.returns-in_ok-shown-in-Ok-clause-carried
 returns-in_ok-shown-in-Ok-clause-carried g c names src start b before =
     replica_reopened c.args.self.now _ src _ _ start c.args.number c.in_ok-draw.draw c.args.report.now (record c.args.report.now { rep_draws = c.take_draw.new.draws }) _ c.in_ok-shown-in-Ok.field-0
-    c.replica_follows.ensures.goes_on c.restarts_keep.ensures.marks refl c.restart.ensures.identity c.in-Ok.ensures.replica c.in-Ok.ensures.on c.restart.ensures.goes c.restart.ensures.runs c.ok-answer.ensures c.in_ok-shown-in-Ok.ensures
+    c.replica_follows.ensures.goes_on c.restarts_keep.ensures.marks refl c.restart.ensures.identity c.in-Ok.ensures.generation c.in-Ok.ensures.replica c.in-Ok.ensures.on c.restart.ensures.goes c.restart.ensures.runs c.ok-answer.ensures c.in_ok-shown-in-Ok.ensures
     (replica_drew c.args.report.now c.take_draw.new.draws c.in_ok-draw.draw c.in_ok-draw.ensures.told) refl refl names b before

@@ -69,7 +69,7 @@ returns-in_ok-shown-in-Ok-clause-carried g c names rep start b before =
       follows = c.replica_follows.ensures.goes_on;
       lasts = c.runs_last.ensures.source;
     })
-    c.args.self.now _ _ _ rep start c.args.number c.in_ok-draw.draw c.args.report.now (record c.args.report.now { src_draws = c.take_draw.new.draws }) _ c.in_ok-shown-in-Ok.field-0 refl c.restart.ensures.identity
+    c.args.self.now _ _ _ rep start c.args.number c.in_ok-draw.draw c.args.report.now (record c.args.report.now { src_draws = c.take_draw.new.draws }) _ c.in_ok-shown-in-Ok.field-0 refl c.restart.ensures.identity c.in-Ok.ensures.generation
     c.in-Ok.ensures.stands c.restart.ensures.runs c.ok-answer.ensures c.in_ok-shown-in-Ok.ensures
     (reopened_drew c.args.report.now c.take_draw.new.draws c.in_ok-draw.draw c.in_ok-draw.ensures.told) refl refl names b before
 

@@ -29,7 +29,7 @@ returns-in_ok-shown-in-Ok-clause-carried g c names rep start b before =
       lasts = c.runs_last.ensures.source;
     })
     c.args.self.now _ _ _ rep start c.args.number c.args.session c.args.text.now c.in_ok-draw.draw c.args.report.now c.exec.new.report c.in-Ok.answer c.in_ok-shown-in-Ok.field-0
-    c.requires.number c.requires.length (λ i. let fits = c.type_inv.text i in omega (arith, fits)) refl c.exec.ensures.identity c.exec.ensures.goes c.in-Ok.ensures.stands c.in-Ok.ensures.can
+    c.requires.number c.requires.length (λ i. let fits = c.type_inv.text i in omega (arith, fits)) refl c.exec.ensures.identity c.in-Ok.ensures.generation c.exec.ensures.goes c.in-Ok.ensures.stands c.in-Ok.ensures.can
     c.exec.ensures.runs c.exec.ensures.pushed c.in_ok-shown-in-Ok.ensures
     (said_drew c.args.report.now c.exec.new.report c.args.session c.args.text.now c.take_draw.new.draws c.exec.new.report.marks c.in_ok-draw.draw c.exec.ensures.rest c.in_ok-draw.ensures.told)
     (ap (λ (r : Report). r.now) c.exec.ensures.rest) names b before
