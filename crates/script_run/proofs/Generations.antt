@@ -1,5 +1,5 @@
 -- The generations of both disks, command by command.
-use Rattle.std.proofs.Common.{◌≡◌, ◌⊎◌, inl, inr, ℕ, ◌+◌, ◌-◌, ◌^◌, ◌≤◌, ◌<◌, min, zero, suc, Bool, true, false, List, [], ◌∷◌, ◌++◌, length, take, map, Option, Some, None, is_some, Result, Ok, Err, IfSome, refl, sym, ap, ◌∙◌, subst, arith, length-append}
+use Rattle.std.proofs.Common.{◌≡◌, ◌⊎◌, inl, inr, ℕ, ◌+◌, ◌-◌, ◌^◌, ◌≤◌, ◌<◌, min, zero, suc, Bool, true, false, List, [], ◌∷◌, ◌++◌, length, take, drop, map, Option, Some, None, is_some, Result, Ok, Err, IfSome, refl, sym, ap, ◌∙◌, subst, arith, length-append}
 use Rattle.std.proofs.lemmas.Bool.{cases_lt}
 use Rattle.std.specs.Prelude.{slice_get}
 use Rattle.port_traits.specs.declared.identity.Draw.{Draw}
@@ -8,7 +8,7 @@ use Rattle.disk_model.specs.declared.call.Call.{Call}
 use Rattle.disk_model.specs.Left.{Left, LeftAfter}
 use Rattle.disk_model.specs.Story.{Image, Story, count, seen}
 use Rattle.disk_model.specs.Moments.{AfterCall, Each, GoesOn, Only, calls_until}
-use Rattle.disk_model.proofs.Moments.{on_count, on_trans, until_all, until_on}
+use Rattle.disk_model.proofs.Moments.{on_count, on_trans}
 use Rattle.durable_replica.specs.replica_node.commit_store.declared.store.Store.{Store}
 use Rattle.durable_replica.specs.replica_node.commit_store.Keeping.{AreDurable, Keeps}
 use Rattle.store_model.specs.declared.record.Kind.{Kind}
@@ -21,7 +21,7 @@ use Rattle.run_laws.specs.run_model.Asked.{Asked}
 use Rattle.run_laws.specs.run_model.Run.{Both, Names, checkpoints_replica, checkpoints_source, count_of, one_if}
 use Rattle.script_run.specs.declared.nodes.Nodes.{Nodes}
 use Rattle.script_run.specs.Disks.{BothGoOn, Disks, Stores}
-use Rattle.script_run.specs.Generations.{AreAt, AreInTime, BothRaised, IsActive, IsAt, Raised, Raises, WasAt, generation_behind}
+use Rattle.script_run.specs.Generations.{AreAt, AreInTime, AreRaised, BothRaised, IsActive, IsAt, Raised, Raises, WasAt, generation_behind}
 use Rattle.script_run.specs.Marks.{Pushed, applied_up, command_marks, marks_up, next_applied_mark, next_mark, uncounted}
 use Rattle.script_run.specs.Together.{Together}
 use Rattle.script_run.proofs.Disks.{where_told}
@@ -40,7 +40,7 @@ active_same kind g image image' zeroth first active = (active.0, same ∙ active
     same : begun_from kind image' ≡ begun_from kind image
     same = ap (λ a. greater_if a (begun_in kind image' 1)) (here 0 zeroth) ∙ ap (greater_if (begun_in kind image 0)) (here 1 first)
 
-generation_in : Result (ℕ × Held) Spot → ℕ
+abbrev generation_in : Result (ℕ × Held) Spot → ℕ
 generation_in (Ok begun) = begun.0
 generation_in (Err spot) = 0
 
@@ -96,6 +96,16 @@ raises_by names c t u start nodes nodes' b b' before after go source replica at 
 
 -- ---- commands, one after the other
 
+-- all calls, and the first of some that more came behind
+until_all : (calls : List Call) → calls_until (length calls) calls ≡ calls
+until_all calls = let none : length calls - length calls ≡ 0 = omega arith in ap (λ k. drop k calls) none
+
+until_on : (more calls : List Call) (n : ℕ) → n ≤ length calls → calls_until n (more ++ calls) ≡ calls_until n calls
+until_on [] calls n within = refl
+until_on (call ∷ more) calls n within =
+    let one : suc (length (more ++ calls)) - n ≡ suc (length (more ++ calls) - n) = omega (arith, within, length-append more calls) in
+    ap (λ k. drop k (call ∷ more ++ calls)) one ∙ until_on more calls n within
+
 -- the moments of a story stay as it goes on
 after_before : (u v : Option Story) (n : ℕ) (image : Image) → GoesOn u v → n ≤ count u → AfterCall v n image → AfterCall u n image
 after_before None None n image on within left = left
@@ -109,7 +119,7 @@ after_before (Some s) (Some r) n image on within left = λ f.
 each_after : (t : Option Story) (P : Image → Type 0) → Each t P → (image : Image) → AfterCall t (count t) image → P image
 each_after None P each image left = absurd left
 each_after (Some s) P each image left =
-    each image (λ f. subst (λ (cs : List Call). LeftAfter s.first cs f (image f)) (until_all s.calls (length s.calls) (omega arith)) (left f))
+    each image (λ f. subst (λ (cs : List Call). LeftAfter s.first cs f (image f)) (until_all s.calls) (left f))
 
 was_still : (kind : Kind) (t u v : Option Story) (moment g : ℕ) → GoesOn u v → WasAt kind t u moment g → WasAt kind t v moment g
 was_still kind t u v moment g on was = record {
@@ -150,11 +160,11 @@ pushed_of at commits groups old new pushed =
     (of_both at.command (marks_up at commits) (applied_up (record at { committed = at.committed + commits }) groups) (up_of at commits) (applied_of (record at { committed = at.committed + commits }) groups)))
 
 -- the moments behind so many commands, and a last one
-moment_by : (moments : ℕ → ℕ) (last n i : ℕ) → (n < i) ⊎ (i ≤ n) → ℕ
+abbrev moment_by : (moments : ℕ → ℕ) (last n i : ℕ) → (n < i) ⊎ (i ≤ n) → ℕ
 moment_by moments last n i (inl new) = last
 moment_by moments last n i (inr old) = moments i
 
-moments_on : (moments : ℕ → ℕ) (last n : ℕ) → ℕ → ℕ
+abbrev moments_on : (moments : ℕ → ℕ) (last n : ℕ) → ℕ → ℕ
 moments_on moments last n i = moment_by moments last n i (cases_lt n i)
 
 module _ (read : Mark → Named) (moments : ℕ → ℕ) (n : ℕ) where
@@ -276,11 +286,11 @@ both_still t u v cs ds at commits groups old new number on pushed raised =
     }
 
 -- where both are behind so many commands that were carried out
-abbrev pub AtBehind : (t u v : Disks) (cs : List Asked) (ds ds' : List Draw) (marks : List Mark) → BothRaised t u cs ds marks → Type 0
+abbrev AtBehind : (t u v : Disks) (cs : List Asked) (ds ds' : List Draw) (marks : List Mark) → BothRaised t u cs ds marks → Type 0
 AtBehind t u v cs ds ds' marks raised =
     AreAt v (generation_behind raised.source.first (count_of checkpoints_source cs ds')) (generation_behind raised.replica.first (count_of checkpoints_replica cs ds'))
 
-pub at_more : (t u v : Disks) (cs : List Asked) (ds : List Draw) (d : Draw) (c : Asked) (marks : List Mark) (raised : BothRaised t u cs ds marks) → slice_get cs (length ds) ≡ Some c → AtBehind t u u cs ds ds marks raised
+at_more : (t u v : Disks) (cs : List Asked) (ds : List Draw) (d : Draw) (c : Asked) (marks : List Mark) (raised : BothRaised t u cs ds marks) → slice_get cs (length ds) ≡ Some c → AtBehind t u u cs ds ds marks raised
     → Raises c u v → AtBehind t u v cs ds (ds ++ d ∷ []) marks raised
 at_more t u v cs ds d c marks raised here at raises =
     let now = raises (generation_behind raised.source.first (count_of checkpoints_source cs ds)) (generation_behind raised.replica.first (count_of checkpoints_replica cs ds)) at in
@@ -291,7 +301,7 @@ at_more t u v cs ds d c marks raised here at raises =
           ∙ ap (generation_behind raised.replica.first) (sym (count_last checkpoints_replica cs ds d c here))) now.replica;
     }
 
-pub both_raised : (t u v : Disks) (cs : List Asked) (ds : List Draw) (d : Draw) (c : Asked) (mark : Mark) (commits groups : ℕ) (old new : List Mark) (raised : BothRaised t u cs ds old) → slice_get cs (length ds) ≡ Some c
+both_raised : (t u v : Disks) (cs : List Asked) (ds : List Draw) (d : Draw) (c : Asked) (mark : Mark) (commits groups : ℕ) (old new : List Mark) (raised : BothRaised t u cs ds old) → slice_get cs (length ds) ≡ Some c
     → BothGoOn t u → BothGoOn u v → mark.command ≡ length ds + 1 → Pushed mark commits groups old new → AreTold v new → AtBehind t u v cs ds (ds ++ d ∷ []) old raised → BothRaised t v cs (ds ++ d ∷ []) new
 both_raised t u v cs ds d c mark commits groups old new raised here first second number pushed told at = record {
   source = raised_on Source checkpoints_source source_mark t.source u.source v.source cs ds d c old new pushed.more here first.source second.source pushed.marks
@@ -322,16 +332,37 @@ raised_none kind is read t u cs first marks none on began at = record {
   in_time = λ fits. subst (λ (ms : List Mark). IfSome u (λ _. AreInTime read 0 (λ i. count u) ms)) (sym none) (no_time u read (λ i. count u));
 }
 
-pub both_none : (t u : Disks) (cs : List Asked) (source replica : ℕ) (marks : List Mark) → marks ≡ [] → BothGoOn t u → IfSome t.source (λ _. IsActive Source source (seen t.source))
+both_none : (t u : Disks) (cs : List Asked) (source replica : ℕ) (marks : List Mark) → marks ≡ [] → BothGoOn t u → IfSome t.source (λ _. IsActive Source source (seen t.source))
     → IfSome t.replica (λ _. IsActive Replica replica (seen t.replica)) → AreAt u source replica → BothRaised t u cs [] marks
 both_none t u cs source replica marks none on began rep_began at = record {
   source = raised_none Source checkpoints_source source_mark t.source u.source cs source marks none on.source began at.source;
   replica = raised_none Replica checkpoints_replica replica_mark t.replica u.replica cs replica marks none on.replica rep_began at.replica;
 }
 
-pub at_none : (u : Disks) (cs : List Asked) (source replica : ℕ) → AreAt u source replica
+at_none : (u : Disks) (cs : List Asked) (source replica : ℕ) → AreAt u source replica
     → AreAt u (generation_behind source (count_of checkpoints_source cs [])) (generation_behind replica (count_of checkpoints_replica cs []))
 at_none u cs source replica at = record {
   source = subst (λ n. IsAt Source u.source (generation_behind source n)) (sym (none_counted checkpoints_source cs 0)) at.source;
   replica = subst (λ n. IsAt Replica u.replica (generation_behind replica n)) (sym (none_counted checkpoints_replica cs 0)) at.replica;
 }
+
+-- ---- the generations behind some commands, and where both disks are now
+
+pub record RaisedNow (t u : Disks) (cs : List Asked) (ds : List Draw) (marks : List Mark) : Type 0 where
+  pub raised : BothRaised t u cs ds marks
+  pub at : AreRaised t u cs ds marks raised
+
+pub none_now : (t u : Disks) (cs : List Asked) (source replica : ℕ) (marks : List Mark) → marks ≡ [] → BothGoOn t u → IfSome t.source (λ _. IsActive Source source (seen t.source))
+    → IfSome t.replica (λ _. IsActive Replica replica (seen t.replica)) → AreAt u source replica → RaisedNow t u cs [] marks
+unfolding both_none raised_none
+none_now t u cs source replica marks none on began rep_began at = record {
+  raised = both_none t u cs source replica marks none on began rep_began at;
+  at = at_none u cs source replica at;
+}
+
+pub more_now : (t u v : Disks) (cs : List Asked) (ds : List Draw) (d : Draw) (c : Asked) (mark : Mark) (commits groups : ℕ) (old new : List Mark) (raised : BothRaised t u cs ds old) → AreRaised t u cs ds old raised
+    → slice_get cs (length ds) ≡ Some c → BothGoOn t u → BothGoOn u v → mark.command ≡ length ds + 1 → Pushed mark commits groups old new → AreTold v new → Raises c u v → RaisedNow t v cs (ds ++ d ∷ []) new
+unfolding both_raised raised_on
+more_now t u v cs ds d c mark commits groups old new raised at here first second number pushed told raises =
+    let behind : AtBehind t u v cs ds (ds ++ d ∷ []) old raised = at_more t u v cs ds d c old raised here at raises in
+    record { raised = both_raised t u v cs ds d c mark commits groups old new raised here first second number pushed told behind; at = behind }

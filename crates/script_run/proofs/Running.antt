@@ -48,7 +48,7 @@ use Rattle.script_run.proofs.Recovering.{recovers_by, served_begins, served_more
 use Rattle.script_run.proofs.Surviving.{carried_next, carried_some, fits_before, on_some, rep_survives_by, rep_survives_since, survives_by}
 use Rattle.script_run.proofs.Beginning.{each_from}
 use Rattle.script_run.proofs.Disks.{both_trans, if_told, where_told}
-use Rattle.script_run.proofs.Generations.{AreTold, AtBehind, at_more, at_none, both_none, both_raised, both_still}
+use Rattle.script_run.proofs.Generations.{AreTold, RaisedNow, both_still, more_now, none_now}
 use Rattle.script_run.proofs.Marks.{called_last, called_within, marks_begin, marks_last, marks_on, no_marks, numbers_are}
 
 -- what the laws say of disks, and of what a replica has carried out
@@ -217,6 +217,8 @@ since_none t u names b (c ∷ cs) marks since = since
 pub starts : Lasting → (from : Starts) (t u : Disks) (cs : List Asked) (report : Report) (before : Option (List ℕ)) (nodes : Nodes) → Opened from t u nodes report → Going from t u cs 0 report before before nodes
 starts law from t u cs report before nodes opened =
     let b : Both = both_from opened.names opened.src from in
+    let generations : RaisedNow t u cs [] report.marks =
+    none_now t u cs opened.src_first opened.rep_first report.marks opened.marks opened.on opened.began opened.rep_began opened.at in
     record {
       names = opened.names;
       src = opened.src;
@@ -249,8 +251,8 @@ starts law from t u cs report before nodes opened =
           (since_none t.replica u.replica opened.names b cs report.marks opened.carries);
       serves = λ begins fits. subst (λ (e : Both). ServedSince t.replica u.replica (source_from from).committed (committed_of e) report.marks) (sym (end_none opened.names b cs))
           (served_begins law.served opened.names opened.src from t.replica u.replica report.marks (opened.together.follows begins) begins opened.together.holds opened.carries fits);
-      raised = both_none t u cs opened.src_first opened.rep_first report.marks opened.marks opened.on opened.began opened.rep_began opened.at;
-      at = at_none u cs opened.src_first opened.rep_first opened.at;
+      raised = generations.raised;
+      at = generations.at;
       together = subst (λ (e : Both). Together opened.names u (stores_in t opened.held (held_of from.replica)) nodes e) (sym (end_none opened.names b cs)) opened.together;
     }
 
@@ -279,7 +281,10 @@ goes_on law from t u v cs i k c old new before now after nodes nodes' is k_is go
     let here : slice_get cs (length ds) ≡ Some c = ap (slice_get cs) going.count_is ∙ is in
     let number : k ≡ 1 + length ds = omega (arith, k_is, going.count_is) in
     let b' : Both = (next names b c told.draw).both in
-    let at : AtBehind t u v cs ds (ds ++ told.draw ∷ []) old.marks going.raised = at_more t u v cs ds told.draw c old.marks going.raised here going.at told.raises in
+    let all_told : AreTold v new.marks = are_told law t v start.source b'.machine.history (IsHeldOf names first cs (ds ++ told.draw ∷ [])) (held_of first.replica) new.marks (told.lasts t.source going.lasts)
+    (λ fits. (carried_next names first cs ds told.draw c here t.replica u.replica v.replica old.marks new.marks told.on.replica going.carries told.carries fits).carries) in
+    let generations : RaisedNow t v cs (ds ++ told.draw ∷ []) new.marks =
+    more_now t u v cs ds told.draw c (mark_at k b) told.marked.commits told.marked.groups old.marks new.marks going.raised going.at here going.on told.on (omega (arith, number)) told.marked.pushed all_told told.raises in
     record {
       names = names;
       src = going.src;
@@ -312,10 +317,8 @@ goes_on law from t u v cs i k c old new before now after nodes nodes' is k_is go
             named_all = subst (λ (e : Both). NamesAll v.replica (source_from from).committed (committed_of e) new.marks) (sym (end_last names first cs ds told.draw c here))
                 (told.all_named (source_from from).committed fits so_far.named_all);
           };
-      raised = both_raised t u v cs ds told.draw c (mark_at k b) told.marked.commits told.marked.groups old.marks new.marks going.raised here going.on told.on (omega (arith, number)) told.marked.pushed
-          (are_told law t v start.source b'.machine.history (IsHeldOf names first cs (ds ++ told.draw ∷ [])) (held_of first.replica) new.marks (told.lasts t.source going.lasts)
-          (λ fits. (carried_next names first cs ds told.draw c here t.replica u.replica v.replica old.marks new.marks told.on.replica going.carries told.carries fits).carries)) at;
-      at = at;
+      raised = generations.raised;
+      at = generations.at;
       together = subst (λ (e : Both). Together names v start nodes' e) (sym (end_last names first cs ds told.draw c here)) told.together;
     }
 
@@ -426,7 +429,10 @@ broke law from t u v cs i k c old new before now after nodes is k_is going told 
     let here : slice_get cs (length ds) ≡ Some c = ap (slice_get cs) going.count_is ∙ is in
     let number : k ≡ 1 + length ds = omega (arith, k_is, going.count_is) in
     let b' : Both = (next names b c told.draw).both in
-    let at : AtBehind t u v cs ds (ds ++ told.draw ∷ []) old.marks going.raised = at_more t u v cs ds told.draw c old.marks going.raised here going.at told.raises in
+    let all_told : AreTold v new.marks = are_told law t v (stores_in t going.held (held_of from.replica)).source b'.machine.history (IsHeldOf names first cs (ds ++ told.draw ∷ [])) (held_of first.replica) new.marks (told.lasts t.source going.lasts)
+    (λ fits. (carried_next names first cs ds told.draw c here t.replica u.replica v.replica old.marks new.marks told.on.replica going.carries told.carries fits).carries) in
+    let generations : RaisedNow t v cs (ds ++ told.draw ∷ []) new.marks =
+    more_now t u v cs ds told.draw c (mark_at k b) told.marked.commits told.marked.groups old.marks new.marks going.raised going.at here going.on told.on (omega (arith, number)) told.marked.pushed all_told told.raises in
     record {
       names = names;
       src = going.src;
@@ -449,10 +455,8 @@ broke law from t u v cs i k c old new before now after nodes is k_is going told 
       carried = carried_more law from t u cs i old before now nodes going told.draw c here;
       recovers = recovered_more law from t u v cs i old new before now nodes going told.draw c here told.on.replica told.marked.pushed.more told.marked.pushed.marks
           (on_some u.replica v.replica names b c told.draw old.marks new.marks told.carries);
-      raised = both_raised t u v cs ds told.draw c (mark_at k b) told.marked.commits told.marked.groups old.marks new.marks going.raised here going.on told.on (omega (arith, number)) told.marked.pushed
-          (are_told law t v (stores_in t going.held (held_of from.replica)).source b'.machine.history (IsHeldOf names first cs (ds ++ told.draw ∷ [])) (held_of first.replica) new.marks (told.lasts t.source going.lasts)
-          (λ fits. (carried_next names first cs ds told.draw c here t.replica u.replica v.replica old.marks new.marks told.on.replica going.carries told.carries fits).carries)) at;
-      at = at;
+      raised = generations.raised;
+      at = generations.at;
     }
 
 stops_by : Lasting → (status : Status) (from : Starts) (t u v : Disks) (cs : List Asked) (i k : ℕ) (c : Asked) (old new : Report) (before now after : Option (List ℕ)) (nodes : Nodes) → slice_get cs i ≡ Some c → k ≡ i + 1 → Grew old new
