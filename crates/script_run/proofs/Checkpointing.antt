@@ -1,6 +1,5 @@
 -- A CHECKPOINT of one node, which leaves both nodes as they are.
 use Rattle.std.proofs.Common.{◌≡◌, ℕ, List, [], Option, refl, sym, ap, ◌∙◌, subst, append-nil}
-use Rattle.port_traits.specs.declared.identity.Draw.{Draw}
 use Rattle.answer_text.specs.declared.answer.Answer.{Answer}
 use Rattle.answer_text.specs.declared.report.Mark.{Mark}
 use Rattle.answer_text.specs.declared.report.Report.{Report}
@@ -16,7 +15,7 @@ use Rattle.durable_source.specs.Standing.{Stands, beginning_of}
 use Rattle.run_laws.specs.session_model.Answers.{ok}
 use Rattle.run_laws.specs.session_model.Holding.{Holds}
 use Rattle.run_laws.specs.session_model.Machine.{Machine}
-use Rattle.run_laws.specs.run_model.Asked.{Asked, checkpoint_source, checkpoint_replica}
+use Rattle.run_laws.specs.run_model.Asked.{checkpoint_source, checkpoint_replica}
 use Rattle.run_laws.specs.run_model.Run.{Both, Names}
 use Rattle.run_stores.specs.durable_runs.Laws.{RunsLast}
 use Rattle.run_stores.specs.durable_runs.Replicas.{ReplicaRuns}

@@ -1,11 +1,11 @@
 -- The generations of both disks, command by command.
-use Rattle.std.proofs.Common.{◌≡◌, ◌⊎◌, inl, inr, ℕ, ◌+◌, ◌-◌, ◌^◌, ◌≤◌, ◌<◌, min, zero, suc, Bool, true, false, List, [], ◌∷◌, ◌++◌, length, take, drop, map, Option, Some, None, is_some, Result, Ok, Err, IfSome, refl, sym, ap, ◌∙◌, subst, arith, length-append}
+use Rattle.std.proofs.Common.{◌≡◌, ◌⊎◌, inl, inr, ℕ, ◌+◌, ◌-◌, ◌≤◌, ◌<◌, zero, suc, Bool, true, false, List, [], ◌∷◌, ◌++◌, length, take, drop, map, Option, Some, None, is_some, Result, Ok, Err, IfSome, refl, sym, ap, ◌∙◌, subst, arith, length-append}
 use Rattle.std.proofs.lemmas.Bool.{cases_lt}
 use Rattle.std.specs.Prelude.{slice_get}
 use Rattle.port_traits.specs.declared.identity.Draw.{Draw}
 use Rattle.answer_text.specs.declared.report.Mark.{Mark}
 use Rattle.disk_model.specs.declared.call.Call.{Call}
-use Rattle.disk_model.specs.Left.{Left, LeftAfter}
+use Rattle.disk_model.specs.Left.{LeftAfter}
 use Rattle.disk_model.specs.Story.{Image, Story, count, seen}
 use Rattle.disk_model.specs.Moments.{AfterCall, Each, GoesOn, Only, calls_until}
 use Rattle.disk_model.proofs.Moments.{on_count, on_trans}
@@ -22,7 +22,7 @@ use Rattle.run_laws.specs.run_model.Run.{Both, Names, checkpoints_replica, check
 use Rattle.script_run.specs.declared.nodes.Nodes.{Nodes}
 use Rattle.script_run.specs.Disks.{BothGoOn, Disks, Stores}
 use Rattle.script_run.specs.Generations.{AreAt, AreInTime, AreRaised, BothRaised, IsActive, IsAt, Raised, Raises, WasAt, generation_behind}
-use Rattle.script_run.specs.Marks.{Pushed, applied_up, command_marks, marks_up, next_applied_mark, next_mark, uncounted}
+use Rattle.script_run.specs.Marks.{Pushed, applied_up, marks_up, next_applied_mark, next_mark, uncounted}
 use Rattle.script_run.specs.Together.{Together}
 use Rattle.script_run.proofs.Disks.{where_told}
 use Rattle.script_run.proofs.Surviving.{fits_before}
