@@ -1,6 +1,8 @@
 -- A snapshot, made part by part.
-use Rattle.std.proofs.Common.{◌≡◌, ℕ, ◌<◌, ◌^◌, List, [], ◌++◌, length, Result, Ok, Err, sym, ap, subst, ◌∙◌, append_assoc, arith}
-use Rattle.std.specs.Prelude.{IfOk, OnOk}
+use Rattle.std.proofs.Common.{◌≡◌, ℕ, zero, suc, ◌+◌, ◌-◌, ◌≤◌, ◌<◌, ◌^◌, List, [], ◌∷◌, ◌++◌, length, take, drop, refl, sym, ap, subst, ◌∙◌, append_assoc, arith}
+use Rattle.std.specs.Prelude.{slice_set}
+use Rattle.std.proofs.Math.ListN.{get_or}
+use Rattle.std.proofs.Math.Seq.{drop-append_seam}
 use Rattle.std.proofs.lemmas.List.{length-append, length-map}
 use Rattle.byte_fields.specs.Field.{number_bytes}
 use Rattle.table_rules.specs.Stores.{Store as Rows}
@@ -36,18 +38,28 @@ place_at log pos = record { log = log; pos = pos }
 pub same_place : (log log' pos pos' : ℕ) → log' ≡ log → pos' ≡ pos → place_at log pos ≡ place_at log' pos'
 same_place log log' pos pos' logs positions = ap (λ l. place_at l pos) (sym logs) ∙ ap (place_at log') (sym positions)
 
--- what was made of some bytes that had a body behind none
-pub framed_ok : {E : Type 0} (r : Result (List ℕ) E) (given bytes none body : List ℕ) → IfOk r (λ f. f ≡ snapshot_framed given) → given ≡ bytes → bytes ≡ none ++ body → none ≡ []
-    → IfOk r (λ f. f ≡ snapshot_framed body)
-framed_ok r given bytes none body framed given_is is empty =
-    subst (λ (g : List ℕ). IfOk r (λ f. f ≡ snapshot_framed g)) (given_is ∙ is ∙ ap (λ (l : List ℕ). l ++ body) empty) framed
+-- a byte of a number in its place
+pub put_next : (field bytes : List ℕ) (i d : ℕ) → i < length field → length field ≤ length bytes
+    → slice_set (take i field ++ drop i bytes) i (get_or field i d) ≡ take (i + 1) field ++ drop (i + 1) bytes
+put_next [] bytes i d within long = absurd (omega (arith, within))
+put_next (f ∷ field) [] i d within long = absurd (omega (arith, long))
+put_next (f ∷ field) (b ∷ bytes) zero d within long = refl
+put_next (f ∷ field) (b ∷ bytes) (suc i) d within long =
+    let one : suc i + 1 ≡ suc (i + 1) = omega arith in
+    ap (λ l. f ∷ l) (put_next field bytes i d (omega (arith, within)) (omega (arith, long))) ∙ ap (λ n. take n (f ∷ field) ++ drop n (b ∷ bytes)) (sym one)
+
+-- a body behind eight bytes, into which its length was written
+pub framed_ok : (given bytes none body : List ℕ) (count : ℕ) → given ≡ number_bytes 8 count ++ drop 8 bytes → bytes ≡ none ++ body → length none ≡ 8 → count ≡ length bytes - 8
+    → given ≡ snapshot_framed body
+framed_ok given bytes none body count written is eight counted =
+    written ∙ ap (λ (l : List ℕ). number_bytes 8 count ++ l) (ap (drop 8) is ∙ subst (λ n. drop n (none ++ body) ≡ body) eight (drop-append_seam none body))
+    ∙ ap (λ n. number_bytes 8 n ++ body) (omega (arith, counted, eight, ap length is, length-append none body))
 
 -- ... and it has sizes that its fields can say
-pub sizes_ok : {E : Type 0} (r : Result (List ℕ) E) (kind : Kind) (generation : ℕ) (store : Store) (tables : Rows) (objects : List Object) (given bytes none : List ℕ) → OnOk r (length given < 2 ^ 64) → given ≡ bytes
-    → bytes ≡ none ++ snapshot_body kind generation (held_kept store tables objects) → length objects < 2 ^ 32 → IfOk r (λ f. HasSizes kind generation (held_kept store tables objects))
-sizes_ok (Ok f) kind generation store tables objects given bytes none fits given_is is few =
+pub sizes_ok : (kind : Kind) (generation : ℕ) (store : Store) (tables : Rows) (objects : List Object) (bytes none : List ℕ) → length bytes < 2 ^ 64
+    → bytes ≡ none ++ snapshot_body kind generation (held_kept store tables objects) → length objects < 2 ^ 32 → HasSizes kind generation (held_kept store tables objects)
+sizes_ok kind generation store tables objects bytes none fits is few =
     let body : List ℕ = snapshot_body kind generation (held_kept store tables objects) in record {
-      body = omega (arith, fits, ap length given_is, ap length is, length-append none body);
+      body = omega (arith, fits, ap length is, length-append none body);
       objects = subst (λ n. n < 2 ^ 32) (sym (length-map objects seen)) few;
     }
-sizes_ok (Err e) kind generation store tables objects given bytes none fits given_is is few = tt

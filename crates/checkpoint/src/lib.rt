@@ -5,7 +5,7 @@
 //! the store goes on in the next generation's journal. A crash at any moment leaves what was held, and so does a call that fails.
 //!
 //! This crate stands on the pieces of `checkpoint_pieces`, on the parts of a body of `snapshot_bodies` and on the store of
-//! `commit_store`; no node stands on it yet.
+//! `commit_store`; `store_checkpoints` stands on it.
 //!
 //! - `checkpointing`: [`checkpoint`]
 //! - `snapshot`: a snapshot as its file has it behind the gate
@@ -18,8 +18,8 @@
 //!   the last generation it changes nothing and calls no disk (`last`). At an error the store is as it was; Disk comes only where the
 //!   disk's count of faults rose.
 //!
-//! # Neither proved nor tested
-//! That calls succeed with ample memory: no node makes a checkpoint yet.
+//! # Only tested
+//! In `test_checkpoints`: that calls succeed with ample memory.
 #![tactic(auto)]
 
 mod checkpointing;

@@ -1,5 +1,6 @@
 //! A snapshot, made in memory.
-ghost use Rattle.std.specs.Prelude.{◌≡◌, ◌<◌, ◌^◌, ◌++◌, length, IfOk, OnOk};
+ghost use Rattle.std.specs.Prelude.{◌≡◌, ◌≤◌, ◌<◌, ◌^◌, ◌++◌, drop, length, IfOk, OnOk};
+ghost use Rattle.byte_fields.specs.Field.{number_bytes};
 ghost use Rattle.store_model.specs.Snapshots.{snapshot_body};
 ghost use Rattle.checkpoint_model.specs.Pieces.{snapshot_framed};
 ghost use Rattle.checkpoint.specs.Checkpoints.{HasSizes, held_kept};
@@ -30,17 +31,19 @@ fn put_body(
     put_base(alloc, tables, objects, out)
 }
 
-/// A body as a snapshot's file has it behind the gate: its length, and the body.
-fn frame(alloc: Global, body: &[u8]) -> Result<Bytes, NoMemory>
-    ensures framed { IfOk result (λ framed. framed ≡ snapshot_framed body.now) }
-    ensures fits { OnOk result (length body.now < 2 ^ 64) }
+/// Writes a number into the first eight of some bytes.
+#[tactic(auto, using(crate::proofs::Framing::put_next))]
+fn put_number(bytes: &mut Bytes, number: u64)
+    requires { 8 ≤ length bytes.old }
+    ensures { bytes.new ≡ number_bytes 8 number ++ drop 8 bytes.old }
 {
-    let mut framed = List::from_slice(alloc, &bytes_u64(body.len() as u64))?;
-    framed.extend_from_slice(body)?;
-    Ok(framed)
+    let field = bytes_u64(number);
+    for at in 0..field.len() {
+        bytes.set(at, field[at]);
+    }
 }
 
-/// A snapshot of what a store holds as its file has it behind the gate.
+/// A snapshot of what a store holds as its file has it behind the gate: the length of its body, and the body. It stands in memory once.
 pub(crate) fn framed_snapshot(
     alloc: Global,
     s: &Store,
@@ -51,7 +54,9 @@ pub(crate) fn framed_snapshot(
     ensures bytes { IfOk result (λ framed. framed ≡ snapshot_framed (snapshot_body s.now.node generation (held_kept s.now tables.now objects.now))) }
     ensures sizes { IfOk result (λ framed. HasSizes s.now.node generation (held_kept s.now tables.now objects.now)) }
 {
-    let mut body = List::new(alloc);
-    put_body(alloc, s, generation, tables, objects, &mut body)?;
-    frame(alloc, body.as_slice())
+    let mut framed = List::from_slice(alloc, &bytes_u64(0))?;
+    put_body(alloc, s, generation, tables, objects, &mut framed)?;
+    let length = framed.len() - 8;
+    put_number(&mut framed, length as u64);
+    Ok(framed)
 }
