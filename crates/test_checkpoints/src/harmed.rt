@@ -29,7 +29,7 @@ static GENERATIONS: [(usize, u8, u64); 8] = [
 ];
 
 /// A source commits at most 4294967295 transactions.
-static NUMBERS: [(usize, u8, u64); 6] = [
+static NUMBERS: [(usize, u8, u32); 6] = [
     (18, 0x00, 0),
     (18, 0xff, 255),
     (18, 0xfd, 253),
@@ -38,10 +38,10 @@ static NUMBERS: [(usize, u8, u64); 6] = [
     (21, 0xff, 4_278_190_082),
 ];
 
-static ENDS: [(usize, u8, u64); 2] = [(30, 0x00, 256), (31, 0x00, 80)];
+static ENDS: [(usize, u8, u32); 2] = [(30, 0x00, 256), (31, 0x00, 80)];
 
 /// Ends behind the log's 336 bytes: 511, 431, 65360, 65104 and 16712016. A greater one than 1150000000 is none.
-static SHORT: [(usize, u8, u64); 5] = [
+static SHORT: [(usize, u8, u32); 5] = [
     (30, 0xff, 511),
     (30, 0xaf, 431),
     (31, 0xff, 65_360),
@@ -50,7 +50,7 @@ static SHORT: [(usize, u8, u64); 5] = [
 ];
 
 /// An INT is at most 2147483647.
-static IDS: [(usize, u8, u64); 5] = [
+static IDS: [(usize, u8, u32); 5] = [
     (126, 0x00, 0),
     (126, 0xff, 255),
     (126, 0xfe, 254),
@@ -58,7 +58,7 @@ static IDS: [(usize, u8, u64); 5] = [
     (128, 0xff, 16_711_681),
 ];
 
-static VALUES: [(usize, u8, u64); 5] = [
+static VALUES: [(usize, u8, u32); 5] = [
     (135, 0x00, 0),
     (135, 0xff, 255),
     (135, 0xf5, 245),
@@ -70,10 +70,10 @@ static VALUES: [(usize, u8, u64); 5] = [
 #[derive(Clone, Copy)]
 struct Contents {
     generation: u64,
-    number: u64,
-    end: u64,
-    id: u64,
-    v: u64,
+    number: u32,
+    end: u32,
+    id: u32,
+    v: u32,
 }
 
 /// What the snapshot says.
@@ -88,7 +88,7 @@ fn whole() -> Contents {
 }
 
 /// The number that a table has for a byte that becomes another; else this one.
-fn listed(table: &[(usize, u8, u64)], at: usize, to: u8, otherwise: u64) -> u64 {
+fn listed(table: &[(usize, u8, u32)], at: usize, to: u8, otherwise: u32) -> u32 {
     for (of, other, number) in table {
         if *of == at && *other == to {
             return *number;
@@ -97,11 +97,21 @@ fn listed(table: &[(usize, u8, u64)], at: usize, to: u8, otherwise: u64) -> u64 
     otherwise
 }
 
+/// The generation for a byte that becomes another.
+fn generation(at: usize, to: u8) -> u64 {
+    for (of, other, number) in &GENERATIONS {
+        if *of == at && *other == to {
+            return *number;
+        }
+    }
+    1
+}
+
 /// What is read where a byte becomes another, as far as the tables say.
 fn told(at: usize, to: u8) -> Contents {
     let as_it_was = whole();
     Contents {
-        generation: listed(&GENERATIONS, at, to, as_it_was.generation),
+        generation: generation(at, to),
         number: listed(&NUMBERS, at, to, as_it_was.number),
         end: listed(&ENDS, at, to, as_it_was.end),
         id: listed(&IDS, at, to, as_it_was.id),
@@ -148,11 +158,11 @@ fn opened(alloc: Global, snapshot: &[u8]) -> Result<Opened, OpenRefusal> {
 fn holds(alloc: Global, snapshot: &[u8], told: Contents) -> bool {
     match opened(alloc, snapshot) {
         Ok(o) => {
-            let ends: &[u32] = &[told.end as u32];
+            let ends: &[u32] = &[told.end];
             o.store.generation() == told.generation
-                && o.store.number() == told.number
+                && o.store.number() == u64::from(told.number)
                 && o.store.ends() == ends
-                && has_row(alloc, &o, told.id as i64, told.v as i64)
+                && has_row(alloc, &o, i64::from(told.id), i64::from(told.v))
         }
         Err(_) => false,
     }
