@@ -3,9 +3,10 @@
 use crate::{checkpointed, checkpointed_beside};
 use crash_images::{CRASHES, disk_left, files_left};
 use disk_model::FuseDisk;
+use sharing::Shared;
 use std::alloc::Global;
 use store_model::Kind;
-use store_open::load;
+use store_open::{Opened, load};
 use val_types::{Bytes, List, Row, Value};
 
 /// A source's journal: log 1 begins and ends at 123; transaction 1 makes a table, log 1 ends at 206; transaction 2 puts in the row (1, 10),
@@ -13,7 +14,7 @@ use val_types::{Bytes, List, Row, Value};
 static NEW_SOURCE: &[u8] =
     b"\x01\x15\x00\x00\x00\x03\x00\x00\x00\x00\x00\x00\x00\x00\x01\x00\x00\x00\x7b\x00\x00\x00\x00\x00\x00\x00\x00";
 
-static SOURCE_WITH_ROW: &[u8] =
+pub(crate) static SOURCE_WITH_ROW: &[u8] =
     b"\x01\x15\x00\x00\x00\x03\x00\x00\x00\x00\x00\x00\x00\x00\x01\x00\x00\x00\x7b\x00\x00\x00\x00\x00\x00\x00\x01\x45\x00\x00\x00\x02\x01\x00\x00\x00\x00\x00\x00\x00\x01\x00\x00\x00\xce\x00\x00\x00\x30\x00\x00\x00CREATE TABLE t (id INT, v INT, PRIMARY KEY (id))\x01\x2b\x00\x00\x00\x01\x02\x00\x00\x00\x00\x00\x00\x00\x01\x00\x00\x00\x50\x01\x00\x00\x01\x00\x00\x00\x01\x01\x74\x02\x01\x01\x00\x00\x00\x00\x00\x00\x00\x01\x0a\x00\x00\x00\x00\x00\x00\x00\x00";
 
 /// A replica's: the same, carried out.
@@ -30,17 +31,17 @@ static NEW_SNAPSHOT: [u8; 38] = [
 static REPLICA_SNAPSHOT: &[u8] =
     b"\x01\x86\x00\x00\x00\x00\x00\x00\x00\x02\x01\x00\x00\x00\x00\x00\x00\x00\x02\x00\x00\x00\x00\x00\x00\x00\x01\x00\x00\x00\x50\x01\x00\x00\x01\x00\x00\x00\x46\x00\x00\x00\x00\x00\x00\x00CREATE TABLE `t` (`id` INT NOT NULL, `v` INT NULL, PRIMARY KEY (`id`))\x01\x00\x00\x00\x00\x00\x00\x00\x02\x01\x01\x00\x00\x00\x00\x00\x00\x00\x01\x0a\x00\x00\x00\x00\x00\x00\x00";
 
-static LOGGED: [u8; 336] = [0x4c; 336];
+pub(crate) static LOGGED: [u8; 336] = [0x4c; 336];
 
 /// Bytes with memory of their own.
-fn bytes(alloc: Global, of: &[u8]) -> Bytes {
+pub(crate) fn bytes(alloc: Global, of: &[u8]) -> Bytes {
     let mut bytes = List::new(alloc);
     let _ = bytes.extend_from_slice(of);
     bytes
 }
 
 /// The files of a disk with a journal of generation 0 and so many bytes of a log.
-fn files(alloc: Global, journal: &[u8], log: usize) -> List<Bytes> {
+pub(crate) fn files(alloc: Global, journal: &[u8], log: usize) -> List<Bytes> {
     let mut files = List::new(alloc);
     let _ = files.push(List::new(alloc));
     let _ = files.push(List::new(alloc));
@@ -61,7 +62,12 @@ fn row(alloc: Global, id: i64, v: i64) -> Row {
 }
 
 /// The files behind so many checkpoints; none where memory was short or one was refused.
-fn files_behind(alloc: Global, start: &[Bytes], node: Kind, times: u32) -> Option<List<Bytes>> {
+pub(crate) fn files_behind(
+    alloc: Global,
+    start: &[Bytes],
+    node: Kind,
+    times: u32,
+) -> Option<List<Bytes>> {
     let mut disk = disk_left(alloc, start)?;
     checkpointed(alloc, &mut disk, node, times).ok()?;
     let mut behind = List::new(alloc);
@@ -72,25 +78,42 @@ fn files_behind(alloc: Global, start: &[Bytes], node: Kind, times: u32) -> Optio
 }
 
 /// Whether a file has these bytes.
-fn has(files: &List<Bytes>, f: usize, of: &[u8]) -> bool {
+pub(crate) fn has(files: &List<Bytes>, f: usize, of: &[u8]) -> bool {
     files.get(f).is_some_and(|file| file.as_slice() == of)
 }
 
-/// The generation of the store on the disk that comes up with these files, if it holds transaction 2, and the row (1, 10) alone.
-fn held_at(alloc: Global, files: &[Bytes], node: Kind) -> Option<u64> {
-    let mut disk = disk_left(alloc, files)?;
-    let opened = load(alloc, &mut disk, node).ok()?;
-    let at = opened.work.tables().place(&bytes(alloc, b"t"))?;
-    let rows = opened.work.tables().committed_rows(at).ok()?;
-    let held = rows.get(0)?;
-    let expected = row(alloc, 1, 10);
-    if rows.len() != 1
-        || held.get().as_slice() != expected.as_slice()
-        || opened.store.number() != 2
-    {
-        return None;
+/// Whether these rows are this one of two values alone.
+fn are_row(alloc: Global, rows: &List<Shared<Row>>, id: i64, v: i64) -> bool {
+    match rows.get(0) {
+        Some(held) => {
+            let expected = row(alloc, id, v);
+            rows.len() == 1 && held.get().as_slice() == expected.as_slice()
+        }
+        None => false,
     }
-    Some(opened.store.generation())
+}
+
+/// Whether what is there to stay of the table t is that.
+pub(crate) fn has_row(alloc: Global, opened: &Opened, id: i64, v: i64) -> bool {
+    let tables = opened.work.tables();
+    let Some(at) = tables.place(&bytes(alloc, b"t")) else {
+        return false;
+    };
+    match tables.committed_rows(at) {
+        Ok(rows) => are_row(alloc, &rows, id, v),
+        Err(_) => false,
+    }
+}
+
+/// The generation of the store on the disk that comes up with these files, if it holds transaction 2, and the row (1, 10) alone.
+pub(crate) fn held_at(alloc: Global, files: &[Bytes], node: Kind) -> Option<u64> {
+    let mut disk = disk_left(alloc, files)?;
+    match load(alloc, &mut disk, node) {
+        Ok(opened) if opened.store.number() == 2 && has_row(alloc, &opened, 1, 10) => {
+            Some(opened.store.generation())
+        }
+        _ => None,
+    }
 }
 
 #[test]
@@ -151,13 +174,17 @@ fn all_stopped(alloc: Global, node: Kind, start: &[Bytes], generation: u64) -> b
     false
 }
 
+/// Whether all stops of the first checkpoint do, of a store with this journal and so many bytes of a log.
+fn first_stopped(alloc: Global, node: Kind, journal: &[u8], log: usize) -> bool {
+    let start = files(alloc, journal, log);
+    all_stopped(alloc, node, start.as_slice(), 0)
+}
+
 #[test]
 fn stops_leave_what_was_held(rt: HostRuntime) {
     let alloc = rt.alloc();
-    let source = files(alloc, SOURCE_WITH_ROW, 336);
-    assert!(&rt; all_stopped(alloc, Kind::Source, source.as_slice(), 0));
-    let replica = files(alloc, REPLICA_WITH_ROW, 0);
-    assert!(&rt; all_stopped(alloc, Kind::Replica, replica.as_slice(), 0));
+    assert!(&rt; first_stopped(alloc, Kind::Source, SOURCE_WITH_ROW, 336));
+    assert!(&rt; first_stopped(alloc, Kind::Replica, REPLICA_WITH_ROW, 0));
 }
 
 /// Whether all stops of a checkpoint behind so many others do.
