@@ -142,40 +142,37 @@ fn files_with(alloc: Global, snapshot: &[u8]) -> List<Bytes> {
     files
 }
 
-/// The store on the disk that comes up with them.
-fn opened(alloc: Global, snapshot: &[u8]) -> Result<Opened, OpenRefusal> {
+/// What an opening of the disk that comes up with them gives; none where memory was short for the disk.
+fn opened(alloc: Global, snapshot: &[u8]) -> Option<Result<Opened, OpenRefusal>> {
     let files = files_with(alloc, snapshot);
-    match disk_left(alloc, files.as_slice()) {
-        Some(disk) => {
-            let mut disk = disk;
-            load(alloc, &mut disk, Kind::Source)
-        }
-        None => Err(OpenRefusal::NoMemory),
-    }
+    let mut disk = disk_left(alloc, files.as_slice())?;
+    Some(load(alloc, &mut disk, Kind::Source))
 }
 
 /// Whether it holds just this.
 fn holds(alloc: Global, snapshot: &[u8], told: Contents) -> bool {
     match opened(alloc, snapshot) {
-        Ok(o) => {
+        Some(Ok(o)) => {
             let ends: &[u32] = &[told.end];
             o.store.generation() == told.generation
                 && o.store.number() == u64::from(told.number)
                 && o.store.ends() == ends
                 && has_row(alloc, &o, i64::from(told.id), i64::from(told.v))
         }
-        Err(_) => false,
+        _ => false,
     }
 }
 
 /// Whether it is damaged at this place.
 fn is_damaged(alloc: Global, snapshot: &[u8], file: u32, at: u64) -> bool {
     match opened(alloc, snapshot) {
-        Err(
-            OpenRefusal::Damaged {
-                file: of,
-                at: place,
-            },
+        Some(
+            Err(
+                OpenRefusal::Damaged {
+                    file: of,
+                    at: place,
+                },
+            ),
         ) => of == file && place == at,
         _ => false,
     }
